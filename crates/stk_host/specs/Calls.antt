@@ -1,5 +1,5 @@
 -- Terms for the contracts of calls.
-use Rattle.std.specs.Prelude.{ℕ, Bool, List, [], ◌∷◌, ◌++◌, ◌≡◌, ◌<◌, ◌≤◌, length, Option, None, Some, Result, Ok, Err, IfOk, IfErr, IfSome, IsOkAnd, OnErr}
+use Rattle.std.specs.Prelude.{ℕ, Bool, true, List, [], ◌∷◌, ◌++◌, ◌≡◌, ◌<◌, ◌≤◌, length, Option, None, Some, Result, Ok, Err, IfOk, IfErr, IfSome, IsOkAnd, OnErr, ◌⊎◌}
 use Rattle.avr_part.specs.declared.part.Mem.{Mem}
 use Rattle.stk_frame.specs.declared.protocol.TheConstants.{LARGEST_BODY, LARGEST_FRAME}
 use Rattle.stk_frame.specs.declared.command.Command.{Command}
@@ -17,10 +17,7 @@ use Rattle.stk_host.specs.declared.listen.Reading.{Reading}
 use Rattle.stk_host.specs.declared.listen.Reading.TheVariants as read
 use Rattle.stk_host.specs.declared.conversation.Reply.{Reply}
 use Rattle.stk_host.specs.declared.conversation.Reply.TheVariants as said
-use Rattle.stk_host.specs.declared.fault.Broken.{Broken}
-use Rattle.stk_host.specs.declared.fault.Broken.TheVariants as broken
-use Rattle.stk_host.specs.declared.fault.Stop.{Stop}
-use Rattle.stk_host.specs.declared.fault.Stop.TheVariants.{Fault, Link}
+use Rattle.stk_host.specs.declared.fault.StepFault.{StepFault}
 use Rattle.stk_host.specs.declared.fault.HostFault.{HostFault}
 use Rattle.stk_host.specs.declared.fault.HostFault.TheVariants.{NoAnswer, LinkEnded, SendFailed, Babble, Refused, BadAnswer, WrongSignature, Differs, ReadOnly, Memory, RecvFailed}
 use Rattle.stk_host.specs.Tape as tape
@@ -28,7 +25,7 @@ use Rattle.stk_host.specs.Tape.{on_tape}
 use Rattle.stk_host.specs.Steps as steps
 use Rattle.stk_host.specs.Steps.{play}
 use Rattle.stk_host.specs.Operations.{host_fault, signature_judged, comparison}
-use Rattle.stk_host.specs.Transcript.{LinkState, Got, Grows, HasFailed, LinkCounts}
+use Rattle.stk_host.specs.Transcript.{LinkState, Got, Grows, LinkCounts}
 use Rattle.stk_host.specs.Dialog.{Dialog}
 use Rattle.stk_host.specs.Play.{Progress, PlaysOver, FailsOver}
 use Rattle.stk_host.specs.Reach.{Reaches, Hears, HearsNone}
@@ -80,16 +77,17 @@ reply_of said.Data bytes = steps.Data bytes
 reply_of (said.Again fault) bytes = steps.Again fault
 reply_of (said.Stop fault) bytes = steps.Stop fault
 
--- Steps that stop: their run ended with a fault, or it broke off because the link failed.
-abbrev pub StopsSteps : Dialog ⊥ steps.StepOutcome → Progress → LinkState → LinkState → Stop → Progress → Type 0
-StopsSteps dialog before old new (Fault fault) after = PlaysOver dialog before old new (Err fault) after
-StopsSteps dialog before old new (Link broken) after = FailsOver broken dialog before old new
+-- Steps that stopped with this fault: their run broke off because of it, or ended with the step's fault of its name.
+abbrev pub StopsSteps : Dialog ⊥ steps.StepOutcome → Progress → LinkState → LinkState → HostFault → Progress → Type 0
+StopsSteps dialog before old new fault after =
+    FailsOver fault dialog before old new
+    ⊎ ((of : StepFault) × (fault ≡ host_fault of) × PlaysOver dialog before old new (Err of) after)
 
 -- Steps that ended: they returned these data, or they stopped.
 abbrev pub EndsSteps : {A : Type 0} → Dialog ⊥ steps.StepOutcome → (A → List ℕ) → Progress → LinkState → LinkState
-    → Result A Stop → Progress → Type 0
+    → Result A HostFault → Progress → Type 0
 EndsSteps dialog bytes before old new (Ok a) after = PlaysOver dialog before old new (Ok (bytes a)) after
-EndsSteps dialog bytes before old new (Err stop) after = StopsSteps dialog before old new stop after
+EndsSteps dialog bytes before old new (Err fault) after = StopsSteps dialog before old new fault after
 
 -- The run of any list of steps after some data.
 abbrev pub Playing : Type 0
@@ -106,12 +104,12 @@ abbrev pub without_step : List ℕ → Playing
 without_step before steps = play steps before
 
 -- A step that others follow: they remain, after all data so far, or all stop with it.
-abbrev pub EndsInnerStep : Playing → Playing → Progress → LinkState → LinkState → Result (Unit {0}) Stop → Progress
-    → Type 0
+abbrev pub EndsInnerStep : Playing → Playing → Progress → LinkState → LinkState → Result (Unit {0}) HostFault
+    → Progress → Type 0
 EndsInnerStep whole rest before old new (Ok done) after =
     (steps : List (List Command)) → Reaches (whole steps) before old (rest steps) after new
-EndsInnerStep whole rest before old new (Err stop) after =
-    (steps : List (List Command)) → StopsSteps (whole steps) before old new stop after
+EndsInnerStep whole rest before old new (Err fault) after =
+    (steps : List (List Command)) → StopsSteps (whole steps) before old new fault after
 
 -- The data bytes that a reply of this shape brings, if the shape fixes them.
 abbrev pub data_count : Shape → ℕ
@@ -124,68 +122,44 @@ IsSizedShape Name = ⊥
 IsSizedShape (Bytes n) = Unit {0}
 IsSizedShape (Closed n) = Unit {0}
 
-abbrev pub FailsByLink : {A : Type 0} → LinkState → LinkState → Result A Stop → Type 0
-FailsByLink old new (Ok done) = new.failures ≡ old.failures
-FailsByLink old new (Err (Fault fault)) = new.failures ≡ old.failures
-FailsByLink old new (Err (Link broken)) = HasFailed old new
-
-abbrev pub CountsLink : {A : Type 0} → LinkState → LinkState → Result A Stop → Type 0
-CountsLink old new result = (old.failures ≤ new.failures) × FailsByLink old new result
-
--- A call of a conversation that asks. It ends like this, counts the failures of its link, and leaves at most one
--- piece unread.
-pub record AsksLink {A : Type 0} (Ends : Progress → LinkState → LinkState → Result A Stop → Progress → Type 0)
-    (before : Progress) (old new : LinkState) (result : Result A Stop) (after : Progress) : Type 0 where
+-- A call of a conversation that asks. It ends like this, and leaves at most one piece unread.
+pub record AsksLink {A : Type 0} (Ends : Progress → LinkState → LinkState → Result A HostFault → Progress → Type 0)
+    (before : Progress) (old new : LinkState) (result : Result A HostFault) (after : Progress) : Type 0 where
   pub played : Ends before old new result after
-  pub counted : CountsLink old new result
+  pub counted : old.failures ≤ new.failures
   pub bound : HasFewUnread after
 
 -- A call that may have nothing to ask.
-pub record MayAsk {A : Type 0} (Ends : Progress → LinkState → LinkState → Result A Stop → Progress → Type 0)
-    (before : Progress) (old new : LinkState) (result : Result A Stop) (after : Progress) : Type 0 where
+pub record MayAsk {A : Type 0} (Ends : Progress → LinkState → LinkState → Result A HostFault → Progress → Type 0)
+    (before : Progress) (old new : LinkState) (result : Result A HostFault) (after : Progress) : Type 0 where
   pub played : Ends before old new result after
-  pub counted : CountsLink old new result
+  pub counted : old.failures ≤ new.failures
   pub bound : HasFewUnread before → HasFewUnread after
 
 -- How some commands are answered: their run returned this reply, or it broke off because the link failed. Data have
 -- the size that the last command asks for.
 pub record GetsReply (dialog : Dialog ⊥ steps.Reply) (last : Command) (before : Progress) (old new : LinkState)
-    (result : Result Reply Broken) (after : ConversationState) : Type 0 where
+    (result : Result Reply HostFault) (after : ConversationState) : Type 0 where
   pub ok : IfOk result (λ reply. PlaysOver dialog before old new (reply_of reply (data_held last after.held))
       after.progress)
-  pub err : IfErr result (λ broken. FailsOver broken dialog before old new)
+  pub err : IfErr result (λ fault. FailsOver fault dialog before old new)
   pub sized : IsOkAnd result (λ reply. reply ≡ said.Data) → SizedBy (shape last) (data_held last after.held)
-  pub counts : LinkCounts old new result
+  pub counted : old.failures ≤ new.failures
   pub bound : HasFewUnread after.progress
 
--- How a call of a host ends. If the link failed, its dialog broke off at sending or at listening; otherwise it was
+-- How a call of a host ends. Its dialog broke off if and only if the link has failed, at sending or at listening.
+-- Only a call that allocates (`takes`) can fail at that; then nothing was sent or received. Otherwise the dialog was
 -- run whole.
-abbrev pub EndsCall : {A : Type 0} → Dialog ⊥ (Result A HostFault) → Progress → LinkState → LinkState
+abbrev pub EndsCall : {A : Type 0} → Bool → Dialog ⊥ (Result A HostFault) → Progress → LinkState → LinkState
     → Result A HostFault → Progress → Type 0
-EndsCall dialog before old new (Ok a) after = PlaysOver dialog before old new (Ok a) after
-EndsCall dialog before old new (Err SendFailed) after = FailsOver broken.Send dialog before old new
-EndsCall dialog before old new (Err RecvFailed) after = FailsOver broken.Recv dialog before old new
-EndsCall dialog before old new (Err fault) after = PlaysOver dialog before old new (Err fault) after
-
--- A call that allocates first: if that fails, nothing is sent or received.
-abbrev pub EndsOrLacks : {A : Type 0} → Dialog ⊥ (Result A HostFault) → Progress → LinkState → LinkState
-    → Result A HostFault → Progress → Type 0
-EndsOrLacks dialog before old new (Err Memory) after = (new ≡ old) × (after ≡ before)
-EndsOrLacks dialog before old new result after = EndsCall dialog before old new result after
+EndsCall takes dialog before old new (Err SendFailed) after = FailsOver SendFailed dialog before old new
+EndsCall takes dialog before old new (Err RecvFailed) after = FailsOver RecvFailed dialog before old new
+EndsCall takes dialog before old new (Err Memory) after = (takes ≡ true) × (new ≡ old) × (after ≡ before)
+EndsCall takes dialog before old new result after = PlaysOver dialog before old new result after
 
 abbrev pub given_or_fault : {A : Type 0} → A → Result (Unit {0}) HostFault → Result A HostFault
 given_or_fault a (Ok done) = Ok a
 given_or_fault a (Err fault) = Err fault
-
-abbrev pub IsBroken : {A : Type 0} → Result A HostFault → Type 0
-IsBroken (Err SendFailed) = Unit {0}
-IsBroken (Err RecvFailed) = Unit {0}
-IsBroken _ = ⊥
-
-abbrev pub UnlessBroken : {A : Type 0} → Result A HostFault → Type 0 → Type 0
-UnlessBroken (Err SendFailed) P = Unit {0}
-UnlessBroken (Err RecvFailed) P = Unit {0}
-UnlessBroken _ P = P
 
 abbrev pub FitsFrame : Command → Type 0
 FitsFrame command = length (body command) ≤ LARGEST_BODY
@@ -204,29 +178,16 @@ pub record IsSizedStep (first : Option Command) (last : Command) : Type 0 where
   pub fits : FitsFrame last
   pub counted : IsSizedShape (shape last)
 
--- A call of a host that ends like this.
-pub record CallsBy {A : Type 0} (Ends : Progress → LinkState → LinkState → Result A HostFault → Progress → Type 0)
-    (old new : HostState) (before after : LinkState) (result : Result A HostFault) : Type 0 where
+-- A call of a host runs this dialog, or if the link fails a prefix of it.
+pub record Calls {A : Type 0} (takes : Bool) (dialog : Dialog ⊥ (Result A HostFault)) (old new : HostState)
+    (before after : LinkState) (result : Result A HostFault) : Type 0 where
   -- After a lasting fault each call returns that fault and changes nothing.
   pub stays : (fault : HostFault) → old.broken ≡ Some fault → (result ≡ Err fault) × (new ≡ old) × (after ≡ before)
-  pub played : old.broken ≡ None → Ends old.progress before after result new.progress
+  pub played : old.broken ≡ None → EndsCall takes dialog old.progress before after result new.progress
   pub lasts : old.broken ≡ None → new.broken ≡ lasting_fault result
   pub part : new.part ≡ old.part
-  -- A fault of the link is reported if and only if the link has failed.
-  pub failed : old.broken ≡ None → IsBroken result → HasFailed before after
-  pub sound : old.broken ≡ None → UnlessBroken result (after.failures ≡ before.failures)
   pub counted : before.failures ≤ after.failures
   pub bound : old.broken ≡ None → HasFewUnread new.progress
-
--- A call runs this dialog, or if the link fails a prefix of it.
-abbrev pub Calls : {A : Type 0} → Dialog ⊥ (Result A HostFault) → HostState → HostState → LinkState → LinkState
-    → Result A HostFault → Type 0
-Calls dialog old new before after result = CallsBy (EndsCall dialog) old new before after result
-
--- A call that allocates first.
-abbrev pub CallsOrLacks : {A : Type 0} → Dialog ⊥ (Result A HostFault) → HostState → HostState → LinkState → LinkState
-    → Result A HostFault → Type 0
-CallsOrLacks dialog old new before after result = CallsBy (EndsOrLacks dialog) old new before after result
 
 abbrev pub host_fault_number : HostFault → ℕ
 host_fault_number NoAnswer = 1
@@ -251,23 +212,15 @@ abbrev pub status_named : HostFault → Option (List ℕ)
 status_named (Refused command status) = name_in status_names status
 status_named fault = None
 
-abbrev pub fault_of_stop : Stop → HostFault
-fault_of_stop (Fault fault) = host_fault fault
-fault_of_stop (Link broken.Send) = SendFailed
-fault_of_stop (Link broken.Recv) = RecvFailed
-
-abbrev pub opening_result : List ℕ → Bool → Result (List ℕ) Stop → Result (List ℕ) HostFault
+abbrev pub opening_result : List ℕ → Bool → Result (List ℕ) HostFault → Result (List ℕ) HostFault
 opening_result wanted force (Ok found) = signature_judged wanted force (Ok found)
-opening_result wanted force (Err stop) = Err (fault_of_stop stop)
-
-abbrev pub closing_result : Result (Unit {0}) Stop → Result (Unit {0}) HostFault
-closing_result (Ok done) = Ok done
-closing_result (Err stop) = Err (fault_of_stop stop)
+opening_result wanted force (Err fault) = Err fault
 
 abbrev pub vector_after : Result (Unit {0}) HostFault → List ℕ → List ℕ
 vector_after (Ok done) bytes = bytes
 vector_after (Err fault) bytes = []
 
-abbrev pub verifying_result : Mem → List (Option ℕ) → List ℕ → Result (Unit {0}) Stop → Result (Unit {0}) HostFault
+abbrev pub verifying_result : Mem → List (Option ℕ) → List ℕ → Result (Unit {0}) HostFault
+    → Result (Unit {0}) HostFault
 verifying_result mem image bytes (Ok done) = comparison mem image bytes
-verifying_result mem image bytes (Err stop) = Err (fault_of_stop stop)
+verifying_result mem image bytes (Err fault) = Err fault

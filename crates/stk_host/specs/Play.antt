@@ -1,9 +1,9 @@
 -- A transcript of a link as the run of a dialog: whole, or broken off.
 use Rattle.std.specs.Prelude.{ℕ, List, [], ◌∷◌, ◌++◌, ◌≡◌, ◌<◌, length, Some, None}
-use Rattle.stk_host.specs.declared.fault.Broken.{Broken}
-use Rattle.stk_host.specs.declared.fault.Broken.TheVariants.{Send, Recv}
+use Rattle.stk_host.specs.declared.fault.HostFault.{HostFault}
+use Rattle.stk_host.specs.declared.fault.HostFault.TheVariants.{SendFailed, RecvFailed}
 use Rattle.stk_host.specs.Tape.{Tape, on_tape}
-use Rattle.stk_host.specs.Transcript.{Transcript, LinkState, Sent, Taken, Got, NoneTaken, sent, heard, Grows}
+use Rattle.stk_host.specs.Transcript.{Transcript, LinkState, Sent, Taken, Got, NoneTaken, sent, heard, Grows, HasFailed}
 use Rattle.stk_host.specs.Dialog.{Dialog, Event, Frame, Said, Played, played, bytes_sent}
 
 -- A conversation's state: the next sequence number, and the bytes received and not yet read.
@@ -102,26 +102,30 @@ pub record BreaksListening {E R : Type 0} (dialog : Dialog E R) (before : Progre
   pub none_taken : NoneTaken transcript
   pub in_turn : InTurn dialog before transcript
 
-abbrev pub BreaksBy : {E R : Type 0} → Broken → Dialog E R → Progress → Transcript → List (Event E) → Type 0
-BreaksBy Send dialog before transcript shown = BreaksSending dialog before transcript shown
-BreaksBy Recv dialog before transcript shown = BreaksListening dialog before transcript shown
+-- The run broke off because of this fault of the link. No other fault breaks it off.
+abbrev pub BreaksBy : {E R : Type 0} → HostFault → Dialog E R → Progress → Transcript → List (Event E) → Type 0
+BreaksBy SendFailed dialog before transcript shown = BreaksSending dialog before transcript shown
+BreaksBy RecvFailed dialog before transcript shown = BreaksListening dialog before transcript shown
+BreaksBy fault dialog before transcript shown = ⊥
 
 -- For dialogs without output events.
 abbrev pub NoPart : ⊥ → ⊥ → Type 0
 NoPart part whole = ⊥
 
--- A call that ran a dialog whole, between these states of the link.
+-- A call that ran a dialog whole, between these states of the link, which has not failed.
 pub record PlaysOver {R : Type 0} (dialog : Dialog ⊥ R) (before : Progress) (old new : LinkState) (result : R)
     (after : Progress) : Type 0 where
   pub during : Transcript
   pub events : List (Event ⊥)
   pub grows : Grows old.transcript during new.transcript
   pub plays : Plays dialog before during events result after
+  pub sound : new.failures ≡ old.failures
 
--- A call that broke off because the link failed at this.
-pub record FailsOver {R : Type 0} (broken : Broken) (dialog : Dialog ⊥ R) (before : Progress)
+-- A call that broke off because the link has failed with this fault.
+pub record FailsOver {R : Type 0} (fault : HostFault) (dialog : Dialog ⊥ R) (before : Progress)
     (old new : LinkState) : Type 0 where
   pub during : Transcript
   pub shown : List (Event ⊥)
   pub grows : Grows old.transcript during new.transcript
-  pub breaks : BreaksBy broken dialog before during shown
+  pub breaks : BreaksBy fault dialog before during shown
+  pub failed : HasFailed old new

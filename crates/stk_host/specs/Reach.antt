@@ -16,13 +16,14 @@ pub record TranscriptLeads {E R : Type 0} (dialog : Dialog E R) (before : Progre
   pub none_taken : NoneTaken transcript
   pub in_turn : InTurn dialog before transcript
 
--- A call has come this far, between these states of the link.
+-- A call has come this far, between these states of the link, which has not failed.
 pub record Reaches {R : Type 0} (dialog : Dialog ⊥ R) (before : Progress) (old : LinkState)
     (rest : Dialog ⊥ R) (after : Progress) (new : LinkState) : Type 0 where
   pub during : Transcript
   pub events : List (Event ⊥)
   pub grows : Grows old.transcript during new.transcript
   pub leads : TranscriptLeads dialog before during events rest after
+  pub sound : new.failures ≡ old.failures
 
 -- Nothing was received. After a send that failed nothing passed.
 abbrev pub IsQuiet : Transcript → Type 0

@@ -8,7 +8,7 @@ ghost use Rattle.stk_host.specs.Steps.{exchange, attempt, step, commands_by, ans
 ghost use Rattle.stk_host.specs.State.{data_in, data_held};
 ghost use Rattle.stk_host.specs.Calls.{reading_of, reply_of, EndsSteps, AsksLink, GetsReply, FitsFrame, BringsNoData, with_step, without_step, EndsInnerStep, IsSizedStep, step_brings};
 
-use crate::fault::{Broken, StepFault, Stop};
+use crate::fault::{HostFault, StepFault};
 use crate::link::{Link, LinkFault, send_all};
 use crate::listen::{Reading, Unread, listen};
 use arrayvec::ArrayVec;
@@ -119,7 +119,7 @@ impl Conversation {
         }
     }
 
-    fn exchange<L: Link>(&mut self, link: &mut L, command: &Command<'_>) -> Result<Reply, Broken>
+    fn exchange<L: Link>(&mut self, link: &mut L, command: &Command<'_>) -> Result<Reply, HostFault>
         requires { FitsFrame command.now }
         ensures replies { GetsReply (exchange command.now) command.now self.old.progress
             (L.view link.old) (L.view link.new) result self.new }
@@ -129,10 +129,10 @@ impl Conversation {
     {
         let seq = self.next;
         let Ok(()) = send_command(link, seq, command) else {
-            return Err(Broken::Send);
+            return Err(HostFault::SendFailed);
         };
         let Ok(reading) = listen(&mut self.reader, &mut self.unread, link, seq) else {
-            return Err(Broken::Recv);
+            return Err(HostFault::RecvFailed);
         };
         self.next = seq.wrapping_add(1);
         Ok(reply_to(&self.reader, reading, command))
@@ -144,7 +144,7 @@ impl Conversation {
         link: &mut L,
         first: &Option<Command<'_>>,
         last: &Command<'_>,
-    ) -> Result<Reply, Broken>
+    ) -> Result<Reply, HostFault>
         requires quiet { IfSome first.now BringsNoData }
         requires fits { FitsFrame last.now }
         ensures replies { GetsReply (attempt (commands_by first.now last.now) []) last.now self.old.progress
@@ -167,7 +167,7 @@ impl Conversation {
         link: &mut L,
         first: &Option<Command<'_>>,
         last: &Command<'_>,
-    ) -> Result<(), Stop>
+    ) -> Result<(), HostFault>
         requires quiet { IfSome first.now BringsNoData }
         requires fits { FitsFrame last.now }
         ensures asks { AsksLink
@@ -179,14 +179,13 @@ impl Conversation {
         // Every attempt that doesn't return replaces it.
         let mut fault = StepFault::NoAnswer;
         for _tried in 0..ATTEMPTS {
-            match self.attempt(link, first, last) {
-                Ok(Reply::Data) => return Ok(()),
-                Ok(Reply::Stop(stop)) => return Err(Stop::Fault(stop)),
-                Ok(Reply::Again(again)) => fault = again,
-                Err(broken) => return Err(Stop::Link(broken)),
+            match self.attempt(link, first, last)? {
+                Reply::Data => return Ok(()),
+                Reply::Stop(stop) => return Err(stop.reported()),
+                Reply::Again(again) => fault = again,
             }
         }
-        Err(Stop::Fault(fault))
+        Err(fault.reported())
     }
 }
 
@@ -204,7 +203,7 @@ pub(crate) fn play_step<L: Link>(
     link: &mut L,
     first: &Option<Command<'_>>,
     last: &Command<'_>,
-) -> Result<(), Stop>
+) -> Result<(), HostFault>
     requires sized { IsSizedStep first.now last.now }
     requires none { step_brings last.now ≡ 0 }
     ensures asks { AsksLink (EndsInnerStep (with_step (commands_by first.now last.now) []) (without_step []))
@@ -221,7 +220,7 @@ pub(crate) fn read_step<L: Link>(
     first: &Option<Command<'_>>,
     last: &Command<'_>,
     out: &mut Vec<u8>,
-) -> Result<(), Stop>
+) -> Result<(), HostFault>
     requires sized { IsSizedStep first.now last.now }
     requires room { length out.old.items + step_brings last.now ≤ vec_capacity out.old }
     ensures asks { AsksLink

@@ -7,8 +7,8 @@ use avr_part::Mem;
 use std::fmt;
 use thiserror::Error;
 
-/// Why a step failed. [`crate::Host`] reports it as the [`HostFault`] of the same name. It is public because
-/// definitions that other crates' contracts cite use it.
+/// Why a step failed, if the link didn't. [`crate::Host`] reports it as the [`HostFault`] of the same name. It is
+/// public because definitions that other crates' contracts cite use it.
 #[derive(Clone, Copy, Debug, Drop, PartialEq, Eq)]
 pub enum StepFault {
     /// The last attempt got no reply.
@@ -24,38 +24,18 @@ pub enum StepFault {
 }
 
 impl StepFault {
-    /// Returns the number of the [`HostFault`] of the same name, which never changes.
-    ///
-    /// ```text
-    /// assert_eq!(rt; StepFault::NoAnswer.number(), HostFault::NoAnswer.number());
-    /// ```
-    pub fn number(&self) -> u8
-        ensures { result ≡ host_fault_number (host_fault self.now) }
+    /// Returns the [`HostFault`] of the same name.
+    pub(crate) fn reported(self) -> HostFault
+        ensures { result ≡ host_fault self }
     {
         match self {
-            StepFault::NoAnswer => 1,
-            StepFault::LinkEnded => 2,
-            StepFault::Babble => 4,
-            StepFault::Refused { .. } => 5,
-            StepFault::BadAnswer(_) => 6,
+            StepFault::NoAnswer => HostFault::NoAnswer,
+            StepFault::LinkEnded => HostFault::LinkEnded,
+            StepFault::Babble => HostFault::Babble,
+            StepFault::Refused { command, status } => HostFault::Refused { command, status },
+            StepFault::BadAnswer(command) => HostFault::BadAnswer(command),
         }
     }
-}
-
-/// What the link failed to do. It is public for definitions, as [`StepFault`] is.
-#[derive(Clone, Copy, Debug, Drop, PartialEq, Eq)]
-pub enum Broken {
-    /// Send a whole frame.
-    Send,
-    /// Receive the reply to one.
-    Recv,
-}
-
-/// Why a step stopped: because of what was received, or because the link failed.
-#[derive(Clone, Copy, Drop)]
-pub(crate) enum Stop {
-    Fault(StepFault),
-    Link(Broken),
 }
 
 /// Why a call of a host failed.

@@ -1,10 +1,21 @@
 //! The transcript of a link, for proofs alone. It takes no memory, and its methods do nothing at run time.
-ghost use Rattle.std.specs.Prelude.{◌≡◌, [], ◌∷◌, ◌++◌, take};
+ghost use Rattle.std.specs.Prelude.{◌≡◌, [], ◌∷◌, ◌++◌};
 ghost use Rattle.std.specs.Borrow.{ftrue};
-ghost use Rattle.stk_host.specs.Transcript.{Transcript, Sent, Taken, Got, items_of};
+ghost use Rattle.stk_host.specs.Transcript.{Transcript};
 
 use crate::link::Heard;
 use std::marker::Model;
+
+/// What passed at one call of a link.
+#[derive(Clone, Copy, Drop)]
+pub(crate) enum Piece<'a> {
+    /// This many of the bytes were sent.
+    Sent(&'a [u8], usize),
+    /// A send that failed had taken this many of the bytes.
+    Taken(&'a [u8], usize),
+    /// This was received. Its bytes are at the start of the buffer.
+    Received(&'a Heard, &'a [u8]),
+}
 
 /// All pieces sent and received, in order. Only clauses read it, as `items`.
 #[derive(Drop)]
@@ -17,32 +28,18 @@ impl Model for History {
 }
 
 impl History {
+    ghost use Rattle.stk_host.specs.Transcript.{passed};
+
     pub fn new() -> History
         ensures { result.items ≡ [] }
     {
         History {}
     }
 
-    /// Adds the first `count` bytes as a piece sent.
+    /// Adds this piece.
     #[inline(always)]
-    pub fn sent(&self, bytes: &[u8], count: usize) -> History
-        ensures { result.items ≡ self.now.items ++ Sent (take count bytes.now) ∷ [] }
-    {
-        History {}
-    }
-
-    /// Adds the first `count` bytes as taken by a send that failed.
-    #[inline(always)]
-    pub fn taken(&self, bytes: &[u8], count: usize) -> History
-        ensures { result.items ≡ self.now.items ++ Taken (take count bytes.now) ∷ [] }
-    {
-        History {}
-    }
-
-    /// Adds what was received; its bytes are at the start of the buffer.
-    #[inline(always)]
-    pub fn heard(&self, heard: &Heard, buffer: &[u8]) -> History
-        ensures { result.items ≡ self.now.items ++ Got (items_of heard.now buffer.now) ∷ [] }
+    pub(crate) fn then(&self, piece: &Piece<'_>) -> History
+        ensures { result.items ≡ self.now.items ++ passed piece.now ∷ [] }
     {
         History {}
     }

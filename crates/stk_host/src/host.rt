@@ -1,15 +1,17 @@
 //! The host: operations over a link, and the fault after which nothing more is sent.
-ghost use Rattle.std.specs.Prelude.{◌≡◌, ◌<◌, ◌≤◌, ◌^◌, [], length, Some, None, Ok, Err, OnOk, OnErr, MatchOption};
+ghost use Rattle.std.specs.Prelude.{◌≡◌, ◌<◌, ◌≤◌, ◌^◌, ℕ, List, [], length, Some, None, Ok, Err, IfOk, OnOk, OnErr, MatchOption, true, false};
+ghost use Rattle.avr_part.specs.Mem.{is_writable};
 ghost use Rattle.avr_part.specs.Part.{size_of};
 ghost use Rattle.stk_host.specs.declared.fault.HostFault.{HostFault};
+ghost use Rattle.stk_host.specs.declared.fault.HostFault.TheVariants as fault;
 ghost use Rattle.ghosts.specs.Stays.{Stays};
 ghost use Rattle.stk_host.specs.Operations.{opening, closing, erasing, writing, reading, verifying};
 ghost use Rattle.stk_host.specs.State.{lasting_fault};
-ghost use Rattle.stk_host.specs.Calls.{Calls, CallsOrLacks, fault_of_stop, opening_result, closing_result, given_or_fault, vector_after, verifying_result};
+ghost use Rattle.stk_host.specs.Calls.{Calls, opening_result, given_or_fault, vector_after, verifying_result};
 
 use crate::comparing::compare;
 use crate::conversation::Conversation;
-use crate::fault::{Broken, HostFault, StepFault, Stop};
+use crate::fault::HostFault;
 use crate::link::Link;
 use crate::opening::{begin, end};
 use crate::reading::read_memory;
@@ -66,42 +68,20 @@ impl Model for Host {
     ghost invariant = { λ host. length host.conversation.progress.unread ≤ LARGEST_FRAME };
 }
 
-fn fault_of(stop: Stop) -> HostFault
-    ensures { result ≡ fault_of_stop stop }
-{
-    match stop {
-        Stop::Fault(StepFault::NoAnswer) => HostFault::NoAnswer,
-        Stop::Fault(StepFault::LinkEnded) => HostFault::LinkEnded,
-        Stop::Fault(StepFault::Babble) => HostFault::Babble,
-        Stop::Fault(StepFault::Refused { command, status }) => {
-            HostFault::Refused { command, status }
-        }
-        Stop::Fault(StepFault::BadAnswer(command)) => HostFault::BadAnswer(command),
-        Stop::Link(Broken::Send) => HostFault::SendFailed,
-        Stop::Link(Broken::Recv) => HostFault::RecvFailed,
-    }
-}
-
 /// Returns the signature that was read, if it is `wanted` or `force` is set.
 fn judge_signature(
     wanted: [u8; 3],
     force: bool,
-    begun: Result<[u8; 3], Stop>,
+    begun: Result<[u8; 3], HostFault>,
 ) -> Result<[u8; 3], HostFault>
     ensures { result ≡ opening_result wanted force begun }
 {
-    let found = begun.map_err(fault_of)?;
+    let found = begun?;
     if force || found == wanted {
         Ok(found)
     } else {
         Err(HostFault::WrongSignature(found))
     }
-}
-
-fn judge_end(ended: Result<(), Stop>) -> Result<(), HostFault>
-    ensures { result ≡ closing_result ended }
-{
-    ended.map_err(fault_of)
 }
 
 fn clear_on_fault(outcome: &Result<(), HostFault>, out: &mut Vec<u8>)
@@ -113,7 +93,7 @@ fn clear_on_fault(outcome: &Result<(), HostFault>, out: &mut Vec<u8>)
 }
 
 fn judge_comparison(
-    taken: Result<(), Stop>,
+    taken: Result<(), HostFault>,
     mem: Mem,
     image: &Image,
     found: &[u8],
@@ -121,7 +101,7 @@ fn judge_comparison(
     requires { OnOk taken (length image.now ≤ length found.now) }
     ensures { result ≡ verifying_result mem image.now found.now taken }
 {
-    taken.map_err(fault_of)?;
+    taken?;
     compare(mem, image, found)
 }
 
@@ -183,9 +163,13 @@ impl Host {
     /// assert!(rt; signature == [0x1E, 0x95, 0x0F]);
     /// ```
     pub fn open<L: Link>(&mut self, link: &mut L, force: bool) -> Result<[u8; 3], HostFault>
-        ensures calls { Calls (opening self.old.part.signature force) self.old self.new
+        ensures calls { Calls false (opening self.old.part.signature force) self.old self.new
             (L.view link.old) (L.view link.new) result }
-        ensures stays { (fault : HostFault) → self.old.broken ≡ Some fault → link.new ≡ link.old }
+        ensures ok { IfOk result (λ found. force ≡ false → found ≡ self.old.part.signature) }
+        ensures wrong { (found : List ℕ) → self.old.broken ≡ None → result ≡ Err (fault.WrongSignature found)
+            → (force ≡ false) × ((found ≡ self.old.part.signature) → ⊥) }
+        ensures again { (fault : HostFault) → self.old.broken ≡ Some fault
+            → (result ≡ Err fault) × (link.new ≡ link.old) }
         ensures comes { Stays L.comes_of link.old link.new }
     {
         self.check()?;
@@ -209,13 +193,13 @@ impl Host {
     /// Host::new(&part).erase(&mut link)?;
     /// ```
     pub fn erase<L: Link>(&mut self, link: &mut L) -> Result<(), HostFault>
-        ensures calls { Calls erasing self.old self.new (L.view link.old) (L.view link.new) result }
-        ensures stays { (fault : HostFault) → self.old.broken ≡ Some fault → link.new ≡ link.old }
+        ensures calls { Calls false erasing self.old self.new (L.view link.old) (L.view link.new) result }
+        ensures again { (fault : HostFault) → self.old.broken ≡ Some fault
+            → (result ≡ Err fault) × (link.new ≡ link.old) }
         ensures comes { Stays L.comes_of link.old link.new }
     {
         self.check()?;
-        let erased = erase_chip(&mut self.conversation, link);
-        let outcome = judge_end(erased);
+        let outcome = erase_chip(&mut self.conversation, link);
         self.broken = lasting(&outcome);
         outcome
     }
@@ -242,17 +226,19 @@ impl Host {
     /// ```
     pub fn write<L: Link>(&mut self, link: &mut L, mem: Mem, image: &Image) -> Result<(), HostFault>
         requires { length image.now ≤ size_of mem self.old.part }
-        ensures calls { Calls (writing self.old.part mem image.now) self.old self.new
+        ensures calls { Calls false (writing self.old.part mem image.now) self.old self.new
             (L.view link.old) (L.view link.new) result }
-        ensures stays { (fault : HostFault) → self.old.broken ≡ Some fault → link.new ≡ link.old }
+        ensures read_only { self.old.broken ≡ None → is_writable mem ≡ false
+            → (result ≡ Err (fault.ReadOnly mem)) × (link.new ≡ link.old) }
+        ensures again { (fault : HostFault) → self.old.broken ≡ Some fault
+            → (result ≡ Err fault) × (link.new ≡ link.old) }
         ensures comes { Stays L.comes_of link.old link.new }
     {
         self.check()?;
         if !mem.writable() {
             return Err(HostFault::ReadOnly(mem));
         }
-        let written = write_memory(&mut self.conversation, link, &self.part, mem, image);
-        let outcome = judge_end(written);
+        let outcome = write_memory(&mut self.conversation, link, &self.part, mem, image);
         self.broken = lasting(&outcome);
         outcome
     }
@@ -280,12 +266,13 @@ impl Host {
         out: &mut Vec<u8>,
     ) -> Result<(), HostFault>
         // If allocation fails, nothing is sent or received.
-        ensures calls { CallsOrLacks (reading self.old.part mem) self.old self.new (L.view link.old) (L.view link.new)
+        ensures calls { Calls true (reading self.old.part mem) self.old self.new (L.view link.old) (L.view link.new)
             (given_or_fault out.new.items result) }
         ensures empty { OnErr result (out.new.items ≡ []) }
         ensures sized { OnOk result (length out.new.items ≡ size_of mem self.old.part) }
         ensures short { length out.new.items < 2 ^ 32 }
-        ensures stays { (fault : HostFault) → self.old.broken ≡ Some fault → link.new ≡ link.old }
+        ensures again { (fault : HostFault) → self.old.broken ≡ Some fault
+            → (result ≡ Err fault) × (link.new ≡ link.old) }
         ensures comes { Stays L.comes_of link.old link.new }
     {
         out.clear();
@@ -293,8 +280,7 @@ impl Host {
         if out.reserve(self.part.size_of(mem) as usize).is_err() {
             return Err(HostFault::Memory);
         }
-        let taken = read_memory(&mut self.conversation, link, &self.part, mem, out);
-        let outcome = judge_end(taken);
+        let outcome = read_memory(&mut self.conversation, link, &self.part, mem, out);
         clear_on_fault(&outcome, out);
         self.broken = lasting(&outcome);
         outcome
@@ -327,9 +313,10 @@ impl Host {
     ) -> Result<(), HostFault>
         requires { length image.now ≤ size_of mem self.old.part }
         // If allocation fails, nothing is sent or received.
-        ensures calls { CallsOrLacks (verifying self.old.part mem image.now) self.old self.new
+        ensures calls { Calls true (verifying self.old.part mem image.now) self.old self.new
             (L.view link.old) (L.view link.new) result }
-        ensures stays { (fault : HostFault) → self.old.broken ≡ Some fault → link.new ≡ link.old }
+        ensures again { (fault : HostFault) → self.old.broken ≡ Some fault
+            → (result ≡ Err fault) × (link.new ≡ link.old) }
         ensures comes { Stays L.comes_of link.old link.new }
     {
         self.check()?;
@@ -357,13 +344,13 @@ impl Host {
     /// Host::new(&part).close(&mut link)?;
     /// ```
     pub fn close<L: Link>(&mut self, link: &mut L) -> Result<(), HostFault>
-        ensures calls { Calls closing self.old self.new (L.view link.old) (L.view link.new) result }
-        ensures stays { (fault : HostFault) → self.old.broken ≡ Some fault → link.new ≡ link.old }
+        ensures calls { Calls false closing self.old self.new (L.view link.old) (L.view link.new) result }
+        ensures again { (fault : HostFault) → self.old.broken ≡ Some fault
+            → (result ≡ Err fault) × (link.new ≡ link.old) }
         ensures comes { Stays L.comes_of link.old link.new }
     {
         self.check()?;
-        let ended = end(&mut self.conversation, link);
-        let outcome = judge_end(ended);
+        let outcome = end(&mut self.conversation, link);
         self.broken = lasting(&outcome);
         outcome
     }

@@ -40,7 +40,7 @@ mod writing;
 mod laws;
 
 pub use failing_link::FailingLink;
-pub use fault::{Broken, HostFault, StepFault};
+pub use fault::{HostFault, StepFault};
 pub use host::Host;
 pub use laws::{
     a_call_sends_at_most_four_times_its_commands, a_record_of_streams_is_true,

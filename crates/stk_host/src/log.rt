@@ -1,8 +1,9 @@
 //! A transcript that is kept.
-ghost use Rattle.std.specs.Prelude.{◌≡◌, ◌<◌, ◌≤◌, ◌++◌, ◌∷◌, [], length, OnOk, OnErr};
-ghost use Rattle.stk_host.specs.declared.link.Item.TheVariants as item;
-ghost use Rattle.stk_host.specs.Tape.{on_tape, bytes_of};
+ghost use Rattle.std.specs.Prelude.{◌≡◌, ◌<◌, ◌≤◌, ◌++◌, ◌∷◌, [], length, take, OnOk, OnErr};
+ghost use Rattle.stk_host.specs.Tape.{bytes_of};
+ghost use Rattle.stk_host.specs.Log.{byte_count};
 ghost use Rattle.stk_host.specs.Transcript as piece;
+ghost use Rattle.stk_host.specs.Transcript.{FitsBuffer};
 
 use crate::link::Heard;
 use std::alloc::{AllocError, Global};
@@ -10,11 +11,20 @@ use std::marker::Model;
 
 /// A piece that passed, without its bytes.
 #[derive(Clone, Copy)]
-pub enum Mark {
+enum Mark {
     Sent(usize),
-    Got(usize),
-    Silence,
-    End,
+    Heard(Heard),
+}
+
+/// Returns the bytes received, which are at the start of the buffer.
+fn received(heard: Heard, buffer: &[u8]) -> &[u8]
+    requires { FitsBuffer heard (length buffer.now) }
+    ensures { result.now ≡ take (byte_count heard) buffer.now }
+{
+    match heard {
+        Heard::Bytes(count) => &buffer[..count],
+        Heard::Silence | Heard::End => &[],
+    }
 }
 
 /// The transcript of a link: all pieces sent and received, in order.
@@ -86,43 +96,16 @@ impl Log {
         self.marks.push_reserved(Mark::Sent(bytes.len()));
     }
 
-    fn hear_bytes(&mut self, bytes: &[u8]) -> Result<(), AllocError>
-        ensures ok { OnOk result (self.new.transcript ≡ self.old.transcript ++ piece.Got (on_tape bytes.now) ∷ []) }
-        ensures err { OnErr result (self.new.transcript ≡ self.old.transcript) }
-    {
-        self.marks.reserve(1)?;
-        self.back.extend_from_slice(bytes)?;
-        self.marks.push_reserved(Mark::Got(bytes.len()));
-        Ok(())
-    }
-
-    fn silence(&mut self) -> Result<(), AllocError>
-        ensures ok { OnOk result (self.new.transcript ≡ self.old.transcript ++ piece.Got (item.Silence ∷ []) ∷ []) }
-        ensures err { OnErr result (self.new.transcript ≡ self.old.transcript) }
-    {
-        self.marks.push(Mark::Silence)?;
-        Ok(())
-    }
-
-    fn end(&mut self) -> Result<(), AllocError>
-        ensures ok { OnOk result (self.new.transcript ≡ self.old.transcript ++ piece.Got (item.End ∷ []) ∷ []) }
-        ensures err { OnErr result (self.new.transcript ≡ self.old.transcript) }
-    {
-        self.marks.push(Mark::End)?;
-        Ok(())
-    }
-
     /// Adds what was received; its bytes are at the start of the buffer. If allocation fails, the transcript stays.
     pub fn hear(&mut self, heard: Heard, buffer: &[u8]) -> Result<(), AllocError>
-        requires { piece.FitsBuffer heard (length buffer.now) }
+        requires { FitsBuffer heard (length buffer.now) }
         ensures ok { OnOk result (self.new.transcript ≡ self.old.transcript ++ piece.Got
             (piece.items_of heard buffer.now) ∷ []) }
         ensures err { OnErr result (self.new.transcript ≡ self.old.transcript) }
     {
-        match heard {
-            Heard::Bytes(count) => self.hear_bytes(&buffer[..count]),
-            Heard::Silence => self.silence(),
-            Heard::End => self.end(),
-        }
+        self.marks.reserve(1)?;
+        self.back.extend_from_slice(received(heard, buffer))?;
+        self.marks.push_reserved(Mark::Heard(heard));
+        Ok(())
     }
 }

@@ -7,7 +7,7 @@ ghost use Rattle.stk_host.specs.Calls.{EndsSteps, AsksLink};
 ghost use Rattle.ghosts.specs.Stays.{Stays};
 
 use crate::conversation::Conversation;
-use crate::fault::Stop;
+use crate::fault::HostFault;
 use crate::link::Link;
 use stk_frame::Command;
 
@@ -15,7 +15,7 @@ fn signature_byte<L: Link>(
     conversation: &mut Conversation,
     link: &mut L,
     place: u8,
-) -> Result<u8, Stop>
+) -> Result<u8, HostFault>
     ensures asks { AsksLink (EndsSteps (step (read_signature place ∷ [])) (λ byte. byte ∷ [])) conversation.old.progress
         (L.view link.old) (L.view link.new) result conversation.new.progress }
     ensures comes { Stays L.comes_of link.old link.new }
@@ -26,7 +26,10 @@ fn signature_byte<L: Link>(
 }
 
 /// Signs on, enters programming mode and reads the signature, byte 0 first.
-pub(crate) fn begin<L: Link>(conversation: &mut Conversation, link: &mut L) -> Result<[u8; 3], Stop>
+pub(crate) fn begin<L: Link>(
+    conversation: &mut Conversation,
+    link: &mut L,
+) -> Result<[u8; 3], HostFault>
     ensures asks { AsksLink (EndsSteps handshake (λ found. found)) conversation.old.progress
         (L.view link.old) (L.view link.new) result conversation.new.progress }
     ensures comes { Stays L.comes_of link.old link.new }
@@ -39,7 +42,7 @@ pub(crate) fn begin<L: Link>(conversation: &mut Conversation, link: &mut L) -> R
     Ok([first, second, third])
 }
 
-pub(crate) fn end<L: Link>(conversation: &mut Conversation, link: &mut L) -> Result<(), Stop>
+pub(crate) fn end<L: Link>(conversation: &mut Conversation, link: &mut L) -> Result<(), HostFault>
     ensures asks { AsksLink (EndsSteps (step (leave ∷ [])) (λ done. [])) conversation.old.progress
         (L.view link.old) (L.view link.new) result conversation.new.progress }
     ensures comes { Stays L.comes_of link.old link.new }

@@ -8,7 +8,7 @@ ghost use Rattle.ghosts.specs.Stays.{Stays};
 ghost use Rattle.avr_part.specs.Part as parts;
 
 use crate::conversation::{Conversation, read_step};
-use crate::fault::Stop;
+use crate::fault::HostFault;
 use crate::link::Link;
 use crate::places::{load_eeprom, load_flash};
 use avr_part::{Mem, Part};
@@ -83,7 +83,7 @@ pub(crate) fn read_memory<L: Link>(
     part: &Part,
     mem: Mem,
     out: &mut Vec<u8>,
-) -> Result<(), Stop>
+) -> Result<(), HostFault>
     requires empty { out.old.items ≡ [] }
     requires room { parts.size_of mem part.now ≤ vec_capacity out.old }
     ensures asks { MayAsk (EndsSteps (play (read_steps part.now mem) []) (λ done. out.new.items))

@@ -8,7 +8,7 @@ ghost use Rattle.stk_host.specs.Transcript.{Sent, Sends, Receives, FitsBuffer};
 ghost use Rattle.stk_host.specs.declared.link.Heard.TheVariants.{Silence};
 ghost use Rattle.stk_host.specs.Links.{StreamState, IsTrueSince, stream_state, TakesKnown, HearsKnown, IsOfListening};
 
-use crate::history::History;
+use crate::history::{History, Piece};
 use crate::link::{Heard, Link, LinkFault};
 use ghosts::retry::{flush, read_some, write_some};
 use ghosts::{Inlet, Outlet};
@@ -69,11 +69,11 @@ fn put_bytes<W: Outlet>(writer: &mut W, bytes: &[u8], history: &mut History) -> 
     let count = write_some(writer, bytes)?;
     match flush(writer) {
         Ok(()) => {
-            *history = history.sent(bytes, count);
+            *history = history.then(&Piece::Sent(bytes, count));
             Ok(count)
         }
         Err(error) => {
-            *history = history.taken(bytes, count);
+            *history = history.then(&Piece::Taken(bytes, count));
             Err(error)
         }
     }
@@ -218,7 +218,7 @@ impl<R: Inlet + Drop, W: Outlet + Drop> Link for StreamLink<R, W> {
     {
         match hear_bytes(&mut self.reader, buffer) {
             Ok(heard) => {
-                self.history = self.history.heard(&heard, buffer);
+                self.history = self.history.then(&Piece::Received(&heard, buffer));
                 Ok(heard)
             }
             Err(error) => {

@@ -11,14 +11,17 @@ ghost use Rattle.stk_host.specs.Places.{each_from};
 ghost use Rattle.stk_host.specs.Places as places;
 
 use crate::conversation::{Conversation, play_step};
-use crate::fault::Stop;
+use crate::fault::HostFault;
 use crate::link::Link;
 use crate::places::{load_eeprom, load_flash, page_size};
 use avr_image::Image;
 use avr_part::{Mem, Part};
 use stk_frame::{Command, Fuse};
 
-pub(crate) fn erase_chip<L: Link>(conversation: &mut Conversation, link: &mut L) -> Result<(), Stop>
+pub(crate) fn erase_chip<L: Link>(
+    conversation: &mut Conversation,
+    link: &mut L,
+) -> Result<(), HostFault>
     ensures asks { AsksLink (EndsSteps (play ((erase ∷ []) ∷ []) []) (λ done. [])) conversation.old.progress
         (L.view link.old) (L.view link.new) result conversation.new.progress }
     ensures comes { Stays L.comes_of link.old link.new }
@@ -46,7 +49,7 @@ fn program_page<L: Link>(
     part: &Part,
     image: &Image,
     start: u32,
-) -> Result<(), Stop>
+) -> Result<(), HostFault>
     requires { start < 2 ^ 20 }
     ensures asks { AsksLink (EndsInnerStep (with_step (page_step part.now image.now start) []) (without_step []))
         conversation.old.progress (L.view link.old) (L.view link.new) result conversation.new.progress }
@@ -67,7 +70,7 @@ fn program_run<L: Link>(
     image: &Image,
     start: u32,
     end: u32,
-) -> Result<(), Stop>
+) -> Result<(), HostFault>
     requires order { start ≤ end }
     requires fits { end - start ≤ 256 }
     ensures asks { AsksLink (EndsInnerStep
@@ -100,7 +103,7 @@ fn write_page<L: Link>(
     part: &Part,
     image: &Image,
     number: u32,
-) -> Result<(), Stop>
+) -> Result<(), HostFault>
     requires { number < place_count part.now Mem.Flash }
     ensures asks { MayAsk (EndsInnerStep (with_steps (page_steps part.now image.now number) []) (without_step []))
         conversation.old.progress (L.view link.old) (L.view link.new) result conversation.new.progress }
@@ -121,7 +124,7 @@ fn write_run<L: Link>(
     part: &Part,
     image: &Image,
     addr: u32,
-) -> Result<(), Stop>
+) -> Result<(), HostFault>
     requires { addr < place_count part.now Mem.Eeprom }
     ensures asks { MayAsk (EndsInnerStep (with_steps (run_steps_at part.now image.now addr) []) (without_step []))
         conversation.old.progress (L.view link.old) (L.view link.new) result conversation.new.progress }
@@ -142,7 +145,7 @@ fn write_place<L: Link>(
     mem: Mem,
     image: &Image,
     place: u32,
-) -> Result<(), Stop>
+) -> Result<(), HostFault>
     requires { place < place_count part.now mem }
     ensures asks { MayAsk (EndsInnerStep (with_steps (place_steps part.now mem image.now place) []) (without_step []))
         conversation.old.progress (L.view link.old) (L.view link.new) result conversation.new.progress }
@@ -161,7 +164,7 @@ fn write_places<L: Link>(
     part: &Part,
     mem: Mem,
     image: &Image,
-) -> Result<(), Stop>
+) -> Result<(), HostFault>
     ensures asks { MayAsk (EndsSteps (play (each_from (place_steps part.now mem image.now) 0 (place_count part.now mem))
         []) (λ done. []))
         conversation.old.progress (L.view link.old) (L.view link.new) result conversation.new.progress }
@@ -178,7 +181,7 @@ fn write_fuse<L: Link>(
     link: &mut L,
     fuse: Fuse,
     byte: Option<u8>,
-) -> Result<(), Stop>
+) -> Result<(), HostFault>
     ensures asks { MayAsk (EndsSteps (play (byte_steps (host.program_fuse fuse) byte) []) (λ done. []))
         conversation.old.progress (L.view link.old) (L.view link.new) result conversation.new.progress }
     ensures comes { Stays L.comes_of link.old link.new }
@@ -198,7 +201,7 @@ fn write_lock<L: Link>(
     conversation: &mut Conversation,
     link: &mut L,
     byte: Option<u8>,
-) -> Result<(), Stop>
+) -> Result<(), HostFault>
     ensures asks { MayAsk (EndsSteps (play (byte_steps host.program_lock byte) []) (λ done. []))
         conversation.old.progress (L.view link.old) (L.view link.new) result conversation.new.progress }
     ensures comes { Stays L.comes_of link.old link.new }
@@ -216,7 +219,7 @@ pub(crate) fn write_memory<L: Link>(
     part: &Part,
     mem: Mem,
     image: &Image,
-) -> Result<(), Stop>
+) -> Result<(), HostFault>
     ensures asks { MayAsk (EndsSteps (play (write_steps part.now mem image.now) []) (λ done. []))
         conversation.old.progress (L.view link.old) (L.view link.new) result conversation.new.progress }
     ensures comes { Stays L.comes_of link.old link.new }

@@ -10,16 +10,14 @@ use Rattle.avr_desk.specs.declared.desk.DeskFault.{DeskFault}
 use Rattle.avr_cli.specs.declared.settings.Switches.{Switches}
 use Rattle.avr_part.specs.Part.{Part}
 use Rattle.stk_host.specs.declared.fault.HostFault.{HostFault}
-use Rattle.stk_host.specs.declared.fault.Broken.TheVariants.{Send, Recv}
 use Rattle.stk_host.specs.Operations.{closing}
 use Rattle.stk_host.specs.State.{HostState}
-use Rattle.stk_host.specs.Transcript as link
 use Rattle.stk_host.specs.Play.{Progress}
 use Rattle.stk_host.specs.Transcript.{LinkState, heard}
 use Rattle.stk_host.specs.Tape.{Tape, on_tape}
 use Rattle.stk_host.proofs.Transcripts.InDialogs.{followed, played_bind}
 use Rattle.stk_host.proofs.Transcripts.Laws.{heard_append}
-use Rattle.stk_host.specs.Calls.{IsBroken, Calls, CallsBy, given_or_fault}
+use Rattle.stk_host.specs.Calls.{Calls, given_or_fault}
 use Rattle.stk_host.specs.Dialog.{Dialog, Done, ◌>>=◌, played, outputs}
 use Rattle.avr_desk.specs.Said.{OutputEvent, Tells}
 use Rattle.avr_plan.specs.Plan.{Plan}
@@ -42,7 +40,7 @@ use Rattle.avr_desk.proofs.Lines.Told.{follows_here, same_here}
 use Rattle.avr_session.proofs.Runs.Calls.{none_failed_here, came_here, came_said, came_part, ran_from, ran_on, stops_in, broke_on, broke_part, broke_output, LacksLater, StopsReport, ToldBy}
 use Rattle.avr_session.proofs.ActionByAction.FaultsTold.{Foretells, foretold, prefix_tells_none, actions_foretells}
 use Rattle.avr_session.proofs.ActionByAction.Actions.{actions_dialog-one, actions_dialog-append}
-use Rattle.avr_session.proofs.ActionByAction.Operations.{call_ended, closing_lacks_none, Stop, Broke, Lacks, cause_at, StopsAs, StopsOver, Ended, operation_runs, stop_come, told_of}
+use Rattle.avr_session.proofs.ActionByAction.Operations.{call_ended, Stop, Unsent, Unheard, Lacks, cause_at, StopsAs, StopsOver, operation_runs, stop_come, told_of}
 
 -- a desk that failed in printing stops the run, whatever was reported
 printing_tells : (flag : Bool) (told : List ℕ) (d : DeskState) → told ≡ [] → TellsCause flag OfPrinting told d d
@@ -80,36 +78,36 @@ desk_stops_report takes o d e outputs le none mid cause prefix told stops =
     desk_stops_run takes o d e le (prefix.whole ++ prefix.begun) (prefix_tells_none prefix none) cause told stops
 
 -- a cause that was reported
-told_by : {A R : Type 0} (takes : Bool) (dialog : Dialog ⊥ R) (m : Progress) (o p : LinkState)
-    {outcome : Result A HostFault} {d e : DeskState} (stop : Stop) → (IsBroken outcome → link.HasFailed o p)
-    → StopsAs outcome stop → StopsOver takes dialog m o p stop → Tells d e (cause_line (cause_at stop))
+told_by : {R : Type 0} (takes : Bool) (dialog : Dialog ⊥ R) (m : Progress) (o p : LinkState) {d e : DeskState}
+    (stop : Stop) → StopsOver takes dialog m o p stop → Tells d e (cause_line (cause_at stop))
     → ToldBy (untold takes) (cause_at stop) (devices o d) (devices p e)
-told_by takes dialog m o p {d = d} stop failed is over some = search rules
+told_by takes dialog m o p {d = d} stop over some = search (rules, stop_come)
+
+-- a call of an equal operation
+pub calls_of : {A : Type 0} {takes : Bool} {a b : Dialog ⊥ (Result A HostFault)} {old new : HostState} {o p : LinkState}
+    {outcome : Result A HostFault} → a ≡ b → Calls takes a old new o p outcome → Calls takes b old new o p outcome
+calls_of {takes = takes} {old = old} {new = new} {o = o} {p = p} {outcome = outcome} is =
+    subst (λ operation. Calls takes operation old new o p outcome) is
 
 -- An operation of the host and the output about its outcome, for a call that ended and was reported like this.
 module _ {A : Type 0} (operation : Dialog ⊥ (Result A HostFault)) (outcome_says : Result A HostFault → List OutputEvent)
-    {Ends : Progress → LinkState → LinkState → Result A HostFault → Progress → Type 0} {old new : HostState}
-    {o p : LinkState} {d e : DeskState} {outcome : Result A HostFault} {told : Result (Unit {0}) DeskFault}
-    {result : Result (Unit {0}) End} {By : DeskState → DeskState → Cause → List ℕ → Type 0}
-    (reports : Reports By d e (outcome_says outcome) told) where
+    {old new : HostState} {o p : LinkState} {d e : DeskState} {outcome : Result A HostFault}
+    {told : Result (Unit {0}) DeskFault} {result : Result (Unit {0}) End}
+    {By : DeskState → DeskState → Cause → List ℕ → Type 0} (reports : Reports By d e (outcome_says outcome) told) where
   action_performs : (terms : Terms) → StopsReport terms p d e (outcome_says outcome) By
       → ((stop : Stop) → StopsAs outcome stop → StopsOver terms.takes operation old.progress o p stop
       → ToldBy terms (cause_at stop) (devices o d) (devices p e)) → old.broken ≡ None
-      → CallsBy Ends old new o p outcome
-      → (Ends old.progress o p outcome new.progress
-      → Ended terms.takes operation old.progress o p outcome new.progress) → result ≡ conclusion outcome told
+      → Calls terms.takes operation old new o p outcome → result ≡ conclusion outcome told
       → PerformsBehind terms (AtOnce terms.takes) (reported operation outcome_says) old new (devices o d) (devices p e)
       (stands result)
-  action_performs terms why tells sound calls ends is = search (rules, operation_runs)
+  action_performs terms why tells sound calls is = search (rules, operation_runs, call_ended)
 
   pub operation_performs : (takes : Bool) → StopsReport (untold takes) p d e (outcome_says outcome) By
       → ((stop : Stop) → StopsAs outcome stop → Tells d e (cause_line (cause_at stop)))
-      → old.broken ≡ None → CallsBy Ends old new o p outcome
-      → (Ends old.progress o p outcome new.progress → Ended takes operation old.progress o p outcome new.progress)
-      → result ≡ conclusion outcome told
+      → old.broken ≡ None → Calls takes operation old new o p outcome → result ≡ conclusion outcome told
       → Performs takes (reported operation outcome_says) old new (devices o d) (devices p e) (stands result)
   operation_performs takes why some sound calls = action_performs (untold takes) why
-      (λ stop at over. told_by takes operation old.progress o p stop (calls.failed sound) at over (some stop at)) sound
+      (λ stop at over. told_by takes operation old.progress o p stop over (some stop at)) sound
       calls
 
 left_out_runs : (takes : Bool) (outputs : List OutputEvent) (m : Progress) (o : LinkState) (d e : DeskState)
@@ -335,18 +333,18 @@ told_before = record { takes = false; was_told = true }
 -- a failed link isn't reported there, and nothing is allocated
 silent_at : {R : Type 0} (dialog : Dialog ⊥ R) (m : Progress) (o p : LinkState) (d : DeskState) (stop : Stop)
     → StopsOver false dialog m o p stop → TellsCause true (cause_at stop) [] d d
-silent_at dialog m o p d (Broke Send) over = refl
-silent_at dialog m o p d (Broke Recv) over = refl
+silent_at dialog m o p d Unsent over = refl
+silent_at dialog m o p d Unheard over = refl
 silent_at dialog m o p d Lacks over = let e = over.0 in absurd (cc)
 
 told_nothing : {A R : Type 0} (dialog : Dialog ⊥ R) (m : Progress) (o p : LinkState) {outcome : Result A HostFault}
-    (d : DeskState) → (IsBroken outcome → link.HasFailed o p) → (stop : Stop) → StopsAs outcome stop
+    (d : DeskState) (stop : Stop) → StopsAs outcome stop
     → StopsOver false dialog m o p stop → ToldBy told_before (cause_at stop) (devices o d) (devices p d)
-told_nothing dialog m o p d failed stop is over = (
+told_nothing dialog m o p d stop is over = (
   [],
   record {
     between = d;
-    has_come = stop_come false dialog m o p d stop failed is over;
+    has_come = stop_come false dialog m o p d stop over;
     tells = silent_at dialog m o p d stop over;
     since = follows_here d;
     until = follows_here d;
@@ -356,7 +354,7 @@ told_nothing dialog m o p d failed stop is over = (
 
 -- programming mode is left without a report
 pub quietly_performs : {old new : HostState} {o p : LinkState} (d : DeskState) {outcome : Result (Unit {0}) HostFault}
-    {result : Result (Unit {0}) End} → old.broken ≡ None → Calls closing old new o p outcome
+    {result : Result (Unit {0}) End} → old.broken ≡ None → Calls false closing old new o p outcome
     → result ≡ conclusion outcome (Ok tt)
     → PerformsBehind told_before (AtOnce false) (reported closing (λ _. [])) old new (devices o d) (devices p d)
     (stands result)
@@ -364,8 +362,7 @@ quietly_performs {old = old} {o = o} {p = p} d sound calls is =
     let reports : Reports PrintStops d d [] (Ok tt) =
     record { says = (kept_none d.kept, same_here d); follows = follows_here d } in
     action_performs closing (λ _. []) reports told_before (print_stops_report told_before p reports)
-    (told_nothing closing old.progress o p d (calls.failed sound)) sound calls
-    (call_ended closing _ _ _ _ _ closing_lacks_none) is
+    (told_nothing closing old.progress o p d) sound calls is
 
 -- after it nothing more goes over the link
 pub quietly_over : {first : Dialog OutputEvent Standing} {L : Lacking} {x y : HostState} {o p : Devices}

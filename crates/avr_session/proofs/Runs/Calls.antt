@@ -4,8 +4,8 @@ use Rattle.std.proofs.Math.Bool.{or_assoc}
 use Rattle.std.proofs.lemmas.List.Folds.{list_any-append}
 use Rattle.avr_desk.specs.Fault.{HasSameCounts}
 use Rattle.avr_desk.specs.Record.{Record, DeskState, Passes, after_err}
-use Rattle.stk_host.specs.declared.fault.Broken.{Broken}
-use Rattle.stk_host.specs.declared.fault.Broken.TheVariants.{Send, Recv}
+use Rattle.stk_host.specs.declared.fault.HostFault.{HostFault}
+use Rattle.stk_host.specs.declared.fault.HostFault.TheVariants.{SendFailed, RecvFailed}
 use Rattle.stk_host.specs.Tape.{Tape, on_tape}
 use Rattle.stk_host.specs.Transcript.{Transcript, LinkState, NoneTaken, Grows, heard, sent}
 use Rattle.stk_host.specs.Dialog.{Dialog, Done, ◌>>=◌, lifted, Event, Said, Played, played, bytes_sent, outputs}
@@ -241,19 +241,19 @@ none_behind cause outcome go_on listens is =
 
 -- in an operation of the host; its report follows it
 
-abbrev pub broken_cause : Broken → Cause
-broken_cause Send = OfSending
-broken_cause Recv = OfListening
+abbrev pub broken_cause : HostFault → Cause
+broken_cause SendFailed = OfSending
+broken_cause fault = OfListening
 
-broke_raised : {A : Type 0} (by : Broken) {dialog : Dialog ⊥ A} {m : Progress} {o p : Devices} {terms : Terms}
+broke_raised : {A : Type 0} (by : HostFault) {dialog : Dialog ⊥ A} {m : Progress} {o p : Devices} {terms : Terms}
     {L : Lacking} → FailsOver by dialog m o.link p.link → ToldBy terms (broken_cause by) o p
     → BrokeOff (lifted dialog) m o p terms L
-broke_raised Send {dialog = dialog} {m = m} f some =
-    let g = by_lifted OutputEvent Send dialog m f.during f.shown f.breaks in
+broke_raised SendFailed {dialog = dialog} {m = m} f some =
+    let g = by_lifted OutputEvent SendFailed dialog m f.during f.shown f.breaks in
     broke_silent f.during (raised f.shown) OfSending (outputs_raised f.shown) some f.grows
     (search rules) g.all_sent g.in_turn tt (λ is. absurd (cc))
-broke_raised Recv {dialog = dialog} {m = m} f some =
-    let g = by_lifted OutputEvent Recv dialog m f.during f.shown f.breaks in
+broke_raised RecvFailed {dialog = dialog} {m = m} f some =
+    let g = by_lifted OutputEvent RecvFailed dialog m f.during f.shown f.breaks in
     let none = sym (append-nil (raised f.shown)) in
     broke_silent f.during (raised f.shown) OfListening (outputs_raised f.shown) some f.grows (record {
       whole = raised f.shown;
@@ -263,21 +263,22 @@ broke_raised Recv {dialog = dialog} {m = m} f some =
       events_are = sym g.shown_is ∙ none;
       place = (g.none_taken, refl, refl);
     }) g.all_sent g.in_turn g.waits (λ is. absurd (cc))
+broke_raised _ f some = absurd f.breaks
 
 -- what follows a part of a dialog
 module _ {A R : Type 0} (go_on : A → Dialog OutputEvent R) where
   -- an operation of the host, run whole
   unfoldable pub came_lifted : {dialog : Dialog ⊥ A} {m n : Progress} {o p : LinkState} {result : A} (d : DeskState)
-      → PlaysOver dialog m o p result n → length n.unread ≤ 281 → p.failures ≡ o.failures
+      → PlaysOver dialog m o p result n → length n.unread ≤ 281
       → Came (point (lifted dialog >>= go_on) m (devices o d)) (point (go_on result) n (devices p d))
-  came_lifted d f few same = record {
+  came_lifted d f few = record {
     during = f.during;
     events = raised f.events;
     grows = f.grows;
     leads = leads_bind go_on (leads_from (plays_lifted f.plays));
     few = λ _. few;
     kept = subst (λ ss. Passes (after_all ss) d d) (sym (outputs_raised f.events)) (kept_none d.kept);
-    sound = (same, same_here d);
+    sound = (f.sound, same_here d);
   }
 
   -- a part that was run whole
@@ -302,8 +303,8 @@ module _ {A R : Type 0} (go_on : A → Dialog OutputEvent R) where
       (λ is. lack f.during f.shown (f.lacks is))
 
   -- an operation that broke off
-  pub broke_operation : (by : Broken) {dialog : Dialog ⊥ A} {m : Progress} {o p : Devices} {terms : Terms} {L : Lacking}
-      → FailsOver by dialog m o.link p.link → ToldBy terms (broken_cause by) o p
+  pub broke_operation : (by : HostFault) {dialog : Dialog ⊥ A} {m : Progress} {o p : Devices} {terms : Terms}
+      {L : Lacking} → FailsOver by dialog m o.link p.link → ToldBy terms (broken_cause by) o p
       → BrokeOff (lifted dialog >>= go_on) m o p terms L
   broke_operation by {L = L} f some =
       broke_part {M = L} (λ said cause told s. s) (λ during shown lack. lack) (broke_raised by f some)

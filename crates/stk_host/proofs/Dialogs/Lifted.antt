@@ -1,8 +1,8 @@
 -- A dialog without output, as a part of one with output: laws for the crates above.
 use Rattle.std.proofs.Common.{◌≡◌, ℕ, List, [], ◌∷◌, ◌++◌, refl, ap, ◌∙◌, Some, None, rules}
 use Rattle.stk_frame.specs.Frame.{frame}
-use Rattle.stk_host.specs.declared.fault.Broken.{Broken}
-use Rattle.stk_host.specs.declared.fault.Broken.TheVariants as broken
+use Rattle.stk_host.specs.declared.fault.HostFault.{HostFault}
+use Rattle.stk_host.specs.declared.fault.HostFault.TheVariants.{SendFailed, RecvFailed}
 use Rattle.stk_host.specs.Tape.{Tape, answer}
 use Rattle.stk_host.specs.Transcript.{Transcript}
 use Rattle.stk_host.specs.Dialog.{Dialog, Done, Say, Ask, lifted, Event, Frame, Said, Played, played, behind, by_answer, next, bytes_sent, outputs}
@@ -62,10 +62,10 @@ pub plays_lifted : {E R : Type 0} {dialog : Dialog ⊥ R} {m n : Progress} {tran
 plays_lifted {E = E} {dialog = dialog} {m = m} {transcript = transcript} {events = events} f =
     search (rules, played_lifted, bytes_raised, turns_lifted)
 
-pub by_lifted : {R : Type 0} (E : Type 0) (by : Broken) (dialog : Dialog ⊥ R) (m : Progress) (transcript : Transcript)
-    (shown : List (Event ⊥))
+pub by_lifted : {R : Type 0} (E : Type 0) (by : HostFault) (dialog : Dialog ⊥ R) (m : Progress)
+    (transcript : Transcript) (shown : List (Event ⊥))
     → BreaksBy by dialog m transcript shown → BreaksBy {E = E} by (lifted dialog) m transcript (raised shown)
-by_lifted E broken.Send dialog m transcript shown f = record {
+by_lifted E SendFailed dialog m transcript shown f = record {
   whole = raised f.whole;
   part = f.part;
   unsent = f.unsent;
@@ -76,4 +76,5 @@ by_lifted E broken.Send dialog m transcript shown f = record {
   all_sent = bytes_raised E shown ∙ f.all_sent;
   in_turn = turns_lifted E dialog m transcript f.in_turn;
 }
-by_lifted E broken.Recv dialog m transcript shown f = search (rules, played_lifted, bytes_raised, turns_lifted)
+by_lifted E RecvFailed dialog m transcript shown f = search (rules, played_lifted, bytes_raised, turns_lifted)
+by_lifted E _ dialog m transcript shown f = absurd f

@@ -1,14 +1,14 @@
 -- Commands, attempts and steps, in the order of the code.
-use Rattle.std.proofs.Common.{◌≡◌, ℕ, zero, suc, List, [], ◌∷◌, ◌++◌, refl, ◌∙◌, Ok, Err, Result, arith, rules}
+use Rattle.std.proofs.Common.{◌≡◌, ℕ, zero, suc, List, [], ◌∷◌, ◌++◌, refl, Ok, Err, Result, arith, rules}
 use Rattle.stk_frame.specs.declared.command.Command.{Command}
 use Rattle.stk_frame.specs.Frame.{frame}
 use Rattle.stk_frame.specs.Commands.{body}
 use Rattle.stk_host.specs.declared.fault.StepFault.{StepFault}
 use Rattle.stk_host.specs.Tape.{Reading}
-use Rattle.stk_host.specs.Transcript.{LinkState}
+use Rattle.stk_host.specs.Transcript.{LinkState, HasFailed}
 use Rattle.stk_host.specs.Dialog.{Dialog, Done, Frame, next}
-use Rattle.stk_host.specs.declared.fault.Broken.{Broken}
-use Rattle.stk_host.specs.declared.fault.Broken.TheVariants as broken
+use Rattle.stk_host.specs.declared.fault.HostFault.{HostFault}
+use Rattle.stk_host.specs.declared.fault.HostFault.TheVariants.{SendFailed, RecvFailed}
 use Rattle.stk_host.specs.Play.{Progress, PlaysOver, FailsOver}
 use Rattle.stk_host.specs.Reach.{Reaches, Says, SaysPart, Hears, HearsNone}
 use Rattle.stk_host.specs.declared.conversation.Reply as said
@@ -24,37 +24,41 @@ use Rattle.stk_host.proofs.Transcripts.Reached.{reaches_on, reaches_from, played
 
 pub exchange_done : (seq then : ℕ) (command : Command) {u v : List ℕ} {o p q : LinkState} {reading : Reading}
     → Says (frame seq (body command)) o.transcript p.transcript → Hears seq u p q reading v → then ≡ next seq
+    → q.failures ≡ o.failures
     → PlaysOver (exchange command) (record { next = seq; unread = u }) o q (reading_reply command reading)
     (record { next = then; unread = v })
 unfolding exchange
-exchange_done seq then command {u = u} {v = v} {o = o} {p = p} {q = q} {reading = reading} says hears is = record {
+exchange_done seq then command {u = u} {v = v} {o = o} {p = p} {q = q} {reading = reading} says hears is same = record {
   during = says.during ++ hears.during;
   events = Frame (frame seq (body command)) ∷ [];
   grows = grows_on o.transcript p.transcript q.transcript says.during hears.during says.grows hears.grows;
   plays = rw is (plays_from (leads_ask (body command) (λ r. Done (reading_reply command r)) seq u v says.during
       hears.during reading says.quiet says.none_taken says.bytes_sent hears.waits hears.answers));
+  sound = same;
 }
 
 pub exchange_unsent : (seq : ℕ) (command : Command) (u : List ℕ) {o p : LinkState}
-    → SaysPart (frame seq (body command)) o.transcript p.transcript
-    → FailsOver broken.Send (exchange command) (record { next = seq; unread = u }) o p
+    → SaysPart (frame seq (body command)) o.transcript p.transcript → HasFailed o p
+    → FailsOver SendFailed (exchange command) (record { next = seq; unread = u }) o p
 unfolding exchange
-exchange_unsent seq command u says = record {
+exchange_unsent seq command u says failed = record {
   during = says.during;
   shown = Frame says.part ∷ [];
   grows = says.grows;
   breaks = search (rules, breaks_asking);
+  failed = failed;
 }
 
 pub exchange_unheard : (seq : ℕ) (command : Command) {u : List ℕ} {o p q : LinkState}
-    → Says (frame seq (body command)) o.transcript p.transcript → HearsNone seq u p q
-    → FailsOver broken.Recv (exchange command) (record { next = seq; unread = u }) o q
+    → Says (frame seq (body command)) o.transcript p.transcript → HearsNone seq u p q → HasFailed o q
+    → FailsOver RecvFailed (exchange command) (record { next = seq; unread = u }) o q
 unfolding exchange
-exchange_unheard seq command {u = u} {o = o} {p = p} {q = q} says hears = record {
+exchange_unheard seq command {u = u} {o = o} {p = p} {q = q} says hears failed = record {
   during = says.during ++ hears.during;
   shown = Frame (frame seq (body command)) ∷ [];
   grows = grows_on o.transcript p.transcript q.transcript says.during hears.during says.grows hears.grows;
   breaks = search (rules, breaks_listening);
+  failed = failed;
 }
 
 -- an attempt whose next command was sent and answered
@@ -67,54 +71,54 @@ unfolding attempt
 attempt_on command commands before reply f = then_reaches (with_data (λ bytes. attempt commands (before ++ bytes))) f
 
 -- or it broke off there
-pub attempt_off : {by : Broken} (command : Command) (commands : List Command) {seq : Progress} {o q : LinkState}
+pub attempt_off : {by : HostFault} (command : Command) (commands : List Command) {seq : Progress} {o q : LinkState}
     → FailsOver by (exchange command) seq o q → FailsOver by (attempt (command ∷ commands) []) seq o q
 unfolding attempt
 attempt_off command commands f = broken_bind (with_data (λ bytes. attempt commands ([] ++ bytes))) f
 
 -- an attempt of one command
-pub gets_one : (last : Command) (m : Progress) (o q : LinkState) (result : Result said.Reply Broken)
+pub gets_one : (last : Command) (m : Progress) (o q : LinkState) (result : Result said.Reply HostFault)
     (after : ConversationState)
     → GetsReply (exchange last) last m o q result after → GetsReply (attempt (last ∷ []) []) last m o q result after
 unfolding attempt
 gets_one last m o q (Ok reply) after f =
-    record { ok = by_reply reply _ f.ok; err = tt; sized = f.sized; counts = f.counts; bound = f.bound }
+    record { ok = by_reply reply _ f.ok; err = tt; sized = f.sized; counted = f.counted; bound = f.bound }
   where
     by_reply : (reply : said.Reply) (bytes : List ℕ) {n : Progress}
         → PlaysOver (exchange last) m o q (reply_of reply bytes) n
         → PlaysOver (attempt (last ∷ []) []) m o q (reply_of reply bytes) n
     by_reply replies.Data bytes e = played_from (attempt_on last [] [] (Data bytes) e)
     by_reply reply bytes e = played_from (attempt_on last [] [] (reply_of reply bytes) e)
-gets_one last m o q (Err broken) after f =
-    record { ok = tt; err = attempt_off last [] f.err; sized = f.sized; counts = f.counts; bound = f.bound }
+gets_one last m o q (Err fault) after f =
+    record { ok = tt; err = attempt_off last [] f.err; sized = f.sized; counted = f.counted; bound = f.bound }
 
 -- an attempt of two commands, whose first was answered and brought nothing
 pub gets_last : (first last : Command) (m n : Progress) (o p q : LinkState) (was : said.Reply) (none : List ℕ)
-    (result : Result said.Reply Broken) (after : ConversationState)
+    (result : Result said.Reply HostFault) (after : ConversationState)
     → PlaysOver (exchange first) m o p (reply_of was none) n → was ≡ replies.Data → none ≡ []
-    → p.failures ≡ o.failures → GetsReply (exchange last) last n p q result after
+    → GetsReply (exchange last) last n p q result after
     → GetsReply (attempt (first ∷ last ∷ []) []) last m o q result after
-gets_last first last m n o p q was none result after f is nothing same g =
+gets_last first last m n o p q was none result after f is nothing g =
     by_result result (gets_one last n p q result after g)
   where
     begun : Reaches (attempt (first ∷ last ∷ []) []) m o (attempt (last ∷ []) []) n p
     begun = attempt_on first (last ∷ []) [] (Data [])
         (rw (is, nothing) at f)
 
-    by_result : (result : Result said.Reply Broken) → GetsReply (attempt (last ∷ []) []) last n p q result after
+    by_result : (result : Result said.Reply HostFault) → GetsReply (attempt (last ∷ []) []) last n p q result after
         → GetsReply (attempt (first ∷ last ∷ []) []) last m o q result after
     by_result (Ok reply) e = record {
       ok = played_from (reaches_on begun (reaches_from e.ok));
       err = tt;
       sized = e.sized;
-      counts = record { counted = omega (arith, same, e.counts.counted); sound = e.counts.sound ∙ same; failed = tt };
+      counted = omega (arith, f.sound, e.counted);
       bound = e.bound;
     }
-    by_result (Err broken) e = record {
+    by_result (Err fault) e = record {
       ok = tt;
       err = broken_on begun e.err;
       sized = e.sized;
-      counts = search rules;
+      counted = omega (arith, f.sound, e.counted);
       bound = e.bound;
     }
 
@@ -138,7 +142,7 @@ tries_none : (commands : List Command) (last : StepFault) → tries zero command
 unfolding tries
 tries_none commands last = refl
 
-tries_off : {by : Broken} (more : ℕ) (commands : List Command) (last : StepFault) {seq : Progress} {o q : LinkState}
+tries_off : {by : HostFault} (more : ℕ) (commands : List Command) (last : StepFault) {seq : Progress} {o q : LinkState}
     → FailsOver by (attempt commands []) seq o q → FailsOver by (tries (suc more) commands last) seq o q
 unfolding tries
 tries_off more commands last f = broken_bind (end_or_again (tries more commands)) f
@@ -168,7 +172,7 @@ module _ {a : Dialog ⊥ StepOutcome} {l seq : Progress} {j o : LinkState} {k : 
       → PlaysOver a l j q (Err fault) n
   try_stop {fault = fault} bytes f stop = played_from (try (Stop fault) (rw stop at f))
 
-  pub try_breaks : {by : Broken} {q : LinkState} → FailsOver by (attempt commands []) seq o q → FailsOver by a l j q
+  pub try_breaks : {by : HostFault} {q : LinkState} → FailsOver by (attempt commands []) seq o q → FailsOver by a l j q
   try_breaks f = broken_on next_try (tries_off more commands last f)
 
 pub try_end : {a : Dialog ⊥ StepOutcome} {l seq : Progress} {j o : LinkState} (k : ℕ) (commands : List Command)

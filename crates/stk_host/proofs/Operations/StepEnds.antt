@@ -1,37 +1,34 @@
 -- One step after another, by the clauses of each call.
-use Rattle.std.proofs.Common.{◌≡◌, refl, ℕ, Bool, false, if◌then◌else◌, List, [], ◌∷◌, ◌++◌, Ok, Err, Result}
+use Rattle.std.proofs.Common.{◌≡◌, refl, ℕ, Bool, false, if◌then◌else◌, List, [], ◌∷◌, ◌++◌, Ok, Err, Result, inl, inr}
 use Rattle.std.specs.Str.{bytes_eq}
 use Rattle.stk_frame.specs.declared.command.Command.{Command}
 use Rattle.stk_frame.specs.HostCommands.{leave}
-use Rattle.stk_host.specs.declared.fault.Broken.TheVariants as broken
-use Rattle.stk_host.specs.declared.fault.Stop.{Stop}
-use Rattle.stk_host.specs.declared.fault.Stop.TheVariants.{Fault, Link}
 use Rattle.stk_host.specs.declared.fault.StepFault.{StepFault}
 use Rattle.stk_host.specs.declared.fault.StepFault.TheVariants as of_step
 use Rattle.stk_host.specs.declared.fault.HostFault.{HostFault}
-use Rattle.stk_host.specs.declared.fault.HostFault.TheVariants.{WrongSignature}
+use Rattle.stk_host.specs.declared.fault.HostFault.TheVariants.{SendFailed, RecvFailed, WrongSignature}
 use Rattle.stk_host.specs.Transcript.{LinkState}
 use Rattle.stk_host.specs.Dialog.{Dialog, Done, ◌>>=◌}
 use Rattle.stk_host.specs.Play.{Progress, PlaysOver}
 use Rattle.stk_host.specs.Reach.{Reaches}
 use Rattle.stk_host.specs.Steps.{StepOutcome, if_done, step, play}
 use Rattle.stk_host.specs.Operations.{host_fault, signature_judged, handshake, opening, without_bytes, closing}
-use Rattle.stk_host.specs.Calls.{StopsSteps, EndsSteps, EndsCall, fault_of_stop, opening_result, closing_result}
+use Rattle.stk_host.specs.Calls.{StopsSteps, EndsSteps, EndsCall, opening_result}
 use Rattle.stk_host.proofs.Transcripts.Reached.{reaches_on, reaches_from, played_from, broken_on, broken_bind, then_reaches}
 
 -- a stop in a dialog that was reached
 pub stops_on : {a b : Dialog ⊥ StepOutcome} {m n : Progress} {o p : LinkState} (k : Progress) (q : LinkState)
-    (stop : Stop)
-    → Reaches a m o b n p → StopsSteps b n p q stop k → StopsSteps a m o q stop k
-stops_on k q (Fault fault) f e = played_from (reaches_on f (reaches_from e))
-stops_on k q (Link broken) f e = broken_on f e
+    (fault : HostFault)
+    → Reaches a m o b n p → StopsSteps b n p q fault k → StopsSteps a m o q fault k
+stops_on k q fault f (inl e) = inl (broken_on f e)
+stops_on k q fault f (inr (of, is, e)) = inr (of, is, played_from (reaches_on f (reaches_from e)))
 
 -- a stop, after which nothing follows
 pub stops_there : (a : Dialog ⊥ StepOutcome) (go_on : List ℕ → Dialog ⊥ StepOutcome) (m n : Progress) (o p : LinkState)
-    (stop : Stop)
-    → StopsSteps a m o p stop n → StopsSteps (a >>= if_done go_on) m o p stop n
-stops_there a go_on m n o p (Fault fault) e = played_from (then_reaches (if_done go_on) e)
-stops_there a go_on m n o p (Link broken) e = broken_bind (if_done go_on) e
+    (fault : HostFault)
+    → StopsSteps a m o p fault n → StopsSteps (a >>= if_done go_on) m o p fault n
+stops_there a go_on m n o p fault (inl e) = inl (broken_bind (if_done go_on) e)
+stops_there a go_on m n o p fault (inr (of, is, e)) = inr (of, is, played_from (then_reaches (if_done go_on) e))
 
 -- steps that brought their data
 pub goes_on : {a : Dialog ⊥ StepOutcome} {m n : Progress} {o p : LinkState} (go_on : List ℕ → Dialog ⊥ StepOutcome)
@@ -48,11 +45,11 @@ unfolding play
 play_on commands steps before bytes f = goes_on (λ bs. play steps (before ++ bs)) bytes f
 
 pub play_stops : (commands : List Command) (steps : List (List Command)) (before : List ℕ) (m n : Progress)
-    (o p : LinkState) (stop : Stop)
-    → StopsSteps (step commands) m o p stop n → StopsSteps (play (commands ∷ steps) before) m o p stop n
+    (o p : LinkState) (fault : HostFault)
+    → StopsSteps (step commands) m o p fault n → StopsSteps (play (commands ∷ steps) before) m o p fault n
 unfolding play
-play_stops commands steps before m n o p stop e =
-    stops_there (step commands) (λ bs. play steps (before ++ bs)) m n o p stop e
+play_stops commands steps before m n o p fault e =
+    stops_there (step commands) (λ bs. play steps (before ++ bs)) m n o p fault e
 
 pub play_done : (bytes : List ℕ) {a : Dialog ⊥ StepOutcome} {m n : Progress} {o p : LinkState}
     → Reaches a m o (play [] bytes) n p → PlaysOver a m o p (Ok bytes) n
@@ -61,43 +58,45 @@ play_done bytes f = played_from f
 
 -- how the outcome of steps is judged
 
--- a fault of a step, as the host reports it, is not a fault of the link
-told_ends : {A : Type 0} (dialog : Dialog ⊥ (Result A HostFault)) (fault : StepFault) (m n : Progress) (o p : LinkState)
-    → PlaysOver dialog m o p (Err (host_fault fault)) n → EndsCall dialog m o p (Err (host_fault fault)) n
-told_ends dialog of_step.NoAnswer m n o p e = e
-told_ends dialog _ m n o p e = e
-
-pub stop_ends : {A : Type 0} (first : Dialog ⊥ StepOutcome) (judge : StepOutcome → Result A HostFault)
-    → ((fault : StepFault) → judge (Err fault) ≡ Err (host_fault fault)) → (stop : Stop) (m n : Progress)
+-- a fault of a step, as the host reports it, is none of the link, and no failed allocation
+told_ends : {A : Type 0} (takes : Bool) (dialog : Dialog ⊥ (Result A HostFault)) (fault : StepFault) (m n : Progress)
     (o p : LinkState)
-    → StopsSteps first m o p stop n
-    → EndsCall (first >>= λ outcome. Done (judge outcome)) m o p (Err (fault_of_stop stop)) n
-stop_ends first judge told (Fault fault) m n o p e =
-    told_ends (first >>= λ outcome. Done (judge outcome)) fault m n o p
-    (rw (told fault) at (played_from (then_reaches (λ outcome. Done (judge outcome)) e)))
-stop_ends first judge told (Link broken.Send) m n o p e = broken_bind (λ outcome. Done (judge outcome)) e
-stop_ends first judge told (Link broken.Recv) m n o p e = broken_bind (λ outcome. Done (judge outcome)) e
+    → PlaysOver dialog m o p (Err (host_fault fault)) n → EndsCall takes dialog m o p (Err (host_fault fault)) n
+told_ends takes dialog of_step.NoAnswer m n o p e = e
+told_ends takes dialog _ m n o p e = e
+
+pub stop_ends : {A : Type 0} (takes : Bool) (first : Dialog ⊥ StepOutcome) (judge : StepOutcome → Result A HostFault)
+    → ((fault : StepFault) → judge (Err fault) ≡ Err (host_fault fault)) → (fault : HostFault) (m n : Progress)
+    (o p : LinkState)
+    → StopsSteps first m o p fault n
+    → EndsCall takes (first >>= λ outcome. Done (judge outcome)) m o p (Err fault) n
+stop_ends takes first judge told fault m n o p (inr (of, is, e)) =
+    rw is (told_ends takes (first >>= λ outcome. Done (judge outcome)) of m n o p
+    (rw (told of) at (played_from (then_reaches (λ outcome. Done (judge outcome)) e))))
+stop_ends takes first judge told SendFailed m n o p (inl e) = broken_bind (λ outcome. Done (judge outcome)) e
+stop_ends takes first judge told RecvFailed m n o p (inl e) = broken_bind (λ outcome. Done (judge outcome)) e
+stop_ends takes first judge told _ m n o p (inl e) = absurd e.breaks
 
 -- a signature is judged right or wrong; neither is a fault of the link
 judged_ends : {dialog : Dialog ⊥ (Result (List ℕ) HostFault)} {m n : Progress} {o p : LinkState} (wanted found : List ℕ)
     (force same : Bool)
     → PlaysOver dialog m o p (if force then Ok found else if same then Ok found else Err (WrongSignature found)) n
-    → EndsCall dialog m o p (if force then Ok found else if same then Ok found else Err (WrongSignature found)) n
+    → EndsCall false dialog m o p (if force then Ok found else if same then Ok found else Err (WrongSignature found)) n
 judged_ends wanted found false false e = e
 judged_ends wanted found _ _ e = e
 
-pub opening_ends : (wanted : List ℕ) (force : Bool) (begun : Result (List ℕ) Stop) (m n : Progress) (o p : LinkState)
-    → EndsSteps handshake (λ found. found) m o p begun n
-    → EndsCall (opening wanted force) m o p (opening_result wanted force begun) n
+pub opening_ends : (wanted : List ℕ) (force : Bool) (begun : Result (List ℕ) HostFault) (m n : Progress)
+    (o p : LinkState) → EndsSteps handshake (λ found. found) m o p begun n
+    → EndsCall false (opening wanted force) m o p (opening_result wanted force begun) n
 unfolding opening
 opening_ends wanted force (Ok found) m n o p e =
     judged_ends wanted found force (bytes_eq found wanted)
     (played_from (then_reaches (λ outcome. Done (signature_judged wanted force outcome)) e))
-opening_ends wanted force (Err stop) m n o p e =
-    stop_ends handshake (signature_judged wanted force) (λ fault. refl) stop m n o p e
+opening_ends wanted force (Err fault) m n o p e =
+    stop_ends false handshake (signature_judged wanted force) (λ fault. refl) fault m n o p e
 
-pub closing_ends : (result : Result (Unit {0}) Stop) (m n : Progress) (o p : LinkState)
-    → EndsSteps (step (leave ∷ [])) (λ done. []) m o p result n → EndsCall closing m o p (closing_result result) n
+pub closing_ends : (result : Result (Unit {0}) HostFault) (m n : Progress) (o p : LinkState)
+    → EndsSteps (step (leave ∷ [])) (λ done. []) m o p result n → EndsCall false closing m o p result n
 unfolding closing
 closing_ends (Ok done) m n o p e = played_from (then_reaches (λ outcome. Done (without_bytes outcome)) e)
-closing_ends (Err stop) m n o p e = stop_ends (step (leave ∷ [])) without_bytes (λ fault. refl) stop m n o p e
+closing_ends (Err fault) m n o p e = stop_ends false (step (leave ∷ [])) without_bytes (λ fault. refl) fault m n o p e

@@ -1,5 +1,5 @@
 -- The steps of an operation, one after another.
-use Rattle.std.proofs.Common.{◌≡◌, refl, ℕ, ◌+◌, ◌<◌, ◌≤◌, ◌^◌, lit≤, arith, List, [], ◌∷◌, ◌++◌, length, subst, ◌-◌, true, false, None, Some, ◌∙◌, Option, Ok, Err, Result, rules}
+use Rattle.std.proofs.Common.{Bool, ◌≡◌, refl, ℕ, ◌+◌, ◌<◌, ◌≤◌, ◌^◌, lit≤, arith, List, [], ◌∷◌, ◌++◌, length, subst, ◌-◌, true, false, None, Some, ◌∙◌, Option, Ok, Err, Result, rules}
 use Rattle.std.proofs.lemmas.List.{nil_from_length}
 use Rattle.std.specs.Prelude.{OnOk}
 use Rattle.avr_part.specs.declared.part.Mem.{Mem}
@@ -10,10 +10,6 @@ use Rattle.stk_frame.specs.declared.command.Command.{Command}
 use Rattle.stk_frame.specs.declared.answer.Shape.{Shape}
 use Rattle.stk_frame.specs.declared.answer.Shape.TheVariants.{Name}
 use Rattle.stk_frame.specs.Commands.{SizedBy}
-use Rattle.stk_host.specs.declared.fault.Broken.TheVariants as broken
-use Rattle.stk_host.specs.declared.fault.Stop.{Stop}
-use Rattle.stk_host.specs.declared.fault.Stop.TheVariants.{Fault, Link}
-use Rattle.stk_host.specs.declared.fault.StepFault.TheVariants as of_step
 use Rattle.stk_host.specs.declared.fault.HostFault.{HostFault}
 use Rattle.stk_host.specs.declared.fault.HostFault.TheVariants.{ReadOnly}
 use Rattle.stk_host.specs.Transcript.{LinkState}
@@ -24,7 +20,7 @@ use Rattle.stk_host.specs.Steps.{StepOutcome, step, play}
 use Rattle.stk_host.specs.Places.{each_from}
 use Rattle.stk_host.specs.WriteSteps.{write_steps}
 use Rattle.stk_host.specs.Operations.{judged_by, operation, writing, Difference, difference_from, differs, comparison}
-use Rattle.stk_host.specs.Calls.{StopsSteps, EndsSteps, EndsCall, EndsOrLacks, EndsInnerStep, with_step, with_steps, without_step, IsSizedShape, data_count, fault_of_stop, closing_result, given_or_fault, vector_after, verifying_result}
+use Rattle.stk_host.specs.Calls.{StopsSteps, EndsSteps, EndsCall, EndsInnerStep, with_step, with_steps, without_step, IsSizedShape, data_count, given_or_fault, vector_after, verifying_result}
 use Rattle.stk_host.proofs.ImagePlaces.PagesAndRuns.{next_place}
 use Rattle.stk_host.proofs.Transcripts.Reached.{reaches_here, reaches_on, played_from, then_reaches}
 use Rattle.stk_host.proofs.Operations.StepEnds.{stops_on, stop_ends, play_on, play_stops, play_done}
@@ -40,28 +36,28 @@ pub goes_with : (commands : List Command) (before bytes : List ℕ) {m n : Progr
     → EndsInnerStep (with_step commands before) (without_step (before ++ bytes)) m o p (Ok tt) n
 goes_with commands before bytes f = λ steps. play_on commands steps before bytes f
 
-pub stops_with : (commands : List Command) (before after : List ℕ) (m n : Progress) (o p : LinkState) (stop : Stop)
-    → StopsSteps (step commands) m o p stop n
-    → EndsInnerStep (with_step commands before) (without_step after) m o p (Err stop) n
-stops_with commands before after m n o p stop e = λ steps. play_stops commands steps before m n o p stop e
+pub stops_with : (commands : List Command) (before : List ℕ) (m n : Progress) (o p : LinkState) (fault : HostFault)
+    → StopsSteps (step commands) m o p fault n
+    → (steps : List (List Command)) → StopsSteps (with_step commands before steps) m o p fault n
+stops_with commands before m n o p fault e = λ steps. play_stops commands steps before m n o p fault e
 
 -- a step that brings no data
-pub goes_quietly : (commands : List Command) (of : Shape) (bytes : List ℕ) (result : Result (Unit {0}) Stop)
+pub goes_quietly : (commands : List Command) (of : Shape) (bytes : List ℕ) (result : Result (Unit {0}) HostFault)
     (m n : Progress) (o p : LinkState)
     → IsSizedShape of → data_count of ≡ 0 → OnOk result (SizedBy of bytes)
     → EndsSteps (step commands) (λ done. bytes) m o p result n
     → EndsInnerStep (with_step commands []) (without_step []) m o p result n
 goes_quietly commands of bytes (Ok done) m n o p counted zero sized e =
     rw (nil_from_length bytes (counted_data of bytes counted sized ∙ zero)) at (goes_with commands [] bytes e)
-goes_quietly commands of bytes (Err stop) m n o p counted zero sized e = stops_with commands [] [] m n o p stop e
+goes_quietly commands of bytes (Err fault) m n o p counted zero sized e = stops_with commands [] m n o p fault e
 
 -- a step that nothing follows
-pub alone : (commands : List Command) (before after : List ℕ) (result : Result (Unit {0}) Stop) (m n : Progress)
+pub alone : (commands : List Command) (before after : List ℕ) (result : Result (Unit {0}) HostFault) (m n : Progress)
     (o p : LinkState)
     → EndsInnerStep (with_step commands before) (without_step after) m o p result n
     → EndsSteps (play (commands ∷ []) before) (λ done. after) m o p result n
 alone commands before after (Ok done) m n o p e = play_done after (e [])
-alone commands before after (Err stop) m n o p e = e []
+alone commands before after (Err fault) m n o p e = e []
 
 -- no step at all
 pub none_played : (m : Progress) (o : LinkState) → PlaysOver (play [] []) m o o (Ok []) m
@@ -82,10 +78,10 @@ module _ {a : Dialog ⊥ StepOutcome} {k m : Progress} {r o : LinkState} (steps_
       → Reaches a k r (play rest after) n p
   reaches_next after e = reaches_on next_is (e rest)
 
-  pub stops_next : (n : Progress) (p : LinkState) (stop : Stop)
-      → ((more : List (List Command)) → StopsSteps (with_steps (steps_at place) before more) m o p stop n)
-      → StopsSteps a k r p stop n
-  stops_next n p stop e = stops_on n p stop next_is (e rest)
+  pub stops_next : (n : Progress) (p : LinkState) (fault : HostFault)
+      → ((more : List (List Command)) → StopsSteps (with_steps (steps_at place) before more) m o p fault n)
+      → StopsSteps a k r p fault n
+  stops_next n p fault e = stops_on n p fault next_is (e rest)
 
 -- a place without steps
 pub passes : {these : List (List Command)} (m : Progress) (o : LinkState) → these ≡ []
@@ -103,11 +99,13 @@ plays_all steps_at place end {before = before} come past =
 -- the outcome of an operation, from the outcome of its steps
 
 -- a stop, as the host reports it
-told_ends : {A : Type 0} (steps : List (List Command)) (judge : List ℕ → Result A HostFault) (stop : Stop)
+told_ends : {A : Type 0} (takes : Bool) (steps : List (List Command)) (judge : List ℕ → Result A HostFault)
+    (fault : HostFault)
     (m n : Progress) (o p : LinkState)
-    → StopsSteps (play steps []) m o p stop n → EndsCall (operation steps judge) m o p (Err (fault_of_stop stop)) n
+    → StopsSteps (play steps []) m o p fault n → EndsCall takes (operation steps judge) m o p (Err fault) n
 unfolding operation
-told_ends steps judge stop m n o p e = stop_ends (play steps []) (judged_by judge) (λ fault. refl) stop m n o p e
+told_ends takes steps judge fault m n o p e =
+    stop_ends takes (play steps []) (judged_by judge) (λ fault. refl) fault m n o p e
 
 judged_from : {A : Type 0} (steps : List (List Command)) (judge : List ℕ → Result A HostFault) (bytes : List ℕ)
     {m n : Progress} {o p : LinkState}
@@ -116,58 +114,50 @@ unfolding operation
 judged_from steps judge bytes e = played_from (then_reaches (λ outcome. Done (judged_by judge outcome)) e)
 
 -- an operation that reads nothing
-pub done_ends : (steps : List (List Command)) (result : Result (Unit {0}) Stop) (m n : Progress) (o p : LinkState)
+pub done_ends : (steps : List (List Command)) (result : Result (Unit {0}) HostFault) (m n : Progress) (o p : LinkState)
     → EndsSteps (play steps []) (λ done. []) m o p result n
-    → EndsCall (operation steps (λ bytes. Ok tt)) m o p (closing_result result) n
+    → EndsCall false (operation steps (λ bytes. Ok tt)) m o p result n
 done_ends steps (Ok done) m n o p e = judged_from steps (λ bytes. Ok tt) [] e
-done_ends steps (Err stop) m n o p e = told_ends steps (λ bytes. Ok tt) stop m n o p e
+done_ends steps (Err fault) m n o p e = told_ends false steps (λ bytes. Ok tt) fault m n o p e
 
 -- a write
-pub writing_ends : (part : Part) (mem : Mem) (image : List (Option ℕ)) (result : Result (Unit {0}) Stop)
+pub writing_ends : (part : Part) (mem : Mem) (image : List (Option ℕ)) (result : Result (Unit {0}) HostFault)
     (m n : Progress) (o p : LinkState) → is_writable mem ≡ true
     → EndsSteps (play (write_steps part mem image) []) (λ done. []) m o p result n
-    → EndsCall (writing part mem image) m o p (closing_result result) n
+    → EndsCall false (writing part mem image) m o p result n
 writing_ends part mem image result m n o p can e =
     rw can (done_ends (write_steps part mem image) result m n o p e)
 
 pub writes_nothing : (part : Part) (mem : Mem) (image : List (Option ℕ)) (m : Progress) (o : LinkState)
-    → is_writable mem ≡ false → EndsCall (writing part mem image) m o o (Err (ReadOnly mem)) m
+    → is_writable mem ≡ false → EndsCall false (writing part mem image) m o o (Err (ReadOnly mem)) m
 writes_nothing part mem image m o cannot =
     rw cannot (played_from (reaches_here (Done (Err (ReadOnly mem))) m o))
 
--- a stop is not a failed allocation
-not_lacking : {A : Type 0} (dialog : Dialog ⊥ (Result A HostFault)) (stop : Stop) (m n : Progress) (o p : LinkState)
-    → EndsCall dialog m o p (Err (fault_of_stop stop)) n → EndsOrLacks dialog m o p (Err (fault_of_stop stop)) n
-not_lacking dialog (Fault of_step.NoAnswer) m n o p e = e
-not_lacking dialog (Link broken.Send) m n o p e = e
-not_lacking dialog _ m n o p e = e
-
 -- a read
-pub reading_ends : (steps : List (List Command)) (bytes : List ℕ) (result : Result (Unit {0}) Stop) (m n : Progress)
-    (o p : LinkState)
+pub reading_ends : (steps : List (List Command)) (bytes : List ℕ) (result : Result (Unit {0}) HostFault)
+    (m n : Progress) (o p : LinkState)
     → EndsSteps (play steps []) (λ done. bytes) m o p result n
-    → EndsOrLacks (operation steps Ok) m o p
-    (given_or_fault (vector_after (closing_result result) bytes) (closing_result result)) n
+    → EndsCall true (operation steps Ok) m o p
+    (given_or_fault (vector_after result bytes) result) n
 reading_ends steps bytes (Ok done) m n o p e = judged_from steps Ok bytes e
-reading_ends steps bytes (Err stop) m n o p e =
-    not_lacking (operation steps Ok) stop m n o p (told_ends steps Ok stop m n o p e)
+reading_ends steps bytes (Err fault) m n o p e = told_ends true steps Ok fault m n o p e
 
 -- a comparison
 differs_ends : (dialog : Dialog ⊥ (Result (Unit {0}) HostFault)) (mem : Mem) (found : Option Difference)
     {m n : Progress} {o p : LinkState}
-    → PlaysOver dialog m o p (differs mem found) n → EndsOrLacks dialog m o p (differs mem found) n
+    → PlaysOver dialog m o p (differs mem found) n → EndsCall true dialog m o p (differs mem found) n
 differs_ends dialog mem None e = e
 differs_ends dialog mem (Some d) e = e
 
 pub verifying_ends : (steps : List (List Command)) (mem : Mem) (image : List (Option ℕ)) (bytes : List ℕ)
-    (result : Result (Unit {0}) Stop) (m n : Progress) (o p : LinkState)
+    (result : Result (Unit {0}) HostFault) (m n : Progress) (o p : LinkState)
     → EndsSteps (play steps []) (λ done. bytes) m o p result n
-    → EndsOrLacks (operation steps (comparison mem image)) m o p (verifying_result mem image bytes result) n
+    → EndsCall true (operation steps (comparison mem image)) m o p (verifying_result mem image bytes result) n
 verifying_ends steps mem image bytes (Ok done) m n o p e =
     differs_ends (operation steps (comparison mem image)) mem (difference_from 0 image bytes)
     (judged_from steps (comparison mem image) bytes e)
-verifying_ends steps mem image bytes (Err stop) m n o p e =
-    search (rules, not_lacking, told_ends)
+verifying_ends steps mem image bytes (Err fault) m n o p e =
+    told_ends true steps (comparison mem image) fault m n o p e
 
 -- a loop over places begins
 pub begins_at : (steps_at : ℕ → List (List Command)) (count : ℕ) (before : List ℕ) (m : Progress) (o : LinkState)
@@ -177,15 +167,15 @@ begins_at steps_at count before m o =
 
 -- the number of bytes kept of a memory that was read
 
-pub read_sized : (taken : Result (Unit {0}) Stop) (items : List ℕ) (n : ℕ) → OnOk taken (length items ≡ n)
-    → OnOk (closing_result taken) (length (vector_after (closing_result taken) items) ≡ n)
+pub read_sized : (taken : Result (Unit {0}) HostFault) (items : List ℕ) (n : ℕ) → OnOk taken (length items ≡ n)
+    → OnOk taken (length (vector_after taken items) ≡ n)
 read_sized (Ok done) items n size = size
-read_sized (Err stop) items n size = tt
+read_sized (Err fault) items n size = tt
 
-pub read_short : (taken : Result (Unit {0}) Stop) (items : List ℕ) (n : ℕ) → n < 2 ^ 32 → OnOk taken (length items ≡ n)
-    → length (vector_after (closing_result taken) items) < 2 ^ 32
+pub read_short : (taken : Result (Unit {0}) HostFault) (items : List ℕ) (n : ℕ) → n < 2 ^ 32
+    → OnOk taken (length items ≡ n) → length (vector_after taken items) < 2 ^ 32
 read_short (Ok done) items n bound size = omega (arith, size)
-read_short (Err stop) items n bound size = lit≤ tt
+read_short (Err fault) items n bound size = lit≤ tt
 
 pub size_fits : (mem : Mem) (part : Part) → IsPart part → size_of mem part < 2 ^ 32
 size_fits Flash part is = omega (arith, is.flash_most)

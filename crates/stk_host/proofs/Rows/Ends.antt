@@ -1,6 +1,5 @@
 -- A call breaks off in one way: laws of every dialog, and LEAVE as a worked call.
-use Rattle.std.proofs.Common.{◌≡◌, ℕ, ◌<◌, List, [], ◌∷◌, length, length-append, refl, sym, subst, arith, Err, rules}
-use Rattle.stk_host.specs.declared.fault.Broken.TheVariants as broken
+use Rattle.std.proofs.Common.{◌≡◌, ℕ, ◌<◌, List, [], ◌∷◌, length, length-append, refl, sym, subst, arith, Err, false, rules}
 use Rattle.stk_host.specs.declared.fault.HostFault.TheVariants.{SendFailed, RecvFailed}
 use Rattle.stk_host.specs.declared.link.Item.TheVariants.{Silence}
 use Rattle.stk_host.specs.Tape.{answer}
@@ -28,14 +27,17 @@ never_both f g =
     let less = sent_less f g.none_taken in
     search rules
 
--- a link with this transcript
+-- a link with which nothing was done, and one that has failed after this transcript
+abbrev fresh : LinkState
+fresh = record { transcript = []; failures = 0 }
+
 abbrev showing : Transcript → LinkState
-showing transcript = record { transcript = transcript; failures = 0 }
+showing transcript = record { transcript = transcript; failures = 1 }
 
 -- nor does a call over it
 pub never_either : {R : Type 0} (dialog : Dialog ⊥ R) (before : Progress) (transcript : Transcript)
-    → FailsOver broken.Send dialog before (showing []) (showing transcript)
-    → FailsOver broken.Recv dialog before (showing []) (showing transcript) → ⊥
+    → FailsOver SendFailed dialog before fresh (showing transcript)
+    → FailsOver RecvFailed dialog before fresh (showing transcript) → ⊥
 never_either dialog before transcript f g =
     never_both
     (subst (λ t. BreaksSending dialog before t f.shown) (sym f.grows) f.breaks)
@@ -48,17 +50,17 @@ abbrev leaving : List ℕ
 leaving = 0x1B ∷ 0x06 ∷ 0x00 ∷ 0x03 ∷ 0x0E ∷ 0x11 ∷ 0x01 ∷ 0x01 ∷ 0x01 ∷ []
 
 -- the frame was sent, and its answer not received
-pub unheard : EndsCall closing sixth (showing []) (showing (Sent leaving ∷ [])) (Err RecvFailed) sixth
+pub unheard : EndsCall false closing sixth fresh (showing (Sent leaving ∷ [])) (Err RecvFailed) sixth
 unfolding exchange attempt tries answer closing
 unheard = search rules
 
 -- that is not a failure to send it
-pub not_unsent : (after : Progress) → EndsCall closing sixth (showing []) (showing (Sent leaving ∷ [])) (Err SendFailed)
+pub not_unsent : (after : Progress) → EndsCall false closing sixth fresh (showing (Sent leaving ∷ [])) (Err SendFailed)
     after → ⊥
 not_unsent after f = never_either closing sixth (Sent leaving ∷ []) f unheard
 
 -- two bytes of the frame were sent
-pub unsent : EndsCall closing sixth (showing []) (showing (Sent (0x1B ∷ 0x06 ∷ []) ∷ [])) (Err SendFailed) sixth
+pub unsent : EndsCall false closing sixth fresh (showing (Sent (0x1B ∷ 0x06 ∷ []) ∷ [])) (Err SendFailed) sixth
 unfolding exchange attempt tries answer closing
 unsent = record {
   during = Sent (0x1B ∷ 0x06 ∷ []) ∷ [];
@@ -75,15 +77,16 @@ unsent = record {
     all_sent = refl;
     in_turn = tt;
   };
+  failed = refl;
 }
 
 -- that is not a failure to receive its answer
-pub not_unheard : (after : Progress) → EndsCall closing sixth (showing []) (showing (Sent (0x1B ∷ 0x06 ∷ []) ∷ []))
+pub not_unheard : (after : Progress) → EndsCall false closing sixth fresh (showing (Sent (0x1B ∷ 0x06 ∷ []) ∷ []))
     (Err RecvFailed) after → ⊥
 not_unheard after f = never_either closing sixth (Sent (0x1B ∷ 0x06 ∷ []) ∷ []) unsent f
 
 -- the frame was taken whole, and its send failed
-pub taken_whole : EndsCall closing sixth (showing []) (showing (Taken leaving ∷ [])) (Err SendFailed) sixth
+pub taken_whole : EndsCall false closing sixth fresh (showing (Taken leaving ∷ [])) (Err SendFailed) sixth
 unfolding exchange attempt tries answer closing
 taken_whole = record {
   during = Taken leaving ∷ [];
@@ -100,15 +103,16 @@ taken_whole = record {
     all_sent = refl;
     in_turn = refl;
   };
+  failed = refl;
 }
 
 -- that is not a failure to receive its answer either
-pub not_unheard_whole : (after : Progress) → EndsCall closing sixth (showing []) (showing (Taken leaving ∷ []))
+pub not_unheard_whole : (after : Progress) → EndsCall false closing sixth fresh (showing (Taken leaving ∷ []))
     (Err RecvFailed) after → ⊥
 not_unheard_whole after f = never_either closing sixth (Taken leaving ∷ []) taken_whole f
 
 -- nothing was sent, and nothing received
-pub unsent_at_all : EndsCall closing sixth (showing []) (showing []) (Err SendFailed) sixth
+pub unsent_at_all : EndsCall false closing sixth fresh (showing []) (Err SendFailed) sixth
 unfolding exchange attempt tries answer closing
 unsent_at_all = record {
   during = [];
@@ -125,9 +129,10 @@ unsent_at_all = record {
     all_sent = refl;
     in_turn = tt;
   };
+  failed = refl;
 }
 
-pub not_unasked : (after : Progress) → EndsCall closing sixth (showing []) (showing []) (Err RecvFailed) after → ⊥
+pub not_unasked : (after : Progress) → EndsCall false closing sixth fresh (showing []) (Err RecvFailed) after → ⊥
 not_unasked after f = never_either closing sixth [] unsent_at_all f
 
 -- listening before the frame is sent whole isn't in turn

@@ -2,8 +2,8 @@
 use Rattle.std.proofs.Common.{◌≡◌, ℕ, ◌<◌, List, [], ◌∷◌, ◌++◌, length, refl, sym, ap, ◌∙◌, subst, append_assoc, Option, Some, None, rules}
 use Rattle.std.proofs.lemmas.List.{append-nil}
 use Rattle.stk_frame.specs.Frame.{frame}
-use Rattle.stk_host.specs.declared.fault.Broken.{Broken}
-use Rattle.stk_host.specs.declared.fault.Broken.TheVariants as broken
+use Rattle.stk_host.specs.declared.fault.HostFault.{HostFault}
+use Rattle.stk_host.specs.declared.fault.HostFault.TheVariants.{SendFailed, RecvFailed}
 use Rattle.stk_host.specs.Tape.{Tape, Reading, on_tape, answer}
 use Rattle.stk_host.specs.Transcript.{Transcript, Sent, Taken, Got, NoneTaken, sent, heard}
 use Rattle.stk_host.specs.Dialog.{Dialog, Done, Say, Ask, ◌>>=◌, Event, Frame, Said, Played, played, behind, by_answer, next, bytes_sent}
@@ -185,9 +185,9 @@ module _ {E R : Type 0} {a b : Dialog E R} {m n : Progress} {x : Transcript} {ev
       → TranscriptLeads b n y ys c l → TranscriptLeads a m (x ++ y) (events ++ ys) c l
   leads_on {c = c} {l = l} {y = y} {ys = ys} g = search (rules, heard_both, behind_behind, led_bytes, led_turns, none_append)
 
-  pub by_on : (by : Broken) (y : Transcript) (shown : List (Event E)) → BreaksBy by b n y shown
+  pub by_on : (by : HostFault) (y : Transcript) (shown : List (Event E)) → BreaksBy by b n y shown
       → BreaksBy by a m (x ++ y) (events ++ shown)
-  by_on broken.Send y shown g = record {
+  by_on SendFailed y shown g = record {
     whole = events ++ g.whole;
     part = g.part;
     unsent = g.unsent;
@@ -198,7 +198,8 @@ module _ {E R : Type 0} {a b : Dialog E R} {m n : Progress} {x : Transcript} {ev
     all_sent = led_bytes y shown g.all_sent;
     in_turn = led_turns y g.in_turn;
   }
-  by_on broken.Recv y shown g = search (rules, led, led_bytes, led_turns, none_append)
+  by_on RecvFailed y shown g = search (rules, led, led_bytes, led_turns, none_append)
+  by_on _ y shown g = absurd g
 
 -- the same before what follows, and before a transcript that breaks off
 module _ {E R : Type 0} {a b : Dialog E R} {m n : Progress} {x : Transcript} {events : List (Event E)} where
@@ -244,11 +245,11 @@ pub breaks_here : {E R : Type 0} (SaidPart : E → E → Type 0) (dialog : Dialo
     → Breaks SaidPart dialog m [] []
 breaks_here SaidPart dialog m = search rules
 
-pub by_bind : {E A B : Type 0} (by : Broken) (a : Dialog E A) (m : Progress) (transcript : Transcript)
+pub by_bind : {E A B : Type 0} (by : HostFault) (a : Dialog E A) (m : Progress) (transcript : Transcript)
     (shown : List (Event E))
     (go_on : A → Dialog E B)
     → BreaksBy by a m transcript shown → BreaksBy by (a >>= go_on) m transcript shown
-by_bind broken.Send a m transcript shown go_on f =
+by_bind SendFailed a m transcript shown go_on f =
     let p = played_over a m transcript in
     let more = (continued p.outcome (λ r. played (go_on r))).events in
     record {
@@ -262,8 +263,9 @@ by_bind broken.Send a m transcript shown go_on f =
       all_sent = f.all_sent;
       in_turn = turns_bind a go_on m transcript f.in_turn;
     }
-by_bind broken.Recv a m transcript shown go_on f =
+by_bind RecvFailed a m transcript shown go_on f =
     search (rules, waits_bind, turns_bind)
+by_bind _ a m transcript shown go_on f = absurd f
 
 -- a question
 

@@ -1,12 +1,14 @@
 -- A log with one more mark.
 use Rattle.std.proofs.Common.{◌≡◌, ℕ, zero, suc, ◌+◌, ◌≤◌, List, [], ◌∷◌, ◌++◌, length, take, drop, refl, ap, arith, length-append, rules}
-use Rattle.std.proofs.lemmas.List.{take-append-le, take-append-drop, length-drop}
+use Rattle.std.proofs.lemmas.List.{take-append-le, take-append-drop, length-drop, length-take-le, take_all}
 use Rattle.stk_host.specs.declared.log.Mark.{Mark}
 use Rattle.stk_host.specs.declared.log.Mark.TheVariants as mark
-use Rattle.stk_host.specs.declared.link.Item.TheVariants as item
+use Rattle.stk_host.specs.declared.link.Heard.{Heard}
+use Rattle.stk_host.specs.declared.link.Heard.TheVariants as heard
 use Rattle.stk_host.specs.Tape.{on_tape, bytes_of}
-use Rattle.stk_host.specs.Transcript.{Transcript, Got, sent, heard}
-use Rattle.stk_host.specs.Log.{transcript_of, out_count, back_count}
+use Rattle.stk_host.specs.Transcript as transcript
+use Rattle.stk_host.specs.Transcript.{Transcript, Got, FitsBuffer, items_of, sent}
+use Rattle.stk_host.specs.Log.{byte_count, transcript_of, out_count, back_count}
 use Rattle.stk_host.proofs.Tapes.Answers.{bytes_of_append, bytes_of_on_tape}
 
 drop_prefix : (n : ℕ) (xs ys : List ℕ) → n ≤ length xs → drop n (xs ++ ys) ≡ drop n xs ++ ys
@@ -31,7 +33,7 @@ log_more (mark.Sent n ∷ marks) out back more_out more_back m o b =
       log_more marks (drop n out) back more_out more_back m (rw
           length-drop (omega arith)) b,
     )
-log_more (mark.Got n ∷ marks) out back more_out more_back m o b =
+log_more (mark.Heard (heard.Bytes n) ∷ marks) out back more_out more_back m o b =
     search (
       rules,
       take-append-le,
@@ -40,10 +42,10 @@ log_more (mark.Got n ∷ marks) out back more_out more_back m o b =
       log_more marks out (drop n back) more_out more_back m o
           (rw length-drop (omega arith)),
     )
-log_more (mark.Silence ∷ marks) out back more_out more_back m o b =
-    ap (λ t. Got (item.Silence ∷ []) ∷ t) (log_more marks out back more_out more_back m o b)
-log_more (mark.End ∷ marks) out back more_out more_back m o b =
-    ap (λ t. Got (item.End ∷ []) ∷ t) (log_more marks out back more_out more_back m o b)
+log_more (mark.Heard heard.Silence ∷ marks) out back more_out more_back m o b =
+    ap (λ t. Got (items_of heard.Silence []) ∷ t) (log_more marks out back more_out more_back m o (omega (arith, b)))
+log_more (mark.Heard heard.End ∷ marks) out back more_out more_back m o b =
+    ap (λ t. Got (items_of heard.End []) ∷ t) (log_more marks out back more_out more_back m o (omega (arith, b)))
 
 pub out_more : (marks : List Mark) (m : Mark) → out_count (marks ++ m ∷ []) ≡ out_count marks + out_count (m ∷ [])
 out_more [] m = omega arith
@@ -52,7 +54,7 @@ out_more (other ∷ marks) m = out_more marks m
 
 pub back_more : (marks : List Mark) (m : Mark) → back_count (marks ++ m ∷ []) ≡ back_count marks + back_count (m ∷ [])
 back_more [] m = omega arith
-back_more (mark.Got n ∷ marks) m = omega (arith, back_more marks m)
+back_more (mark.Heard h ∷ marks) m = omega (arith, back_more marks m)
 back_more (other ∷ marks) m = back_more marks m
 
 pub sent_in : (marks : List Mark) (out back : List ℕ) → out_count marks ≡ length out
@@ -61,19 +63,33 @@ sent_in [] [] back o = refl
 sent_in [] (x ∷ out) back o = absurd (omega arith)
 sent_in (mark.Sent n ∷ marks) out back o =
     rw (sent_in marks (drop n out) back (rw length-drop (omega arith))) (take-append-drop n out)
-sent_in (mark.Got n ∷ marks) out back o = sent_in marks out (drop n back) o
-sent_in (other ∷ marks) out back o = sent_in marks out back o
+sent_in (mark.Heard h ∷ marks) out back o = sent_in marks out (drop (byte_count h) back) o
 
 pub heard_in : (marks : List Mark) (out back : List ℕ) → back_count marks ≡ length back
-    → bytes_of (heard (transcript_of marks out back)) ≡ back
+    → bytes_of (transcript.heard (transcript_of marks out back)) ≡ back
 heard_in [] out [] b = refl
 heard_in [] out (x ∷ back) b = absurd (omega arith)
 heard_in (mark.Sent n ∷ marks) out back b = heard_in marks (drop n out) back b
-heard_in (mark.Got n ∷ marks) out back b =
-    rw (bytes_of_append (on_tape (take n back)) (heard (transcript_of marks out (drop n back))))
+heard_in (mark.Heard (heard.Bytes n) ∷ marks) out back b =
+    rw (bytes_of_append (on_tape (take n back)) (transcript.heard (transcript_of marks out (drop n back))))
     (rw (bytes_of_on_tape (take n back), heard_in marks out (drop n back) (rw length-drop (omega arith)))
     (take-append-drop n back))
-heard_in (other ∷ marks) out back b = heard_in marks out back b
+heard_in (mark.Heard heard.Silence ∷ marks) out back b = heard_in marks out back (omega (arith, b))
+heard_in (mark.Heard heard.End ∷ marks) out back b = heard_in marks out back (omega (arith, b))
+
+-- what was received is what is kept of the buffer
+pub items_received : (h : Heard) (buffer : List ℕ) → FitsBuffer h (length buffer)
+    → items_of h (take (byte_count h) buffer) ≡ items_of h buffer
+items_received (heard.Bytes n) buffer fits =
+    ap on_tape (take_all n (take n buffer) (rw (length-take-le n buffer fits.1) (omega arith)))
+items_received heard.Silence buffer fits = refl
+items_received heard.End buffer fits = refl
+
+pub count_received : (h : Heard) (buffer : List ℕ) → FitsBuffer h (length buffer)
+    → back_count (mark.Heard h ∷ []) ≡ length (take (byte_count h) buffer)
+count_received (heard.Bytes n) buffer fits = rw (length-take-le n buffer fits.1) (omega arith)
+count_received heard.Silence buffer fits = refl
+count_received heard.End buffer fits = refl
 
 -- the whole log, as the code goes on: this mark and these bytes are new
 module _ (marks new_marks : List Mark) (out new_out back new_back x y : List ℕ) (m : Mark)

@@ -1,6 +1,7 @@
 -- How far a call has come over a link.
-use Rattle.std.proofs.Common.{[], ◌++◌, rules}
-use Rattle.stk_host.specs.declared.fault.Broken.{Broken}
+use Rattle.std.proofs.Common.{[], ◌++◌, refl, ◌∙◌, subst, rules}
+use Rattle.stk_host.specs.declared.fault.HostFault.{HostFault}
+use Rattle.ghosts.specs.Failures.{HasRisen}
 use Rattle.stk_host.specs.Transcript.{LinkState}
 use Rattle.stk_host.specs.Dialog.{Dialog, Done, ◌>>=◌}
 use Rattle.stk_host.specs.Play.{Progress, PlaysOver, FailsOver}
@@ -15,6 +16,7 @@ reaches_here dialog before o = record {
   events = [];
   grows = grows_none o.transcript;
   leads = leads_here dialog before;
+  sound = refl;
 }
 
 -- from where a call has come
@@ -25,14 +27,16 @@ module _ {R : Type 0} {a b : Dialog ⊥ R} {m n : Progress} {o p : LinkState} (f
     events = f.events ++ g.events;
     grows = grows_on o.transcript p.transcript q.transcript f.during g.during f.grows g.grows;
     leads = leads_on f.leads g.leads;
+    sound = g.sound ∙ f.sound;
   }
 
-  pub broken_on : {by : Broken} {q : LinkState} → FailsOver by b n p q → FailsOver by a m o q
+  pub broken_on : {by : HostFault} {q : LinkState} → FailsOver by b n p q → FailsOver by a m o q
   broken_on {by = by} {q = q} g = record {
     during = f.during ++ g.during;
     shown = f.events ++ g.shown;
     grows = grows_on o.transcript p.transcript q.transcript f.during g.during f.grows g.grows;
     breaks = by_on f.leads by g.during g.shown g.breaks;
+    failed = subst (λ n. HasRisen n q.failures) f.sound g.failed;
   }
 
 pub reaches_bind : {A B : Type 0} {a b : Dialog ⊥ A} {m n : Progress} {o p : LinkState} (go_on : A → Dialog ⊥ B)
@@ -42,18 +46,19 @@ reaches_bind go_on f = record {
   events = f.events;
   grows = f.grows;
   leads = leads_bind go_on f.leads;
+  sound = f.sound;
 }
 
 -- the clauses of a call that ran a dialog give how far its caller has come
 pub reaches_from : {R : Type 0} {a : Dialog ⊥ R} {m n : Progress} {o p : LinkState} {result : R}
     → PlaysOver a m o p result n → Reaches a m o (Done result) n p
-reaches_from f = record { during = f.during; events = f.events; grows = f.grows; leads = leads_from f.plays }
+reaches_from f = search (rules, leads_from)
 
 pub played_from : {R : Type 0} {a : Dialog ⊥ R} {m n : Progress} {o p : LinkState} {result : R}
     → Reaches a m o (Done result) n p → PlaysOver a m o p result n
-played_from f = record { during = f.during; events = f.events; grows = f.grows; plays = plays_from f.leads }
+played_from f = search (rules, plays_from)
 
-pub broken_bind : {A B : Type 0} {by : Broken} {a : Dialog ⊥ A} {m : Progress} {o p : LinkState}
+pub broken_bind : {A B : Type 0} {by : HostFault} {a : Dialog ⊥ A} {m : Progress} {o p : LinkState}
     (go_on : A → Dialog ⊥ B)
     → FailsOver by a m o p → FailsOver by (a >>= go_on) m o p
 broken_bind {by = by} {a = a} {m = m} go_on f =

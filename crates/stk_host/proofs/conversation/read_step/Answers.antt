@@ -7,7 +7,10 @@ pub append-requires : goal.append-requires
 append-requires g c = search (rules, counted_data)
 
 pub returns-in_err-step-clause-asks : goal.returns-in_err-step-clause-asks
-returns-in_err-step-clause-asks g c = search (rules, err_from_is_err_and, stops_with)
+returns-in_err-step-clause-asks g c =
+    let p = err_from_is_err_and c.from_residual.result c.from_residual.ensures.1 in
+    let played = stops_with _ c.args.out.now.items _ _ _ _ _ c.in_err-step.ensures.asks.played in
+    rw (p.1, p.2) (search rules)
 
 pub returns-clause-asks : goal.returns-clause-asks
 returns-clause-asks g c = search (rules, goes_with)

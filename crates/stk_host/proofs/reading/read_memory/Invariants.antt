@@ -16,7 +16,6 @@ invariant-loop-number g l = record {
       l.conversation.progress (g.L.Link.view l.link);
   size : length l.out.items ≡ read_before l.part l.mem l.number;
   room : size_of l.mem l.part ≤ vec_capacity l.out;
-  counted : (g.L.Link.view l.link).failures ≡ (g.L.Link.view l.fn.link).failures;
   comes : Stays g.L.Link.comes_of l.fn.link l.link;
   bound : length l.fn.conversation.progress.unread ≤ 281 → length l.conversation.progress.unread ≤ 281;
 }

@@ -1,4 +1,4 @@
-use Rattle.std.proofs.Common.{◌≡◌, ◌≤◌, ◌-◌, length, []}
+use Rattle.std.proofs.Common.{◌≤◌, ◌-◌, length, []}
 use Rattle.stk_host.specs.Places.{each_from}
 use Rattle.stk_host.specs.WriteSteps.{place_count, place_steps}
 use Rattle.stk_host.specs.Reach.{Reaches}
@@ -12,7 +12,6 @@ invariant-loop-place g l = record {
       l.fn.conversation.progress (g.L.Link.view l.fn.link)
       (play (each_from (place_steps l.part l.mem l.image) l.place (place_count l.part l.mem - l.place)) [])
       l.conversation.progress (g.L.Link.view l.link);
-  counted : (g.L.Link.view l.link).failures ≡ (g.L.Link.view l.fn.link).failures;
   comes : Stays g.L.Link.comes_of l.fn.link l.link;
   bound : length l.fn.conversation.progress.unread ≤ 281 → length l.conversation.progress.unread ≤ 281;
 }

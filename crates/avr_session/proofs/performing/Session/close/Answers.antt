@@ -1,7 +1,7 @@
 use Rattle.std.proofs.Common.{false, refl}
 use Rattle.stk_host.specs.Operations.{closing}
 use Rattle.avr_session.specs.Session.{closed_says}
-use Rattle.avr_session.proofs.ActionByAction.Operations.{call_ended, closing_lacks_none, told_of}
+use Rattle.avr_session.proofs.ActionByAction.Operations.{told_of}
 use Rattle.avr_session.proofs.ActionByAction.Sequences.{operation_performs, print_stops_report}
 use Rattle.avr_session.proofs.performing.Session.close.Goals as goal
 
@@ -12,4 +12,4 @@ returns-clause-performs g c =
     let reports = c.report_closing-reported.ensures.reports in
     operation_performs closing says reports false (print_stops_report _ _ reports)
     (told_of part says (λ stop. refl) reports) c.requires c.close-closed.ensures.calls
-    (call_ended closing _ _ _ _ _ closing_lacks_none) c.conclude.ensures
+    c.conclude.ensures
