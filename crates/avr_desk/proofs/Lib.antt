@@ -2,5 +2,6 @@
 pub mod Lines
 pub mod FileUses
 pub mod Desks
+pub mod Folders
 pub mod Rows
 pub mod Stages

@@ -1,8 +1,8 @@
 -- What a program's desk records of files and standard input, by the system's handles. The record is true by
 -- parametricity: the contracts know of a system's files only what their own calls ensure.
-use Rattle.std.specs.Prelude.{◌≡◌, ◌≤◌, ◌⊎◌, true, length, Option, Some, None, IfSome}
+use Rattle.std.specs.Prelude.{◌≡◌, ◌≤◌, ◌⊎◌, true, length, Option, List, Some, None, IfSome}
 use Rattle.std.specs.Io.KnownBytes.{Appends, Consumes}
-use Rattle.std.specs.List.{All}
+use Rattle.std.specs.List.{All, Contains}
 use Rattle.std.specs.declared.io.Read.{Ghosts as Reads}
 use Rattle.std.specs.declared.io.Write.{Ghosts as Writes}
 use Rattle.avr_desk.specs.Journal.{done_by}
@@ -65,8 +65,15 @@ IsHeldBy system None None = Unit {0}
 IsHeldBy system (Some hold) (Some name) = system.holds hold name
 IsHeldBy system hold name = ⊥
 
+-- what a crash may leave of a held file: what was there when it was locked, or bytes that were to replace it
+abbrev pub CrashLeaves : {S F I H : Type 0} → Ghosts S F I H → S → List Writing → Type 0
+CrashLeaves system now tried = (name : Bytes) (found : Option Bytes) → system.left now name found
+    → system.began name found
+    ⊎ ((bytes : Bytes) × (found ≡ Some bytes) × Contains tried (record { name = name; bytes = bytes }))
+
 -- All that the record says of files and standard input is what the system returned for the names asked, and the
--- system did nothing else: its calls are those of the uses, in their order, and it holds what the record says.
+-- system did nothing else: its calls are those of the uses, in their order, and it holds what the record says. A crash
+-- leaves no bytes of a held file but those that the record says.
 pub record IsTrueRecord {S F I H : Type 0} (system : Ghosts S F I H) (reads : Reads F) (writes : Writes F)
     (input : Reads I) (now : S) (opened : OpenFile F I) (hold : Option H) (kept : Record) : Type 0 where
   pub uses : All (IsTrueUse system reads writes input) kept.uses
@@ -74,3 +81,4 @@ pub record IsTrueRecord {S F I H : Type 0} (system : Ghosts S F I H) (reads : Re
   pub denied : All system.denies kept.denied
   pub held : IsHeldBy system hold kept.held
   pub did : system.did (done_by kept) now
+  pub crash : CrashLeaves system now kept.tried

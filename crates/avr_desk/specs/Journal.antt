@@ -1,5 +1,5 @@
 -- What a system did with files, and the part of it that a desk's record tells.
-use Rattle.std.specs.Prelude.{ℕ, ◌+◌, List, [], ◌∷◌, ◌++◌, Option, Some, None, if◌then◌else◌}
+use Rattle.std.specs.Prelude.{◌≡◌, ◌⊎◌, ℕ, ◌+◌, List, [], ◌∷◌, ◌++◌, Option, Some, None, if◌then◌else◌}
 use Rattle.avr_desk.specs.Named.{is_dash}
 use Rattle.avr_desk.specs.Record.{Bytes, Record, all_uses}
 use Rattle.avr_desk.specs.declared.record.FileUse.{FileUse}
@@ -48,6 +48,16 @@ Does did change old new = (done : Done) → did done old → did (change done) n
 abbrev pub Leaves : {S H : Type 0} → (Done → S → Type 0) → Option H → S → S → Type 0
 Leaves did None old new = Stays did old new
 Leaves did (Some hold) old new = (done : Done) → did (holding done) old → did done new
+
+-- a crash may leave no more than before
+abbrev pub LeavesNoMore : {S : Type 0} → (S → Bytes → Option Bytes → Type 0) → S → S → Type 0
+LeavesNoMore left old new = (name : Bytes) (found : Option Bytes) → left new name found → left old name found
+
+-- it may leave no more than before, and this under this name
+abbrev pub LeavesAlso : {S : Type 0} → (S → Bytes → Option Bytes → Type 0) → Bytes → (Option Bytes → Type 0) → S → S
+    → Type 0
+LeavesAlso left name More old new = (other : Bytes) (found : Option Bytes) → left new other found
+    → left old other found ⊎ ((other ≡ name) × More found)
 
 -- ---- what the record tells of it
 

@@ -1,5 +1,5 @@
 -- What a desk was asked, and what it gave.
-use Rattle.std.specs.Prelude.{◌≡◌, ◌==◌, ◌&&◌, ◌||◌, ℕ, Bool, true, false, not, List, [], ◌∷◌, ◌++◌, take, length, Option, Some, None, Result, Ok, Err, OnOk, ⊤}
+use Rattle.std.specs.Prelude.{◌≡◌, ◌⊎◌, ◌==◌, ◌&&◌, ◌||◌, ℕ, Bool, true, false, not, List, [], ◌∷◌, ◌++◌, take, length, Option, Some, None, Result, Ok, Err, OnOk, ⊤}
 use Rattle.avr_desk.specs.declared.desk.DeskFault.{DeskFault}
 use Rattle.avr_desk.specs.declared.desk.DeskFault.TheVariants.{NotFound, Failed}
 use Rattle.avr_desk.specs.declared.record.Writing.{Writing}
@@ -14,12 +14,13 @@ abbrev pub Bytes : Type 0
 Bytes = List ℕ
 
 -- What a desk keeps: the finished openings and files in their order; the open file; the held file; those held
--- already; output and messages.
+-- already; the replacements that were tried, also those that failed; output and messages.
 pub record Record : Type 0 where
   pub uses : List FileUse
   pub current : Open
   pub held : Option Bytes
   pub denied : List Bytes
+  pub tried : List Writing
   pub output : Bytes
   pub messages : Bytes
 
@@ -105,15 +106,24 @@ with_none_held r = record r { held = None }
 abbrev pub released : DeskState → DeskState
 released view = record view { kept = with_none_held view.kept }
 
--- the open file is closed, a file of this name has these bytes, and nothing is held
+-- a file was to be replaced with these bytes
+abbrev pub with_tried : Bytes → Bytes → Record → Record
+with_tried name bytes r = record r { tried = r.tried ++ record { name = name; bytes = bytes } ∷ [] }
+
+-- the open file is closed, a file of this name was replaced with these bytes, and nothing is held
 abbrev pub with_replaced : Bytes → Bytes → Record → Record
-with_replaced name bytes r = record r {
+with_replaced name bytes r = record (with_tried name bytes r) {
   uses = all_uses r ++ Created (record { name = name; bytes = bytes }) ∷ [];
   current = Closed;
   held = None;
 }
 
--- a failed replacement changes nothing
+-- A file was replaced. A failed replacement may have been tried.
+abbrev pub Replaces : Bytes → Bytes → Result ⊤ DeskFault → DeskState → DeskState → Type 0
+Replaces name bytes (Ok done) old new = Passes (with_replaced name bytes) old new
+Replaces name bytes (Err fault) old new = (new.kept ≡ old.kept) ⊎ Passes (with_tried name bytes) old new
+
+-- a replacement that failed before it was tried changes nothing
 abbrev pub after_replace : Bytes → Bytes → Result ⊤ DeskFault → Record → Record
 after_replace name bytes (Ok done) r = with_replaced name bytes r
 after_replace name bytes (Err fault) r = r
@@ -164,4 +174,4 @@ HasOpen test old r = OnOk r (test old.kept.current ≡ true)
 
 abbrev pub nothing_kept : Record
 nothing_kept =
-    record { uses = []; current = Closed; held = None; denied = []; output = []; messages = [] }
+    record { uses = []; current = Closed; held = None; denied = []; tried = []; output = []; messages = [] }

@@ -97,9 +97,10 @@ pub record IsTrueSince {S F I H O E : Type 0} (system : Ghosts S F I H) (reads :
   pub files : IsTrueRecord system reads writes input old.system old.opened old.hold old.kept
       → IsTrueRecord system reads writes input new.system new.opened new.hold new.kept
 
--- a desk with nothing open, held or kept, over a system that did nothing yet
+-- a desk with nothing open, held or kept, over a system that did nothing and held no file yet
 pub record IsNewDesk {S F I H O E : Type 0} (system : Ghosts S F I H) (d : Shown S F H I O E) : Type 0 where
   pub fresh : system.did none_done d.system
+  pub unheld : (name : Bytes) (found : Option Bytes) → system.left d.system name found → ⊥
   pub opened : d.opened ≡ Nothing
   pub hold : d.hold ≡ None
   pub kept : d.kept ≡ nothing_kept

@@ -1,7 +1,7 @@
 //! A desk that fails by plan, for tests of its callers.
 ghost use Rattle.std.specs.Prelude.{◌≡◌, ◌≤◌, ◌-◌, ◌==◌, length, IfOk, IfErr, MatchBool};
 ghost use Rattle.avr_desk.specs.Failing.{FailsWhenDue, count_after, failing_state};
-ghost use Rattle.avr_desk.specs.Record.{Passes, after_open, after_create, after_hold, after_read, after_replace, released, HasOpen, is_to_read, is_to_write};
+ghost use Rattle.avr_desk.specs.Record.{Passes, after_open, after_create, after_hold, after_read, Replaces, released, HasOpen, is_to_read, is_to_write};
 ghost use Rattle.avr_desk.specs.Fault.{Counts, WriteCounts};
 ghost use Rattle.avr_desk.specs.Stream.{SendsTaken};
 ghost use Rattle.avr_desk.specs.declared.stream.Stream.TheVariants.{File, Output, Messages};
@@ -196,8 +196,7 @@ impl<D: ChipDesk> ChipDesk for FailingDesk<D> {
     }
 
     fn replace(&mut self, name: &str, bytes: &[u8]) -> Result<(), DeskFault>
-        ensures kept { Passes (after_replace name.now bytes.now result)
-            (D.view self.old.inner) (D.view self.new.inner) }
+        ensures kept { Replaces name.now bytes.now result (D.view self.old.inner) (D.view self.new.inner) }
         ensures counts { Counts File (failing_state (D.view self.old.inner) self.old)
             (failing_state (D.view self.new.inner) self.new) result }
         ensures fault { IfErr result (λ e. e ≡ DeskFault.Failed) }

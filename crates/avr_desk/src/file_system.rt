@@ -1,7 +1,7 @@
 //! The files of a system by their names, as a program's desk uses them.
-ghost use Rattle.std.specs.Prelude.{◌≡◌, ⊤, IfOk, IfErr, OnOk, OnErr, MatchOption, true};
+ghost use Rattle.std.specs.Prelude.{◌≡◌, ⊤, IfOk, IfErr, OnOk, OnErr, MatchOption, Option, Some, true};
 ghost use Rattle.std.specs.IoError.{error_kind};
-ghost use Rattle.avr_desk.specs.Journal.{Does, Done, giving_input, holding, making, opening};
+ghost use Rattle.avr_desk.specs.Journal.{Does, Done, LeavesAlso, LeavesNoMore, giving_input, holding, making, opening};
 ghost use Rattle.avr_desk.specs.Record.{Bytes};
 ghost use Rattle.ghosts.specs.Stays.{Stays};
 
@@ -27,7 +27,7 @@ pub trait FileSystem {
     /// Holds a file that is to be replaced.
     type Hold: Drop;
 
-    /// This is all that it did since it was new. A failed call did nothing.
+    /// These are all calls that succeeded since it was new.
     ghost did: { Done → Self → Type 0 };
 
     /// The reader is as the system gives it for standard input.
@@ -51,9 +51,18 @@ pub trait FileSystem {
     /// The file of this name was replaced with these bytes.
     ghost replaced: { Bytes → Bytes → Type 0 };
 
+    /// While this run held the file of this name, a crash until now might have left this: a file of these bytes, or
+    /// none. What is written in place doesn't count: to a file that isn't regular, where another file is mounted, or
+    /// through a file that was opened or created otherwise.
+    ghost left: { Self → Bytes → Option Bytes → Type 0 };
+
+    /// This was there when the run locked the file of this name: a file of these bytes, or none.
+    ghost began: { Bytes → Option Bytes → Type 0 };
+
     /// Gives standard input.
     fn input(&mut self) -> Self::Input
         ensures begins { is_input result }
+        ensures keeps { LeavesNoMore left self.old self.new }
         ensures gives { Does did giving_input self.old self.new };
 
     /// Opens a file to read.
@@ -65,7 +74,8 @@ pub trait FileSystem {
         ensures named { IfOk result (λ file. is_of file name.now) }
         ensures absent { IfErr result (λ error. error_kind error ≡ ErrorKind.NotFound → lacks name.now) }
         ensures opens { OnOk result (Does did (opening name.now) self.old self.new) }
-        ensures fails { OnErr result (Stays did self.old self.new) };
+        ensures fails { OnErr result (Stays did self.old self.new) }
+        ensures keeps { LeavesNoMore left self.old self.new };
 
     /// Creates a file, or empties an existing one, but not the held one. If the name leads to that, what is written
     /// goes to a file without a name. Another hard link to it becomes a file of its own.
@@ -76,12 +86,14 @@ pub trait FileSystem {
     fn create_named(&mut self, name: &str, hold: Option<&Self::Hold>) -> io::Result<Self::File>
         ensures named { IfOk result (λ file. is_of file name.now) }
         ensures creates { OnOk result (Does did (making name.now) self.old self.new) }
-        ensures fails { OnErr result (Stays did self.old self.new) };
+        ensures fails { OnErr result (Stays did self.old self.new) }
+        ensures keeps { LeavesNoMore left self.old self.new };
 
     /// Closes a file that was written.
     fn close_file(&mut self, file: Self::File)
         ensures closes { closed file }
-        ensures stays { Stays did self.old self.new };
+        ensures stays { Stays did self.old self.new }
+        ensures keeps { LeavesNoMore left self.old self.new };
 
     /// Locks the file of this name, which is to be replaced. Returns `None` if another process has locked it.
     ///
@@ -92,26 +104,30 @@ pub trait FileSystem {
         ensures held { IfOk result (λ answer. MatchOption answer (denies name.now) (λ hold. holds hold name.now)) }
         ensures locks { IfOk result (λ answer. MatchOption answer (Stays did self.old self.new)
             (λ hold. Does did holding self.old self.new)) }
-        ensures fails { OnErr result (Stays did self.old self.new) };
+        ensures fails { OnErr result (Stays did self.old self.new) }
+        ensures leaves { LeavesAlso left name.now (began name.now) self.old self.new };
 
     /// Returns whether `hold` is of the file of this name.
     fn is_held(&self, hold: &Self::Hold, name: &str) -> bool
         ensures held { result ≡ true → holds hold.now name.now };
 
-    /// Replaces the held file with these bytes.
+    /// Replaces the held file with these bytes, whole or not at all.
     ///
     /// # Errors
     ///
-    /// The system's error.
+    /// The system's error. The file may have been replaced even so.
     fn put_held(&mut self, hold: &mut Self::Hold, bytes: &[u8]) -> io::Result<()>
         ensures put { OnOk result ((name : Bytes) → holds hold.old name → replaced name bytes.now) }
         ensures makes { OnOk result ((name : Bytes) → holds hold.old name → Does did (making name) self.old self.new) }
         ensures fails { OnErr result (Stays did self.old self.new) }
-        ensures stays { (name : Bytes) → holds hold.old name → holds hold.new name };
+        ensures stays { (name : Bytes) → holds hold.old name → holds hold.new name }
+        ensures leaves { (name : Bytes) → holds hold.old name
+            → LeavesAlso left name (λ found. found ≡ Some bytes.now) self.old self.new };
 
     /// Unlocks the file.
     fn leave_held(&mut self, hold: Self::Hold)
-        ensures leaves { (done : Done) → did (holding done) self.old → did done self.new };
+        ensures leaves { (done : Done) → did (holding done) self.old → did done self.new }
+        ensures keeps { LeavesNoMore left self.old self.new };
 }
 
 impl<'a, R: Files<File = fs::File> + Input + Alloc<A = Global>> FileSystem for &'a R {
@@ -136,6 +152,10 @@ impl<'a, R: Files<File = fs::File> + Input + Alloc<A = Global>> FileSystem for &
     ghost denies = { λ name. ⊤ };
 
     ghost replaced = { λ name bytes. ⊤ };
+
+    ghost left = { λ system name found. ⊥ };
+
+    ghost began = { λ name found. ⊤ };
 
     fn input(&mut self) -> R::Reader {
         self.reader()

@@ -18,6 +18,8 @@ pub(crate) enum Call<'a> {
     Released,
     /// The file was replaced with these bytes.
     Replaced(&'a [u8], &'a [u8]),
+    /// Replacing the file with these bytes failed.
+    Tried(&'a [u8], &'a [u8]),
     /// This many bytes were read into the buffer's start.
     Read(&'a [u8], usize),
     /// This many of the bytes were written there.
@@ -25,7 +27,7 @@ pub(crate) enum Call<'a> {
 }
 
 /// The record of a desk. Only clauses read it, as `kept`.
-#[derive(Drop)]
+#[derive(Debug, Drop)]
 pub(crate) struct Journal {
     pub ghost kept: { Record },
 }

@@ -3,12 +3,13 @@ ghost use Rattle.std.specs.Prelude.{◌≡◌, ◌++◌, is_ok, if◌then◌else
 ghost use Rattle.std.specs.Option.{option_copied, option_to_list};
 
 use crate::bytes::Bytes;
+use crate::journal::{Call, Journal};
 use crate::record::{FileUse, Open, Opening, Writing, newest_created};
 use std::alloc::{AllocError, Global};
 use std::marker::Model;
 use std::mem;
 
-/// The uses of files, the output and the messages.
+/// The uses of files, the output and the messages. The journal has the replacements, for proofs alone.
 #[derive(Debug, Drop)]
 pub struct Kept {
     uses: Vec<FileUse>,
@@ -17,6 +18,7 @@ pub struct Kept {
     denied: Vec<Bytes>,
     output: Bytes,
     messages: Bytes,
+    journal: Journal,
 }
 
 impl Model for Kept {
@@ -29,6 +31,7 @@ impl Model for Kept {
       current = k.current;
       held = k.held;
       denied = k.denied.items;
+      tried = k.journal.kept.tried;
       output = k.output;
       messages = k.messages;
     } };
@@ -49,6 +52,7 @@ impl Kept {
             denied: Vec::new(alloc),
             output: Bytes::new(alloc),
             messages: Bytes::new(alloc),
+            journal: Journal::new(),
         }
     }
 
@@ -182,8 +186,12 @@ impl Kept {
     pub fn add(&mut self, file: Writing) -> Result<(), AllocError>
         ensures { self.new ≡ (if is_ok result then with_replaced file.name file.bytes self.old else self.old) }
     {
+        let journal = self
+            .journal
+            .then(&Call::Tried(file.name.as_slice(), file.bytes.as_slice()));
         self.close_current(Some(FileUse::Created(file)), Open::Closed)?;
         self.held = None;
+        self.journal = journal;
         Ok(())
     }
 

@@ -1,10 +1,10 @@
 //! Laws of what desks keep, over their definitions alone.
-ghost use Rattle.std.specs.Prelude.{◌≡◌, [], None};
+ghost use Rattle.std.specs.Prelude.{◌≡◌, [], Option, None};
 ghost use Rattle.ghosts.specs.Stays.{Stays};
 ghost use Rattle.avr_desk.specs.Handles.{IsTrueRecord};
 ghost use Rattle.avr_desk.specs.Journal.{none_done};
 ghost use Rattle.avr_desk.specs.Memory.{MemDeskState, Stock, stock_of};
-ghost use Rattle.avr_desk.specs.Record.{all_uses, nothing_kept};
+ghost use Rattle.avr_desk.specs.Record.{Bytes, all_uses, nothing_kept};
 ghost use Rattle.avr_desk.specs.Shown.{IsTrueSince, TellsAll};
 ghost use Rattle.avr_desk.specs.Truth.{AreTrue, HoldsTrue};
 ghost use Rattle.avr_desk.specs.declared.system.OpenFile.TheVariants.{Nothing};
@@ -40,6 +40,7 @@ pub fn what_a_desk_of_a_program_keeps_is_true<
     ensures since { IsTrueSince R.FileSystem R.File.Read R.File.Write R.Input.Read O.Write E.Write
         before.now after.now }
     ensures begins { (fresh : R) → R.did none_done fresh
+        → ((name : Bytes) (found : Option Bytes) → R.left fresh name found → ⊥)
         → IsTrueRecord R.FileSystem R.File.Read R.File.Write R.Input.Read fresh Nothing None nothing_kept }
     ensures all { TellsAll R.FileSystem R.File.Read R.File.Write R.Input.Read before.now after.now }
 {}

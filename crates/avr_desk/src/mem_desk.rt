@@ -354,7 +354,7 @@ impl Desk for MemDesk {
 }
 
 impl ChipDesk for MemDesk {
-    ghost use Rattle.avr_desk.specs.Record.{after_hold, after_replace, with_none_held};
+    ghost use Rattle.avr_desk.specs.Record.{Replaces, after_hold, after_replace, with_none_held};
     ghost use Rattle.avr_desk.specs.Fault.{Counts};
     ghost use Rattle.avr_desk.specs.Memory.{memory_state};
     ghost use Rattle.avr_desk.specs.Named.{holds};
@@ -400,6 +400,7 @@ impl ChipDesk for MemDesk {
           kept = after_replace name.now bytes.now result self.old.kept;
           failures = self.new.failures;
         } }
+        ensures replaces { Replaces name.now bytes.now result (memory_state self.old) (memory_state self.new) }
         ensures counts { Counts File (memory_state self.old) (memory_state self.new) result }
         ensures fault { IfErr result (λ e. e ≡ DeskFault.Failed) }
         ensures stays { Stays HoldsTrue self.old self.new }

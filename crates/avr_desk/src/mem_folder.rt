@@ -1,28 +1,30 @@
 //! A folder in memory: it shows that the clauses of [`Folder`] can be met.
-ghost use Rattle.std.specs.Prelude.{◌≡◌, ⊤, Some, true};
+ghost use Rattle.std.specs.Prelude.{◌≡◌, Some, true};
 ghost use Rattle.avr_desk.specs.Places.{Left};
 
 use crate::bytes::Bytes;
 use crate::folder::Folder;
-use crate::placing::Step;
+use crate::placing::{Seen, Step};
 use std::alloc::Global;
-use std::fs::Metadata;
 use std::{io, mem};
 
 /// A file that was opened by its name.
 #[derive(Drop)]
 pub(crate) struct MemFile {
-    is_locked: bool,
+    name: Bytes,
+    seen: Seen,
 }
 
 /// A new file.
 #[derive(Drop)]
 pub(crate) struct MemNew {
+    name: Bytes,
     bytes: Bytes,
     is_kept: bool,
 }
 
-/// A folder with one name. A crash leaves there any of the files that it had since it was last synchronized.
+/// A folder with one name, and one more while a new file is made. A crash leaves under the first any of the files that
+/// it had since the folder was last synchronized.
 #[derive(Drop)]
 pub(crate) struct MemFolder {
     alloc: Global,
@@ -30,6 +32,20 @@ pub(crate) struct MemFolder {
     before: Vec<Option<Bytes>>,
     last: Option<Bytes>,
     moment: usize,
+    beside: Option<Bytes>,
+}
+
+fn seen_with(length: usize) -> Seen {
+    Seen {
+        is_file: true,
+        names: 1,
+        length: length as u64,
+        mode: 0o600,
+        owner: 0,
+        group: 0,
+        number: 0,
+        device: 0,
+    }
 }
 
 impl MemFolder {
@@ -40,10 +56,19 @@ impl MemFolder {
     {
         self.name.as_slice() == path.as_bytes()
     }
+
+    fn opened(&self, path: &str, length: usize) -> io::Result<MemFile> {
+        Ok(MemFile {
+            name: Bytes::copied(self.alloc, path.as_bytes())?,
+            seen: seen_with(length),
+        })
+    }
 }
 
 impl Folder for MemFolder {
     type Opened = MemFile;
+
+    type Locked = MemFile;
 
     type New = MemNew;
 
@@ -51,25 +76,99 @@ impl Folder for MemFolder {
 
     ghost left_since = { λ folder first name found. Left folder.name folder.before.items folder.last first name found };
 
-    ghost locks = { λ folder name. name ≡ folder.name };
+    ghost locks = { λ folder name by. name ≡ folder.name };
 
-    ghost is_locked = { λ file. file.is_locked ≡ true };
+    ghost has_name = { λ folder file name. (name ≡ folder.name) × (name ≡ file.name) };
+
+    ghost was_at = { λ file name. name ≡ file.name };
+
+    ghost showed = { λ file seen. seen ≡ file.seen };
+
+    ghost shows = { λ file seen. seen ≡ file.seen };
+
+    ghost is_user = { λ user. user ≡ 0 };
 
     ghost finds = { λ folder name bytes. folder.last ≡ Some bytes };
 
-    ghost is_there = { λ folder new. ⊤ };
+    ghost is_mounted = { λ name. ⊥ };
+
+    ghost own_name = { λ new. new.name };
+
+    ghost is_there = { λ folder new. folder.beside ≡ Some new.name };
 
     ghost has = { λ new bytes. new.bytes ≡ bytes };
 
     ghost keeps = { λ new bytes. (new.bytes ≡ bytes) × (new.is_kept ≡ true) };
 
-    fn lock(&mut self, file: &mut MemFile) -> io::Result<bool> {
-        file.is_locked = true;
-        Ok(true)
+    fn user(&self) -> u32 {
+        0
+    }
+
+    fn stat(&self, path: &str) -> io::Result<Option<Seen>> {
+        if !self.is_name(path) {
+            return Err(io::Error::from(io::ErrorKind::Unsupported));
+        }
+        match &self.last {
+            Some(bytes) => Ok(Some(seen_with(bytes.len()))),
+            None => Ok(None),
+        }
+    }
+
+    fn fstat(&self, file: &MemFile) -> io::Result<Seen> {
+        Ok(file.seen)
+    }
+
+    fn fstat_locked(&self, file: &MemFile) -> io::Result<Seen> {
+        Ok(file.seen)
+    }
+
+    fn open(&self, path: &str) -> io::Result<Option<MemFile>> {
+        match &self.last {
+            Some(bytes) if self.is_name(path) => Ok(Some(self.opened(path, bytes.len())?)),
+            _ => Ok(None),
+        }
+    }
+
+    fn open_left(&self, path: &str) -> io::Result<MemFile> {
+        self.opened(path, 0)
+    }
+
+    fn create_new(&mut self, path: &str) -> io::Result<Option<MemFile>> {
+        Ok(Some(self.opened(path, 0)?))
+    }
+
+    fn lock(&self, file: MemFile) -> io::Result<Option<MemFile>> {
+        Ok(Some(file))
     }
 
     fn is_at(&mut self, file: &MemFile, path: &str) -> io::Result<bool> {
-        Ok(self.is_name(path))
+        Ok(self.is_name(path) && file.name.as_slice() == path.as_bytes())
+    }
+
+    fn remove(&mut self, _file: &MemFile, path: &str) -> io::Result<()> {
+        if self.is_name(path) {
+            let old = mem::replace(&mut self.last, None);
+            self.before.push(old)?;
+        }
+        Ok(())
+    }
+
+    fn make(&mut self, path: &str, _mode: u32) -> io::Result<Option<MemNew>> {
+        if self.beside.is_some() {
+            return Ok(None);
+        }
+        let name = Bytes::copied(self.alloc, path.as_bytes())?;
+        self.beside = Some(Bytes::copied(self.alloc, path.as_bytes())?);
+        Ok(Some(MemNew {
+            name,
+            bytes: Bytes::new(self.alloc),
+            is_kept: false,
+        }))
+    }
+
+    fn remove_new(&mut self, _new: &MemNew) -> io::Result<()> {
+        self.beside = None;
+        Ok(())
     }
 
     fn write(&mut self, new: &mut MemNew, bytes: &[u8]) -> io::Result<()> {
@@ -78,7 +177,7 @@ impl Folder for MemFolder {
         Ok(())
     }
 
-    fn be_like(&mut self, _new: &MemNew, _old: &Option<Metadata>) -> io::Result<u32> {
+    fn be_like(&mut self, _new: &MemNew, _old: &Option<Seen>) -> io::Result<u32> {
         Ok(0)
     }
 
@@ -87,14 +186,18 @@ impl Folder for MemFolder {
         Ok(())
     }
 
-    fn look(&mut self, _new: &MemNew) -> io::Result<bool> {
-        Ok(true)
+    fn look(&mut self, new: &MemNew) -> io::Result<bool> {
+        match &self.beside {
+            Some(name) => Ok(name.as_slice() == new.name.as_slice()),
+            None => Ok(false),
+        }
     }
 
     fn place(&mut self, new: &MemNew, target: &str, _step: Step) -> io::Result<()> {
         let bytes = Bytes::copied(self.alloc, new.bytes.as_slice())?;
         let old = mem::replace(&mut self.last, Some(bytes));
         self.before.push(old)?;
+        self.beside = None;
         Ok(())
     }
 
@@ -109,6 +212,13 @@ impl Folder for MemFolder {
 
     fn sync_folder(&mut self, _target: &str) -> io::Result<()> {
         self.moment = self.before.len();
+        Ok(())
+    }
+
+    fn write_over(&mut self, _file: &mut MemFile, bytes: &[u8]) -> io::Result<()> {
+        let bytes = Bytes::copied(self.alloc, bytes)?;
+        let old = mem::replace(&mut self.last, Some(bytes));
+        self.before.push(old)?;
         Ok(())
     }
 }

@@ -1,6 +1,7 @@
 //! What is put in place of a file, and what becomes of files beside it: decisions that take what was seen and call
 //! nothing.
 ghost use Rattle.std.specs.Prelude.{◌≡◌, ◌==◌, ◌&&◌, ◌||◌, ◌%◌, ◌*◌, if◌then◌else◌, not, bit_and, bit_or, nat_le, None, Some};
+ghost use Rattle.avr_desk.specs.Places.{is_left_by};
 ghost use Rattle.avr_desk.specs.declared.placing.Step.TheVariants.{Link, Rename, Refuse};
 ghost use Rattle.avr_desk.specs.declared.placing.Writes.TheVariants.{There, Anew, Nowhere};
 
@@ -9,6 +10,36 @@ const PERMISSIONS: u32 = 0o777;
 
 /// The mark of a file that isn't in place yet: the sticky bit, which has no meaning for a regular file.
 const MARK: u32 = 0o1000;
+
+/// What a look at a file, or at a path, saw.
+#[derive(Clone, Copy)]
+pub(crate) struct Seen {
+    pub(crate) is_file: bool,
+    pub(crate) names: u64,
+    pub(crate) length: u64,
+    pub(crate) mode: u32,
+    pub(crate) owner: u32,
+    pub(crate) group: u32,
+    pub(crate) number: u64,
+    pub(crate) device: u64,
+}
+
+/// What came of trying to lock or to hold a file.
+#[derive(Drop)]
+pub(crate) enum Tried<T> {
+    Holds(T),
+    /// Another process has locked it.
+    InUse,
+    /// Another file has its path by now.
+    Changed,
+}
+
+/// Returns whether two looks saw one file.
+pub(crate) fn is_same(one: &Seen, other: &Seen) -> bool
+    ensures { result ≡ ((one.now.number == other.now.number) && (one.now.device == other.now.device)) }
+{
+    one.number == other.number && one.device == other.device
+}
 
 /// How a new file gets the name of a held one.
 #[derive(Clone, Copy)]
@@ -65,17 +96,19 @@ pub(crate) fn writes_after(is_place: bool, is_held: bool, names: u64) -> Writes
 }
 
 /// Returns whether an ended program may have left a file: a regular one with one name that is empty or marked.
-pub(crate) fn is_left_over(is_file: bool, names: u64, length: u64, mode: u32) -> bool
-    ensures { result ≡ (is_file && (nat_le names 1 && ((length == 0) || not (bit_and mode 0o1000 == 0)))) }
+pub(crate) fn is_left_over(seen: &Seen) -> bool
+    ensures { let there = seen.now in result ≡ (there.is_file
+        && (nat_le there.names 1 && ((there.length == 0) || not (bit_and there.mode 0o1000 == 0)))) }
 {
-    is_file && names <= 1 && (length == 0 || mode & MARK != 0)
+    seen.is_file && seen.names <= 1 && (seen.length == 0 || seen.mode & MARK != 0)
 }
 
-/// Returns whether a run removes a file: one that an ended program of its own user may have left.
-pub(crate) fn is_removed(is_left_over: bool, owner: u32, user: u32) -> bool
-    ensures { result ≡ (is_left_over && (owner == user)) }
+/// Returns whether a run of this user removes a file: one that an ended program of the user may have left.
+pub(crate) fn is_removed(seen: &Seen, user: u32) -> bool
+    ensures { result ≡ is_left_by user seen.now }
 {
-    is_left_over && owner == user
+    let owner = seen.owner;
+    is_left_over(seen) && owner == user
 }
 
 /// Returns the mode that a new file is made with. If it replaces another one, it is its owner's alone until it is

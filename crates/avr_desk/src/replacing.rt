@@ -6,18 +6,21 @@
 //! The bytes are written to a new file beside the old one, which this program alone has made, opened and locked. Once
 //! it is on the disk, it is renamed. No other file is put in place, and one that no program here can have made is left
 //! alone.
-ghost use Rattle.std.specs.Prelude.{◌≡◌, ◌++◌, ⊤, IfOk, Option, OnErr, OnOk, bytes_eq, codes, string_bytes};
+ghost use Rattle.std.specs.Prelude.{◌≡◌, ◌⊎◌, ◌++◌, ℕ, ⊤, [], IfOk, IfSome, Option, Some, OnErr, OnOk, bytes_eq, codes, string_bytes};
 ghost use Rattle.avr_desk.specs.Handles.{IsHeldBy};
-ghost use Rattle.avr_desk.specs.Journal.{Does, making};
+ghost use Rattle.avr_desk.specs.Journal.{Does, LeavesAlso, making};
+ghost use Rattle.avr_desk.specs.Places.{IfHolds, IsHolding, Lasts, StandsFor, Still, Whole};
 ghost use Rattle.avr_desk.specs.Record.{Bytes};
 ghost use Rattle.ghosts.specs.Stays.{Stays};
 
 use crate::bounded::{Bounded, create, limited, longest_file};
 use crate::file_system::FileSystem;
-use crate::folder::{Folder, Locking, fill_and_place, lock_at};
+use crate::folder::{
+    ATTEMPTS, Folder, fill_and_place, is_own_left, lock_at, make_new, not_ours, open_or_make,
+    remove_left, remove_new, remove_there,
+};
 use crate::placing::{
-    Step, Writes, first_mode, given, is_left_over, is_removed, marked, permissions_after,
-    step_after, writes_after,
+    Seen, Step, Tried, Writes, given, is_same, marked, permissions_after, step_after, writes_after,
 };
 use std::alloc::Global;
 use std::fs::{File, Metadata, OpenOptions, Permissions, TryLockError};
@@ -25,9 +28,6 @@ use std::io::{ErrorKind, Seek, SeekFrom, Write};
 use std::os::unix::fs::{MetadataExt, OpenOptionsExt, PermissionsExt, fchown};
 use std::rt::Files;
 use std::{fs, io};
-
-/// How often a file is looked for again after another program put another one in its place.
-const ATTEMPTS: u32 = 100;
 
 /// How many links are followed, as many as the system follows.
 const LINKS: u32 = 40;
@@ -41,32 +41,18 @@ pub(crate) struct NewFile {
 
 /// The file at `target` is held. It is locked, or the empty file at `beside` is if there was none.
 #[derive(Drop)]
-struct Held {
-    locked: File,
+pub(crate) struct Held<L, N> {
+    locked: L,
     target: String,
     beside: Option<String>,
-    placed: Option<NewFile>,
-}
-
-/// What came of trying to hold a file.
-#[derive(Drop)]
-enum Tried {
-    Holds(Held),
-    /// Another program has locked it.
-    InUse,
-    /// Another program put another file there meanwhile.
-    Changed,
+    placed: Option<N>,
 }
 
 /// Replaces the file of this name. One that isn't regular is not held; it is written in place.
 #[derive(Drop)]
 pub struct Replacement {
     name: String,
-    held: Option<Held>,
-}
-
-fn is_same(one: &Metadata, other: &Metadata) -> bool {
-    one.ino() == other.ino() && one.dev() == other.dev()
+    held: Option<Held<File, NewFile>>,
 }
 
 /// Returns `None` if there is no file.
@@ -78,6 +64,19 @@ fn unless_absent<T>(found: io::Result<T>) -> io::Result<Option<T>> {
     }
 }
 
+fn seen(there: &Metadata) -> Seen {
+    Seen {
+        is_file: there.is_file(),
+        names: there.nlink(),
+        length: there.len(),
+        mode: there.mode(),
+        owner: there.uid(),
+        group: there.gid(),
+        number: there.ino(),
+        device: there.dev(),
+    }
+}
+
 /// Looks at what is at this path, which may be a link.
 fn look<R: Files>(rt: &R, path: &str) -> io::Result<Option<Metadata>> {
     unless_absent(fs::symlink_metadata(rt, path))
@@ -86,21 +85,9 @@ fn look<R: Files>(rt: &R, path: &str) -> io::Result<Option<Metadata>> {
 /// Returns whether this open file is the one at the path.
 fn is_at<R: Files>(rt: &R, file: &File, path: &str) -> io::Result<bool> {
     match look(rt, path)? {
-        Some(there) => Ok(is_same(&file.metadata()?, &there)),
+        Some(there) => Ok(is_same(&seen(&file.metadata()?), &seen(&there))),
         None => Ok(false),
     }
-}
-
-fn is_left(there: &Metadata) -> bool {
-    is_left_over(there.is_file(), there.nlink(), there.len(), there.mode())
-}
-
-fn is_own_left(there: &Metadata) -> bool {
-    is_removed(is_left(there), there.uid(), libc::geteuid())
-}
-
-fn not_ours() -> io::Error {
-    io::Error::from(ErrorKind::AlreadyExists)
 }
 
 /// Locks the file. Returns false if another process has.
@@ -135,7 +122,8 @@ fn is_one_place<R: Files>(rt: &R, one: &str, other: &str) -> io::Result<bool> {
         return Ok(false);
     }
     let folder = fs::metadata(rt, folder_of(one))?;
-    Ok(is_same(&folder, &fs::metadata(rt, folder_of(other))?))
+    let other = fs::metadata(rt, folder_of(other))?;
+    Ok(is_same(&seen(&folder), &seen(&other)))
 }
 
 /// Waits until the file's name is on the disk. It ignores a folder that can't be opened or synchronized.
@@ -150,19 +138,19 @@ fn sync_folder<R: Files<File = File>>(rt: &R, path: &str) -> io::Result<()> {
 }
 
 /// Returns this path with an ending.
-fn with_ending<R: Alloc<A = Global>>(rt: &R, path: &str, ending: &str) -> io::Result<String>
+fn with_ending(alloc: Global, path: &str, ending: &str) -> io::Result<String>
     ensures { IfOk result (λ text. string_bytes text ≡ path.now ++ ending.now) }
 {
-    let mut text = String::from_str(rt.alloc(), path)?;
+    let mut text = String::from_str(alloc, path)?;
     text.push_str(ending)?;
     Ok(text)
 }
 
 /// Returns the path of the file that is locked for one that is absent.
-fn lock_file_of<R: Alloc<A = Global>>(rt: &R, target: &str) -> io::Result<String>
+fn lock_file_of(alloc: Global, target: &str) -> io::Result<String>
     ensures { IfOk result (λ text. string_bytes text ≡ target.now ++ codes ".avrstk-new") }
 {
-    with_ending(rt, target, ".avrstk-new")
+    with_ending(alloc, target, ".avrstk-new")
 }
 
 /// Returns the path that a name leads to, following the links at its end. No file need be there.
@@ -176,7 +164,7 @@ fn target_of<R: Files<File = File> + Alloc<A = Global>>(rt: &R, name: &str) -> i
         path = if next.as_str().starts_with('/') {
             next
         } else {
-            let mut joined = with_ending(rt, folder_of(path.as_str()), "/")?;
+            let mut joined = with_ending(rt.alloc(), folder_of(path.as_str()), "/")?;
             joined.push_str(next.as_str())?;
             joined
         };
@@ -184,125 +172,24 @@ fn target_of<R: Files<File = File> + Alloc<A = Global>>(rt: &R, name: &str) -> i
     Err(io::Error::from(ErrorKind::FilesystemLoop))
 }
 
-/// Opens a file that an ended program may have left. Another user's is only read.
-fn open_left<R: Files<File = File>>(rt: &R, path: &str) -> io::Result<File> {
-    match OpenOptions::new().read(true).write(true).open(rt, path) {
-        Err(error) if error.kind() == ErrorKind::PermissionDenied => fs::open(rt, path),
-        opened => opened,
-    }
-}
-
-/// Removes what an ended program left at this path, unless it is another user's or another program has locked it.
-fn remove_left<R: Files<File = File> + Alloc<A = Global>>(rt: &R, path: &str) -> io::Result<()> {
-    match look(rt, path)? {
-        Some(there) if is_own_left(&there) => {}
-        _ => return Ok(()),
-    }
-    let mut file = open_left(rt, path)?;
-    let mut folder = rt;
-    if is_own_left(&file.metadata()?)
-        && matches!(lock_at(&mut folder, &mut file, path)?, Locking::Holds)
-    {
-        fs::remove_file(rt, path)?;
-    }
-    Ok(())
-}
-
-/// Removes this file, unless another one has its path.
-fn remove<R: Files>(rt: &R, file: &File, path: &str) {
-    if matches!(is_at(rt, file, path), Ok(true)) {
-        let _ = fs::remove_file(rt, path);
-    }
-}
-
-/// Opens or makes the empty file that is locked for one that is absent. It returns `None` if another program just made
-/// or removed it, and refuses links and files that no program here can have left.
-fn open_or_make<R: Files<File = File>>(rt: &R, path: &str) -> io::Result<Option<File>> {
-    match look(rt, path)? {
-        Some(there) if is_left(&there) => unless_absent(open_left(rt, path)),
-        Some(_) => Err(not_ours()),
-        None => match File::create_new(rt, path) {
-            Err(error) if error.kind() == ErrorKind::AlreadyExists => Ok(None),
-            made => made.map(Some),
-        },
-    }
-}
-
-/// Tries to lock the empty file beside `target`, which is absent.
-fn try_beside<R: Files<File = File> + Alloc<A = Global>>(
-    rt: &R,
-    target: String,
-) -> io::Result<Tried> {
-    let beside = lock_file_of(rt, target.as_str())?;
-    let Some(mut locked) = open_or_make(rt, beside.as_str())? else {
-        return Ok(Tried::Changed);
-    };
-    let mut folder = rt;
-    match lock_at(&mut folder, &mut locked, beside.as_str())? {
-        Locking::Holds => {}
-        Locking::InUse => return Ok(Tried::InUse),
-        Locking::Changed => return Ok(Tried::Changed),
-    }
-    let held = Held {
-        locked,
-        target,
-        beside: Some(beside),
-        placed: None,
-    };
-    if look(rt, held.target.as_str())?.is_some() {
-        held.leave(rt);
-        return Ok(Tried::Changed);
-    }
-    Ok(Tried::Holds(held))
-}
-
-/// Tries to lock the file at `target`, to which `name` leads, or the one beside it if it is absent. What was locked is
-/// looked at again, because it was opened by its name.
-fn try_to_hold<R: Files<File = File> + Alloc<A = Global>>(
-    rt: &R,
-    name: &str,
-    target: String,
-) -> io::Result<Tried> {
-    // Fails if the file may not be written.
-    let opened = OpenOptions::new().write(true).open(rt, name);
-    let Some(mut locked) = unless_absent(opened)? else {
-        return try_beside(rt, target);
-    };
-    let mut folder = rt;
-    match lock_at(&mut folder, &mut locked, target.as_str())? {
-        Locking::Holds => Ok(Tried::Holds(Held {
-            locked,
-            target,
-            beside: None,
-            placed: None,
-        })),
-        Locking::InUse => Ok(Tried::InUse),
-        Locking::Changed => Ok(Tried::Changed),
-    }
-}
-
 impl NewFile {
-    /// Makes a file beside `target`, under its name with `.avrstk-` and three digits, and removes one left there.
+    /// Makes the file. Returns `None` if there is one, or another process locked it first.
     fn make<R: Files<File = File> + Alloc<A = Global>>(
         rt: &R,
-        target: &str,
-        number: u64,
+        path: &str,
         mode: u32,
-    ) -> io::Result<NewFile> {
-        for turn in 0..ATTEMPTS {
-            let digits = number.wrapping_add(u64::from(turn)) & 0xFFF;
-            let path = format!(in rt.alloc(); "{target}.avrstk-{digits:03X}")?;
-            let _ = remove_left(rt, path.as_str());
-            let mut options = OpenOptions::new();
-            options.read(true).write(true).create_new(true).mode(mode);
-            match options.open(rt, path.as_str()) {
-                Ok(file) if lock(&file)? => return Ok(NewFile { file, path }),
-                Ok(_) => {}
-                Err(error) if error.kind() == ErrorKind::AlreadyExists => {}
-                Err(error) => return Err(error),
-            }
+    ) -> io::Result<Option<NewFile>>
+        ensures { IfOk result (λ answer. IfSome answer (λ new. string_bytes new.path ≡ path.now)) }
+    {
+        let own = String::from_str(rt.alloc(), path)?;
+        let mut options = OpenOptions::new();
+        options.read(true).write(true).create_new(true).mode(mode);
+        match options.open(rt, path) {
+            Ok(file) if lock(&file)? => Ok(Some(NewFile { file, path: own })),
+            Ok(_) => Ok(None),
+            Err(error) if error.kind() == ErrorKind::AlreadyExists => Ok(None),
+            Err(error) => Err(error),
         }
-        Err(not_ours())
     }
 
     fn set_mode(&self, mode: u32) -> io::Result<()> {
@@ -311,19 +198,19 @@ impl NewFile {
 
     /// Gives the file the old one's group and owner, as far as the system allows, and its permissions beside the mark.
     /// Returns the permissions.
-    fn be_like(&self, old: &Option<Metadata>) -> io::Result<u32> {
+    fn be_like(&self, old: &Option<Seen>) -> io::Result<u32> {
         let own = self.file.metadata()?;
         let Some(old) = old else {
             return Ok(permissions_after(own.mode(), true));
         };
-        if let Some(group) = given(own.gid(), old.gid()) {
+        if let Some(group) = given(own.gid(), old.group) {
             let _ = fchown(&self.file, None, Some(group));
         }
-        if let Some(owner) = given(own.uid(), old.uid()) {
+        if let Some(owner) = given(own.uid(), old.owner) {
             let _ = fchown(&self.file, Some(owner), None);
         }
-        let is_of_group = self.file.metadata()?.gid() == old.gid();
-        let permissions = permissions_after(old.mode(), is_of_group);
+        let is_of_group = self.file.metadata()?.gid() == old.group;
+        let permissions = permissions_after(old.mode, is_of_group);
         match self.set_mode(marked(permissions)) {
             Ok(()) => Ok(permissions),
             Err(_) => self.set_mode(permissions).map(|()| permissions),
@@ -347,33 +234,230 @@ impl NewFile {
     }
 }
 
-impl Held {
-    /// Returns the file that is to be replaced, if there was one.
-    fn old(&self) -> io::Result<Option<Metadata>> {
-        match self.beside {
-            None => Ok(Some(self.locked.metadata()?)),
-            Some(_) => Ok(None),
+/// Returns the file that is to be replaced, if there was one.
+fn old_of<F: Folder>(folder: &F, held: &Held<F::Locked, F::New>) -> io::Result<Option<Seen>> {
+    match held.beside {
+        None => Ok(Some(folder.fstat_locked(&held.locked)?)),
+        Some(_) => Ok(None),
+    }
+}
+
+/// Makes a file beside the held one and takes its name away.
+fn make_nameless<F: Folder>(
+    folder: &mut F,
+    alloc: Global,
+    held: &Held<F::Locked, F::New>,
+) -> io::Result<F::New>
+    ensures stays { (by : Bytes) → StandsFor (string_bytes held.now.target) by
+        → Still F.locks F.left_since F.moment (string_bytes held.now.target) by folder.old folder.new }
+{
+    let old = old_of(folder, held)?;
+    let new = make_new(folder, alloc, held.target.as_str(), &old)?;
+    remove_new(folder, &new);
+    Ok(new)
+}
+
+/// Removes a spare name of the held file, or what an ended program left under it.
+fn clear<F: Folder>(
+    folder: &mut F,
+    alloc: Global,
+    held: &Held<F::Locked, F::New>,
+    ending: &str,
+) -> io::Result<()>
+    requires { F.was_at held.now.locked (string_bytes held.now.target) }
+    ensures stays { Still F.locks F.left_since F.moment (string_bytes held.now.target) (string_bytes held.now.target)
+        folder.old folder.new }
+{
+    let mut path = with_ending(alloc, held.target.as_str(), ".avrstk-")?;
+    path.push_str(ending)?;
+    remove_there(folder, &held.locked, path.as_str());
+    let _ = remove_left(folder, path.as_str());
+    Ok(())
+}
+
+/// Fails if no file can be made beside the held one. It removes what programs left that ended while it was absent.
+fn prepare<F: Folder>(
+    folder: &mut F,
+    alloc: Global,
+    held: &Held<F::Locked, F::New>,
+) -> io::Result<()>
+    requires { IsHolding F.locks F.was_at folder.old held.now }
+    ensures stays { IsHolding F.locks F.was_at folder.new held.now }
+{
+    let _ = make_nameless(folder, alloc, held)?;
+    if held.beside.is_none() {
+        clear(folder, alloc, held, "000")?;
+        clear(folder, alloc, held, "new")?;
+    }
+    Ok(())
+}
+
+/// Removes the empty file that was locked.
+fn leave<F: Folder>(folder: &mut F, held: &Held<F::Locked, F::New>) {
+    let Some(beside) = &held.beside else {
+        return;
+    };
+    if is_own_left(folder, &held.locked) {
+        remove_there(folder, &held.locked, beside.as_str());
+    }
+}
+
+/// Tries to lock the empty file beside `target`, which is absent.
+fn try_beside<F: Folder>(
+    folder: &mut F,
+    alloc: Global,
+    target: String,
+) -> io::Result<Tried<Held<F::Locked, F::New>>>
+    ensures holds { IfOk result (λ tried. IfHolds tried (IsHolding F.locks F.was_at folder.new)) }
+{
+    let beside = lock_file_of(alloc, target.as_str())?;
+    let Some(file) = open_or_make(folder, beside.as_str())? else {
+        return Ok(Tried::Changed);
+    };
+    let locked = match lock_at(folder, file, beside.as_str())? {
+        Tried::Holds(locked) => locked,
+        Tried::InUse => return Ok(Tried::InUse),
+        Tried::Changed => return Ok(Tried::Changed),
+    };
+    let there = folder.stat(target.as_str())?;
+    let held = Held {
+        locked,
+        target,
+        beside: Some(beside),
+        placed: None,
+    };
+    if there.is_some() {
+        leave(folder, &held);
+        return Ok(Tried::Changed);
+    }
+    Ok(Tried::Holds(held))
+}
+
+/// Tries to lock the file at `target`, to which `name` leads, or the one beside it if it is absent. What was locked is
+/// looked at again, because it was opened by its name.
+fn try_to_hold<F: Folder>(
+    folder: &mut F,
+    alloc: Global,
+    name: &str,
+    target: String,
+) -> io::Result<Tried<Held<F::Locked, F::New>>>
+    ensures holds { IfOk result (λ tried. IfHolds tried (IsHolding F.locks F.was_at folder.new)) }
+{
+    // Fails if the file may not be written.
+    let Some(file) = folder.open(name)? else {
+        return try_beside(folder, alloc, target);
+    };
+    match lock_at(folder, file, target.as_str())? {
+        Tried::Holds(locked) => Ok(Tried::Holds(Held {
+            locked,
+            target,
+            beside: None,
+            placed: None,
+        })),
+        Tried::InUse => Ok(Tried::InUse),
+        Tried::Changed => Ok(Tried::Changed),
+    }
+}
+
+/// Tries to hold the file at `target`, to which `name` leads, and to make a file beside it.
+fn hold<F: Folder>(
+    folder: &mut F,
+    alloc: Global,
+    name: &str,
+    target: String,
+) -> io::Result<Tried<Held<F::Locked, F::New>>>
+    ensures holds { IfOk result (λ tried. IfHolds tried (IsHolding F.locks F.was_at folder.new)) }
+{
+    match try_to_hold(folder, alloc, name, target)? {
+        Tried::Holds(held) => {
+            if let Err(error) = prepare(folder, alloc, &held) {
+                leave(folder, &held);
+                return Err(error);
+            }
+            Ok(Tried::Holds(held))
         }
+        Tried::InUse => Ok(Tried::InUse),
+        Tried::Changed => Ok(Tried::Changed),
     }
+}
 
-    /// Makes a new file, named by a number of the old one, so that the next program finds what an ended one left.
-    fn make_new<R: Files<File = File> + Alloc<A = Global>>(
-        &self,
-        rt: &R,
-        old: &Option<Metadata>,
-    ) -> io::Result<NewFile> {
-        let number = old.as_ref().map_or(0, |old| old.ino());
-        let mode = first_mode(old.is_some());
-        NewFile::make(rt, self.target.as_str(), number, mode)
+/// Returns what is put in place of the file that has the name now.
+fn next_step<F: Folder>(folder: &F, target: &str, old: &Option<Seen>) -> io::Result<Step> {
+    let there = folder.stat(target)?;
+    let is_held = match (old, &there) {
+        (Some(old), Some(there)) => is_same(old, there),
+        _ => false,
+    };
+    Ok(step_after(there.is_none(), is_held))
+}
+
+/// Writes these bytes over the held file, which can't be replaced because another one is mounted there. There must
+/// have been one.
+fn write_over<F: Folder>(
+    folder: &mut F,
+    held: &mut Held<F::Locked, F::New>,
+    bytes: &[u8],
+) -> io::Result<()>
+    ensures target { held.new.target ≡ held.old.target }
+{
+    if held.beside.is_some() {
+        return Err(io::Error::from(ErrorKind::ResourceBusy));
     }
+    folder.write_over(&mut held.locked, bytes)
+}
 
-    /// Makes a file beside this one and takes its name away.
-    fn make_nameless<R: Files<File = File> + Alloc<A = Global>>(&self, rt: &R) -> io::Result<File> {
-        let new = self.make_new(rt, &self.old()?)?;
-        remove(rt, &new.file, new.path.as_str());
-        Ok(new.file)
+/// Writes the new file and puts it in place. If another file is mounted there, it is written over instead.
+fn put_by<F: Folder>(
+    folder: &mut F,
+    held: &mut Held<F::Locked, F::New>,
+    new: &mut F::New,
+    old: &Option<Seen>,
+    step: Step,
+    bytes: &[u8],
+) -> io::Result<()>
+    ensures any_moment { (by : Bytes) → (F.is_mounted (string_bytes held.old.target) → ⊥) → F.has new.old []
+        → Stays (Whole F.locks F.left_since (string_bytes held.old.target) by bytes.now) folder.old folder.new }
+    ensures lasts { OnOk result ((by : Bytes) → (F.is_mounted (string_bytes held.old.target) → ⊥) → F.has new.old []
+        → (first : ℕ × Option Bytes)
+        → Whole F.locks F.left_since (string_bytes held.old.target) by bytes.now first folder.old
+        → Lasts F.moment F.left_since (string_bytes held.old.target) bytes.now folder.new) }
+    ensures named { F.own_name new.new ≡ F.own_name new.old }
+{
+    if fill_and_place(folder, new, held.target.as_str(), old, step, bytes)? {
+        Ok(())
+    } else {
+        write_over(folder, held, bytes)
     }
+}
 
+/// Puts a file of these bytes in place. It stays locked as long as the old one.
+fn put<F: Folder>(
+    folder: &mut F,
+    alloc: Global,
+    held: &mut Held<F::Locked, F::New>,
+    bytes: &[u8],
+) -> io::Result<()>
+    ensures any_moment { (by : Bytes) → (F.is_mounted (string_bytes held.old.target) → ⊥)
+        → StandsFor (string_bytes held.old.target) by
+        → Stays (Whole F.locks F.left_since (string_bytes held.old.target) by bytes.now) folder.old folder.new }
+    ensures lasts { OnOk result ((by : Bytes) → (F.is_mounted (string_bytes held.old.target) → ⊥)
+        → StandsFor (string_bytes held.old.target) by → (first : ℕ × Option Bytes)
+        → Whole F.locks F.left_since (string_bytes held.old.target) by bytes.now first folder.old
+        → Lasts F.moment F.left_since (string_bytes held.old.target) bytes.now folder.new) }
+{
+    if bytes.len() as u64 > longest_file() {
+        return Err(io::Error::from(ErrorKind::FileTooLarge));
+    }
+    let old = old_of(folder, held)?;
+    let step = next_step(folder, held.target.as_str(), &old)?;
+    let mut new = make_new(folder, alloc, held.target.as_str(), &old)?;
+    let written = put_by(folder, held, &mut new, &old, step, bytes);
+    remove_new(folder, &new);
+    held.placed = Some(new);
+    written
+}
+
+impl Held<File, NewFile> {
     /// Returns where bytes go that are written by this name, and the path that it leads to. If the text of a link can't
     /// be read, what is there decides alone.
     fn writes_by<R: Files<File = File> + Alloc<A = Global>>(
@@ -382,10 +466,10 @@ impl Held {
         name: &str,
     ) -> io::Result<(Writes, String)> {
         let there = unless_absent(fs::metadata(rt, name))?;
-        let old = self.old()?;
+        let old = old_of(&rt, self)?;
         let is_known = old.is_some() || there.is_some();
         let (is_held, names) = match (old, there) {
-            (Some(old), Some(there)) => (is_same(&old, &there), there.nlink()),
+            (Some(old), Some(there)) => (is_same(&old, &seen(&there)), there.nlink()),
             _ => (false, 0),
         };
         let (path, is_place) = match target_of(rt, name) {
@@ -407,8 +491,9 @@ impl Held {
         rt: &R,
         name: &str,
     ) -> io::Result<Bounded<File>> {
+        let mut folder = rt;
         match self.writes_by(rt, name)? {
-            (Writes::Nowhere, _) => limited(self.make_nameless(rt)?),
+            (Writes::Nowhere, _) => limited(make_nameless(&mut folder, rt.alloc(), self)?.file),
             (Writes::Anew, path) => {
                 fs::remove_file(rt, path.as_str())?;
                 create(rt, path.as_str())
@@ -416,80 +501,12 @@ impl Held {
             (Writes::There, _) => create(rt, name),
         }
     }
-
-    /// Fails if no file can be made beside this one. It removes what programs left that ended while it was absent.
-    fn prepare<R: Files<File = File> + Alloc<A = Global>>(&self, rt: &R) -> io::Result<()> {
-        let _ = self.make_nameless(rt)?;
-        if self.beside.is_none() {
-            let first = with_ending(rt, self.target.as_str(), ".avrstk-000")?;
-            for path in [first, lock_file_of(rt, self.target.as_str())?] {
-                remove(rt, &self.locked, path.as_str());
-                let _ = remove_left(rt, path.as_str());
-            }
-        }
-        Ok(())
-    }
-
-    /// Writes these bytes over the held file, which can't be replaced because another one is mounted there. There must
-    /// have been one.
-    fn write_over(&mut self, bytes: &[u8]) -> io::Result<()> {
-        if self.beside.is_some() {
-            return Err(io::Error::from(ErrorKind::ResourceBusy));
-        }
-        self.locked.seek(SeekFrom::Start(0))?;
-        self.locked.write_all(bytes)?;
-        self.locked.set_len(bytes.len() as u64)?;
-        self.locked.sync_all()
-    }
-
-    /// Returns what is put in place of the file that has the name now.
-    fn next<R: Files>(&self, rt: &R, old: &Option<Metadata>) -> io::Result<Step> {
-        let there = look(rt, self.target.as_str())?;
-        let is_held = match (old, &there) {
-            (Some(old), Some(there)) => is_same(old, there),
-            _ => false,
-        };
-        Ok(step_after(there.is_none(), is_held))
-    }
-
-    /// Puts a file of these bytes in place. It stays locked as long as the old one.
-    fn put<R: Files<File = File> + Alloc<A = Global>>(
-        &mut self,
-        rt: &R,
-        bytes: &[u8],
-    ) -> io::Result<()> {
-        if bytes.len() as u64 > longest_file() {
-            return Err(io::Error::from(ErrorKind::FileTooLarge));
-        }
-        let old = self.old()?;
-        let step = self.next(rt, &old)?;
-        let mut new = self.make_new(rt, &old)?;
-        let mut folder = rt;
-        let target = self.target.as_str();
-        let placed = fill_and_place(&mut folder, &mut new, target, &old, step, bytes);
-        let written = match placed {
-            Ok(false) => self.write_over(bytes),
-            placed => placed.map(|_| ()),
-        };
-        remove(rt, &new.file, new.path.as_str());
-        self.placed = Some(new);
-        written
-    }
-
-    /// Removes the empty file that was locked.
-    fn leave<R: Files>(&self, rt: &R) {
-        let Some(beside) = &self.beside else {
-            return;
-        };
-        let is_empty = matches!(self.locked.metadata(), Ok(there) if is_own_left(&there));
-        if is_empty {
-            remove(rt, &self.locked, beside.as_str());
-        }
-    }
 }
 
 impl<'a, R: Files<File = File> + Alloc<A = Global>> Folder for &'a R {
     type Opened = File;
+
+    type Locked = File;
 
     type New = NewFile;
 
@@ -497,11 +514,23 @@ impl<'a, R: Files<File = File> + Alloc<A = Global>> Folder for &'a R {
 
     ghost left_since = { λ folder moment name found. ⊥ };
 
-    ghost locks = { λ folder name. ⊤ };
+    ghost locks = { λ folder name by. ⊤ };
 
-    ghost is_locked = { λ file. ⊤ };
+    ghost has_name = { λ folder file name. ⊤ };
+
+    ghost was_at = { λ file name. ⊤ };
+
+    ghost showed = { λ file seen. ⊤ };
+
+    ghost shows = { λ file seen. ⊤ };
+
+    ghost is_user = { λ user. ⊤ };
 
     ghost finds = { λ folder name bytes. ⊤ };
+
+    ghost is_mounted = { λ name. ⊤ };
+
+    ghost own_name = { λ new. string_bytes new.path };
 
     ghost is_there = { λ folder new. ⊤ };
 
@@ -509,19 +538,72 @@ impl<'a, R: Files<File = File> + Alloc<A = Global>> Folder for &'a R {
 
     ghost keeps = { λ new bytes. ⊤ };
 
-    fn lock(&mut self, file: &mut File) -> io::Result<bool> {
-        lock(file)
+    fn user(&self) -> u32 {
+        libc::geteuid()
+    }
+
+    fn stat(&self, path: &str) -> io::Result<Option<Seen>> {
+        match look(*self, path)? {
+            Some(there) => Ok(Some(seen(&there))),
+            None => Ok(None),
+        }
+    }
+
+    fn fstat(&self, file: &File) -> io::Result<Seen> {
+        Ok(seen(&file.metadata()?))
+    }
+
+    fn fstat_locked(&self, file: &File) -> io::Result<Seen> {
+        Ok(seen(&file.metadata()?))
+    }
+
+    fn open(&self, path: &str) -> io::Result<Option<File>> {
+        unless_absent(OpenOptions::new().write(true).open(*self, path))
+    }
+
+    fn open_left(&self, path: &str) -> io::Result<File> {
+        match OpenOptions::new().read(true).write(true).open(*self, path) {
+            Err(error) if error.kind() == ErrorKind::PermissionDenied => fs::open(*self, path),
+            opened => opened,
+        }
+    }
+
+    fn create_new(&mut self, path: &str) -> io::Result<Option<File>> {
+        match File::create_new(*self, path) {
+            Err(error) if error.kind() == ErrorKind::AlreadyExists => Ok(None),
+            made => made.map(Some),
+        }
+    }
+
+    fn lock(&self, file: File) -> io::Result<Option<File>> {
+        if lock(&file)? {
+            Ok(Some(file))
+        } else {
+            Ok(None)
+        }
     }
 
     fn is_at(&mut self, file: &File, path: &str) -> io::Result<bool> {
         is_at(*self, file, path)
     }
 
+    fn remove(&mut self, _file: &File, path: &str) -> io::Result<()> {
+        fs::remove_file(*self, path)
+    }
+
+    fn make(&mut self, path: &str, mode: u32) -> io::Result<Option<NewFile>> {
+        NewFile::make(*self, path, mode)
+    }
+
+    fn remove_new(&mut self, new: &NewFile) -> io::Result<()> {
+        fs::remove_file(*self, new.path.as_str())
+    }
+
     fn write(&mut self, new: &mut NewFile, bytes: &[u8]) -> io::Result<()> {
         new.file.write_all(bytes)
     }
 
-    fn be_like(&mut self, new: &NewFile, old: &Option<Metadata>) -> io::Result<u32> {
+    fn be_like(&mut self, new: &NewFile, old: &Option<Seen>) -> io::Result<u32> {
         new.be_like(old)
     }
 
@@ -552,6 +634,13 @@ impl<'a, R: Files<File = File> + Alloc<A = Global>> Folder for &'a R {
     fn sync_folder(&mut self, target: &str) -> io::Result<()> {
         sync_folder(*self, target)
     }
+
+    fn write_over(&mut self, file: &mut File, bytes: &[u8]) -> io::Result<()> {
+        file.seek(SeekFrom::Start(0))?;
+        file.write_all(bytes)?;
+        file.set_len(bytes.len() as u64)?;
+        file.sync_all()
+    }
 }
 
 impl Replacement {
@@ -561,6 +650,7 @@ impl Replacement {
         name: &str,
     ) -> io::Result<Option<Replacement>> {
         let own_name = String::from_str(rt.alloc(), name)?;
+        let mut folder = rt;
         for _ in 0..ATTEMPTS {
             if matches!(unless_absent(fs::metadata(rt, name))?, Some(there) if !there.is_file()) {
                 return Ok(Some(Replacement {
@@ -568,12 +658,8 @@ impl Replacement {
                     held: None,
                 }));
             }
-            match try_to_hold(rt, name, target_of(rt, name)?)? {
+            match hold(&mut folder, rt.alloc(), name, target_of(rt, name)?)? {
                 Tried::Holds(held) => {
-                    if let Err(error) = held.prepare(rt) {
-                        held.leave(rt);
-                        return Err(error);
-                    }
                     return Ok(Some(Replacement {
                         name: own_name,
                         held: Some(held),
@@ -597,8 +683,9 @@ impl Replacement {
         rt: &R,
         bytes: &[u8],
     ) -> io::Result<()> {
+        let mut folder = rt;
         match &mut self.held {
-            Some(held) => held.put(rt, bytes),
+            Some(held) => put(&mut folder, rt.alloc(), held, bytes),
             None => create(rt, self.name.as_str())?.write_all(bytes),
         }
     }
@@ -616,9 +703,10 @@ impl Replacement {
     }
 
     /// Unlocks the file.
-    pub(crate) fn leave<R: Files>(self, rt: &R) {
+    pub(crate) fn leave<R: Files<File = File> + Alloc<A = Global>>(self, rt: &R) {
+        let mut folder = rt;
         if let Some(held) = &self.held {
-            held.leave(rt);
+            leave(&mut folder, held);
         }
     }
 }
@@ -628,6 +716,8 @@ fn replace_at_once<R: FileSystem>(system: &mut R, name: &str, bytes: &[u8]) -> i
     ensures put { OnOk result (R.replaced name.now bytes.now) }
     ensures makes { OnOk result (Does R.did (making name.now) system.old system.new) }
     ensures fails { OnErr result (Stays R.did system.old system.new) }
+    ensures leaves { LeavesAlso R.left name.now (λ found. R.began name.now found ⊎ (found ≡ Some bytes.now))
+        system.old system.new }
 {
     let Some(mut hold) = system.hold_named(name)? else {
         return Err(io::Error::from(ErrorKind::WouldBlock));
@@ -648,6 +738,8 @@ pub(crate) fn replace_named<R: FileSystem>(
     ensures makes { OnOk result (Does R.did (making name.now) system.old system.new) }
     ensures fails { OnErr result (Stays R.did system.old system.new) }
     ensures stays { (name : Option Bytes) → IsHeldBy R.FileSystem held.old name → IsHeldBy R.FileSystem held.new name }
+    ensures leaves { LeavesAlso R.left name.now (λ found. R.began name.now found ⊎ (found ≡ Some bytes.now))
+        system.old system.new }
 {
     match held {
         Some(hold) if system.is_held(hold, name) => system.put_held(hold, bytes),

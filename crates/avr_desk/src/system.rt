@@ -5,8 +5,8 @@ ghost use Rattle.std.specs.IoError.{error_kind};
 ghost use Rattle.ghosts.specs.Failures.{HasRisen};
 ghost use Rattle.ghosts.specs.Stays.{Stays};
 ghost use Rattle.avr_desk.specs.Fault.{Counts, WriteCounts};
-ghost use Rattle.avr_desk.specs.Journal.{Leaves};
-ghost use Rattle.avr_desk.specs.Record.{HasOpen, Passes, after_open, after_create, after_hold, after_read, after_replace, released, is_to_read, is_to_write, nothing_kept};
+ghost use Rattle.avr_desk.specs.Journal.{Leaves, LeavesNoMore};
+ghost use Rattle.avr_desk.specs.Record.{HasOpen, Passes, after_open, after_create, after_hold, after_read, Replaces, released, is_to_read, is_to_write, nothing_kept, with_tried};
 ghost use Rattle.avr_desk.specs.Shown.{AppendsTaken, IsTrueSince, KeepsError, Shown, TakesTruly, shown_state, to_output, to_output_opened, to_output_created, to_output_replaced};
 ghost use Rattle.avr_desk.specs.Standing.{FileGives, FileGivesNone, IsClosed};
 ghost use Rattle.avr_desk.specs.Stream.{SendsTaken};
@@ -100,6 +100,7 @@ fn open_next<R: FileSystem>(
     ensures opened { opened.new ≡ next }
     ensures closed { IsClosed R.closed opened.old }
     ensures did { Stays R.did system.old system.new }
+    ensures keeps { LeavesNoMore R.left system.old system.new }
 {
     if let OpenFile::ToWrite(file) = mem::replace(opened, next) {
         system.close_file(file);
@@ -184,6 +185,7 @@ impl<R: FileSystem + Drop, O: Write + Drop, E: Write + Drop> SystemDesk<R, O, E>
     fn leave_replacement(&mut self)
         ensures none { self.new ≡ record self.old { system = self.new.system; hold = None } }
         ensures left { Leaves R.did self.old.hold self.old.system self.new.system }
+        ensures keeps { LeavesNoMore R.left self.old.system self.new.system }
     {
         if let Some(hold) = self.replacement.take() {
             self.system.leave_held(hold);
@@ -441,7 +443,9 @@ impl<R: FileSystem + Drop, O: Outlet + Drop, E: Outlet + Drop> ChipDesk for Syst
     }
 
     fn replace(&mut self, name: &str, bytes: &[u8]) -> Result<(), DeskFault>
-        ensures kept { Passes (after_replace name.now bytes.now result) (shown_state self.old) (shown_state self.new) }
+        ensures kept { Replaces name.now bytes.now result (shown_state self.old) (shown_state self.new) }
+        ensures tried { OnErr result (Passes (with_tried name.now bytes.now) (shown_state self.old)
+            (shown_state self.new)) }
         ensures counts { Counts File (shown_state self.old) (shown_state self.new) result }
         ensures fault { IfErr result (λ e. e ≡ Failed) }
         ensures quiet { self.new ≡ record self.old {
@@ -464,7 +468,10 @@ impl<R: FileSystem + Drop, O: Outlet + Drop, E: Outlet + Drop> ChipDesk for Syst
                 self.journal = self.journal.then(&Call::Replaced(name.as_bytes(), bytes));
                 Ok(())
             }
-            Err(error) => Err(fail(&mut self.failures, &mut self.last_error, &error)),
+            Err(error) => {
+                self.journal = self.journal.then(&Call::Tried(name.as_bytes(), bytes));
+                Err(fail(&mut self.failures, &mut self.last_error, &error))
+            }
         }
     }
 }

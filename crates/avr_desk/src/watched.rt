@@ -1,6 +1,6 @@
 //! A desk with a watcher of its calls, such as a window that shows a run's progress.
 ghost use Rattle.std.specs.Prelude.{◌≡◌, ◌≤◌, length, IfOk, IfErr};
-ghost use Rattle.avr_desk.specs.Record.{Passes, after_open, after_create, after_hold, after_read, after_replace, released, HasOpen, is_to_read, is_to_write};
+ghost use Rattle.avr_desk.specs.Record.{Passes, after_open, after_create, after_hold, after_read, Replaces, released, HasOpen, is_to_read, is_to_write};
 ghost use Rattle.avr_desk.specs.Fault.{Counts, WriteCounts};
 ghost use Rattle.avr_desk.specs.Stream.{SendsTaken};
 ghost use Rattle.avr_desk.specs.declared.stream.Stream.TheVariants.{File, Output, Messages};
@@ -178,8 +178,7 @@ impl<D: ChipDesk, W: WatchDesk> ChipDesk for WatchedDesk<D, W> {
     }
 
     fn replace(&mut self, name: &str, bytes: &[u8]) -> Result<(), DeskFault>
-        ensures kept { Passes (after_replace name.now bytes.now result)
-            (D.view self.old.desk) (D.view self.new.desk) }
+        ensures kept { Replaces name.now bytes.now result (D.view self.old.desk) (D.view self.new.desk) }
         ensures counts { Counts File (D.view self.old.desk) (D.view self.new.desk) result }
         ensures fault { IfErr result (λ e. e ≡ DeskFault.Failed) }
         ensures stays { Stays D.comes_of self.old.desk self.new.desk }

@@ -1,14 +1,14 @@
 -- A desk over two writers and the files of a system, call after call: what it keeps of them stays true.
-use Rattle.std.proofs.Common.{◌≡◌, ◌∙◌, inl, inr, sym, ap, subst, refl, arith, ℕ, ◌==◌, ◌&&◌, ◌||◌, ◌≤◌, not, Bool, true, false, List, [], ◌∷◌, ◌++◌, append_assoc, append-nil, length, take, Option, None, Some, IfSome, rules}
+use Rattle.std.proofs.Common.{◌≡◌, ◌⊎◌, ◌∙◌, inl, inr, sym, ap, subst, refl, arith, ℕ, ◌==◌, ◌&&◌, ◌||◌, ◌≤◌, not, Bool, true, false, List, [], ◌∷◌, ◌++◌, append_assoc, append-nil, length, take, Option, None, Some, IfSome, rules}
 use Rattle.std.proofs.KnownBytes.{Appends-nil, Appends-trans, Consumes-nil, Consumes-trans}
-use Rattle.avr_desk.specs.Record.{files_among, Bytes, Record, all_files, all_uses, file_of, is_nil, noted, nothing_kept, read_on, use_of, written_on, with_absent, with_open, with_replaced, after_write}
+use Rattle.avr_desk.specs.Record.{files_among, Bytes, Record, all_files, all_uses, file_of, is_nil, noted, nothing_kept, read_on, use_of, written_on, with_absent, with_open, with_replaced, with_tried, after_write}
 use Rattle.avr_desk.specs.declared.record.Open.TheVariants.{ToRead, ToWrite}
 use Rattle.std.proofs.lemmas.Bool.{or_parts}
 use Rattle.std.proofs.lemmas.Bool.Decides.{nat_tests}
 use Rattle.std.proofs.lemmas.Grind.{common_steps}
-use Rattle.std.proofs.lemmas.List.Elements.{All-append, All-cons, All-nil}
+use Rattle.std.proofs.lemmas.List.Elements.{All-append, All-cons, All-nil, Contains-append_left, Contains-push}
 use Rattle.std.specs.Io.KnownBytes.{Appends, Consumes, IsAtEnd, Keeps}
-use Rattle.std.specs.List.{All}
+use Rattle.std.specs.List.{All, Contains}
 use Rattle.std.specs.declared.io.ErrorKind.{ErrorKind}
 use Rattle.std.specs.declared.io.Read.{Ghosts as Reads}
 use Rattle.std.specs.declared.io.Write.{Ghosts as Writes}
@@ -16,8 +16,8 @@ use Rattle.ghosts.specs.Stays.{Stays}
 use Rattle.avr_desk.specs.Named.{is_dash}
 use Rattle.avr_desk.proofs.FileUses.Calls.{calls_absent, calls_noted, calls_opened, calls_replaced, calls_written, made_dash, opened_dash, opened_named}
 use Rattle.avr_desk.proofs.FileUses.Uses.{files_absent, files_opened, files_replaced}
-use Rattle.avr_desk.specs.Journal.{Does, FileCall, Leaves, calling, count_of, done_by, giving_input, holding, making, none_done, opened, opening}
-use Rattle.avr_desk.specs.Handles.{IsTrueRecord, HasGiven, IsHeldBy, IsTrueOpen, IsTrueUse}
+use Rattle.avr_desk.specs.Journal.{Does, FileCall, Leaves, LeavesAlso, LeavesNoMore, calling, count_of, done_by, giving_input, holding, making, none_done, opened, opening}
+use Rattle.avr_desk.specs.Handles.{CrashLeaves, IsTrueRecord, HasGiven, IsHeldBy, IsTrueOpen, IsTrueUse}
 use Rattle.avr_desk.specs.Standing.{FileGives, GivesBytes, FileGivesNone, IsClosed, is_output}
 use Rattle.avr_desk.specs.Shown.{Shown, IsTrueSince, TellsAll, has_dash, to_output}
 use Rattle.avr_desk.specs.declared.file_system.FileSystem.{Ghosts}
@@ -172,6 +172,49 @@ module _ {S F I H O E : Type 0} (system : Ghosts S F I H) (reads : Reads F) (wri
   left_one None (Some own) calls name is leaves did = elim is [ ]
   left_one (Some h) None calls name is leaves did = elim is [ ]
 
+  -- ---- what a crash may leave
+
+  abbrev NoMore : S → S → Type 0
+  NoMore = LeavesNoMore system.left
+
+  left_on : {s t u : S} → NoMore s t → NoMore t u → NoMore s u
+  left_on keeps keeps_on = λ name found is. keeps name found (keeps_on name found is)
+
+  same_left : {s : S} → NoMore s s
+  same_left name found is = is
+
+  crash_kept : {s t : S} (tried : List Writing) → NoMore s t → CrashLeaves system s tried → CrashLeaves system t tried
+  crash_kept tried keeps leaves = λ name found is. leaves name found (keeps name found is)
+
+  crash_held : {s t : S} (tried : List Writing) {name : Bytes} → LeavesAlso system.left name (system.began name) s t
+      → CrashLeaves system s tried → CrashLeaves system t tried
+  crash_held tried also leaves = λ name found is. elim (also name found is) [
+    | inl before ↦ leaves name found before
+    | inr now ↦ inl (subst (λ (n : Bytes). system.began n found) (sym now.0) now.1)
+  ]
+
+  -- bytes were to replace the file of this name
+  crash_tried : {s t : S} (tried : List Writing) {name own bytes : Bytes} → own ≡ name
+      → LeavesAlso system.left name (λ found. system.began name found ⊎ (found ≡ Some bytes)) s t
+      → CrashLeaves system s tried
+      → CrashLeaves system t (tried ++ record { name = own; bytes = bytes } ∷ [])
+  crash_tried tried {name = name} {own = own} {bytes = bytes} same also leaves = λ other found is.
+      elim (also other found is) [
+        | inl before ↦ elim (leaves other found before) [
+          | inl began ↦ inl began
+          | inr (put, is_put, among) ↦ inr (put, is_put, Contains-append_left tried _ _ among)
+        ]
+        | inr (named, inl began) ↦ inl (subst (λ (n : Bytes). system.began n found) (sym named) began)
+        | inr (named, inr is_put) ↦ inr (
+          bytes,
+          is_put,
+          subst
+              (λ (n : Bytes). Contains (tried ++ record { name = own; bytes = bytes } ∷ [])
+              (record { name = n; bytes = bytes }))
+              (same ∙ sym named) (Contains-push tried _),
+        )
+      ]
+
   true_on : (a b c : Desk) → Since a b → Since b c → Since a c
   true_on a b c f g = record {
     said = f.said ++ g.said;
@@ -226,72 +269,82 @@ module _ {S F I H O E : Type 0} (system : Ghosts S F I H) (reads : Reads F) (wri
 
   -- a call failed, which did nothing
   pub failed_true : {b : Desk} {s : S} {f u : ℕ} {e : Option ErrorKind} → Stays system.did b.system s
-      → Since b (Next b s f u e b.opened b.hold b.kept)
-  failed_true {b = b} stays = quiet refl refl (λ none. none) (λ none was. was) (λ are. record {
+      → NoMore b.system s → Since b (Next b s f u e b.opened b.hold b.kept)
+  failed_true {b = b} stays keeps = quiet refl refl (λ none. none) (λ none was. was) (λ are. record {
     uses = are.uses;
     current = are.current;
     denied = are.denied;
     held = are.held;
     did = stays _ are.did;
+    crash = crash_kept _ keeps are.crash;
   })
 
   -- only the uses and the open file change
   files_now : {s t : S} {o p : OpenFile F I} {h : Option H} {r : Record} {uses : List FileUse} {current : Open}
       → Files s o h r → All TrueUse uses → TrueOpen p current
-      → system.did (done_by (record r { uses = uses; current = current })) t
+      → system.did (done_by (record r { uses = uses; current = current })) t → NoMore s t
       → Files t p h (record r { uses = uses; current = current })
-  files_now are uses current did =
-      record { uses = uses; current = current; denied = are.denied; held = are.held; did = did }
+  files_now are uses current did keeps = record {
+    uses = uses;
+    current = current;
+    denied = are.denied;
+    held = are.held;
+    did = did;
+    crash = crash_kept _ keeps are.crash;
+  }
 
   -- it was opened
   opened_true : {b : Desk} {s : S} {f u : ℕ} {e : Option ErrorKind} {o : OpenFile F I} {k : Record} (x : Reading)
       → k ≡ with_open (ToRead x) b.kept → is_output o ≡ false → TrueOpen o (ToRead x) → Closed b.opened
-      → Does system.did (calling (opened x.name ∷ [])) b.system s → Since b (Next b s f u e o b.hold k)
-  opened_true {b = b} {s = s} x kept elsewhere is closed does =
+      → Does system.did (calling (opened x.name ∷ [])) b.system s → NoMore b.system s
+      → Since b (Next b s f u e o b.hold k)
+  opened_true {b = b} {s = s} x kept elsewhere is closed does keeps =
       let files = ap has_dash (files_opened (ToRead x) b.kept) in
       rw kept (quiet refl refl
       (λ none. no_dash_in_front (all_files b.kept) [] (sym files ∙ none)) (λ none was. elsewhere)
       (λ are. files_now are (uses_true b.system b.opened b.hold b.kept are closed) is
-      (did_as b.kept.held s (calls_opened (ToRead x) (Opened (Found x)) b.kept refl) (does _ are.did))))
+      (did_as b.kept.held s (calls_opened (ToRead x) (Opened (Found x)) b.kept refl) (does _ are.did))
+      keeps))
 
   pub input_true : {b : Desk} {s t : S} {f u : ℕ} {e : Option ErrorKind} {o : OpenFile F I} {k : Record}
       {name own : Bytes} {i : I} → o ≡ open_file.Input i → own ≡ name → true ≡ is_dash name → k ≡ with_open (ToRead (record { name = own; bytes = []; ended = false })) b.kept
       → Closed b.opened → system.is_input i → Does system.did giving_input b.system s → Stays system.did s t
-      → Since b (Next b t f u e o b.hold k)
-  input_true {own = own} {i = i} is_open same dash kept closed begins does stays =
+      → NoMore b.system s → NoMore s t → Since b (Next b t f u e o b.hold k)
+  input_true {own = own} {i = i} is_open same dash kept closed begins does stays keeps keeps_on =
       let x : Reading = record { name = own; bytes = []; ended = false } in
       let is : is_dash own ≡ true = sym (dash ∙ ap is_dash (sym same)) in
       rw is_open (opened_true x kept refl (x, refl, (is, i, begins, given_none input i own)) closed
-      (λ done did. rw (opened_dash own is) (stays _ (does done did))))
+      (λ done did. rw (opened_dash own is) (stays _ (does done did))) (left_on keeps keeps_on))
 
   pub file_true : {b : Desk} {s t : S} {f u : ℕ} {e : Option ErrorKind} {o : OpenFile F I} {k : Record}
       {name own : Bytes} {h : F} → o ≡ open_file.ToRead h → own ≡ name → false ≡ is_dash name → system.is_of h name
       → k ≡ with_open (ToRead (record { name = own; bytes = []; ended = false })) b.kept
       → Closed b.opened → Does system.did (opening name) b.system s → Stays system.did s t
-      → Since b (Next b t f u e o b.hold k)
-  file_true {own = own} {h = h} is_open same no_dash named kept closed does stays =
+      → NoMore b.system s → NoMore s t → Since b (Next b t f u e o b.hold k)
+  file_true {own = own} {h = h} is_open same no_dash named kept closed does stays keeps keeps_on =
       let x : Reading = record { name = own; bytes = []; ended = false } in
       rw is_open (opened_true x kept refl
       (x, refl, (h, subst (system.is_of h) (sym same) named, given_none reads h own)) closed
-      (λ done did. rw (opened_named own (sym (no_dash ∙ ap is_dash (sym same))), same) (stays _ (does done did))))
+      (λ done did. rw (opened_named own (sym (no_dash ∙ ap is_dash (sym same))), same) (stays _ (does done did)))
+      (left_on keeps keeps_on))
 
   -- there was no such file
   pub absent_true : {b : Desk} {s t : S} {f u : ℕ} {e : Option ErrorKind} {o : OpenFile F I} {k : Record}
       {name own : Bytes} → o ≡ open_file.Nothing → own ≡ name
       → system.lacks name → k ≡ with_absent own b.kept → Closed b.opened → Stays system.did b.system s
-      → Stays system.did s t → Since b (Next b t f u e o b.hold k)
-  absent_true {b = b} {t = t} {own = own} is_open same lacks kept closed fails stays =
+      → Stays system.did s t → NoMore b.system s → NoMore s t → Since b (Next b t f u e o b.hold k)
+  absent_true {b = b} {t = t} {own = own} is_open same lacks kept closed fails stays keeps keeps_on =
       rw (is_open, kept) (quiet refl refl
       (λ none. sym (ap has_dash (files_absent own b.kept)) ∙ none) (λ none was. refl)
       (λ are. files_now are
       (more_true b.system b.opened b.hold b.kept _ (subst system.lacks (sym same) lacks) are closed) refl
-      (did_as b.kept.held t (calls_absent own b.kept) (stays _ (fails _ are.did)))))
+      (did_as b.kept.held t (calls_absent own b.kept) (stays _ (fails _ are.did))) (left_on keeps keeps_on)))
 
   -- it was created
   create_true : {b : Desk} {s : S} {f u : ℕ} {e : Option ErrorKind} {o : OpenFile F I} {k : Record} (x : Writing)
       → k ≡ with_open (ToWrite x) b.kept → is_output o ≡ is_dash x.name → TrueOpen o (ToWrite x) → Closed b.opened
-      → Does system.did (making x.name) b.system s → Since b (Next b s f u e o b.hold k)
-  create_true {b = b} {s = s} {o = o} x kept to_output is closed does =
+      → Does system.did (making x.name) b.system s → NoMore b.system s → Since b (Next b s f u e o b.hold k)
+  create_true {b = b} {s = s} {o = o} x kept to_output is closed does keeps =
       let did : (are : Files b.system b.opened b.hold b.kept) → system.did (done_by (with_open (ToWrite x) b.kept)) s =
       λ are. did_as b.kept.held s (calls_opened (ToWrite x) (Created x) b.kept refl) (does _ are.did) in
       grind (arith, nat_tests, files_opened, quiet, no_dash_in_front, or_parts, no_dash_behind, files_now, uses_true, did)
@@ -299,23 +352,23 @@ module _ {S F I H O E : Type 0} (system : Ghosts S F I H) (reads : Reads F) (wri
   pub output_true : {b : Desk} {s : S} {f u : ℕ} {e : Option ErrorKind} {o : OpenFile F I} {k : Record}
       {name own : Bytes} → o ≡ open_file.Output → own ≡ name
       → true ≡ is_dash name → k ≡ with_open (ToWrite (record { name = own; bytes = [] })) b.kept → Closed b.opened
-      → Stays system.did b.system s → Since b (Next b s f u e o b.hold k)
-  output_true {own = own} is_open same dash kept closed stays =
+      → Stays system.did b.system s → NoMore b.system s → Since b (Next b s f u e o b.hold k)
+  output_true {own = own} is_open same dash kept closed stays keeps =
       let is : true ≡ is_dash own = dash ∙ ap is_dash (sym same) in
       let x : Writing = record { name = own; bytes = [] } in
       rw is_open (create_true x kept is (x, refl, sym is) closed
-      (λ done did. rw (made_dash own (sym is), append-nil done.calls) (stays _ did)))
+      (λ done did. rw (made_dash own (sym is), append-nil done.calls) (stays _ did)) keeps)
 
   pub created_true : {b : Desk} {s t : S} {f u : ℕ} {e : Option ErrorKind} {o : OpenFile F I} {k : Record}
       {name own : Bytes} {h : F} → o ≡ open_file.ToWrite h → own ≡ name → false ≡ is_dash name → system.is_of h name
       → k ≡ with_open (ToWrite (record { name = own; bytes = [] })) b.kept
       → Closed b.opened → Does system.did (making name) b.system s → Stays system.did s t
-      → Since b (Next b t f u e o b.hold k)
-  created_true {own = own} {h = h} is_open same no_dash named kept closed does stays =
+      → NoMore b.system s → NoMore s t → Since b (Next b t f u e o b.hold k)
+  created_true {own = own} {h = h} is_open same no_dash named kept closed does stays keeps keeps_on =
       let x : Writing = record { name = own; bytes = [] } in
       rw is_open (create_true x kept (no_dash ∙ ap is_dash (sym same))
       (x, refl, (h, subst (system.is_of h) (sym same) named, Appends-nil (writes.contents h))) closed
-      (λ done did. rw same (stays _ (does done did))))
+      (λ done did. rw same (stays _ (does done did))) (left_on keeps keeps_on))
 
   -- a file was replaced, and the held file released
   pub replace_true : {b c : Desk} {s t u : S} {name own bytes : Bytes} (h : Option H) → own ≡ name
@@ -325,9 +378,11 @@ module _ {S F I H O E : Type 0} (system : Ghosts S F I H) (reads : Reads F) (wri
       → ((name : Option Bytes) → IsHeldBy system b.hold name → IsHeldBy system h name)
       → (o : OpenFile F I) → o ≡ b.opened → Closed o → Does system.did (making name) b.system s
       → Leaves system.did h s t → u ≡ t
-      → Stays system.did u c.system → Since b c
+      → Stays system.did u c.system
+      → LeavesAlso system.left name (λ found. system.began name found ⊎ (found ≡ Some bytes)) b.system s
+      → NoMore s t → NoMore u c.system → Since b c
   replace_true {b = b} {c = c} {u = u} {own = own} {bytes = bytes} h same output messages hold is_open kept replaced
-      still o was closed does leaves last stays =
+      still o was closed does leaves last stays also keeps keeps_on =
       let x : Writing = record { name = own; bytes = bytes } in
       let files = ap has_dash (files_replaced own bytes b.kept) in
       let now = Next b c.system c.failures c.unsaid c.last_error open_file.Nothing None (with_replaced own bytes b.kept) in
@@ -343,26 +398,31 @@ module _ {S F I H O E : Type 0} (system : Ghosts S F I H) (reads : Reads F) (wri
         did = did_as None c.system (calls_replaced own bytes b.kept)
             (stays _ (rw last (left_none h b.kept.held _ (still b.kept.held are.held) leaves
             (rw same (does _ are.did)))));
+        crash = crash_kept _ keeps_on (rw last (crash_kept _ keeps (crash_tried _ same also are.crash)));
       }))
 
-  pub unreplaced_true : {b : Desk} {s : S} {f u : ℕ} {e : Option ErrorKind} {h : Option H}
+  pub unreplaced_true : {b : Desk} {s : S} {f u : ℕ} {e : Option ErrorKind} {h : Option H} {k : Record}
+      {name own bytes : Bytes} → own ≡ name → k ≡ with_tried own bytes b.kept
       → ((name : Option Bytes) → IsHeldBy system b.hold name → IsHeldBy system h name) → Stays system.did b.system s
-      → Since b (Next b s f u e b.opened h b.kept)
-  unreplaced_true {b = b} {h = h} still stays =
-      quiet refl refl (λ none. none) (λ none was. was) (λ are. record {
+      → LeavesAlso system.left name (λ found. system.began name found ⊎ (found ≡ Some bytes)) b.system s
+      → Since b (Next b s f u e b.opened h k)
+  unreplaced_true {b = b} {h = h} same kept still stays also =
+      rw kept (quiet refl refl (λ none. none) (λ none was. was) (λ are. record {
         uses = are.uses;
         current = are.current;
         denied = are.denied;
         held = still b.kept.held are.held;
         did = stays _ are.did;
-      })
+        crash = crash_tried _ same also are.crash;
+      }))
 
   -- a file is held, and the one held before is left
   pub held_true : {b c : Desk} {s t : S} {h : H} {name own : Bytes} → own ≡ name → c.output ≡ b.output
       → c.messages ≡ b.messages → c.opened ≡ b.opened → c.hold ≡ Some h → c.kept ≡ record b.kept { held = Some own }
       → c.system ≡ t → system.holds h name → Does system.did holding b.system s → Leaves system.did b.hold s t
-      → Since b c
-  held_true {b = b} {c = c} {h = h} {own = own} same output messages is_open hold kept last holds does leaves =
+      → LeavesAlso system.left name (system.began name) b.system s → NoMore s t → Since b c
+  held_true {b = b} {c = c} {h = h} {own = own} same output messages is_open hold kept last holds does leaves also
+      keeps =
       let now = Next b c.system c.failures c.unsaid c.last_error b.opened (Some h) (record b.kept { held = Some own }) in
       let is : c ≡ now = rw (← output, ← messages, ← hold, ← is_open, ← kept) refl in
       rw is (quiet refl refl (λ none. none) (λ none was. was) (λ are. record {
@@ -371,12 +431,14 @@ module _ {S F I H O E : Type 0} (system : Ghosts S F I H) (reads : Reads F) (wri
         denied = are.denied;
         held = subst (system.holds h) (sym same) holds;
         did = rw last (left_one b.hold b.kept.held _ own are.held leaves (does _ are.did));
+        crash = rw last (crash_kept _ keeps (crash_held _ also are.crash));
       }))
 
   pub denied_true : {b : Desk} {s : S} {f u : ℕ} {e : Option ErrorKind} {k : Record} {name own : Bytes}
       → own ≡ name → system.denies name → k ≡ record b.kept { denied = b.kept.denied ++ own ∷ [] }
-      → Stays system.did b.system s → Since b (Next b s f u e b.opened b.hold k)
-  denied_true {b = b} {own = own} same denies kept stays =
+      → Stays system.did b.system s → LeavesAlso system.left name (system.began name) b.system s
+      → Since b (Next b s f u e b.opened b.hold k)
+  denied_true {b = b} {own = own} same denies kept stays also =
       rw kept (quiet refl refl (λ none. none) (λ none was. was) (λ are. record {
         uses = are.uses;
         current = are.current;
@@ -384,12 +446,26 @@ module _ {S F I H O E : Type 0} (system : Ghosts S F I H) (reads : Reads F) (wri
             (All-cons system.denies own [] (subst system.denies (sym same) denies) (All-nil system.denies));
         held = are.held;
         did = stays _ are.did;
+        crash = crash_held _ also are.crash;
       }))
+
+  -- it was not held
+  pub unheld_true : {b : Desk} {s : S} {f u : ℕ} {e : Option ErrorKind} {name : Bytes} → Stays system.did b.system s
+      → LeavesAlso system.left name (system.began name) b.system s
+      → Since b (Next b s f u e b.opened b.hold b.kept)
+  unheld_true stays also = quiet refl refl (λ none. none) (λ none was. was) (λ are. record {
+    uses = are.uses;
+    current = are.current;
+    denied = are.denied;
+    held = are.held;
+    did = stays _ are.did;
+    crash = crash_held _ also are.crash;
+  })
 
   pub released_true : {b c : Desk} {t : S} → c.output ≡ b.output → c.messages ≡ b.messages → c.opened ≡ b.opened
       → c.hold ≡ None → c.kept ≡ record b.kept { held = None } → c.system ≡ t
-      → Leaves system.did b.hold b.system t → Since b c
-  released_true {b = b} {c = c} output messages is_open hold kept last leaves =
+      → Leaves system.did b.hold b.system t → NoMore b.system t → Since b c
+  released_true {b = b} {c = c} output messages is_open hold kept last leaves keeps =
       let now = Next b c.system c.failures c.unsaid c.last_error b.opened None (record b.kept { held = None }) in
       let is : c ≡ now = rw (← output, ← messages, ← hold, ← is_open, ← kept) refl in
       rw is (quiet refl refl (λ none. none) (λ none was. was) (λ are. record {
@@ -398,6 +474,7 @@ module _ {S F I H O E : Type 0} (system : Ghosts S F I H) (reads : Reads F) (wri
         denied = are.denied;
         held = tt;
         did = rw last (left_none b.hold b.kept.held _ are.held leaves are.did);
+        crash = rw last (crash_kept _ keeps are.crash);
       }))
 
   -- bytes of the open file were read
@@ -420,7 +497,7 @@ module _ {S F I H O E : Type 0} (system : Ghosts S F I H) (reads : Reads F) (wri
       ap (λ (fs : List Writing). has_dash (files_among b.kept.uses ++ fs)) (noted_files _ _ b.kept.current) in
       rw kept (quiet refl refl (λ none. sym files ∙ none) (λ none was. same ∙ was)
       (λ are. files_now are are.uses (read_on_open b.opened o buf n b.kept.current gives are.current)
-      (did_as b.kept.held b.system (calls_noted b.kept.uses _ _ b.kept.current) are.did)))
+      (did_as b.kept.held b.system (calls_noted b.kept.uses _ _ b.kept.current) are.did) same_left))
 
   -- or none were
   kept_open : (old new : OpenFile F I) (o : Open) → FileGivesNone reads input old new → TrueOpen old o → TrueOpen new o
@@ -434,7 +511,7 @@ module _ {S F I H O E : Type 0} (system : Ghosts S F I H) (reads : Reads F) (wri
       → FileGivesNone reads input b.opened o → Since b (Next b b.system f u e o b.hold b.kept)
   unread_true {b = b} {o = o} same none =
       quiet refl refl (λ none. none) (λ none was. same ∙ was)
-      (λ are. files_now are are.uses (kept_open b.opened o b.kept.current none are.current) are.did)
+      (λ are. files_now are are.uses (kept_open b.opened o b.kept.current none are.current) are.did same_left)
 
   -- bytes went to a file other than the output
   write_on : (old new : F) (bytes : Bytes) (o : Open) → Appends (writes.contents old) (writes.contents new) bytes
@@ -457,7 +534,7 @@ module _ {S F I H O E : Type 0} (system : Ghosts S F I H) (reads : Reads F) (wri
       (λ none. sym (written_dashes bytes b.kept) ∙ none) (λ none elsewhere. refl)
       (λ are. files_now are are.uses (write_on old new bytes b.kept.current took
       (subst (λ (h : OpenFile F I). TrueOpen h b.kept.current) was are.current))
-      (did_as b.kept.held b.system (calls_written b.kept.uses bytes b.kept.current) are.did)))
+      (did_as b.kept.held b.system (calls_written b.kept.uses bytes b.kept.current) are.did) same_left))
 
   -- a desk after a call that sent to the output
   abbrev Put : Desk → O → ℕ → ℕ → Option ErrorKind → Record → Desk
@@ -487,6 +564,7 @@ module _ {S F I H O E : Type 0} (system : Ghosts S F I H) (reads : Reads F) (wri
       denied = are.denied;
       held = are.held;
       did = did_as b.kept.held b.system (calls_written b.kept.uses bytes b.kept.current) are.did;
+      crash = are.crash;
     };
   })
 
@@ -507,6 +585,7 @@ module _ {S F I H O E : Type 0} (system : Ghosts S F I H) (reads : Reads F) (wri
       denied = are.denied;
       held = are.held;
       did = are.did;
+      crash = are.crash;
     };
   })
 
@@ -523,13 +602,15 @@ module _ {S F I H O E : Type 0} (system : Ghosts S F I H) (reads : Reads F) (wri
 
 module _ {S F I H : Type 0} (system : Ghosts S F I H) (reads : Reads F) (writes : Writes F) (input : Reads I) where
   pub none_kept_true : (fresh : S) → system.did none_done fresh
+      → ((name : Bytes) (found : Option Bytes) → system.left fresh name found → ⊥)
       → IsTrueRecord system reads writes input fresh open_file.Nothing None nothing_kept
-  none_kept_true fresh did = record {
+  none_kept_true fresh did unheld = record {
     uses = All-nil (IsTrueUse system reads writes input);
     current = refl;
     denied = All-nil system.denies;
     held = tt;
     did = did;
+    crash = λ name found is. absurd (unheld name found is);
   }
 
 -- what it has come to
@@ -540,4 +621,4 @@ module _ {S F I H O E : Type 0} (system : Ghosts S F I H) (reads : Reads F) (wri
       → TellsAll system reads writes input old new
   told_all {old = old} stays is =
       (stays old (true_now system reads writes input output_of messages_of old)).files
-      (rw (is.opened, is.hold, is.kept) (none_kept_true system reads writes input old.system is.fresh))
+      (rw (is.opened, is.hold, is.kept) (none_kept_true system reads writes input old.system is.fresh is.unheld))

@@ -2,9 +2,8 @@
 use Rattle.std.proofs.lemmas.Bool.Decides.{nat_tests}
 use Rattle.std.proofs.Common.{◌≡◌, ℕ, arith, List, refl, ◌∙◌, subst, Result, Ok, Err, IfErr, inl, inr}
 use Rattle.std.proofs.lemmas.List.{take-append-drop}
-use Rattle.ghosts.proofs.Failures.{stood_has_not_risen}
-use Rattle.ghosts.specs.Failures.{HasRisen, HasStood}
-use Rattle.avr_desk.specs.Fault.{Counts, Follows, HasFailed, HasFailedAt, HasFailedToSay, HasSameCounts}
+use Rattle.ghosts.specs.Failures.{HasRisen}
+use Rattle.avr_desk.specs.Fault.{Counts, Follows, HasFailedAt, HasFailedToSay, HasSameCounts}
 use Rattle.avr_desk.specs.Record.{DeskState}
 use Rattle.avr_desk.specs.declared.desk.DeskFault.{DeskFault}
 use Rattle.avr_desk.specs.declared.desk.DeskFault.TheVariants.{NotFound, Failed}
@@ -37,10 +36,6 @@ failed_since a b c same failed = (subst (λ n. HasRisen n c.failures) same.0 fai
 
 pub unsaid_since : (a b c : DeskState) → HasSameCounts a b → HasFailedToSay b c → HasFailedToSay a c
 unsaid_since a b c same failed = grind (arith, nat_tests)
-
--- a desk with an unchanged count has not failed in between
-pub not_failed : (a b c d : DeskState) → Follows a b → Follows c d → HasStood a.failures d.failures → HasFailed b c → ⊥
-not_failed a b c d first last = stood_has_not_risen a.failures b.failures c.failures d.failures first.0 last.0
 
 -- a failed call is counted
 pub failed_by : (stream : Stream) (old new : DeskState) (result : Result (Unit {0}) DeskFault) (fault : DeskFault)

@@ -11,4 +11,4 @@ returns-in-Ok-Some-clause-stays g c =
     (c.then-self-inside.ensures ∙ ap (λ d. with_held c.as_bytes.result.now d.kept) left)
     (ap (λ d. d.system) c.self-in-Ok-Some.view_is) (rw c.in-Ok-Some.field-0-is at c.in-Ok-Some.ensures.held)
     (rw c.in-Ok-Some.field-0-is at c.in-Ok-Some.ensures.locks)
-    c.leave_replacement.ensures.left)
+    c.leave_replacement.ensures.left c.hold_named.ensures.leaves c.leave_replacement.ensures.keeps)

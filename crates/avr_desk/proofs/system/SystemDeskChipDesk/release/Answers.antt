@@ -9,4 +9,4 @@ returns-clause-stays g c =
     from_now _ _ _ _ _ _ (released_true _ _ _ _ _ _ (ap (λ d. d.output) left) (ap (λ d. d.messages) left)
     (ap (λ d. d.opened) left) (ap (λ d. d.hold) left)
     (c.then-self-inside.ensures ∙ ap (λ d. with_none_held d.kept) left) (ap (λ d. d.system) c.self.view_is)
-    c.leave_replacement.ensures.left)
+    c.leave_replacement.ensures.left c.leave_replacement.ensures.keeps)

@@ -11,8 +11,10 @@ returns-in-Ok-clause-stays g c =
     (c.then-self-inside.ensures ∙ ap (λ d. with_replaced c.as_bytes.result.now c.args.bytes.now d.kept) left)
     c.in-Ok.ensures.put c.in-Ok.ensures.stays
     _ (ap (λ d. d.opened) left) c.open_next.ensures.closed c.in-Ok.ensures.makes
-    c.leave_replacement.ensures.left (ap (λ d. d.system) c.self-in-Ok.view_is) c.open_next.ensures.did)
+    c.leave_replacement.ensures.left (ap (λ d. d.system) c.self-in-Ok.view_is) c.open_next.ensures.did
+    c.replace_named.ensures.leaves c.leave_replacement.ensures.keeps c.open_next.ensures.keeps)
 
 pub returns-in-Err-clause-stays : goal.returns-in-Err-clause-stays
 returns-in-Err-clause-stays g c = from_inside _ _ _ _ _ _ c.self.view_is
-    (unreplaced_true _ _ _ _ _ _ c.replace_named.ensures.stays c.in-Err.ensures.fails)
+    (unreplaced_true _ _ _ _ _ _ c.as_bytes-in-Err.ensures.value c.then-self-inside-in-Err.ensures
+    c.replace_named.ensures.stays c.in-Err.ensures.fails c.replace_named.ensures.leaves)
