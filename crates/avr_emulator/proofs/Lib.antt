@@ -7,6 +7,7 @@ pub mod Answers
 pub mod Replies
 pub mod ReadByRead
 pub mod ServedRuns
--- a run over the emulator, and rows
+-- a run over the emulator, one that is killed, and rows
 pub mod Emulating
+pub mod Killed
 pub mod Rows

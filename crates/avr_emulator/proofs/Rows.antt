@@ -1,13 +1,13 @@
 -- The limit of a chip file. Then worked outcomes that contracts refuse: of holding, of saving, and of
 -- answers to a frame with a command that no programmer knows.
-use Rattle.std.proofs.Common.{◌≡◌, ◌≤◌, refl, ap, ℕ, List, [], ◌∷◌, length, Ok, Err, arith, rules}
+use Rattle.std.proofs.Common.{◌≡◌, ◌∙◌, ◌≤◌, refl, ap, ℕ, List, [], ◌∷◌, length, Ok, Err, arith, rules}
 use Rattle.ghosts.specs.Failures.{HasRisen}
 use Rattle.avr_desk.specs.Record.{Bytes, DeskState, Record, Passes, after_err, nothing_kept, showing, with_held, with_replaced}
 use Rattle.avr_emulator.specs.declared.loading.TheConstants.{LARGEST_CHIP_FILE}
 use Rattle.avr_emulator.specs.Holding as holding
 use Rattle.avr_emulator.specs.Holding.{HoldsFile}
 use Rattle.avr_emulator.specs.Lines.{in_use_line}
-use Rattle.avr_emulator.specs.Saving.{Saves}
+use Rattle.avr_emulator.specs.Saving.{MaybeReplaced, SavingTrouble, Saves, tried_by}
 use Rattle.stk_host.specs.declared.link.Item.TheVariants.{End}
 use Rattle.stk_host.specs.Tape.{on_tape}
 use Rattle.stk_host.specs.Transcript.{Transcript, Sent, Got}
@@ -51,10 +51,16 @@ no_denial_unasked file holds = unasked file holds.1.told holds.1.trouble _ refl 
 pub no_hold_behind_a_failure : (file : Bytes) → HoldsFile begun (now (with_held file nothing_kept) 1) file (Ok tt) → ⊥
 no_hold_behind_a_failure file holds = let e : 1 ≡ 0 = holds.1.0 in omega (arith, e)
 
+no_file_tried : (file bytes : Bytes) (trouble : SavingTrouble)
+    → file_count (tried_by file bytes trouble nothing_kept) ≡ 0
+no_file_tried file bytes MaybeReplaced = refl
+no_file_tried file bytes trouble = refl
+
 -- a save that failed and left an empty file
 pub no_empty_file : (file bytes line : Bytes)
     → Saves begun (now (after_err line (with_replaced file [] nothing_kept)) 1) file bytes (Err 1) → ⊥
-no_empty_file file bytes line saves = let e : 1 ≡ 0 = ap file_count saves.1.kept in omega (arith, e)
+no_empty_file file bytes line saves =
+    let e : 1 ≡ 0 = ap file_count saves.1.kept ∙ no_file_tried file bytes saves.1.trouble in omega (arith, e)
 
 -- a save that succeeded though nothing was written, or though the desk failed
 pub no_success_and_nothing_saved : (file bytes : Bytes) → Saves begun begun file bytes (Ok tt) → ⊥

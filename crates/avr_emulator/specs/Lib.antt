@@ -7,8 +7,9 @@ pub mod Saving
 pub mod Serving
 pub mod ServedRun
 pub mod Replying
--- a run over the emulator
+-- a run over the emulator, and one that is killed
 pub mod Emulated
+pub mod Killed
 -- of the crates below, the definitions that public contracts cite
 pub use Rattle.avr_laws.specs.AnyLine
 pub use Rattle.avr_desk.specs.Fault

@@ -29,7 +29,7 @@ fn save_bytes<D: ChipDesk>(file: &str, bytes: &[u8], desk: &mut D) -> Result<(),
 /// # Errors
 ///
 /// The status 1 if the file can't be replaced or allocation fails. The line of the reason was printed, as far as the
-/// desk takes it, and the file is as it was.
+/// desk takes it. The file is as it was, unless the desk replaced it before it failed.
 pub fn save_chip<D: ChipDesk>(
     alloc: Global,
     chip: &Chip,

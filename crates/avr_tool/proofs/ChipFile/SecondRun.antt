@@ -7,7 +7,7 @@ use Rattle.avr_desk.proofs.FileUses.Names.{newest_append}
 use Rattle.avr_desk.proofs.FileUses.Uses.{files_replaced}
 use Rattle.avr_desk.specs.Memory.{MemDeskState, Stock, file_named, memory_state, stood_for}
 use Rattle.avr_desk.specs.Named.{is_dash}
-use Rattle.avr_desk.specs.Record.{Bytes, DeskState, Record, with_replaced}
+use Rattle.avr_desk.specs.Record.{Bytes, DeskState, Record, released, with_replaced}
 use Rattle.avr_desk.specs.Truth.{HoldsTrue}
 use Rattle.avr_desk.specs.declared.record.Writing.{Writing}
 use Rattle.avr_laws.proofs.SecondRun.EveryChip.{agrees_anyway}
@@ -15,6 +15,7 @@ use Rattle.avr_laws.proofs.SecondRun.Status.{done_again}
 use Rattle.avr_laws.specs.Again.{AgreesAnyway, AreKeeping}
 use Rattle.avr_laws.specs.AnyLine.{OverAnyLine, Stopped, memories}
 use Rattle.avr_emulator.specs.Emulated.{IsSaved, RunsOverEmulator, new_wire}
+use Rattle.avr_emulator.specs.Saving.{MaybeReplaced, SavingTrouble, tried_by}
 use Rattle.avr_laws.specs.Items.{items, has_erase}
 use Rattle.avr_laws.specs.Outcome.{IsDone, IsTouched, page_writes}
 use Rattle.avr_laws.proofs.AnyLine.FirstSteps.{effects_sizes}
@@ -65,6 +66,11 @@ module _ (file : Bytes) (stock : Stock) (no_dash : is_dash file ≡ false) where
   replaced bytes r =
       search (rules, stands, files_replaced, newest_append, bytes_eq-Decides)
 
+  tried_held : (bytes : Bytes) (trouble : SavingTrouble) (r : Record)
+      → file_held stock (tried_by file bytes trouble r) file ≡ file_held stock r file
+  tried_held bytes MaybeReplaced r = refl
+  tried_held bytes trouble r = refl
+
   -- the chip's bytes, or the earlier ones
   saved_held : (out : List ℕ) (old new : DeskState) (bytes : Bytes) (ran status : ℕ)
       → IsSaved out old new file bytes ran status
@@ -73,7 +79,7 @@ module _ (file : Bytes) (stock : Stock) (no_dash : is_dash file ≡ false) where
   saved_held (b ∷ out) old new bytes ran status (inl (saves, is)) =
       inl (ap (λ r. file_held stock r file) saves.0 ∙ replaced bytes old.kept)
   saved_held (b ∷ out) old new bytes ran status (inr (fault, saves, is)) =
-      inr (ap (λ r. file_held stock r file) saves.1.kept)
+      inr (ap (λ r. file_held stock r file) saves.1.kept ∙ tried_held bytes saves.1.trouble (released old).kept)
 
   -- with status 0 the chip's, because a session of status 0 has sent something
   zero_held : (out : List ℕ) (old new : DeskState) (bytes : Bytes) (ran : ℕ) → (out ≡ [] → ran ≡ 0 → ⊥)

@@ -9,7 +9,7 @@ use Rattle.avr_desk.specs.declared.record.Opening.{Opening}
 use Rattle.avr_desk.specs.declared.record.Opening.TheVariants.{Absent, Found}
 use Rattle.avr_desk.specs.declared.record.Open.TheVariants.{ToRead}
 use Rattle.avr_desk.specs.declared.record.Reading.{Reading}
-use Rattle.avr_emulator.specs.Saving.{Saves}
+use Rattle.avr_emulator.specs.Saving.{MaybeReplaced, SavingTrouble, Saves, tried_by}
 use Rattle.avr_emulator.specs.Emulated.{IsSaved}
 use Rattle.avr_plan.specs.OnlyReading.{OnlyReads}
 use Rattle.avr_session.specs.Runs.{RunsTo, Devices, Lacking}
@@ -95,6 +95,11 @@ run_past uses dialog old new takes Lacks status (inl (place, ran)) past =
 run_past uses dialog old new takes Lacks status (inr (broke, one)) past =
     subst (ArePast uses) (sym broke.kept) (search (rules, past_on, past_all))
 
+tried_past : (uses : List FileUse) (file bytes : Bytes) (trouble : SavingTrouble) (r : Record) → ArePast uses r
+    → ArePast uses (tried_by file bytes trouble r)
+tried_past uses file bytes MaybeReplaced r past = past
+tried_past uses file bytes trouble r past = past
+
 saves_past : (uses : List FileUse) (old new : DeskState) (file bytes : Bytes) (result : Result ⊤ ℕ)
     → Saves old new file bytes result
     → ArePast uses old.kept → ArePast uses new.kept
@@ -102,7 +107,9 @@ saves_past uses old new file bytes (Ok done) saves past =
     subst (ArePast uses) (sym saves.0) (put_by uses (Created (record { name = file; bytes = bytes }) ∷ []) old.kept
     (with_replaced file bytes old.kept) past refl)
 saves_past uses old new file bytes (Err status) saves past =
-    subst (ArePast uses) (sym saves.1.kept) (past_on uses (Line saves.1.told) (released old).kept past)
+    subst (ArePast uses) (sym saves.1.kept) (past_on uses (Line saves.1.told)
+    (tried_by file bytes saves.1.trouble (released old).kept)
+    (tried_past uses file bytes saves.1.trouble (released old).kept past))
 
 pub saved_past : (uses : List FileUse) (sent : List ℕ) (old new : DeskState) (file bytes : Bytes) (ran status : ℕ)
     → IsSaved sent old new file bytes ran status
