@@ -117,8 +117,7 @@ pub open_is_rest : (limit : ℕ) (format : Format) (size : ℕ) (prefix : Bytes)
     → Passes (after_reading prefix false) old now
     → length prefix ≡ 1024 → RestIsRead limit (kind_of format prefix) size prefix now new result
     → OpenIsRead limit format size old new result
-open_is_rest limit format size prefix old now new (Ok good) first len rest =
-    open_rest limit format size prefix old now new (Ok good) first len rest
+open_is_rest limit format size prefix old now new (Ok good) first len rest = search (rules, open_rest)
 open_is_rest limit format size prefix old now new (Err (Image bad)) first len rest =
     search (rules, open_rest)
 open_is_rest limit format size prefix old now new (Err (File NotRead)) first len rest =
@@ -134,12 +133,9 @@ pub image_is_open : (limit : ℕ) (format : Format) (size : ℕ) (name : Bytes) 
     (result : ImageOrFault)
     → Passes (after_open name (Ok tt)) old now
     → OpenIsRead limit format size now new result → ImageIsRead limit format size name old new result
-image_is_open limit format size name old now new (Ok good) opened reads =
-    opened_image limit format size name old now new (Ok good) opened reads
+image_is_open limit format size name old now new (Ok good) opened reads = search (rules, opened_image)
 image_is_open limit format size name old now new (Err (Image bad)) opened reads =
     search (rules, opened_image)
-image_is_open limit format size name old now new (Err (File NotRead)) opened reads =
-    (reads.0, opened_read name old.kept now.kept new.kept reads.0 false opened reads.1)
-image_is_open limit format size name old now new (Err (File Memory)) opened reads =
-    (reads.0, reads.1, opened_read name old.kept now.kept new.kept reads.0 reads.1 opened reads.2)
+image_is_open limit format size name old now new (Err (File NotRead)) opened reads = search (rules, opened_read)
+image_is_open limit format size name old now new (Err (File Memory)) opened reads = search (rules, opened_read)
 image_is_open limit format size name old now new (Err (File fault)) opened reads = absurd reads

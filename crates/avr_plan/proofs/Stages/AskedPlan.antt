@@ -1,4 +1,5 @@
 -- A plan that was made over true openings is the one that settings and files ask for.
+use Rattle.std.proofs.Common.{rules}
 use Rattle.std.proofs.Common.{◌≡◌, ◌∙◌, sym, ap, subst, arith, ℕ, ◌<◌, ◌||◌, List, [], ◌∷◌, ◌++◌, append_assoc, append-nil, length, nat_le, nat_lt, refl, Bool, true, false, if◌then◌else◌, Option, Some, None, Result, Ok, Err, inl, inr}
 use Rattle.std.proofs.lemmas.Bool.{cases_Bool}
 use Rattle.std.proofs.lemmas.Bool.Decides.{nat_tests}
@@ -63,9 +64,7 @@ saw_first : {A B : Type 0} (stock : Stock) (stage : Stage A) (go_on : A → Stag
     → Saw stock (stage >>= go_on) openings b
     → (a : A) × (Saw stock stage openings a × Saw stock (go_on a) (stage openings).left b)
 saw_first stock stage go_on openings b saw =
-    let p = stage openings in
-    let g = going_saw stock p.says p.left go_on p.answer b saw.made saw.seen in
-    (g.0, (record { made = g.1.0; seen = g.1.1.0 }, g.1.1.1))
+    let p = stage openings in let g = going_saw stock p.says p.left go_on p.answer b saw.made saw.seen in search rules
 
 -- ---- a file
 
@@ -73,8 +72,7 @@ judged_whole : {A : Type 0} (judge : Bytes → Result A Bytes) (openings : List 
     (ended past : Bool) → (ended ≡ true → unread ≡ []) → (past ≡ true → judge (bytes ++ unread) ≡ judge bytes)
     → ((if ended || past then verdict_stage (judge bytes) else unread_stage) openings).answer ≡ Made a
     → judge (bytes ++ unread) ≡ Ok a
-judged_whole judge openings a bytes unread true past ends same is =
-    ap judge (ap (λ (u : Bytes). bytes ++ u) (ends refl) ∙ append-nil bytes) ∙ settled (judge bytes) openings a is
+judged_whole judge openings a bytes unread true past ends same is = search (rules, append-nil, settled)
 judged_whole judge openings a bytes unread false true ends same is = same refl ∙ settled (judge bytes) openings a is
 judged_whole judge openings a bytes unread false false ends same is = cc
 

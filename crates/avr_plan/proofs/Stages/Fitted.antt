@@ -1,5 +1,5 @@
 -- A plan that was made fits its part.
-use Rattle.std.proofs.Common.{◌≡◌, ◌∙◌, sym, ap, subst, arith, ℕ, ◌+◌, ◌≤◌, ◌<◌, ◌⊎◌, inl, inr, All, List, [], ◌∷◌, ◌++◌, length, map, refl, Bool, true, false, if◌then◌else◌, Option, Some, None, Result, Ok, Err, ◌==◌, rules}
+use Rattle.std.proofs.Common.{◌≡◌, ◌∙◌, sym, ap, subst, arith, ℕ, ◌+◌, ◌≤◌, ◌<◌, ◌⊎◌, inl, inr, All, List, [], ◌∷◌, ◌++◌, length, map, refl, Option, Some, None, Result, Ok, Err, rules}
 use Rattle.std.specs.List.{enumerate_from}
 use Rattle.std.proofs.lemmas.Bool.{cases_Bool}
 use Rattle.std.proofs.lemmas.List.{length-replicate}
@@ -12,12 +12,11 @@ use Rattle.avr_cli.specs.declared.update.Op.{Op}
 use Rattle.avr_cli.specs.declared.update.Op.TheVariants as op
 use Rattle.avr_cli.specs.declared.update.Update.{Update}
 use Rattle.avr_image.specs.declared.fault.ImageFault.{ImageFault}
-use Rattle.avr_image.specs.Image.{empty, from_zero}
-use Rattle.avr_image.specs.Values.{values, all_ok, onto_ok, fitting, fitting_value, image_of_bytes, pieces, value_of}
+use Rattle.avr_image.specs.Values.{values, all_ok, onto_ok, fitting, fitting_value, image_of_bytes, value_of}
 use Rattle.avr_image.proofs.Lemmas.{laid_size, from_zero_is_a_span}
 use Rattle.avr_desk.specs.Record.{Bytes}
 use Rattle.avr_desk.specs.Said.{OutputEvent}
-use Rattle.avr_desk.specs.Stage.{Stage, StageAnswer, Made, Refused, Unread, going_on, ◌>>=◌, verdict_stage, open_stage, file_stage, content_stage, is_whole, unread_stage, output_stage}
+use Rattle.avr_desk.specs.Stage.{Stage, StageAnswer, Made, Refused, Unread, going_on, ◌>>=◌, verdict_stage, open_stage, file_stage, content_stage, output_stage}
 use Rattle.avr_desk.specs.declared.record.Opening.{Opening}
 use Rattle.avr_desk.specs.declared.record.Opening.TheVariants.{Absent, Found}
 use Rattle.avr_part.specs.Mem.{is_writable}
@@ -51,8 +50,7 @@ going_made says left go_on Unread b is = cc
 
 earlier : {A B : Type 0} (stage : Stage A) (go_on : A → Stage B) (openings : List Opening) (b : B)
     → ((stage >>= go_on) openings).answer ≡ Made b → Earlier stage go_on openings b
-earlier stage go_on openings b is =
-    let p = stage openings in going_made p.says p.left go_on p.answer b is
+earlier stage go_on openings b is = search (rules, going_made)
 
 pub settled : {A : Type 0} (r : Result A Bytes) (openings : List Opening) (a : A)
     → (verdict_stage r openings).answer ≡ Made a → r ≡ Ok a
@@ -65,14 +63,7 @@ content : {A : Type 0} (name : Bytes) (limit : ℕ) (judge : Bytes → Result A 
     (openings : List Opening) (a : A) → (content_stage name limit judge opening openings).answer ≡ Made a
     → (bytes : Bytes) × (judge bytes ≡ Ok a)
 content name limit judge (Absent other) openings a is = cc
-content name limit judge (Found reading) openings a is =
-    by_end (is_whole limit reading) is
-  where
-    by_end : (b : Bool)
-        → ((if b then verdict_stage (judge reading.bytes) else unread_stage) openings).answer ≡ Made a
-        → (bytes : Bytes) × (judge bytes ≡ Ok a)
-    by_end true made = (reading.bytes, settled (judge reading.bytes) openings a made)
-    by_end false made = cc
+content name limit judge (Found reading) openings a is = search (rules, settled)
 
 pub given : (file : Bytes) (r : Given) (p : Image × Ending) → image_or_line file r ≡ Ok p → r ≡ Ok p
 given file (Ok good) p is = cc
@@ -118,26 +109,11 @@ inside size k (text ∷ texts) bytes is =
 
 sized : (size : ℕ) (r : Result (List ℕ) ImageFault) (image : Image)
     → ((bytes : List ℕ) → r ≡ Ok bytes → length bytes ≤ size) → image_of_bytes size r ≡ Ok image → length image ≡ size
-sized size (Ok bytes) image few is =
-    let same : from_zero bytes size ≡ image = cc in
-    ap length (sym same ∙ from_zero_is_a_span bytes size (few bytes refl))
-    ∙ (laid_size (empty size) (enumerate_from 0 bytes) ∙ length-replicate {A = Option ℕ} size None)
+sized size (Ok bytes) image few is = search (rules, from_zero_is_a_span, laid_size, length-replicate)
 sized size (Err fault) image few is = cc
 
 value_size : (text : Bytes) (size : ℕ) (image : Image) → values text size ≡ Ok image → length image ≡ size
-value_size text size image is =
-    elim (cases_Bool (length (pieces text) == 0)) [
-      | inl none ↦ cc (rw none at is)
-      | inr some ↦ sized size (all_ok (map (fitting_value size) (enumerate_from 0 (pieces text)))) image few
-          (rw some at is)
-    ]
-  where
-    few : (bytes : List ℕ) → all_ok (map (fitting_value size) (enumerate_from 0 (pieces text))) ≡ Ok bytes
-        → length bytes ≤ size
-    few bytes all = elim (inside size 0 (pieces text) bytes all) [
-      | inl none ↦ omega (arith, ap length none)
-      | inr fits ↦ omega (arith, fits)
-    ]
+value_size text size image is = search (rules, cases_Bool, sized, inside)
 
 pub line_or : (memory : Mem) (r : Result Image ImageFault) (image : Image) → values_or_line memory r ≡ Ok image
     → r ≡ Ok image
@@ -148,9 +124,7 @@ line_or memory (Err fault) image is = cc
 
 image_size : (switches : Switches) (memory : Mem) (size : ℕ) (file : Bytes) (kind : Format) (openings : List Opening)
     (image : Image) → (image_stage switches memory size file kind openings).answer ≡ Made image → length image ≡ size
-image_size switches memory size file format.Immediate openings image is =
-    value_size file size image (line_or memory (values file size) image
-    (settled (values_or_line memory (values file size)) openings image is))
+image_size switches memory size file format.Immediate openings image is = search (rules, value_size, line_or, settled)
 image_size switches memory size file kind openings image is = file_size switches file kind size openings image is
 
 module _ (switches : Switches) (part : Part) where

@@ -1,7 +1,6 @@
-use Rattle.std.proofs.Common.{ap, ◌∙◌, List, ℕ, map, string_bytes, subst}
+use Rattle.std.proofs.Common.{ap, ◌∙◌, List, ℕ, map, string_bytes}
 use Rattle.std.proofs.lemmas.Result.{IfErr-weaker, IfOk-weaker}
-use Rattle.clap.specs.Words.{App, takes, is_simple_and_free, fault_of, FailsBy}
-use Rattle.avr_cli.specs.Command.{avrstk}
+use Rattle.clap.specs.Words.{App, takes, is_simple_and_free}
 use Rattle.avr_cli.proofs.ParsedCommands.{is_simple-avrstk, is_free-avrstk, rows_given}
 use Rattle.avr_cli.proofs.command.read_words.Goals as goal
 
@@ -11,8 +10,7 @@ returns c =
     let words : List (List ℕ) = map string_bytes c.args.words.now in
     let parse = c.try_get_matches_from in
     record {
-      rows = IfOk-weaker parse.result _ _ (rows_given _ avrstk words is is_simple-avrstk) parse.ensures.matches;
+      rows = search (IfOk-weaker, rows_given, is_simple-avrstk);
       taken = IfErr-weaker parse.result _ _ (λ e h t. h (ap (λ (a : App). takes a words) is ∙ t)) parse.ensures.passes;
-      refused = subst (λ (a : App). FailsBy (fault_of a words) parse.result) is
-          (parse.ensures.kinds (ap is_simple_and_free is ∙ is_free-avrstk));
+      refused = rw (← is) (parse.ensures.kinds (ap is_simple_and_free is ∙ is_free-avrstk));
     }

@@ -3,9 +3,4 @@ use Rattle.avr_cli.proofs.command.with_run.Goals as goal
 
 pub returns : goal.returns
 unfolding run_rules
-returns c = record {
-  app = λ a built.
-      c.add.ensures _ _
-      (c.add-command-2.ensures _ _
-      (c.add-command.ensures _ _ built c.flag.ensures.rule) c.flag-2.ensures.rule) c.all.ensures.rule;
-}
+returns c = record { app = λ a built. search (c.add.ensures, c.add-command-2.ensures, c.add-command.ensures) }

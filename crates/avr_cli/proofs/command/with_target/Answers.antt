@@ -4,10 +4,5 @@ use Rattle.avr_cli.proofs.command.with_target.Goals as goal
 pub returns : goal.returns
 unfolding target_rules
 returns c = record {
-  app = λ a built.
-      c.add.ensures _ _
-      (c.add-command-3.ensures _ _
-      (c.add-command-2.ensures _ _
-      (c.add-command.ensures _ _ built c.part.ensures.rule) c.programmer.ensures.rule) c.port.ensures.rule)
-      c.update.ensures.rule;
+  app = λ a built. search (c.add.ensures, c.add-command-3.ensures, c.add-command-2.ensures, c.add-command.ensures);
 }

@@ -9,8 +9,7 @@ pieces-preserved g c = search (rules, length-take-le, going_on, same_on)
 
 pub returns-then-count-eq0-clause-read : goal.returns-then-count-eq0-clause-read
 returns-then-count-eq0-clause-read g c = λ limit found size before takes count.
-    rest_ends _ _ _ _ _ _ _ c.in-Ok.count c.read.new.buf c.pieces.invariant.going c.in-Ok.ensures.kept limit found size
-    before takes count c.finish.result c.if-count-eq0.true (omega arith) c.finish.ensures.given
+    search (rules, rest_ends, c.pieces.invariant.going, c.in-Ok.ensures.kept, c.finish.ensures.given)
 
 pub returns-then-count-left-clause-read : goal.returns-then-count-left-clause-read
 returns-then-count-left-clause-read g c = λ limit found size before takes count.

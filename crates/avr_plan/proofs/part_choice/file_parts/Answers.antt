@@ -1,7 +1,5 @@
-use Rattle.std.proofs.Common.{subst, refl, false}
+use Rattle.std.proofs.Common.{refl, false, rules}
 use Rattle.avr_desk.specs.Playing.{AtStart}
-use Rattle.avr_desk.specs.Record.{Bytes}
-use Rattle.avr_part.specs.PartFile.{ReadsOrMemory, parts_of, unplaced}
 use Rattle.avr_plan.specs.declared.part_choice.TheConstants.{LARGEST_PART_FILE}
 use Rattle.avr_plan.proofs.Stages.Parts.{went_parts, goes_bad_parts, goes_long_parts}
 use Rattle.avr_desk.proofs.Stages.Files.{goes_file_fault}
@@ -22,15 +20,12 @@ returns-then-not-contents-clause-goes g c =
 
 pub returns-in-Ok-parse_part_file-clause-goes : goal.returns-in-Ok-parse_part_file-clause-goes
 returns-in-Ok-parse_part_file-clause-goes g c =
-    let gives = subst (λ (b : Bytes). ReadsOrMemory (parts_of b) (unplaced c.parse_part_file.result)) c.as_slice.ensures
-    c.parse_part_file.ensures.reads in
-    went_parts _ _ _ _ _ _ c.in-Ok.ensures.kept c.in-Ok.ensures.whole c.if-not-contents.false c.in-Ok.ensures.counts.1
-    (rw c.in-Ok-parse_part_file.is at gives)
+    let gives = rw (c.as_slice.ensures, c.in-Ok-parse_part_file.is) at c.parse_part_file.ensures.reads in
+    search (rules, went_parts, c.in-Ok.ensures.kept, c.in-Ok.ensures.whole, c.in-Ok.ensures.counts)
 
 pub returns-clause-goes : goal.returns-clause-goes
 returns-clause-goes g c =
-    let gives = subst (λ (b : Bytes). ReadsOrMemory (parts_of b) (unplaced c.parse_part_file.result)) c.as_slice.ensures
-    c.parse_part_file.ensures.reads in
-    goes_bad_parts _ _ _ _ _ _ _ c.in-Err-parse_part_file.refused.why c.in-Ok.ensures.kept c.in-Ok.ensures.whole
-    c.if-not-contents.false c.in-Ok.ensures.counts.1 (rw c.in-Err-parse_part_file.is at gives) refl (rw
-    (c.part_file_message.ensures, c.fault-fault.ensures) at c.refuse-in-Err-parse_part_file.ensures.told)
+    let gives = rw (c.as_slice.ensures, c.in-Err-parse_part_file.is) at c.parse_part_file.ensures.reads in
+    let told = rw (c.part_file_message.ensures, c.fault-fault.ensures)
+    at c.refuse-in-Err-parse_part_file.ensures.told in
+    search (rules, goes_bad_parts, c.in-Ok.ensures.kept, c.in-Ok.ensures.whole, c.in-Ok.ensures.counts)

@@ -1,5 +1,4 @@
-use Rattle.std.proofs.Common.{refl}
-use Rattle.avr_plan.specs.declared.image_file.TheConstants.{LARGEST_IMAGE_FILE}
+use Rattle.std.proofs.Common.{refl, rules}
 use Rattle.avr_plan.proofs.Stages.Told.{fault_since}
 use Rattle.avr_plan.proofs.Stages.Images.{went_image, goes_unwarned, goes_without_image, goes_without_room}
 use Rattle.avr_plan.proofs.Files.Sizes.{image-size}
@@ -7,18 +6,14 @@ use Rattle.avr_plan.proofs.update_image.file_image.Goals as goal
 
 pub returns-in-Ok-warn_of_ending-clause-goes : goal.returns-in-Ok-warn_of_ending-clause-goes
 returns-in-Ok-warn_of_ending-clause-goes g c =
-    went_image c.args.switches _ _ c.args.size _ _ _ _ _ c.in-Ok.ensures.read c.in-Ok.ensures.sound
-    c.in-Ok-warn_of_ending.ensures.goes
+    search (rules, went_image, c.in-Ok.ensures.read, c.in-Ok.ensures.sound, c.in-Ok-warn_of_ending.ensures.goes)
 
 pub returns-in-Ok-warn_of_ending-clause-sized : goal.returns-in-Ok-warn_of_ending-clause-sized
-returns-in-Ok-warn_of_ending-clause-sized g c =
-    let reads = c.in-Ok.ensures.read in
-    image-size LARGEST_IMAGE_FILE c.args.format reads.bytes c.args.size c.in-Ok.image c.in-Ok.ending reads.gives
+returns-in-Ok-warn_of_ending-clause-sized g c = let reads = c.in-Ok.ensures.read in search (rules, image-size)
 
 pub returns-in-Err-warn_of_ending-clause-goes : goal.returns-in-Err-warn_of_ending-clause-goes
 returns-in-Err-warn_of_ending-clause-goes g c =
-    goes_unwarned c.args.switches _ _ c.args.size _ _ _ _ _ _ c.in-Ok.ensures.read c.in-Ok.ensures.sound
-    c.in-Err-warn_of_ending.ensures.goes
+    search (rules, goes_unwarned, c.in-Ok.ensures.read, c.in-Ok.ensures.sound, c.in-Err-warn_of_ending.ensures.goes)
 
 pub returns-then-is_err-clause-goes : goal.returns-then-is_err-clause-goes
 returns-then-is_err-clause-goes g c =
@@ -31,6 +26,5 @@ returns-in-Err-clause-goes g c =
     c.in-Err.ensures.counted refl (rw c.image_message.ensures at c.refuse-in-Err.ensures.told)
 
 pub returns-in-Err-warn_of_ending-clause-told : goal.returns-in-Err-warn_of_ending-clause-told
-returns-in-Err-warn_of_ending-clause-told g c =
-    λ update named. fault_since update _ (g.D.Desk.view c.args.desk.now) (g.D.Desk.view c.read_image.new.desk) _
-    c.in-Ok.ensures.sound (c.in-Err-warn_of_ending.ensures.told update)
+returns-in-Err-warn_of_ending-clause-told g c = λ update named.
+    search (rules, fault_since, c.in-Ok.ensures.sound, c.in-Err-warn_of_ending.ensures.told)

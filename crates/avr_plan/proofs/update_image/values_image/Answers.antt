@@ -1,10 +1,9 @@
-use Rattle.std.proofs.Common.{refl}
+use Rattle.std.proofs.Common.{refl, rules}
 use Rattle.avr_plan.proofs.Stages.Values.{went_values, goes_bad_values, goes_without_room}
 use Rattle.avr_plan.proofs.update_image.values_image.Goals as goal
 
 pub returns-in-Ok-clause-goes : goal.returns-in-Ok-clause-goes
-returns-in-Ok-clause-goes g c = λ switches. went_values switches c.args.memory c.args.size c.args.text.now _
-    c.in-Ok.image c.in-Ok.ensures.value
+returns-in-Ok-clause-goes g c = search (rules, went_values, c.in-Ok.ensures.value)
 
 pub returns-in-Err-clause-goes : goal.returns-in-Err-clause-goes
 returns-in-Err-clause-goes g c =
@@ -13,5 +12,4 @@ returns-in-Err-clause-goes g c =
 
 pub returns-then-is_err-clause-goes : goal.returns-then-is_err-clause-goes
 returns-then-is_err-clause-goes g c = λ switches.
-    goes_without_room switches c.args.memory c.args.size c.args.text.now _ _ _ refl
-    (rw c.memory_message.ensures at c.refuse.ensures.told)
+    let told = rw c.memory_message.ensures at c.refuse.ensures.told in search (rules, goes_without_room)

@@ -1,7 +1,7 @@
 use Rattle.std.proofs.lemmas.Bool.Decides.{nat_tests}
 use Rattle.std.proofs.Common.{arith, Result, Ok, Err}
 use Rattle.std.specs.Result.{IsOk, OnOk}
-use Rattle.std.proofs.lemmas.List.{length-append, length-take}
+use Rattle.std.proofs.lemmas.List.{length-take}
 use Rattle.avr_records.proofs.Readers.Fed.{kept-more}
 use Rattle.avr_records.proofs.line_reader.extend.Goals as goal
 
@@ -11,6 +11,3 @@ when-ok (Err fault) is p = cc is
 
 pub returns-clause-kept : goal.returns-clause-kept
 returns-clause-kept c = grind (arith, nat_tests, length-take, when-ok, kept-more)
-
-pub returns-clause-count : goal.returns-clause-count
-returns-clause-count c = grind (arith, nat_tests, length-append, length-take, returns-clause-kept)

@@ -1,3 +1,4 @@
+use Rattle.std.proofs.lemmas.Grind.{common_steps}
 use Rattle.std.proofs.lemmas.Bool.Decides.{nat_tests}
 use Rattle.std.proofs.Common.{arith}
 use Rattle.avr_records.proofs.Writers.RunWalk.{first-in, is-memory}
@@ -7,9 +8,7 @@ pub returns-then-skipped-bytes-clause-next : goal.returns-then-skipped-bytes-cla
 returns-then-skipped-bytes-clause-next c = grind (arith, nat_tests, first-in)
 
 pub returns-then-skipped-bytes-clause-memory : goal.returns-then-skipped-bytes-clause-memory
-returns-then-skipped-bytes-clause-memory c =
-    is-memory c.args.base c.args.bytes.now c.requires (λ i. omega (arith, c.type_inv.bytes i))
+returns-then-skipped-bytes-clause-memory c = grind (arith, common_steps, is-memory)
 
 pub returns-else-skipped-bytes-clause-memory : goal.returns-else-skipped-bytes-clause-memory
-returns-else-skipped-bytes-clause-memory c =
-    is-memory c.args.base c.args.bytes.now c.requires (λ i. omega (arith, c.type_inv.bytes i))
+returns-else-skipped-bytes-clause-memory c = grind (arith, common_steps, is-memory)

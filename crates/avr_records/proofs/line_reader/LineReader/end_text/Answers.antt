@@ -1,5 +1,5 @@
 use Rattle.std.proofs.lemmas.Result.{MatchResult-weaker}
-use Rattle.std.proofs.Common.{arith}
+use Rattle.std.proofs.Common.{arith, rules}
 use Rattle.std.proofs.lemmas.Bool.Decides.{nat_tests}
 use Rattle.std.proofs.lemmas.List.{nil_from_length}
 use Rattle.avr_records.proofs.Readers.Fed.{whole-empty, whole-good, whole-bad}
@@ -9,7 +9,4 @@ pub returns-then-is_empty-clause-whole : goal.returns-then-is_empty-clause-whole
 returns-then-is_empty-clause-whole c = grind (arith, nat_tests, whole-empty, nil_from_length)
 
 pub returns-clause-whole : goal.returns-clause-whole
-returns-clause-whole c =
-    MatchResult-weaker c.end_line.result c.end_line.ensures.step
-    (λ _ is text r. whole-good _ _ _ _ text c.end_line.ensures.size is r)
-    (λ fault is text r. whole-bad _ _ _ text fault is r)
+returns-clause-whole c = search (rules, MatchResult-weaker, whole-good, whole-bad)

@@ -1,5 +1,5 @@
 use Rattle.std.proofs.lemmas.Bool.Decides.{nat_tests}
-use Rattle.std.proofs.Common.{arith}
+use Rattle.std.proofs.Common.{arith, rules}
 use Rattle.std.proofs.lemmas.List.{length-append}
 use Rattle.std.proofs.lemmas.Result.{err_from_is_err_and}
 use Rattle.avr_records.proofs.Readers.Fed.{carries-start, carries-next, carries-fault, carries-last}
@@ -8,10 +8,8 @@ use Rattle.avr_records.proofs.line_reader.LineReader.feed.Goals as goal
 pub returns-in_err-end_line-clause-fault : goal.returns-in_err-end_line-clause-fault
 returns-in_err-end_line-clause-fault c =
     let p = err_from_is_err_and c.from_residual.result c.from_residual.ensures.1 in
-    let kept = c.loop-line.invariant in
-    let step = rw kept.kind at c.in_err-end_line.ensures.step in
-    rw (p.1, p.2) (λ text r. carries-fault _ _ _ _ _ _ _ _ kept.carries c.in-Some.ensures.0 c.in-Some.ensures.1 step
-    kept.size text r)
+    let step = rw c.loop-line.invariant.kind at c.in_err-end_line.ensures.step in
+    rw (p.1, p.2) (λ text r. search (rules, carries-fault, c.loop-line.invariant.carries, c.in-Some.ensures, step))
 
 pub loop-line-init : goal.loop-line-init
 loop-line-init c = grind (arith, nat_tests, carries-start)
@@ -21,6 +19,4 @@ loop-line-preserved c = grind (arith, nat_tests, length-append, carries-next)
 
 pub returns-clause-reads : goal.returns-clause-reads
 returns-clause-reads c =
-    let kept = c.loop-line.invariant in
-    λ text r. carries-last _ _ _ _ _ _ kept.carries c.in_default.ensures c.keep.ensures.progress
-    c.keep.ensures.kept text r
+    carries-last _ _ _ _ _ _ c.loop-line.invariant.carries (search rules) (search rules) (search rules)
