@@ -144,12 +144,17 @@ fn a_watcher_is_told_of_each_call(rt: HostRuntime) {
     assert!(rt; desk.desk.output() == b"0xe2\n".as_slice());
 }
 
+/// Returns a name in the folder of temporary files that only this process uses, for a file of this purpose.
+fn temporary(rt: &HostRuntime, purpose: &str) -> Result<String, Fail> {
+    let folder = env::temp_dir(rt)?;
+    let id = process::id(rt.process());
+    Ok(format!(in rt.alloc(); "{}/avr_desk_{purpose}_{id}.bin", folder.display())?)
+}
+
 #[test]
 fn files_of_the_system(rt: HostRuntime) -> Result<(), Fail> {
     let alloc = rt.alloc();
-    let folder = env::temp_dir(&rt)?;
-    let id = process::id(rt.process());
-    let name = format!(in alloc; "{}/avr_desk_{id}.bin", folder.display())?;
+    let name = temporary(&rt, "made")?;
     let mut desk = SystemDesk::new(&rt, rt.stdout(), rt.stderr());
     assert!(rt; desk.open(name.as_str()) == Err(DeskFault::NotFound));
     assert_eq!(rt; desk.last_error(), None);
@@ -169,10 +174,8 @@ fn files_of_the_system(rt: HostRuntime) -> Result<(), Fail> {
 #[test]
 fn a_file_of_the_system_is_replaced(rt: HostRuntime) -> Result<(), Fail> {
     let alloc = rt.alloc();
-    let folder = env::temp_dir(&rt)?;
-    let id = process::id(rt.process());
-    let name = format!(in alloc; "{}/avr_desk_held_{id}.bin", folder.display())?;
-    let new_name = format!(in alloc; "{}/avr_desk_held_{id}.bin.avrstk-new", folder.display())?;
+    let name = temporary(&rt, "held")?;
+    let new_name = format!(in alloc; "{name}.avrstk-new")?;
     let mut desk = SystemDesk::new(&rt, rt.stdout(), rt.stderr());
     let mut other = SystemDesk::new(&rt, rt.stdout(), rt.stderr());
     assert!(rt; desk.hold(name.as_str()) == Ok(true));
@@ -192,10 +195,8 @@ fn a_file_of_the_system_is_replaced(rt: HostRuntime) -> Result<(), Fail> {
 #[test]
 fn another_file_than_the_held_one_is_replaced(rt: HostRuntime) -> Result<(), Fail> {
     let alloc = rt.alloc();
-    let folder = env::temp_dir(&rt)?;
-    let id = process::id(rt.process());
-    let name = format!(in alloc; "{}/avr_desk_one_{id}.bin", folder.display())?;
-    let other = format!(in alloc; "{}/avr_desk_other_{id}.bin", folder.display())?;
+    let name = temporary(&rt, "one")?;
+    let other = temporary(&rt, "other")?;
     let mut desk = SystemDesk::new(&rt, rt.stdout(), rt.stderr());
     assert!(rt; desk.replace(name.as_str(), b"old") == Ok(()));
     assert!(rt; desk.hold(name.as_str()) == Ok(true));
