@@ -1,11 +1,13 @@
 //! Laws of runs; no code. `Proof:` names the lemmas that do the work, and their files in proofs/.
 
 ghost use Rattle.std.specs.Prelude.{◌≡◌, ◌<◌, ◌*◌, ◌⊎◌, ℕ, Bool, true, false, List, [], All, Some, map};
+ghost use Rattle.avr_cli.specs.Port.{port_number};
 ghost use Rattle.avr_cli.specs.declared.settings.Settings.{Settings as AnySettings};
 ghost use Rattle.avr_desk.specs.Fault.{Follows};
 ghost use Rattle.avr_desk.specs.Memory.{MemDeskState, Stock, memory_state, stood_for};
 ghost use Rattle.avr_desk.specs.Named.{is_dash};
 ghost use Rattle.avr_desk.specs.Playing.{Went};
+ghost use Rattle.avr_desk.specs.Shown.{IsNewDesk, TellsAll, shown_state};
 ghost use Rattle.avr_desk.specs.Stage.{Made};
 ghost use Rattle.avr_desk.specs.Truth.{HoldsTrue};
 ghost use Rattle.avr_desk.specs.Record.{DeskState, Passes, Record, Bytes, nothing_kept};
@@ -14,6 +16,7 @@ ghost use Rattle.avr_laws.specs.AnyLine.{Stopped, OverAnyLine, OverTurns, WholeO
 ghost use Rattle.avr_session.specs.PlanSteps.{run_steps};
 ghost use Rattle.avr_laws.specs.ExpectedRun.{expected_run};
 ghost use Rattle.avr_emulator.specs.Emulated.{RunsOverEmulator, new_wire};
+ghost use Rattle.avr_emulator.specs.Killed.{LeavesOldOrNew};
 ghost use Rattle.avr_laws.specs.Items.{items, asked_items, has_erase};
 ghost use Rattle.avr_laws.specs.Outcome.{IsExpectedRun, IsDone};
 ghost use Rattle.avr_laws.specs.Written.{IsWritten};
@@ -32,6 +35,8 @@ ghost use Rattle.avr_tool.specs.ChipFound.{IsChipOf, file_held};
 ghost use Rattle.avr_tool.specs.Headline.{IsRun, IsStopped, IsPrefixOfRun};
 ghost use Rattle.avr_tool.specs.InMemory.{Leaves, RunOutcome};
 ghost use Rattle.avr_tool.specs.Promise.{Promised};
+ghost use Rattle.avr_tool.specs.ServedNet.{ServesNet, chip_of_service};
+ghost use Rattle.avr_tool.specs.Sockets.{peers_of};
 ghost use Rattle.avr_tool.specs.Worked.{absent_outcome, absent_settings, frames_due, fuse_plan, lines_due, made_answers, no_stock, worked_answers, worked_outcome, worked_settings};
 ghost use Rattle.stk_emu.specs.Device.{device, after_frames};
 ghost use Rattle.avr_part.specs.ChipFile.{chip_file};
@@ -48,6 +53,10 @@ ghost use Rattle.avr_laws.specs.NoFrame.{MakesNoFrame};
 ghost use Rattle.stk_host.specs.Dialog.{Event, played, bytes_sent, outputs};
 ghost use Rattle.stk_host.specs.Transcript.{Transcript, heard, sent};
 ghost use Rattle.stk_host.specs.Tape.{Tape};
+
+use crate::network::{Callers, Network};
+use avr_desk::{FileSystem, SystemDesk};
+use std::io::Write;
 
 /// States what status 0 means, over any link over which nothing had passed: a plan was made, and the chip holds its
 /// images.
@@ -239,4 +248,27 @@ pub fn a_made_frame_voids_the_promise()
         → IsSoundChip s → s.part ≡ fuse_plan.part → (s.lfuse ≡ 0xE2 → ⊥)
         → CameThrough got (frames (bytes_sent (played (session fuse_plan) 1 made_answers).events)) through
         → MakesNoFrame device (session fuse_plan) 1 made_answers (fresh_programmer s) (became_by through) [] → ⊥ }
+{}
+
+/// States what a crash leaves of the chip file of a service at a port, on the new desk of a program. Whenever the
+/// program is killed or the machine stops, the file is as it was when it was locked. Or it is the file of the chip that
+/// the service states with its status. A file that is written in place is not meant.
+///
+/// avr_emulator's `a_crash_leaves_the_old_chip_or_the_new_one` says the same of a run over the emulator.
+// Proof: `service_killed` (ChipFile/Killed).
+pub fn a_crash_leaves_the_old_chip_or_the_served_one<
+    N: Network,
+    R: FileSystem + Drop,
+    O: Write + Drop,
+    E: Write + Drop,
+>(before: &SystemDesk<R, O, E>, after: &SystemDesk<R, O, E>)
+    ensures { let peers = peers_of N.Network N.Listener.Callers N.Stream.Read N.Stream.Write N.Stream.closed in
+        IsNewDesk R.FileSystem before.now
+        → TellsAll R.FileSystem R.File.Read R.File.Write R.Input.Read before.now after.now
+        → (settings : AnySettings) (port file : Bytes) (status : ℕ)
+        → (s : ServesNet peers.unused (peers.at_port (port_number port)) settings port file
+        (shown_state before.now) (shown_state after.now) status)
+        → LeavesOldOrNew R.FileSystem after.now.system file (chip_of_service peers.unused
+        (peers.at_port (port_number port)) settings port file (shown_state before.now) (shown_state after.now)
+        status s) }
 {}

@@ -51,7 +51,8 @@ pub use avr_cli::{
 };
 pub use avr_session::refuse;
 pub use laws::{
-    a_further_run_heals, a_further_run_over_its_chip_file_heals, a_made_frame_voids_the_promise,
+    a_crash_leaves_the_old_chip_or_the_served_one, a_further_run_heals,
+    a_further_run_over_its_chip_file_heals, a_made_frame_voids_the_promise,
     a_run_finds_and_leaves_the_chip_of_its_file, a_run_in_memory_has_one_outcome,
     a_run_is_one_function, a_sound_run_is_its_expected_run, a_stop_is_a_prefix,
     a_worked_run_has_one_outcome, a_wrong_outcome_is_refused, status_0_means_the_images,
