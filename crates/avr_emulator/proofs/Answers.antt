@@ -47,8 +47,7 @@ breaks_found : (p : Programmer) (text used unused part unsent : List ℕ) (trans
     → part ++ unsent ≡ answers device found (after_frames device (frames text) p)
     → IsFed p (text ++ used) now → 0 < length (part ++ unsent) → sent transcript ≡ part
     → (NoneTaken transcript → 0 < length unsent) → BreaksOff p text (used ++ unused) transcript now
-breaks_found p text used unused part unsent transcript now [] few fs answered fed some is not_whole =
-    absurd (let z : length (part ++ unsent) ≡ 0 = ap length answered in omega arith)
+breaks_found p text used unused part unsent transcript now [] few fs answered fed some is not_whole = search rules
 breaks_found p text used unused part unsent transcript now (frame ∷ []) few fs answered fed some is not_whole =
     search (rules, append-nil)
 breaks_found p text used unused part unsent transcript now (frame ∷ other ∷ more) few fs answered fed some is not_whole =

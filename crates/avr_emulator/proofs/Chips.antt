@@ -47,8 +47,7 @@ none_is false good n fault is = refl
 
 right_length : (part : Part) (bytes : Bytes) (chip : ChipState) → GivesChipOrMemory (chip_in part bytes) (Ok chip)
     → ((length bytes == chip_file_size part) ≡ true) × (chip ≡ state_in part bytes)
-right_length part bytes chip (inl gives) =
-    chip_is (length bytes == chip_file_size part) (state_in part bytes) chip (length bytes) (sym gives)
+right_length part bytes chip (inl gives) = search (rules, chip_is)
 right_length part bytes chip (inr memory) = cc
 
 pub went_chip : (part : Part) (file bytes : Bytes) (chip : ChipState) (d : DeskState)
@@ -56,23 +55,15 @@ pub went_chip : (part : Part) (file bytes : Bytes) (chip : ChipState) (d : DeskS
     → Went (verdict_stage (chip_or_line part file bytes)) d d (Made chip)
 went_chip part file bytes chip d gives =
     let right = right_length part bytes chip gives in
-    let given : chip_or_line part file bytes ≡ Ok chip = rw (right.0, right.1) refl in
-    went_settled (chip_or_line part file bytes) chip d given
-
-pub chip_of_part : (part : Part) (bytes : Bytes) (chip : ChipState) → GivesChipOrMemory (chip_in part bytes) (Ok chip)
-    → chip.part ≡ part
-chip_of_part part bytes chip gives = ap (λ (c : ChipState). c.part) (right_length part bytes chip gives).1
+    went_settled (chip_or_line part file bytes) chip d (rw (right.0, right.1) refl)
 
 pub goes_wrong_length : (part : Part) (file bytes : Bytes) (n : ℕ) (old new : DeskState) (status : ℕ)
     → GivesChipOrMemory (chip_in part bytes) (Err (BadChipFile n)) → status ≡ 1
     → Tells old new (length_line file (length bytes) (chip_file_size part))
     → Goes (AtStart true) (verdict_stage (chip_or_line part file bytes)) old new (Err status)
 goes_wrong_length part file bytes n old new status (inl gives) one told =
-    let wrong = none_is (length bytes == chip_file_size part) (state_in part bytes) (length bytes) (BadChipFile n)
-    (sym gives) in
-    let line = length_line file (length bytes) (chip_file_size part) in
-    let given : chip_or_line part file bytes ≡ Err line = rw wrong refl in
-    goes_unsettled (AtStart true) (chip_or_line part file bytes) line old new status given one told
+    let wrong = none_is _ (state_in part bytes) (length bytes) (BadChipFile n) (sym gives) in
+    goes_unsettled (AtStart true) (chip_or_line part file bytes) _ old new status (rw wrong refl) one told
 goes_wrong_length part file bytes n old new status (inr memory) one told = cc
 
 -- ---- the chip of a file that was read

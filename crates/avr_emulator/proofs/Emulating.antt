@@ -21,18 +21,13 @@ use Rattle.avr_session.specs.Runs.{devices}
 use Rattle.avr_laws.specs.AnyLine.{OverAnyLine}
 use Rattle.avr_emulator.specs.Emulated.{IsSaved, new_wire, RunsOverEmulator}
 
--- a wire that holds, brings and has passed nothing is a new one
-as_new : (chip : Chip) (w : WiredState) → w.held ≡ [] → w.wire ≡ fresh_wire (fresh_programmer chip) [] → w.waits ≡ []
-    → w.transcript ≡ [] → w.failures ≡ 0 → w ≡ new_wire chip []
-as_new chip w held wire waits transcript failures =
-    search rules
-
 module _ (settings : Settings) (file : Bytes) (plan : Plan) (chip : Chip) (w v : WiredState) (held : w.held ≡ [])
     (begun : w.wire ≡ fresh_wire (fresh_programmer chip) []) (waits : w.waits ≡ []) (silent : w.transcript ≡ [])
     (unfailed : w.failures ≡ 0)
     (fitted : All (IsFitted plan.part) plan.tasks) (part_is : chip.part ≡ plan.part) (is_sound : IsSoundChip chip) where
+  -- a wire that holds, brings and has passed nothing is a new one
   is_new : w ≡ new_wire chip []
-  is_new = as_new chip w held begun waits silent unfailed
+  is_new = search rules
 
   pub runs_over_emulator : (old planned_desk loaded_desk played_desk now : DeskState) (ran status : ℕ)
       → Went (planned settings) old planned_desk (Made plan) → Loaded plan.part file planned_desk loaded_desk chip

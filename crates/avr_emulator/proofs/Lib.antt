@@ -1,6 +1,5 @@
--- in the order in which to read: chips of files, and files that are saved
+-- in the order in which to read: chips of files
 pub mod Chips
-pub mod Savings
 -- serving: transcripts and answers, a piece and its answers, read after read; serving whole
 pub mod Transcripts
 pub mod Answers

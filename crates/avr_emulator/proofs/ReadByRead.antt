@@ -1,4 +1,5 @@
 -- Serving read by read.
+use Rattle.std.proofs.lemmas.Grind.{common_steps}
 use Rattle.std.proofs.Common.{◌≡◌, ℕ, ◌+◌, ◌≤◌, List, [], ◌∷◌, ◌++◌, refl, sym, ap, ◌∙◌, subst, append_assoc, arith, rules}
 use Rattle.std.specs.Prelude.{◌≢◌}
 use Rattle.std.proofs.lemmas.List.{append-nil}
@@ -26,9 +27,7 @@ all_transcript : (p : Programmer) (text : List ℕ) (x y : Transcript) (mid now 
     → AnswersAll p text (bytes_of (heard_in x)) (sent x) mid
     → AnswersAll p (text ++ bytes_of (heard_in x)) (bytes_of (heard_in y)) (sent y) now
     → AnswersAll p text (bytes_of (heard_in (x ++ y))) (sent (x ++ y)) now
-all_transcript p text x y mid now first then =
-    subst (λ bs. AnswersAll p text bs (sent (x ++ y)) now) (bytes_both x y)
-    (search (rules, sent_append, all_more))
+all_transcript p text x y mid now first then = grind (arith, common_steps, bytes_both, sent_append, all_more)
 
 breaks_transcript : (p : Programmer) (text : List ℕ) (x y : Transcript) (mid now : Machine)
     → AnswersAll p text (bytes_of (heard_in x)) (sent x) mid
@@ -42,8 +41,7 @@ leaves_more : (served : Served) (p : Programmer) (text : List ℕ) (x y : Transc
     → AnswersAll p text (bytes_of (heard_in x)) (sent x) mid
     → ServingLeaves served p (text ++ bytes_of (heard_in x)) y now → ServingLeaves served p text (x ++ y) now
 leaves_more SendFailed p text x y mid now first then =
-    let b = breaks_transcript p text x y mid now first then.1 in
-    (breaks_prefix p text (bytes_of (heard_in (x ++ y))) (x ++ y) now b, b)
+    let b = breaks_transcript p text x y mid now first then.1 in search (rules, breaks_prefix)
 leaves_more served p text x y mid now first then = all_transcript p text x y mid now first then
 
 no_end_both : (x y : Transcript) → HasNoEnd (heard_in x) → HasNoEnd (heard_in y) → HasNoEnd (heard_in (x ++ y))
@@ -80,14 +78,7 @@ pub serves_more : (served : Served) (turns : ℕ) (old mid now : Machine) (a b c
     → Serves old turns TooManyReads a b mid → Serves mid 1 served b c now
     → Serves old (turns + 1) served a c now
 serves_more served turns old mid now a b c first then =
-    let none : NoneTaken first.during = first.sends in record {
-      during = first.during ++ then.during;
-      grows = grows_on a.transcript b.transcript c.transcript first.during then.during first.grows then.grows;
-      hears = hears_more served turns first.during then.during first.hears then.hears;
-      sends = sends_more served first.during then.during none then.sends;
-      in_turn = search (rules, in_turn_append);
-      leaves = search (rules, leaves_more);
-    }
+    search (rules, grows_on, hears_more, sends_more, in_turn_append, leaves_more)
 
 -- serving that ended early also ends within more reads
 hears_within : (served : Served) (few many : ℕ) (transcript : Transcript) → served ≢ TooManyReads → few ≤ many
@@ -115,8 +106,7 @@ read_end machine a b g = search (rules, all_nothing)
 -- a piece, then nothing but answers to it
 heard_piece : (piece : List ℕ) (transcript : Transcript) → IsQuiet transcript
     → on_tape piece ++ heard_in transcript ≡ on_tape piece
-heard_piece piece transcript quiet =
-    ap (λ t. on_tape piece ++ t) (heard_quiet transcript quiet) ∙ append-nil (on_tape piece)
+heard_piece piece transcript quiet = search (rules, heard_quiet, append-nil)
 
 bytes_heard : (piece : List ℕ) (transcript : Transcript) → IsQuiet transcript
     → piece ≡ bytes_of (on_tape piece ++ heard_in transcript)

@@ -1,14 +1,14 @@
 -- Answers to one piece, frame by frame, and how each is sent.
-use Rattle.std.proofs.Common.{◌≡◌, ℕ, ◌+◌, List, [], ◌++◌, take, drop, sym, ap, ◌∙◌, subst, rules}
+use Rattle.std.proofs.Common.{◌≡◌, ℕ, ◌+◌, List, ◌++◌, take, drop, sym, ap, ◌∙◌, subst, rules}
 use Rattle.std.proofs.lemmas.List.{take-append-drop}
 use Rattle.std.proofs.Math.Seq.{take-add}
 use Rattle.stk_host.specs.Transcript.{Transcript, LinkState, sent}
 use Rattle.stk_host.specs.Reach.{Says, SaysPart}
-use Rattle.stk_host.proofs.Transcripts.Laws.{sent_append, grows_none, grows_on, quiet_append, none_append}
+use Rattle.stk_host.proofs.Transcripts.Laws.{sent_append, grows_on, quiet_append, none_append}
 use Rattle.stk_emu.specs.Emulator.{Machine, Answers}
 use Rattle.avr_emulator.specs.Serving.{AnswersAll, BreaksOff}
 use Rattle.avr_emulator.specs.Replying.{Replies, RepliesPart}
-use Rattle.avr_emulator.proofs.Answers.{all_nothing, all_fed, all_more, breaks_here, breaks_more}
+use Rattle.avr_emulator.proofs.Answers.{all_fed, all_more, breaks_here, breaks_more}
 
 says_both : (x y : List ℕ) (a b c : Transcript) → Says x a b → Says y b c → Says (x ++ y) a c
 says_both x y a b c first then = record {
@@ -18,9 +18,6 @@ says_both x y a b c first then = record {
   none_taken = none_append first.during then.during first.none_taken then.none_taken;
   bytes_sent = search (rules, sent_append);
 }
-
-pub replies_none : (machine : Machine) (o : LinkState) → Replies machine [] o o machine
-replies_none machine o = search (rules, grows_none, all_nothing)
 
 -- the bytes after the first n are fed, up to the first answer
 module _ (piece part out : List ℕ) (n used : ℕ) (old mid now : Machine) (a b c : LinkState)

@@ -1,6 +1,6 @@
 -- The limit of a chip file. Then worked outcomes that contracts refuse: of holding, of saving, and of
 -- answers to a frame with a command that no programmer knows.
-use Rattle.std.proofs.Common.{◌≡◌, ◌∙◌, ◌≤◌, refl, ap, ℕ, List, [], ◌∷◌, length, Ok, Err, arith, rules}
+use Rattle.std.proofs.Common.{◌≡◌, ◌≤◌, refl, ap, ℕ, List, [], ◌∷◌, length, Ok, Err, arith, rules}
 use Rattle.ghosts.specs.Failures.{HasRisen}
 use Rattle.avr_desk.specs.Record.{Bytes, DeskState, Record, Passes, after_err, nothing_kept, showing, with_held, with_replaced}
 use Rattle.avr_emulator.specs.declared.loading.TheConstants.{LARGEST_CHIP_FILE}
@@ -38,10 +38,8 @@ unasked : (file told : Bytes) (trouble : holding.HoldingTrouble) (after : DeskSt
     → after ≡ now (after_err (in_use_line file) nothing_kept) 0
     → holding.TellsHoldingTrouble file trouble told begun after
     → Passes (λ r. after_err told (holding.denied_by file trouble r)) begun after → ⊥
-unasked file told holding.InUse after is tells kept =
-    search rules
-unasked file told holding.NotReplaceable after is tells kept =
-    search (rules, no_rise)
+unasked file told holding.InUse after is tells kept = search rules
+unasked file told holding.NotReplaceable after is tells kept = search (rules, no_rise)
 
 pub no_denial_unasked : (file : Bytes) → HoldsFile begun (now (after_err (in_use_line file) nothing_kept) 0) file
     (Err 1) → ⊥
@@ -59,8 +57,7 @@ no_file_tried file bytes trouble = refl
 -- a save that failed and left an empty file
 pub no_empty_file : (file bytes line : Bytes)
     → Saves begun (now (after_err line (with_replaced file [] nothing_kept)) 1) file bytes (Err 1) → ⊥
-no_empty_file file bytes line saves =
-    let e : 1 ≡ 0 = ap file_count saves.1.kept ∙ no_file_tried file bytes saves.1.trouble in omega (arith, e)
+no_empty_file file bytes line saves = search (rules, no_file_tried)
 
 -- a save that succeeded though nothing was written, or though the desk failed
 pub no_success_and_nothing_saved : (file bytes : Bytes) → Saves begun begun file bytes (Ok tt) → ⊥

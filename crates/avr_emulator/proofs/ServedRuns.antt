@@ -1,42 +1,25 @@
 -- A fresh emulator that served, from settings to status.
-use Rattle.std.proofs.Common.{◌≡◌, ℕ, false, List, [], ap₂, subst, Result, Ok, Err, IfErr}
+use Rattle.std.proofs.Common.{◌≡◌, ℕ, false, List, [], ap₂, Result}
 use Rattle.avr_cli.specs.declared.settings.Settings.{Settings}
 use Rattle.avr_desk.specs.Record.{DeskState, Bytes}
 use Rattle.avr_part.specs.Part.{Part}
 use Rattle.avr_part.specs.State as chips
-use Rattle.avr_plan.proofs.Stages.Plans.{lacks_part}
-use Rattle.avr_plan.specs.Planning.{LacksPart, parts_stage, part_stage}
+use Rattle.avr_plan.specs.Planning.{parts_stage, part_stage}
 use Rattle.avr_desk.specs.Playing.{AtStart, Goes, Went}
 use Rattle.avr_desk.specs.Stage.{Made}
 use Rattle.avr_desk.proofs.Stages.Files.{taken_never}
-use Rattle.avr_desk.proofs.Stages.Played.{goes_on, goes_no_further}
+use Rattle.avr_desk.proofs.Stages.Played.{goes_on}
 use Rattle.stk_emu.specs.Programmer.{fresh_programmer}
 use Rattle.stk_emu.specs.Emulator.{Machine}
 use Rattle.avr_emulator.specs.ServedRun.{settings_part, fresh_machine}
-
-pub goes_without_parts : (s : Settings) (old new : DeskState) (status : ℕ)
-    → Goes (AtStart false) (parts_stage s.parts) old new (Err status)
-    → Goes (AtStart false) (settings_part s) old new (Err status)
-goes_without_parts s old new status goes =
-    goes_no_further (AtStart false) (parts_stage s.parts) (λ parts. part_stage s.part parts) old new status goes
 
 pub goes_with_parts : (s : Settings) (id : Bytes) (old mid new : DeskState) (parts : List Part) (result : Result Part ℕ)
     → id ≡ s.part
     → Went (parts_stage s.parts) old mid (Made parts) → Goes (AtStart false) (part_stage id parts) mid new result
     → Goes (AtStart false) (settings_part s) old new result
 goes_with_parts s id old mid new parts result same went goes =
-    goes_on (AtStart false) (AtStart false) (parts_stage s.parts) (λ parts. part_stage s.part parts) old mid new parts
-    result went (λ passed said never. absurd (taken_never passed said never))
-    (subst (λ (i : Bytes). Goes (AtStart false) (part_stage i parts) mid new result) same goes)
-
--- without a part file the built-in parts are all
-pub bare_part : {E : Type 0} (id own : Bytes) (parts : List Part) (old mid new : DeskState) (result : Result Part ℕ)
-    → id ≡ own
-    → ◌≡◌ {A = Result (List Part) E} (Ok parts) (Ok []) → mid ≡ old
-    → IfErr result (λ status. LacksPart id parts mid new) → IfErr result (λ status. LacksPart own [] old new)
-bare_part id own parts old mid new (Ok part) same given view lacks = tt
-bare_part id own parts old mid new (Err status) same given view lacks =
-    lacks_part id own parts old mid new same given view lacks
+    goes_on (AtStart false) (AtStart false) _ (λ parts. part_stage s.part parts) old mid new parts result went
+    (λ passed said never. absurd (taken_never passed said never)) (rw same at goes)
 
 pub is_fresh : (chip : chips.ChipState) (machine : Machine) → machine.held ≡ []
     → machine.programmer ≡ fresh_programmer chip → machine ≡ fresh_machine chip

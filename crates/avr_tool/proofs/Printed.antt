@@ -1,7 +1,7 @@
 -- Texts that no clause knows, printed part by part.
-use Rattle.std.proofs.Common.{◌≡◌, ◌∙◌, ◌<◌, ◌≤◌, ◌+◌, ◌^◌, refl, sym, ap, arith, ℕ, List, [], ◌∷◌, ◌++◌, take, drop, length, length-append, Result, Ok, Err, OnOk, OnErr, IfErr, codes, inl, inr, subst}
+use Rattle.std.proofs.Common.{◌≡◌, ◌∙◌, ◌<◌, ◌≤◌, ◌+◌, refl, sym, ap, arith, ℕ, List, [], ◌∷◌, ◌++◌, take, drop, length, length-append, Result, Ok, Err, OnOk, OnErr, IfErr, codes, inl, inr, subst}
 use Rattle.std.specs.List.{concat}
-use Rattle.std.proofs.lemmas.List.{append_assoc, append-nil, nil_from_length, take-append-drop}
+use Rattle.std.proofs.lemmas.List.{append_assoc, append-nil, take-append-drop}
 use Rattle.std.proofs.lemmas.List.Folds.{concat-append}
 use Rattle.ghosts.specs.Failures.{HasRisen}
 use Rattle.avr_desk.specs.Fault.{Counts, Follows, HasFailedAt, HasSameCounts, ResultCounts}
@@ -58,36 +58,6 @@ printed_more has s a b c part n m turns before given is some few kept same = rec
 
 same_follows : (a b : DeskState) → HasSameCounts a b → Follows a b
 same_follows a b same = (omega (arith, same.0), omega (arith, same.1))
-
-whole : (has : Parts) (s : Stream) (a b : DeskState) (n turns : ℕ) (before : HasPrinted has s a b n turns)
-    → (n < 2 ^ 54 → has n []) → PrintsText has s a b (Ok n)
-whole has s a b n turns before ends = record {
-  text = concat before.parts;
-  kept = before.kept;
-  comes = (
-    record {
-      parts = before.parts;
-      are = before.are;
-      joined = refl;
-      ends = subst (λ k. k < 2 ^ 54 → has k []) before.counted ends;
-    },
-    before.counted,
-    before.same,
-  );
-  follows = same_follows a b before.same;
-}
-
--- behind the end there is no part
-pub printed_end : (has : Parts) (s : Stream) (a b : DeskState) (n turns : ℕ) (part : Bytes)
-    → HasPrinted has s a b n turns → has n part → length part ≡ 0 → PrintsText has s a b (Ok n)
-printed_end has s a b n turns part before given none =
-    whole has s a b n turns before (λ short. subst (λ it. has n it) (nil_from_length part none) given)
-
--- there were as many parts as are looked at
-pub printed_long : (has : Parts) (s : Stream) (a b : DeskState) (n turns : ℕ) → HasPrinted has s a b n turns
-    → 2 ^ 54 ≤ turns → PrintsText has s a b (Ok n)
-printed_long has s a b n turns before all =
-    whole has s a b n turns before (λ short. absurd (omega (arith, short, all, before.least)))
 
 failed_since : (s : Stream) (a b c : DeskState) → HasSameCounts a b → HasFailedAt s b c → HasFailedAt s a c
 failed_since File a b c same failed = (subst (λ n. HasRisen n c.failures) same.0 failed.0, failed.1 ∙ same.1)
@@ -162,11 +132,6 @@ untold has a b c fault mark same prints = record {
   tells = inr (failed_since Messages a b c same prints.comes.1);
   follows = (omega (arith, same.0, prints.follows.0), omega (arith, same.1, prints.follows.1));
 }
-
-pub unmarked : (has : Parts) (a b : DeskState) (bytes : Bytes) → SendsPart Messages a b bytes
-    → HasFailedAt Messages a b → Follows a b → ReportsText has a b
-unmarked has a b bytes part failed follows =
-    record { told = take part.0 bytes; kept = part.2; tells = inr failed; follows = follows }
 
 pub reported_by : (has : Parts) (a b c d : DeskState) (count : ℕ) (r : Result (Unit {0}) DeskFault)
     → Passes (after_sent Messages (codes "avrstk: error: ")) a b → HasSameCounts a b

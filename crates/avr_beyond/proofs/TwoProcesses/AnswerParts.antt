@@ -41,7 +41,7 @@ begins : (x a y b : List ℕ) → length y ≤ length x → x ++ a ≡ y ++ b �
 begins x a y b le e =
     let prefix : take (length y) x ≡ y = sym (take-append-le (length y) x a le)
     ∙ (search (rules, take-append-le, take_all)) in
-    sym (take-append-drop (length y) x) ∙ ap (λ z. z ++ drop (length y) x) prefix
+    search (rules, take-append-drop)
 
 -- bytes in which no piece is whole are shorter than the first piece
 shorter : (prefix more piece later : List ℕ) → length prefix < piece_size prefix → IsPiece piece

@@ -202,8 +202,7 @@ module _ {P : Type 0} (m : Device P) (sound : AnswersBodies m) where
     by_reads : (h count missed length_old : ℕ) (tape : Tape) (last : List ℕ) (stub : IsStub last) (more : List (List ℕ))
         (t : Tape) → t ≡ tape → missed + suc count ≡ 8 → length_old ≤ missed
         → Reads n missed length_old t last more (due h (answer n tape)) → Comes m bytes go_on n tape p h count more
-    by_reads h count missed length_old tape last stub more t same counts le (inl f) =
-        inl (finds h tape last stub more t same f)
+    by_reads h count missed length_old tape last stub more t same counts le (inl f) = search (rules, finds)
     by_reads h count missed length_old tape last stub more t same counts le (inr (inl f)) =
         inr (inl (finds_none h count missed tape last stub more t length_old same counts le f))
     by_reads h count missed length_old tape last stub more t same counts le (inr (inr f)) =
@@ -253,8 +252,7 @@ module _ {P : Type 0} (m : Device P) (sound : AnswersBodies m) where
             (each Silent c.left (after_became (first_became (obeyed h)) (m.after bytes p) p m.reset) (one_less h) count
             more c.brings few.1 (asks.1 Silent)),
       )
-  honest_by bytes go_on n tape p h count more each (inr (inr c)) few asks =
-      subst (on_answer (Reading_is bytes go_on n p h)) (sym c.is) tt
+  honest_by bytes go_on n tape p h count more each (inr (inr c)) few asks = search rules
 
   -- THE JOINT
   pub in_order_honest : {E R : Type 0} (d : Dialog E R) (n : ℕ) → Honest d n
@@ -291,8 +289,7 @@ module _ {P : Type 0} (m : Device P) (sound : AnswersBodies m) where
       c.brings few.1 (asks.1 Silent)
       (less_of h _ (search rules))
       (ap (λ o. (by_answer (λ reading. played (go_on reading) (next n)) o).outcome) (sym c.is) ∙ none)
-  ends_by bytes go_on n tape p h count each (inr (inr c)) few asks all none =
-      search rules
+  ends_by bytes go_on n tape p h count each (inr (inr c)) few asks all none = search rules
 
   -- IT DOESN'T WAIT
   pub in_order_ends : {E R : Type 0} (d : Dialog E R) (n : ℕ) → Ends d n

@@ -1,5 +1,5 @@
 -- A session and a server at the two ends of an ordered link.
-use Rattle.std.proofs.Common.{◌≡◌, ℕ, List, [], ◌∷◌, ◌++◌, length, refl, sym, ap, ◌∙◌, subst, append_assoc, arith, All, inl, inr, Some, Ok, rules}
+use Rattle.std.proofs.Common.{◌≡◌, ℕ, List, [], ◌∷◌, ◌++◌, length, refl, sym, ap, ◌∙◌, subst, append_assoc, arith, All, Some, Ok, rules}
 use Rattle.std.proofs.lemmas.List.{append-nil}
 use Rattle.avr_desk.specs.Record.{Bytes}
 use Rattle.avr_desk.specs.Said.{OutputEvent}
@@ -32,8 +32,8 @@ use Rattle.avr_laws.proofs.Lines.NoFrame.{no_frame_honest}
 use Rattle.avr_laws.proofs.Lines.InTurn.{due_at, sends_whole, frames_sent}
 use Rattle.avr_laws.proofs.AnyLine.FrameSizes.{session_asks}
 use Rattle.avr_emulator.specs.Serving.{HasNoEnd, AnswersInTurn}
-use Rattle.avr_emulator.specs.ServedRun.{ServesChip, status_of_end}
-use Rattle.avr_emulator.specs.Saving.{Saves, SavesAfter}
+use Rattle.avr_emulator.specs.ServedRun.{ServesChip}
+use Rattle.avr_emulator.specs.Saving.{Saves}
 use Rattle.avr_part.specs.ChipFile.{chip_file}
 use Rattle.avr_laws.specs.AnyLine.{OverTurns, WholeOverTurns}
 use Rattle.avr_beyond.specs.TwoProcesses.{EndCall, of_host, of_server, IsJoined, IsOrdered, IsPrompt, StallsBetweenAnswers, HasServed, obeyed}
@@ -46,8 +46,7 @@ use Rattle.avr_laws.proofs.AnyLink.{over_any_line, over_any_end, IsFirst, sent_f
 answered_at : (p : Programmer) (text answered : List ℕ) (before after : Transcript) (items : Tape)
     → AnswersInTurn p text answered (before ++ Got items ∷ after)
     → answered ++ sent before ≡ emulate p (text ++ bytes_of (heard before))
-answered_at p text answered [] after items turns =
-    append-nil answered ∙ (turns.0 ∙ ap (emulate p) (sym (append-nil text)))
+answered_at p text answered [] after items turns = search (rules, append-nil)
 answered_at p text answered (Sent more ∷ before) after items turns =
     sym (append_assoc answered more (sent before)) ∙ answered_at p text (answered ++ more) before after items turns
 answered_at p text answered (Taken more ∷ before) after items turns = absurd (not_behind before after items turns)
@@ -60,13 +59,7 @@ answered_at p text answered (Got got ∷ before) after items turns =
 pub saved_chip : (s : chips.ChipState) (file : Bytes) (most : ℕ) (old new : Devices) (status : ℕ)
     (serves : ServesChip s file most old new status) → status ≡ 0
     → Saves serves.told_desk new.desk file (chip_file serves.left.programmer.chip) (Ok tt)
-saved_chip s file most old new status serves zero = by serves.saved
-  where
-    by : SavesAfter (status_of_end serves.served) serves.told_desk new.desk file
-        (chip_file serves.left.programmer.chip) status
-        → Saves serves.told_desk new.desk file (chip_file serves.left.programmer.chip) (Ok tt)
-    by (inl saved) = saved.0
-    by (inr failed) = let one = failed.2 in absurd (omega (arith, one, zero))
+saved_chip s file most old new status serves zero = search rules
 
 module _ (plan : Plan) (s : chips.ChipState) (is_sound : IsSoundChip s) (part_is : s.part ≡ plan.part)
     (fitted : All (IsFitted plan.part) plan.tasks) where
@@ -169,11 +162,7 @@ module _ (plan : Plan) (s : chips.ChipState) (is_sound : IsSoundChip s) (part_is
           (subst (λ part. Idle part (memories_of s) p) part_is (sound_idle p is_sound)) tt (length fs) status
           goes.dialog in
           let stands : (along device (length fs) (session plan) p []).programmer ≡ left =
-          goes.programmer ∙ leaves left serves joined prefix in (
-            came.status_is,
-            ap (λ x. outputs x.events) (sym over) ∙ (goes.says ∙ came.said),
-            ap (λ (q : Programmer). memories_of q.chip) (sym stands) ∙ came.memories,
-          )
+          goes.programmer ∙ leaves left serves joined prefix in search (rules, over)
 
   -- over an ordered link that stalls anywhere, and forges no frame
   pub stalling : (left : Programmer) (host server : Transcript) (events : List (Event OutputEvent)) (status : ℕ)
@@ -215,14 +204,12 @@ module _ (plan : Plan) (s : chips.ChipState) (is_sound : IsSoundChip s) (part_is
     served_all : server_old.link.transcript ≡ [] → server_new.link.transcript ≡ of_server calls
         → (serves : ServesChip s file most server_old server_new served_status)
         → HasServed (fresh_programmer s) (of_server calls) serves.left.programmer
-    served_all none some serves =
-        search (rules, has_served)
+    served_all none some serves = search (rules, has_served)
 
     played_all : (after : Progress) → old.link.transcript ≡ [] → new.link.transcript ≡ of_host calls
         → (ran : Ran (session plan) start old new status after)
         → Plays (session plan) start (of_host calls) ran.events status after
-    played_all after none some ran =
-        search rules
+    played_all after none some ran = search rules
 
     pub one_run : (after : Progress) → IsOrdered calls → StallsBetweenAnswers (heard (of_host calls))
         → old.link.transcript ≡ [] → new.link.transcript ≡ of_host calls → server_old.link.transcript ≡ []

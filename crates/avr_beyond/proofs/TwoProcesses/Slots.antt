@@ -154,8 +154,7 @@ module _ (n c : ℕ) (most : c ≤ 255) (last : List ℕ) (stub : IsStub last) (
       (rw (length-append prefix first) (omega (arith, short, length_is))) are_old.1 own
       (tail_is piece first (came slots ++ more) (old ++ answers) e) in
       search (rules, on_tape_append, append_assoc)
-  reads prefix (Came piece ∷ slots) [] [] passed short are_old own e =
-      absurd (cons_none piece (came slots ++ more) (sym e))
+  reads prefix (Came piece ∷ slots) [] [] passed short are_old own e = search (rules, cons_none)
   reads prefix (Came piece ∷ slots) [] (first ∷ later) passed short are_old own e =
       let o = own first later refl in
       let few = o.carried.few in

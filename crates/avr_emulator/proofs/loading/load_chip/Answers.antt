@@ -1,3 +1,4 @@
+use Rattle.std.proofs.Common.{rules}
 use Rattle.avr_desk.proofs.Stages.Openings.{breaks_as, counted_as}
 use Rattle.avr_emulator.proofs.Chips.{goes_ended, goes_past}
 use Rattle.avr_emulator.proofs.loading.load_chip.Goals as goal
@@ -10,16 +11,10 @@ returns-in-Err-clause-goes g c =
 
 pub returns-then-not-contents-clause-goes : goal.returns-then-not-contents-clause-goes
 returns-then-not-contents-clause-goes g c =
-    let contents = c.in-Ok.contents in
-    goes_past c.args.part.now c.args.file.now contents.bytes contents.ended _ _ _ _ c.in-Ok.ensures.kept
-    c.in-Ok.ensures.whole
-    c.if-not-contents.true c.in-Ok.ensures.counts.1 c.refuse.ensures.status
-    (rw c.too_long_message.ensures at c.refuse.ensures.told)
+    let told = rw c.too_long_message.ensures at c.refuse.ensures.told in
+    search (rules, goes_past, c.in-Ok.ensures.kept, c.in-Ok.ensures.whole, c.in-Ok.ensures.counts.1)
 
 pub returns-clause-goes : goal.returns-clause-goes
 returns-clause-goes g c =
-    let contents = c.in-Ok.contents in
-    let goes = c.chip_of.ensures.goes in
-    goes_ended c.args.part.now c.args.file.now contents.bytes contents.ended _ _ _ _ c.in-Ok.ensures.kept
-    c.in-Ok.ensures.whole
-    c.if-not-contents.false c.in-Ok.ensures.counts.1 (rw c.as_slice.ensures at goes)
+    let goes = rw c.as_slice.ensures at c.chip_of.ensures.goes in
+    search (rules, goes_ended, c.in-Ok.ensures.kept, c.in-Ok.ensures.whole, c.in-Ok.ensures.counts.1)

@@ -1,4 +1,4 @@
-use Rattle.std.proofs.Common.{refl, true}
+use Rattle.std.proofs.Common.{refl, true, rules}
 use Rattle.avr_desk.specs.Playing.{AtStart}
 use Rattle.avr_emulator.proofs.Chips.{opened_at}
 use Rattle.avr_desk.specs.declared.record.Opening.TheVariants.{Absent}
@@ -14,7 +14,4 @@ returns-in-Absent-clause-goes g c = λ old breaks rose counted.
     (opened_at (Absent c.args.file.now)) c.fresh_chip.ensures.goes
 
 pub returns-in_default-clause-goes : goal.returns-in_default-clause-goes
-returns-in_default-clause-goes g c = λ old breaks rose counted.
-    goes_broken AtOpened c.args.file.now (chip_given c.args.part.now c.args.file.now) c.args.fault old _ _ _
-    c.in_default.not-Absent
-    breaks rose counted c.refuse.ensures.status (rw c.file_message.ensures at c.refuse.ensures.told)
+returns-in_default-clause-goes g c = search (rules, goes_broken)

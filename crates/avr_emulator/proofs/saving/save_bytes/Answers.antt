@@ -1,9 +1,21 @@
-use Rattle.avr_emulator.proofs.Savings.{not_replaced}
+use Rattle.std.proofs.Common.{◌≡◌, ℕ, Err, rules}
+use Rattle.std.specs.Prelude.{⊤}
+use Rattle.avr_desk.specs.Fault.{Counts}
+use Rattle.avr_desk.specs.Record.{DeskState, Replaces, released, Bytes}
+use Rattle.avr_desk.specs.declared.desk.DeskFault.{DeskFault}
+use Rattle.avr_desk.specs.declared.desk.DeskFault.TheVariants.{Failed}
+use Rattle.avr_desk.specs.declared.stream.Stream.TheVariants.{File}
+use Rattle.avr_desk.proofs.Lines.Told.{failure_told}
+use Rattle.avr_desk.specs.Lines.{not_written_line}
+use Rattle.avr_desk.specs.Said.{Tells}
+use Rattle.avr_emulator.specs.Saving.{Saves}
 use Rattle.avr_emulator.proofs.saving.save_bytes.Goals as goal
 
+-- the file was not replaced, or that was tried
+not_replaced : (old mid new : DeskState) (file bytes : Bytes) (status : ℕ) (fault : DeskFault)
+    → fault ≡ Failed → Replaces file bytes (Err fault) old mid → Counts {T = ⊤} File old mid (Err fault)
+    → status ≡ 1 → Tells (released mid) new (not_written_line file) → Saves old new file bytes (Err status)
+not_replaced old mid new file bytes status fault only kept counts one told = search (rules, failure_told)
+
 pub returns-in-Err-clause-saves : goal.returns-in-Err-clause-saves
-returns-in-Err-clause-saves g c =
-    let refused = c.refuse.ensures in
-    let told = rw c.not_written_message.ensures at refused.told in
-    not_replaced _ _ _ c.args.file.now c.args.bytes.now _ c.in-Err.field-0 c.in-Err.ensures.fault c.in-Err.ensures.kept
-    c.in-Err.ensures.counts refused.status (rw c.release.ensures.released at told)
+returns-in-Err-clause-saves g c = search (rules, not_replaced)

@@ -1,6 +1,5 @@
-use Rattle.std.proofs.Common.{ap}
-use Rattle.avr_tool.specs.Ports.{chip_file_of}
+use Rattle.std.proofs.Common.{rules}
 use Rattle.avr_tool.proofs.of_port.run_emu.Goals as goal
 
 pub returns-clause-runs : goal.returns-clause-runs
-returns-clause-runs g c = rw (ap chip_file_of c.in-Emulated.is, ← c.as_str.ensures) c.run_emu.ensures.runs
+returns-clause-runs g c = search (rules, c.run_emu.ensures.runs)

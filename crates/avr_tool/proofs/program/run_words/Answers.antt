@@ -1,3 +1,4 @@
+use Rattle.std.proofs.Common.{rules}
 use Rattle.stk_host.proofs.Transcripts.Streams.{true_now}
 use Rattle.avr_tool.proofs.Runs.Untaken.{untaken}
 use Rattle.avr_tool.proofs.program.run_words.Goals as goal
@@ -5,11 +6,10 @@ use Rattle.avr_tool.proofs.program.run_words.Goals as goal
 pub returns-in-Err-Words-clause-runs : goal.returns-in-Err-Words-clause-runs
 returns-in-Err-Words-clause-runs g c =
     let asks = rw c.in-Err-Words.field-0-is at c.in-Err-Words.ensures.asks in
-    let leaves = rw c.in-Err-Words.field-0-is at c.words_untaken.ensures.leaves in
-    untaken _ _ _ _ _ _ c.in-Err-Words.error _ c.leave-in-Err-Words.ensures.unused asks leaves
+    let leaves = rw c.in-Err-Words.field-0-is at c.words_untaken.ensures.leaves in search (rules, untaken)
 
 pub returns-in-Err-Words-clause-tells : goal.returns-in-Err-Words-clause-tells
-returns-in-Err-Words-clause-tells g c = true_now g.R.Read.remaining g.W.Write.contents c.args.link.now
+returns-in-Err-Words-clause-tells g c = true_now _ _ _
 
 pub returns-in-Err-Refused-clause-tells : goal.returns-in-Err-Refused-clause-tells
-returns-in-Err-Refused-clause-tells g c = true_now g.R.Read.remaining g.W.Write.contents c.args.link.now
+returns-in-Err-Refused-clause-tells g c = true_now _ _ _
