@@ -57,11 +57,13 @@ IsDigitText text = ⊥
 
 -- ---- what may be removed
 
--- an ended program may have left a regular file with one name that is empty or marked, and it is this user's
+-- an ended program may have left a regular file with one name that is empty or marked
+abbrev pub is_left_over : Seen → Bool
+is_left_over seen =
+    seen.is_file && (nat_le seen.names 1 && ((seen.length == 0) || not (bit_and seen.mode 512 == 0)))
+
 abbrev pub is_left_by : ℕ → Seen → Bool
-is_left_by user seen =
-    (seen.is_file && (nat_le seen.names 1 && ((seen.length == 0) || not (bit_and seen.mode 512 == 0)))) &&
-    (seen.owner == user)
+is_left_by user seen = is_left_over seen && (seen.owner == user)
 
 -- A look at this file saw one that an ended program of this run's user may have left.
 pub record WasLeft {F : Type 0} (saw : F → Seen → Type 0) (is_user : ℕ → Type 0) (file : F) : Type 0 where

@@ -1,7 +1,7 @@
 //! What is put in place of a file, and what becomes of files beside it: decisions that take what was seen and call
 //! nothing.
-ghost use Rattle.std.specs.Prelude.{◌≡◌, ◌==◌, ◌&&◌, ◌||◌, ◌%◌, ◌*◌, if◌then◌else◌, not, bit_and, bit_or, nat_le, None, Some};
-ghost use Rattle.avr_desk.specs.Places.{is_left_by};
+ghost use Rattle.std.specs.Prelude.{◌≡◌, ◌==◌, ◌&&◌, ◌%◌, ◌*◌, if◌then◌else◌, bit_and, bit_or, nat_le, None, Some};
+ghost use Rattle.avr_desk.specs.Places.{is_left_by, is_left_over};
 ghost use Rattle.avr_desk.specs.declared.placing.Step.TheVariants.{Link, Rename, Refuse};
 ghost use Rattle.avr_desk.specs.declared.placing.Writes.TheVariants.{There, Anew, Nowhere};
 
@@ -97,8 +97,7 @@ pub(crate) fn writes_after(is_place: bool, is_held: bool, names: u64) -> Writes
 
 /// Returns whether an ended program may have left a file: a regular one with one name that is empty or marked.
 pub(crate) fn is_left_over(seen: &Seen) -> bool
-    ensures { let there = seen.now in result ≡ (there.is_file
-        && (nat_le there.names 1 && ((there.length == 0) || not (bit_and there.mode 0o1000 == 0)))) }
+    ensures { result ≡ is_left_over seen.now }
 {
     seen.is_file && seen.names <= 1 && (seen.length == 0 || seen.mode & MARK != 0)
 }
