@@ -1,5 +1,5 @@
 -- The chip of a file.
-use Rattle.std.proofs.Common.{◌≡◌, refl, sym, ap, arith, ℕ, List, ◌∷◌, ◌==◌, length, Bool, true, false, nat_le, inl, inr, Result, Ok, Err, if◌then◌else◌, rules}
+use Rattle.std.proofs.Common.{◌≡◌, refl, sym, arith, ℕ, List, ◌∷◌, ◌==◌, length, Bool, true, false, nat_le, inl, inr, Result, Ok, Err, if◌then◌else◌, rules}
 use Rattle.std.proofs.lemmas.Bool.Decides.{nat_tests}
 use Rattle.avr_desk.specs.Fault.{HasSameCounts}
 use Rattle.avr_desk.specs.Files.{IsWhole, with_read}
@@ -27,28 +27,19 @@ use Rattle.avr_emulator.specs.Loading.{AtOpened, chip_or_line, judged_chip, chip
 
 pub went_fresh : (part : Part) (chip : ChipState) (d : DeskState) → GivesChipOrMemory (Ok (fresh_state part)) (Ok chip)
     → Went (verdict_stage (Ok (fresh_state part))) d d (Made chip)
-went_fresh part chip d (inl gives) = let same : fresh_state part ≡ chip = cc in
-    went_settled (Ok (fresh_state part)) chip d (ap Ok same)
+went_fresh part chip d (inl gives) = let same : fresh_state part ≡ chip = cc in search (rules, went_settled)
 went_fresh part chip d (inr memory) = cc
 
 -- ---- the chip of some bytes
 
--- a chip in place of a fault is the good one, and the test holds
-chip_is : (test : Bool) (good chip : ChipState) (n : ℕ) → (if test then Ok good else Err (BadChipFile n)) ≡ Ok chip
-    → (test ≡ true) × (chip ≡ good)
-chip_is true good chip n is = (refl, cc)
-chip_is false good chip n is = cc
-
 -- a fault in place of a chip means that the test fails
 none_is : (test : Bool) (good : ChipState) (n : ℕ) (fault : PartFault)
     → (if test then Ok good else Err (BadChipFile n)) ≡ Err fault → test ≡ false
-none_is true good n fault is = cc
-none_is false good n fault is = refl
+none_is test good n fault is = search rules
 
 right_length : (part : Part) (bytes : Bytes) (chip : ChipState) → GivesChipOrMemory (chip_in part bytes) (Ok chip)
     → ((length bytes == chip_file_size part) ≡ true) × (chip ≡ state_in part bytes)
-right_length part bytes chip (inl gives) = search (rules, chip_is)
-right_length part bytes chip (inr memory) = cc
+right_length part bytes chip x3 = search rules
 
 pub went_chip : (part : Part) (file bytes : Bytes) (chip : ChipState) (d : DeskState)
     → GivesChipOrMemory (chip_in part bytes) (Ok chip)

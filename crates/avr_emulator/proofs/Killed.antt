@@ -1,7 +1,5 @@
 -- Which bytes a run tries to put under the name of its chip file.
-use Rattle.std.proofs.Common.{◌≡◌, ◌⊎◌, ◌∙◌, refl, inl, inr, arith, rules, ℕ, Bool, List, [], ◌∷◌, Option, None, Some, Err}
-use Rattle.std.proofs.lemmas.List.Elements.{Contains-push_cases}
-use Rattle.std.specs.List.{Contains}
+use Rattle.std.proofs.Common.{◌≡◌, ◌⊎◌, ◌∙◌, refl, inl, inr, arith, rules, ℕ, List, [], ◌∷◌, Option, None, Some, Err}
 use Rattle.std.specs.declared.io.Read.{Ghosts as Reads}
 use Rattle.std.specs.declared.io.Write.{Ghosts as Writes}
 use Rattle.avr_cli.specs.declared.settings.Settings.{Settings}
@@ -15,13 +13,11 @@ use Rattle.avr_desk.specs.declared.record.Writing.{Writing}
 use Rattle.avr_emulator.specs.Emulated.{IsSaved, RunsEmulator}
 use Rattle.avr_emulator.specs.Holding.{HoldsAndLoads, Loaded}
 use Rattle.avr_emulator.specs.Killed.{LeavesOldOrNew, chip_of_part, chip_of_run, chip_of_server}
-use Rattle.avr_emulator.specs.Saving.{SavesAfter}
 use Rattle.avr_emulator.specs.ServedRun.{RunsServedFor, ServesPart, TellsIfAny, end_pieces}
 use Rattle.avr_part.specs.Part.{Part}
 use Rattle.avr_part.specs.State as chips
-use Rattle.avr_session.specs.Runs.{Devices, Lacking, RunsTo, devices}
-use Rattle.stk_host.specs.Dialog.{Dialog}
-use Rattle.stk_host.specs.Transcript.{LinkState, sent}
+use Rattle.avr_session.specs.Runs.{Devices, devices}
+use Rattle.stk_host.specs.Transcript.{LinkState}
 
 -- ---- what a run does before it saves its chip replaces nothing
 
@@ -39,10 +35,6 @@ tried_went stage old new answer went = search (rules, tried_all)
 pub tried_loaded : (part : Part) (file : Bytes) (old new : DeskState) (chip : chips.ChipState)
     → Loaded part file old new chip → tried_at new ≡ tried_at old
 tried_loaded part file old new chip loaded = cc (tried_went _ _ _ _ loaded.loaded, loaded.held.0)
-
-tried_ran : (dialog : Dialog OutputEvent ℕ) (old new : Devices) (takes : Bool) (Lacks : Lacking) (status : ℕ)
-    → RunsTo dialog old new takes Lacks status → tried_at new.desk ≡ tried_at old.desk
-tried_ran dialog old new takes Lacks status runs = grind (arith, tried_all)
 
 tried_told : (pieces : Option (List Bytes)) (old new : DeskState) → TellsIfAny pieces old new
     → tried_at new ≡ tried_at old
@@ -65,20 +57,10 @@ abbrev pub TriesOnly : Bytes → Option Bytes → List Writing → Type 0
 TriesOnly file None tried = tried ≡ []
 TriesOnly file (Some bytes) tried = (tried ≡ []) ⊎ (tried ≡ record { name = file; bytes = bytes } ∷ [])
 
-saves_tries : (ran : ℕ) (old new : DeskState) (file bytes : Bytes) (status : ℕ)
-    → SavesAfter ran old new file bytes status → tried_at old ≡ [] → TriesOnly file (Some bytes) (tried_at new)
-saves_tries ran old new file bytes status saves none = grind arith
-
-saved_tries : (out : List ℕ) (old new : DeskState) (file bytes : Bytes) (ran status : ℕ)
-    → IsSaved out old new file bytes ran status → tried_at old ≡ [] → TriesOnly file (Some bytes) (tried_at new)
-saved_tries out old new file bytes ran status saved none = grind (arith, saves_tries)
-
 run_tries : (settings : Settings) (file : Bytes) (old new : DeskState) (status : ℕ)
     → (r : RunsEmulator settings file old new status) → tried_at old ≡ []
     → TriesOnly file (chip_of_run settings file old new status r) (tried_at new)
-run_tries settings file old new status (inl r) none =
-    saved_tries (sent r.after.transcript) r.played_desk new file _ r.ran status r.saved
-    (tried_ran _ _ _ _ _ _ r.runs ∙ tried_loaded _ _ _ _ _ r.loaded ∙ tried_went _ _ _ _ r.made ∙ none)
+run_tries settings file old new status (inl r) none = search (rules, tried_loaded, tried_went, tried_all)
 run_tries settings file old new status (inr (inl with)) none =
     tried_unloaded _ _ _ _ _ with.then_is ∙ tried_went _ _ _ _ with.made ∙ none
 run_tries settings file old new status (inr (inr lacks)) none = tried_goes _ _ _ _ _ lacks.goes ∙ none
@@ -87,8 +69,7 @@ pub part_tries : (part : Part) (file : Bytes) (turns : ℕ) (old new : Devices) 
     → (s : ServesPart part file turns old new status) → tried_at old.desk ≡ []
     → TriesOnly file (chip_of_part part file turns old new status s) (tried_at new.desk)
 part_tries part file turns old new status (inl s) none =
-    saves_tries _ s.serves.told_desk new.desk file _ status s.serves.saved
-    (tried_told (end_pieces s.serves.served) _ _ s.serves.told ∙ tried_loaded _ _ _ _ _ s.loaded ∙ none)
+    search (rules, tried_told (end_pieces s.serves.served) _ _ s.serves.told, tried_loaded _ _ _ _ _ s.loaded)
 part_tries part file turns old new status (inr (unloaded, same)) none = tried_unloaded _ _ _ _ _ unloaded ∙ none
 
 server_tries : (settings : Settings) (file : Bytes) (turns : ℕ) (old new : Devices) (status : ℕ)
@@ -100,21 +81,12 @@ server_tries settings file turns old new status (inr no_part) none = tried_goes 
 
 -- ---- so a crash leaves these, or what was there
 
-none_among : (w : Writing) → Contains [] w → ⊥
-none_among w among = omega arith
-
-chip_tried : (file put : Bytes) (chip : Option Bytes) (tried : List Writing) → TriesOnly file chip tried
-    → Contains tried (record { name = file; bytes = put }) → chip ≡ Some put
-chip_tried file put None tried none among = absurd (none_among _ (rw none at among))
-chip_tried file put (Some bytes) tried (inl none) among = absurd (none_among _ (rw none at among))
-chip_tried file put (Some bytes) tried (inr one) among = let is = rw one at among in grind (arith, Contains-push_cases)
-
 module _ {S F I H O E : Type 0} (system : Ghosts S F I H) (reads : Reads F) (writes : Writes F) (input : Reads I)
     (old new : Shown S F H I O E) (fresh : IsNewDesk system old) (tells : TellsAll system reads writes input old new)
     (file : Bytes) where
   pub left_old_or_new : (chip : Option Bytes) → TriesOnly file chip new.kept.tried
       → LeavesOldOrNew system new.system file chip
-  left_old_or_new chip only found left = search (rules, chip_tried, (tells fresh).crash)
+  left_old_or_new chip only found left = search (rules, (tells fresh).crash)
 
   pub run_killed : (settings : Settings) (status : ℕ)
       → (r : RunsEmulator settings file (shown_state old) (shown_state new) status)

@@ -1,23 +1,15 @@
 -- Answers to one piece, frame by frame, and how each is sent.
-use Rattle.std.proofs.Common.{◌≡◌, ℕ, ◌+◌, List, ◌++◌, take, drop, sym, ap, ◌∙◌, subst, rules}
+use Rattle.std.proofs.lemmas.Grind.{common_steps}
+use Rattle.std.proofs.Common.{◌≡◌, ℕ, ◌+◌, List, ◌++◌, take, drop, sym, ap, ◌∙◌, subst, rules, arith}
 use Rattle.std.proofs.lemmas.List.{take-append-drop}
 use Rattle.std.proofs.Math.Seq.{take-add}
-use Rattle.stk_host.specs.Transcript.{Transcript, LinkState, sent}
+use Rattle.stk_host.specs.Transcript.{LinkState, sent}
 use Rattle.stk_host.specs.Reach.{Says, SaysPart}
 use Rattle.stk_host.proofs.Transcripts.Laws.{sent_append, grows_on, quiet_append, none_append}
 use Rattle.stk_emu.specs.Emulator.{Machine, Answers}
 use Rattle.avr_emulator.specs.Serving.{AnswersAll, BreaksOff}
 use Rattle.avr_emulator.specs.Replying.{Replies, RepliesPart}
 use Rattle.avr_emulator.proofs.Answers.{all_fed, all_more, breaks_here, breaks_more}
-
-says_both : (x y : List ℕ) (a b c : Transcript) → Says x a b → Says y b c → Says (x ++ y) a c
-says_both x y a b c first then = record {
-  during = first.during ++ then.during;
-  grows = grows_on a b c first.during then.during first.grows then.grows;
-  quiet = quiet_append first.during then.during first.none_taken first.quiet then.quiet;
-  none_taken = none_append first.during then.during first.none_taken then.none_taken;
-  bytes_sent = search (rules, sent_append);
-}
 
 -- the bytes after the first n are fed, up to the first answer
 module _ (piece part out : List ℕ) (n used : ℕ) (old mid now : Machine) (a b c : LinkState)
@@ -27,7 +19,7 @@ module _ (piece part out : List ℕ) (n used : ℕ) (old mid now : Machine) (a b
   pub replies_more : Says out b.transcript c.transcript → Replies old (take (n + used) piece) a c now
   replies_more says = record {
     out = r.out ++ out;
-    says = says_both r.out out a.transcript b.transcript c.transcript r.says says;
+    says = grind (arith, common_steps, grows_on, quiet_append, none_append, sent_append);
     answers = λ p text f.
         let first = r.answers p text f in
         subst (λ bs. AnswersAll p text bs (r.out ++ out) now)
@@ -46,7 +38,5 @@ module _ (piece part out : List ℕ) (n used : ℕ) (old mid now : Machine) (a b
         rw r.says.bytes_sent (r.answers p text f) in
         subst (λ bs. BreaksOff p text bs (r.says.during ++ s.during) now)
         (ap (λ bs. take n piece ++ bs) (take-append-drop used part ∙ is) ∙ take-append-drop n piece)
-        (breaks_more p text (take n piece) (take used part ++ drop used part) r.says.during s.during mid now first
-        (breaks_here p (text ++ take n piece) (take used part) (drop used part) out b.transcript c.transcript mid now
-        one first.fed s));
+        (search (rules, breaks_more, breaks_here));
   }

@@ -1,13 +1,11 @@
 -- The limit of a chip file. Then worked outcomes that contracts refuse: of holding, of saving, and of
 -- answers to a frame with a command that no programmer knows.
-use Rattle.std.proofs.Common.{◌≡◌, ◌≤◌, refl, ap, ℕ, List, [], ◌∷◌, length, Ok, Err, arith, rules}
-use Rattle.ghosts.specs.Failures.{HasRisen}
-use Rattle.avr_desk.specs.Record.{Bytes, DeskState, Record, Passes, after_err, nothing_kept, showing, with_held, with_replaced}
+use Rattle.std.proofs.Common.{◌≡◌, refl, ap, ℕ, List, [], ◌∷◌, length, Ok, Err, arith, rules}
+use Rattle.avr_desk.specs.Record.{Bytes, DeskState, Record, after_err, nothing_kept, showing, with_held, with_replaced}
 use Rattle.avr_emulator.specs.declared.loading.TheConstants.{LARGEST_CHIP_FILE}
-use Rattle.avr_emulator.specs.Holding as holding
 use Rattle.avr_emulator.specs.Holding.{HoldsFile}
 use Rattle.avr_emulator.specs.Lines.{in_use_line}
-use Rattle.avr_emulator.specs.Saving.{MaybeReplaced, SavingTrouble, Saves, tried_by}
+use Rattle.avr_emulator.specs.Saving.{Saves}
 use Rattle.stk_host.specs.declared.link.Item.TheVariants.{End}
 use Rattle.stk_host.specs.Tape.{on_tape}
 use Rattle.stk_host.specs.Transcript.{Transcript, Sent, Got}
@@ -24,40 +22,24 @@ begun = showing nothing_kept 0 0
 abbrev now : Record → ℕ → DeskState
 now r failures = showing r failures 0
 
-no_rise : (n : ℕ) → HasRisen 0 n → n ≤ 0 → ⊥
-no_rise n rises le = omega (arith, rises, le)
-
 abbrev denials : Record → ℕ
 denials r = length r.denied
 
 abbrev file_count : Record → ℕ
 file_count r = length r.uses
 
--- a report that a file is in use, though the desk was not asked
-unasked : (file told : Bytes) (trouble : holding.HoldingTrouble) (after : DeskState)
-    → after ≡ now (after_err (in_use_line file) nothing_kept) 0
-    → holding.TellsHoldingTrouble file trouble told begun after
-    → Passes (λ r. after_err told (holding.denied_by file trouble r)) begun after → ⊥
-unasked file told holding.InUse after is tells kept = search rules
-unasked file told holding.NotReplaceable after is tells kept = search (rules, no_rise)
-
 pub no_denial_unasked : (file : Bytes) → HoldsFile begun (now (after_err (in_use_line file) nothing_kept) 0) file
     (Err 1) → ⊥
-no_denial_unasked file holds = unasked file holds.1.told holds.1.trouble _ refl holds.1.tells holds.1.kept
+no_denial_unasked file holds = search rules
 
 -- a file that is held though the desk failed
 pub no_hold_behind_a_failure : (file : Bytes) → HoldsFile begun (now (with_held file nothing_kept) 1) file (Ok tt) → ⊥
 no_hold_behind_a_failure file holds = let e : 1 ≡ 0 = holds.1.0 in omega (arith, e)
 
-no_file_tried : (file bytes : Bytes) (trouble : SavingTrouble)
-    → file_count (tried_by file bytes trouble nothing_kept) ≡ 0
-no_file_tried file bytes MaybeReplaced = refl
-no_file_tried file bytes trouble = refl
-
 -- a save that failed and left an empty file
 pub no_empty_file : (file bytes line : Bytes)
     → Saves begun (now (after_err line (with_replaced file [] nothing_kept)) 1) file bytes (Err 1) → ⊥
-no_empty_file file bytes line saves = search (rules, no_file_tried)
+no_empty_file file bytes line saves = search rules
 
 -- a save that succeeded though nothing was written, or though the desk failed
 pub no_success_and_nothing_saved : (file bytes : Bytes) → Saves begun begun file bytes (Ok tt) → ⊥

@@ -1,5 +1,5 @@
 -- Laws of what is received, and of transcripts in turn.
-use Rattle.std.proofs.Common.{◌≡◌, ℕ, ◌+◌, List, [], ◌∷◌, ◌++◌, refl, sym, ap, subst, append_assoc, arith, rules}
+use Rattle.std.proofs.Common.{◌≡◌, ℕ, ◌+◌, List, [], ◌∷◌, ◌++◌, refl, sym, subst, append_assoc, arith, rules}
 use Rattle.std.proofs.lemmas.List.{append-nil}
 use Rattle.stk_host.specs.declared.link.Item.TheVariants.{Byte, Silence, End}
 use Rattle.stk_host.specs.Tape.{Tape, on_tape, bytes_of}
@@ -28,23 +28,19 @@ reads_append (other ∷ x) y = reads_append x y
 pub reads_quiet : (transcript : Transcript) → IsQuiet transcript → reads transcript ≡ 0
 reads_quiet [] quiet = refl
 reads_quiet (Sent bytes ∷ transcript) quiet = reads_quiet transcript quiet
-reads_quiet (Taken bytes ∷ transcript) quiet = ap reads quiet
-reads_quiet (Got tape ∷ transcript) quiet = absurd quiet
+reads_quiet transcript quiet = search rules
 
 pub in_turn_quiet : (p : Programmer) (text out : List ℕ) (transcript : Transcript) → IsQuiet transcript
     → AnswersInTurn p text out transcript
 in_turn_quiet p text out [] quiet = tt
 in_turn_quiet p text out (Sent bytes ∷ transcript) quiet = in_turn_quiet p text (out ++ bytes) transcript quiet
-in_turn_quiet p text out (Taken bytes ∷ transcript) quiet = quiet
-in_turn_quiet p text out (Got tape ∷ transcript) quiet = absurd quiet
+in_turn_quiet p text out transcript quiet = search rules
 
 -- one transcript after another
 pub in_turn_append : (p : Programmer) (text out : List ℕ) (x y : Transcript) → NoneTaken x
     → AnswersInTurn p text out x → AnswersInTurn p (text ++ bytes_of (heard x)) (out ++ sent x) y
     → AnswersInTurn p text out (x ++ y)
-in_turn_append p text out [] y none f g =
-    subst (λ t. AnswersInTurn p t out y) (append-nil text)
-    (subst (λ o. AnswersInTurn p (text ++ []) o y) (append-nil out) g)
+in_turn_append p text out [] y none f g = search (rules, append-nil)
 in_turn_append p text out (Sent bytes ∷ x) y none f g =
     in_turn_append p text (out ++ bytes) x y none f
     (subst (λ o. AnswersInTurn p (text ++ bytes_of (heard x)) o y) (sym (append_assoc out bytes (sent x))) g)

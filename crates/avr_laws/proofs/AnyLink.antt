@@ -101,8 +101,7 @@ module _ (plan : Plan) (begun : Programmer) (is_sound : IsSoundChip begun.chip) 
       all_sent = ([], append-nil bytes ∙ (sym sent_is ∙ ap (λ p. bytes_sent p.events) (sym is)))
 
       same : frames_in events_played ≡ frames bytes
-      same =
-          search (rules, sends_whole, asks_bodies, frames_sent)
+      same = search (rules, sends_whole, asks_bodies, frames_sent)
 
       comes : (along device (length (frames bytes)) (session plan) begun turns).dialog ≡ Done status
       comes = search (rules, same, goes)

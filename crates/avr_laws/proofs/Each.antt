@@ -15,5 +15,4 @@ each_on P (x ∷ xs) ys f g = (f.0, each_on P xs ys f.1 g)
 pub each_of : (P : List Command → Type 0) (steps_at : ℕ → List (List Command)) (place count : ℕ)
     → ((i : ℕ) → Each P (steps_at i)) → Each P (each_from steps_at place count)
 each_of P steps_at place zero each = tt
-each_of P steps_at place (suc count) each =
-    search (rules, each_on, each_of P steps_at (place + 1) count each)
+each_of P steps_at place (suc count) each = search (rules, each_on, each_of P steps_at (place + 1) count each)

@@ -1,5 +1,5 @@
 -- A session that went along turns, in the words of the page.
-use Rattle.std.proofs.Common.{◌≡◌, ℕ, List, All, length, sym, ap, ◌∙◌, subst, rules}
+use Rattle.std.proofs.Common.{◌≡◌, ℕ, List, All, length, sym, subst, rules}
 use Rattle.avr_desk.specs.Said.{OutputEvent}
 use Rattle.avr_part.specs.Part.{IsPart}
 use Rattle.avr_part.specs.Sound.{IsSoundChip}
@@ -80,11 +80,7 @@ module _ (plan : Plan) (begun : Programmer) (is_sound : IsSoundChip begun.chip) 
           (memories_of (along device count (session plan) begun turns).programmer.chip)
           (said_along device count (session plan) begun turns) status
           → IsExpectedRun plan before after says status
-      has_expected c = record {
-        said = says_are ∙ c.said;
-        status_is = c.status_is;
-        memories = ap (λ (r : Programmer). memories_of r.chip) stands ∙ c.memories;
-      }
+      has_expected c = search rules
 
       is_done : status ≡ 0 → IsDone plan before after
       is_done zero = subst (λ (r : Programmer). IsDone plan before (memories_of r.chip)) (sym stands)
@@ -97,8 +93,7 @@ module _ (plan : Plan) (begun : Programmer) (is_sound : IsSoundChip begun.chip) 
       comes_over_turns = record {
         said = subst (λ x. EndsAsForetold plan before x status) (sym says_are)
             (foretold_end plan sound fitted before sizes count status begun turns idle comes);
-        success = λ zero. has_expected
-            (session_succeeds plan sound before sizes fitted count status begun turns idle comes zero);
+        success = search (rules, has_expected, session_succeeds, sizes, idle);
         done = is_done;
         images = λ zero verified. run_written plan before after fitted verified (is_done zero) sound sizes;
         few_bad = its_expected;

@@ -1,12 +1,11 @@
 -- A session that ran over a wire went along the turns of its fates.
-use Rattle.std.proofs.Common.{◌≡◌, ℕ, [], List, ◌++◌, All, length, take, sym, ap, ◌∙◌, subst, inl, inr, rules}
+use Rattle.std.proofs.Common.{◌≡◌, ℕ, [], List, All, length, sym, ap, ◌∙◌, subst, inl, inr, rules}
 use Rattle.std.proofs.lemmas.List.{append-nil}
 use Rattle.avr_desk.specs.Said.{OutputEvent, after_all}
 use Rattle.avr_part.specs.Sound.{IsSoundChip}
 use Rattle.avr_plan.specs.Plan.{Plan, IsFitted}
 use Rattle.avr_desk.specs.Record.{DeskState, Passes}
 use Rattle.stk_frame.specs.Cut.{frames}
-use Rattle.stk_frame.specs.Reader.{MayHold}
 use Rattle.stk_host.specs.Dialog.{Event, played, outputs, frames_in}
 use Rattle.stk_host.specs.Play.{Plays}
 use Rattle.ghosts.specs.Stays.{Stays}
@@ -17,13 +16,11 @@ use Rattle.avr_session.specs.Session.{session}
 use Rattle.avr_session.specs.Stopping.{IsPlayed}
 use Rattle.stk_emu.specs.Along.{along, AsksBodies}
 use Rattle.stk_emu.specs.Device.{device}
-use Rattle.stk_emu.specs.Effect.{effects}
 use Rattle.stk_emu.specs.Programmer.{Programmer, fresh_programmer}
 use Rattle.stk_emu.specs.Turn.{Turn}
-use Rattle.stk_emu.specs.Wire.{Wire, turns_of, becames_of, fresh_wire, tape_of, wire_after}
+use Rattle.stk_emu.specs.Wire.{turns_of, becames_of}
 use Rattle.stk_emu.specs.Wired.{WiredState, FollowsFates, ComesOf, IsFresh, wired_link}
 use Rattle.avr_laws.specs.AnyLine.{memories, events_over, Stopped, WereTrue, OverTurns, ComesOverTurns, OverAnyLine}
-use Rattle.avr_laws.specs.Outcome.{page_writes}
 use Rattle.avr_laws.proofs.Lines.InTurn.{stands_along, whole_said, whole_done, honest_heard}
 use Rattle.avr_laws.proofs.AnyLink.{IsFirst, sent_first}
 use Rattle.avr_laws.proofs.OverTurns.{asks, over_turns, comes_over_turns}
@@ -31,14 +28,7 @@ use Rattle.avr_laws.proofs.Reports.OverTape.{by_fates, said_prefix}
 
 -- a fresh wire follows its fates
 fresh_follows : (w : WiredState) → IsFresh w → FollowsFates (fresh_programmer w.wire.programmer.chip) w.wire.fates w
-fresh_follows w fresh =
-    let begun : Wire Programmer = fresh_wire (fresh_programmer w.wire.programmer.chip) w.wire.fates in
-    record {
-      held = subst (λ transcript. MayHold w.held (sent transcript)) (sym fresh.silent) fresh.held;
-      stands = fresh.wire ∙ ap (λ transcript. wire_after device (frames (sent transcript)) begun) (sym fresh.silent);
-      brings = λ never. ap (λ transcript. tape_of device (frames (sent transcript)) begun) fresh.silent
-          ∙ sym (ap (λ transcript. heard transcript ++ w.waits) fresh.silent ∙ fresh.waits);
-    }
+fresh_follows w fresh = search rules
 
 module _ (plan : Plan) (w v : WiredState) (fresh : IsFresh w) (stays : Stays ComesOf w v)
     (is_sound : IsSoundChip w.wire.programmer.chip)
@@ -64,8 +54,7 @@ module _ (plan : Plan) (w v : WiredState) (fresh : IsFresh w) (stays : Stays Com
 
   stands : Runs → v.wire.programmer
       ≡ (along device (length (frames (sent v.transcript))) (session plan) begun turns).programmer
-  stands runs = stands_along (session plan) 1 begun w.wire.fates v asks_bodies fresh.lawful keeps (first runs).0
-      (first runs).1
+  stands runs = search (rules, stands_along, asks_bodies, keeps, first)
 
   over : Runs → OverTurns plan begun v.wire.programmer turns (sent v.transcript) (events_over plan v)
   over runs =
@@ -111,9 +100,7 @@ module _ (plan : Plan) (w v : WiredState) (d e : DeskState) (status : ℕ) (over
   came_to zero = elim over.end [ inl came ↦ came | inr broke ↦ absurd (one_no (sym broke.1 ∙ zero)) ]
 
   pub untouched : frames (sent v.transcript) ≡ [] → memories v ≡ memories w
-  untouched none = over.line.page_writes.memories
-      ∙ ap (λ k. effects plan.part (take k (page_writes plan)) (memories w))
-      (over.line.page_writes.none (ap length none))
+  untouched none = search rules
 
 -- what was reported is a prefix of the output of the session over what was received
 module _ (plan : Plan) (w v : WiredState) (d e : DeskState) (status : ℕ) (silent : w.transcript ≡ [])
@@ -129,5 +116,4 @@ module _ (plan : Plan) (w v : WiredState) (d e : DeskState) (status : ℕ) (sile
       subst AreTrue (over_heard ∙ ap (λ x. x.events) (whole.1.plays.plays [])) over.line.believable
 
   pub stopped_truly : (stopped : Stopped plan w v d e) → AreTrue stopped.breaks.prefix.whole
-  stopped_truly stopped =
-      search (rules, said_prefix, over)
+  stopped_truly stopped = search (rules, said_prefix, over)

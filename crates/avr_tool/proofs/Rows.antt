@@ -1,7 +1,6 @@
 -- What the promise refuses: worked wrong outcomes of its two laws. docs/PROMISE.md lists them.
-use Rattle.std.proofs.lemmas.List.Elements.{All-cons, All-head, All-nil}
-use Rattle.std.proofs.Common.{◌≡◌, ◌∙◌, ap, refl, sym, arith, ℕ, Bool, true, false, List, [], ◌∷◌, ◌++◌, length, Some, None, Ok, subst, rules}
-use Rattle.std.specs.Prelude.{All, codes, if◌then◌else◌, slice_index, unwrap_or}
+use Rattle.std.proofs.Common.{◌≡◌, ◌∙◌, ap, refl, sym, arith, ℕ, Bool, true, false, List, [], ◌∷◌, ◌++◌, Some, None, Ok, subst, rules}
+use Rattle.std.specs.Prelude.{codes, if◌then◌else◌, unwrap_or}
 use Rattle.std.specs.Str.{bytes_eq}
 use Rattle.avr_cli.specs.declared.settings.Settings.{Settings}
 use Rattle.avr_cli.specs.declared.settings.Switches.{Switches}
@@ -18,12 +17,12 @@ use Rattle.avr_part.specs.Sound.{IsSoundChip}
 use Rattle.avr_part.specs.State.{ChipState as Chip, fresh_state}
 use Rattle.avr_part.specs.declared.part.Mem.TheVariants.{Flash, Lfuse}
 use Rattle.avr_plan.proofs.Stages.Fitted.{plan_fitted}
-use Rattle.avr_plan.specs.AskedPlan.{AreTasksOf, Files, HasImage, IsAsked}
-use Rattle.avr_plan.specs.ImageFile.{Given, image_within}
-use Rattle.avr_plan.specs.Plan.{Plan, IsFitted}
+use Rattle.avr_plan.specs.AskedPlan.{Files, HasImage, IsAsked}
+use Rattle.avr_plan.specs.ImageFile.{Given}
+use Rattle.avr_plan.specs.Plan.{Plan}
 use Rattle.avr_plan.specs.Planning.{planned}
 use Rattle.avr_plan.specs.declared.planned.Task.{Task}
-use Rattle.avr_plan.specs.declared.planned.Task.TheVariants.{Write, Verify, Read}
+use Rattle.avr_plan.specs.declared.planned.Task.TheVariants.{Write}
 use Rattle.avr_session.specs.Runs.{Devices}
 use Rattle.avr_session.specs.Session.{session}
 use Rattle.stk_emu.specs.Device.{device, after_frames}
@@ -43,7 +42,7 @@ use Rattle.avr_laws.specs.Written.{IsWritten}
 use Rattle.avr_laws.proofs.SecondRun.PlanRows.{tiny, erasing}
 use Rattle.avr_tool.proofs.Runs.Promise.{promise}
 use Rattle.avr_tool.specs.Headline.{IsRun}
-use Rattle.avr_tool.specs.Promise.{IsReadInto, Promised}
+use Rattle.avr_tool.specs.Promise.{Promised}
 use Rattle.avr_tool.specs.Worked.{worked_settings}
 
 -- ---- over any link: an erase, and one page of two bytes, 01 02, on a chip of 00
@@ -88,15 +87,11 @@ Holds flash = IsWritten small (asked_items plan) old (left flash)
 -- 1. A plan for another size: no settings and files give this plan for four bytes of flash,
 pub another_size : (s : Settings) (openings : List Opening)
     → (planned s openings).answer ≡ Made (flash_plan (Some 1 ∷ Some 2 ∷ [])) → ⊥
-another_size s openings is =
-    let fits : IsFitted small (Write Flash (Some 1 ∷ Some 2 ∷ [])) =
-    All-head (IsFitted small) (Write Flash (Some 1 ∷ Some 2 ∷ [])) [] (plan_fitted s openings _ is) in
-    let size : 2 ≡ 4 = fits.0 in omega (arith, size)
+another_size s openings is = search (rules, plan_fitted s openings _ is)
 
 -- and no chip of two bytes is of its part.
 pub another_chip : (chip : Chip) → chip.flash ≡ 1 ∷ 2 ∷ [] → IsSoundChip chip → chip.part ≡ plan.part → ⊥
-another_chip chip is sound part =
-    let size : 2 ≡ 4 = sym (ap length is) ∙ (sound.flash_size ∙ ap (λ p. p.flash_size) part) in omega (arith, size)
+another_chip chip is sound part = search rules
 
 -- 3. The chip from before the erase: old bytes stay where no image has a byte.
 pub before_the_erase : Holds (1 ∷ 2 ∷ 0 ∷ 0 ∷ []) → ⊥
@@ -162,22 +157,13 @@ pub the_file_named : (planned (settings false)
     (Found (record { name = codes "low"; bytes = 0xE2 ∷ []; ended = true }) ∷ [])).answer ≡ Made (fuse_plan 0xE2)
 the_file_named = refl
 
-the_tasks : (part : Part) (off : Bool) (some : List Task) → AreTasksOf files part (settings off).updates some
-    → some ≡ tasks 0xE2
-the_tasks part off [] are = absurd are
-the_tasks part off (Write mem image ∷ []) are = search (rules, are)
-the_tasks part off (Write mem image ∷ t ∷ some) are = absurd are.1
-the_tasks part off (Verify mem image ∷ some) are = cc are.0.0
-the_tasks part off (Read mem format file ∷ some) are = cc are.0.0
-
 abbrev first_byte : List Task → ℕ
 first_byte (Write mem (Some byte ∷ image) ∷ more) = byte
 first_byte more = 0
 
 -- not that of another one,
 pub another_file : IsAsked (settings false) files (fuse_plan 0x62) → ⊥
-another_file asked =
-    let byte : 0x62 ≡ 0xE2 = ap first_byte (the_tasks m328p false (tasks 0x62) asked.tasks) in omega (arith, byte)
+another_file asked = search rules
 
 -- whether it has a byte at address 0
 abbrev begins : Given → ℕ
@@ -186,11 +172,7 @@ begins given = 0
 
 -- and not at another address.
 pub another_address : HasImage files (codes "low") Raw 2 (None ∷ Some 0xE2 ∷ []) → ⊥
-another_address has =
-    let text : 0xE2 ∷ [] ≡ has.0 = cc has.2 in
-    let at : 1 ≡ 0 = ap begins
-    (subst (λ t. image_within 4194304 Raw t 2 ≡ Ok (None ∷ Some 0xE2 ∷ [], has.1)) (sym text) has.3) in
-    omega (arith, at)
+another_address has = search rules
 
 -- 7. The promise over files is an equation too: these bytes are in the chip file, and no others.
 abbrev fresh : ℕ → Chip
@@ -209,7 +191,7 @@ module _ (off : Bool) (after : Files) (p : Promised (settings off) (codes "chip"
   part_is = cc (subst (λ parts. part_of_id (codes "m328p") parts ≡ Ok p.plan.part) p.asked.are_parts p.asked.part)
 
   tasks_are : p.plan.tasks ≡ tasks 0xE2
-  tasks_are = the_tasks p.plan.part off p.plan.tasks p.asked.tasks
+  tasks_are = search rules
 
   made : memories_of p.left ≡ memories_of (fresh 0xE2)
   made = p.made ∙ rw (p.was, sym part_is, tasks_are, p.asked.switches) refl
@@ -229,15 +211,8 @@ module _ (off : Bool) (after : Files) (p : Promised (settings off) (codes "chip"
   pub no_image : after (codes "chip") ≡ Some (chip_file (fresh 0xFF)) → ⊥
   no_image = another_byte 0xFF (λ e. omega (arith, e))
 
-  unread : (name : Bytes) → All (λ task. IsReadInto name task → ⊥) p.plan.tasks
-  unread name = rw tasks_are (All-cons (λ task. IsReadInto name task → ⊥) (Write Lfuse (Some 0xE2 ∷ [])) [] (λ is. is)
-      (All-nil (λ task. IsReadInto name task → ⊥)))
-
   pub another_changed : after (codes "other") ≡ Some (0x63 ∷ []) → ⊥
-  another_changed is =
-      let byte : 0x63 ≡ 0x62 = ap (λ held. slice_index (unwrap_or held []) 0)
-      (sym is ∙ p.others (codes "other") (λ e. cc e) (unread (codes "other"))) in
-      omega (arith, byte)
+  another_changed is = search rules
 
   pub another_created : after (codes "new") ≡ Some [] → ⊥
-  another_created is = cc (sym is ∙ p.others (codes "new") (λ e. cc e) (unread (codes "new")))
+  another_created is = cc (sym is ∙ p.others (codes "new") (λ e. cc e) (search rules))

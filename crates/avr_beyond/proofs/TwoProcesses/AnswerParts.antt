@@ -4,7 +4,7 @@ use Rattle.std.proofs.lemmas.Bool.{cases_lt, lt-leb}
 use Rattle.std.proofs.lemmas.List.{append-nil, append_cancel_left, take-append-le, take-append-drop, take_all, drop_all}
 use Rattle.std.specs.List.{concat}
 use Rattle.stk_frame.specs.Cut.{rest, piece_size, IsPiece}
-use Rattle.stk_frame.proofs.Cuts.{size_stays, cut_none, rest_none}
+use Rattle.stk_frame.proofs.Cuts.{rest_none}
 use Rattle.stk_frame.proofs.Laws.{rest_first}
 use Rattle.stk_host.specs.declared.link.Item.TheVariants.{Byte, Silence, End}
 use Rattle.stk_host.specs.Tape.{Tape, on_tape, bytes_of}
@@ -40,30 +40,18 @@ pub record InSlots (prefix : List ℕ) (tape : Tape) (pieces : List (List ℕ)) 
 begins : (x a y b : List ℕ) → length y ≤ length x → x ++ a ≡ y ++ b → x ≡ y ++ drop (length y) x
 begins x a y b le e =
     let prefix : take (length y) x ≡ y = sym (take-append-le (length y) x a le)
-    ∙ (search (rules, take-append-le, take_all)) in
-    search (rules, take-append-drop)
+    ∙ (search (rules, take-append-le, take_all)) in search (rules, take-append-drop)
 
 -- bytes in which no piece is whole are shorter than the first piece
 shorter : (prefix more piece later : List ℕ) → length prefix < piece_size prefix → IsPiece piece
     → prefix ++ more ≡ piece ++ later → length prefix < length piece
-shorter prefix more piece later part whole e = search (rules, cases_lt, begins, size_stays)
-
--- and bytes that are shorter than it contain no whole piece
-is_part : (prefix more piece later : List ℕ) → length prefix < length piece → IsPiece piece
-    → prefix ++ more ≡ piece ++ later → length prefix < piece_size prefix
-is_part prefix more piece later short whole e = search (rules, cases_lt, begins, size_stays)
-
-stub_of : (prefix unheard : List ℕ) (pieces : List (List ℕ)) → length prefix < piece_size prefix → AreShort pieces
-    → prefix ++ unheard ≡ concat pieces → IsStub prefix
-stub_of prefix unheard [] part short e = search (rules, cut_none, lt-leb, length-append)
-stub_of prefix unheard (piece ∷ pieces) part short e = search (rules, cut_none, lt-leb, shorter)
+shorter prefix more piece later part whole e = search rules
 
 -- if every byte was received, no piece is missing
 none_missing : (prefix unheard : List ℕ) (pieces : List (List ℕ)) → length prefix < piece_size prefix → AreShort pieces
     → prefix ++ unheard ≡ concat pieces → unheard ≡ [] → pieces ≡ []
 none_missing prefix unheard [] part short e none = refl
-none_missing prefix unheard (piece ∷ pieces) part short e none =
-    search (rules, shorter, length-append)
+none_missing prefix unheard (piece ∷ pieces) part short e none = search (rules, length-append)
 
 one_more : (prefix : List ℕ) (b : ℕ) (tape : Tape)
     → on_tape (prefix ++ b ∷ []) ++ tape ≡ on_tape prefix ++ Byte b ∷ tape
@@ -76,7 +64,7 @@ parted prefix [] pieces unheard part short endless silent e = record {
   slots = [];
   last = prefix;
   more = pieces;
-  stub = stub_of prefix unheard pieces part short e;
+  stub = search rules;
   tape_is = sym (append-nil (on_tape prefix));
   pieces_are = refl;
   complete = none_missing prefix unheard pieces part short e;
@@ -97,8 +85,7 @@ parted [] (Silence ∷ tape) pieces unheard part short endless silent e =
 parted (b ∷ prefix) (Silence ∷ tape) pieces unheard part short endless silent e =
     absurd (cons_none b prefix (sym (sym (search (rules, rest_none, lt-leb))
     ∙ (ap rest (sym (append-nil (b ∷ prefix))) ∙ silent [] tape refl))))
-parted prefix (Byte b ∷ tape) [] unheard part short endless silent e =
-    let n = ap length e in absurd (omega (arith, n, length-append prefix (b ∷ (bytes_of tape ++ unheard))))
+parted prefix (Byte b ∷ tape) [] unheard part short endless silent e = search (rules, length-append)
 parted prefix (Byte b ∷ tape) (piece ∷ pieces) unheard part short endless silent e =
     let now : List ℕ = prefix ++ b ∷ [] in
     let left : List ℕ = bytes_of tape ++ unheard in
@@ -108,7 +95,7 @@ parted prefix (Byte b ∷ tape) (piece ∷ pieces) unheard part short endless si
     let before_it : length prefix < length piece = shorter prefix (b ∷ left) piece (concat pieces) part whole e in
     elim (cases_lt (length now) (length piece)) [
       | inl lt ↦
-          let inner = parted now tape (piece ∷ pieces) unheard (is_part now left piece (concat pieces) lt whole split)
+          let inner = parted now tape (piece ∷ pieces) unheard (search rules)
           short endless
           (λ before after at. ap rest (append_assoc prefix (b ∷ []) (bytes_of before))
           ∙ silent (Byte b ∷ before) after (ap (λ t. Byte b ∷ t) at)) split in

@@ -1,7 +1,6 @@
 -- A dialog over a tape that carries a programmer's answers in their order, with timeouts between them. All that is read
 -- is honest, and if all came the dialog doesn't wait.
 use Rattle.std.proofs.Common.{◌≡◌, ℕ, zero, suc, ◌+◌, ◌≤◌, List, [], ◌∷◌, ◌++◌, length, refl, sym, ap, ◌∙◌, subst, append_assoc, arith, inl, inr, ◌⊎◌, Option, Some, None, length-append, rules}
-use Rattle.std.proofs.lemmas.Bool.{cond-true}
 use Rattle.std.specs.List.{concat}
 use Rattle.stk_frame.specs.Frame.{frame}
 use Rattle.stk_frame.specs.Cut.{body_of}
@@ -10,7 +9,7 @@ use Rattle.stk_host.specs.Tape.{Tape, Reading, Answered, Silent, answer}
 use Rattle.stk_host.specs.Dialog.{Dialog, Done, Say, Ask, played, by_answer, next, frames_in}
 use Rattle.stk_emu.specs.Along.{AsksBodies}
 use Rattle.avr_laws.specs.AnyTape.{first_became, other_becames, on_answer, AreHonest, after_pieces}
-use Rattle.avr_laws.proofs.Lines.Plays.{cons_none, head_is, tail_is}
+use Rattle.avr_laws.proofs.Lines.Plays.{cons_none, head_is}
 use Rattle.stk_emu.specs.Device.{Device, answer_frame, after_frame, after_frames, answers}
 use Rattle.stk_emu.specs.Lawful.{IsBody}
 use Rattle.stk_emu.specs.Turn.{Obeyed, after_became, IsHonest}
@@ -36,10 +35,6 @@ first_of (suc h) (f ∷ frames) = f ∷ first_of h frames
 abbrev pub one_less : ℕ → ℕ
 one_less zero = zero
 one_less (suc h) = h
-
-pub others_obeyed : (h : ℕ) → other_becames (obeyed h) ≡ obeyed (one_less h)
-others_obeyed zero = refl
-others_obeyed (suc h) = refl
 
 -- the answers to frames, one by one
 abbrev pub answer_list : {P : Type 0} → Device P → List (List ℕ) → P → List (List ℕ)
@@ -95,10 +90,10 @@ no_middle (y ∷ xs) x ys e = cc
 module _ {P : Type 0} (m : Device P) (sound : AnswersBodies m) where
   pub answer_is : (n : ℕ) (bytes : List ℕ) (p : P) → IsBody bytes
       → answer_frame m (frame n bytes) p ≡ frame n (m.answer bytes p)
-  answer_is n bytes p b = search (rules, cond-true, frame_is_good, body_of_frame)
+  answer_is n bytes p b = search (rules, frame_is_good, body_of_frame)
 
   pub after_is : (n : ℕ) (bytes : List ℕ) (p : P) → IsBody bytes → after_frame m (frame n bytes) p ≡ m.after bytes p
-  after_is n bytes p b = search (rules, cond-true, frame_is_good, body_of_frame)
+  after_is n bytes p b = search (rules, frame_is_good, body_of_frame)
 
   module _ {E R : Type 0} (bytes : List ℕ) (go_on : Reading → Dialog E R) (n : ℕ) (p : P) (body : IsBody bytes) where
     -- the frames after the first, by what is read
@@ -111,8 +106,7 @@ module _ {P : Type 0} (m : Device P) (sound : AnswersBodies m) where
 
     own_due : (h : ℕ) (o : Option (Reading × Tape)) (piece : List ℕ) (later : List (List ℕ)) → due h o ≡ piece ∷ later
         → IsOwn n piece
-    own_due zero o piece later e = absurd (cons_none piece later e)
-    own_due (suc h) o piece later e = search (rules, head_is, answer_is)
+    own_due h o piece later e = search (rules, answer_is)
 
     -- its own answer is found
     finds : (h : ℕ) (tape : Tape) (last : List ℕ) (stub : IsStub last) (more : List (List ℕ)) (t : Tape) → t ≡ tape
@@ -128,7 +122,7 @@ module _ {P : Type 0} (m : Device P) (sound : AnswersBodies m) where
         ap (answer n) (sym same) ∙ (f.is ∙ ap (λ b. Some (Answered b, left)) own_body) in
         let comes : came f.slots ++ more ≡ answer_list m
         (first_of h (frames_by (Some (Answered (m.answer bytes p), left)))) (m.after bytes p) =
-        search (rules, tail_is, after_is) in
+        search (rules, after_is) in
         record {
           left = left;
           became = refl;
@@ -175,7 +169,6 @@ module _ {P : Type 0} (m : Device P) (sound : AnswersBodies m) where
         let left : Tape = slots_tape f.slots last in
         let is : answer n tape ≡ Some (Silent, left) = ap (answer n) (sym same) ∙ f.is in
         let own : List ℕ = answer_frame m (frame n bytes) p in
-        let later : List (List ℕ) = answer_list m (first_of h (frames_by (Some (Silent, left)))) (m.after bytes p) in
         record {
           left = left;
           is = is;
@@ -196,17 +189,13 @@ module _ {P : Type 0} (m : Device P) (sound : AnswersBodies m) where
 
     waits_for : (h : ℕ) (tape : Tape) (more : List (List ℕ)) (t : Tape) → t ≡ tape
         → Waits n t more (due h (answer n tape)) → StillWaits n tape h more
-    waits_for zero tape more t same f = record { is = ap (answer n) (sym same) ∙ f.is; none = λ e. refl }
-    waits_for (suc h) tape more t same f = search (rules, no_middle)
+    waits_for h tape more t same f = search (rules, no_middle)
 
     by_reads : (h count missed length_old : ℕ) (tape : Tape) (last : List ℕ) (stub : IsStub last) (more : List (List ℕ))
         (t : Tape) → t ≡ tape → missed + suc count ≡ 8 → length_old ≤ missed
         → Reads n missed length_old t last more (due h (answer n tape)) → Comes m bytes go_on n tape p h count more
-    by_reads h count missed length_old tape last stub more t same counts le (inl f) = search (rules, finds)
-    by_reads h count missed length_old tape last stub more t same counts le (inr (inl f)) =
-        inr (inl (finds_none h count missed tape last stub more t length_old same counts le f))
-    by_reads h count missed length_old tape last stub more t same counts le (inr (inr f)) =
-        inr (inr (waits_for h tape more t same f))
+    by_reads h count missed length_old tape last stub more t same counts le x12 =
+        search (rules, finds, finds_none, waits_for)
 
     pub asked : (h count : ℕ) (tape : Tape) (more : List (List ℕ))
         → Brings m (Ask bytes go_on) n tape p h (suc count) more → Comes m bytes go_on n tape p h count more
@@ -239,7 +228,7 @@ module _ {P : Type 0} (m : Device P) (sound : AnswersBodies m) where
       subst (on_answer (Reading_is bytes go_on n p h)) (sym c.is) (
         inl (c.became, refl),
         subst (AreHonest m (go_on (Answered (m.answer bytes p))) (next n) c.left
-            (after_became (first_became (obeyed h)) (m.after bytes p) p m.reset)) (sym (others_obeyed h))
+            (after_became (first_became (obeyed h)) (m.after bytes p) p m.reset)) (sym (search rules))
             (each (Answered (m.answer bytes p)) c.left
             (after_became (first_became (obeyed h)) (m.after bytes p) p m.reset) (one_less h) 8 more c.brings
             (few.0 (m.answer bytes p)) (asks.1 (Answered (m.answer bytes p)))),
@@ -248,7 +237,7 @@ module _ {P : Type 0} (m : Device P) (sound : AnswersBodies m) where
       subst (on_answer (Reading_is bytes go_on n p h)) (sym c.is) (
         tt,
         subst (AreHonest m (go_on Silent) (next n) c.left
-            (after_became (first_became (obeyed h)) (m.after bytes p) p m.reset)) (sym (others_obeyed h))
+            (after_became (first_became (obeyed h)) (m.after bytes p) p m.reset)) (sym (search rules))
             (each Silent c.left (after_became (first_became (obeyed h)) (m.after bytes p) p m.reset) (one_less h) count
             more c.brings few.1 (asks.1 Silent)),
       )
@@ -270,10 +259,6 @@ module _ {P : Type 0} (m : Device P) (sound : AnswersBodies m) where
   Ends d n = (tape : Tape) (p : P) (h left : ℕ) → Brings m d n tape p h left [] → MissesFew left d → AsksBodies d
       → length (frames_in (played d n tape).events) ≤ h → (played d n tape).outcome ≡ None → ⊥
 
-  less_of : (h k : ℕ) → suc k ≤ h → k ≤ one_less h
-  less_of zero k le = omega (arith, le)
-  less_of (suc h) k le = omega (arith, le)
-
   ends_by : {E R : Type 0} (bytes : List ℕ) (go_on : Reading → Dialog E R) (n : ℕ) (tape : Tape) (p : P) (h count : ℕ)
       → ((reading : Reading) → Ends (go_on reading) (next n)) → Comes m bytes go_on n tape p h count []
       → MissesFew (suc count) (Ask bytes go_on) → AsksBodies (Ask bytes go_on)
@@ -282,21 +267,18 @@ module _ {P : Type 0} (m : Device P) (sound : AnswersBodies m) where
   ends_by bytes go_on n tape p h count each (inl c) few asks all none =
       each (Answered (m.answer bytes p)) c.left (after_became (first_became (obeyed h)) (m.after bytes p) p m.reset)
       (one_less h) 8 c.brings (few.0 (m.answer bytes p)) (asks.1 (Answered (m.answer bytes p)))
-      (less_of h _ (search rules))
+      (search rules)
       (ap (λ o. (by_answer (λ reading. played (go_on reading) (next n)) o).outcome) (sym c.is) ∙ none)
   ends_by bytes go_on n tape p h count each (inr (inl c)) few asks all none =
       each Silent c.left (after_became (first_became (obeyed h)) (m.after bytes p) p m.reset) (one_less h) count
       c.brings few.1 (asks.1 Silent)
-      (less_of h _ (search rules))
+      (search rules)
       (ap (λ o. (by_answer (λ reading. played (go_on reading) (next n)) o).outcome) (sym c.is) ∙ none)
   ends_by bytes go_on n tape p h count each (inr (inr c)) few asks all none = search rules
 
   -- IT DOESN'T WAIT
   pub in_order_ends : {E R : Type 0} (d : Dialog E R) (n : ℕ) → Ends d n
-  in_order_ends (Done r) n tape p h left b few asks all none = some_none (r, n, tape) none
-    where
-      some_none : {A : Type 0} (a : A) → Some a ≡ None → ⊥
-      some_none a e = cc
+  in_order_ends (Done r) n tape p h left b few asks all none = search rules
   in_order_ends (Say e d) n tape p h left b few asks all none = in_order_ends d n tape p h left
       (search rules) few asks all none
   in_order_ends (Ask bytes go_on) n tape p h zero b few asks all none = absurd few

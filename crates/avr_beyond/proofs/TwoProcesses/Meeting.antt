@@ -1,11 +1,11 @@
 -- A host that runs a dialog, and a server, at the two ends of a link that keeps their bytes in order.
-use Rattle.std.proofs.Common.{◌≡◌, ℕ, ◌≤◌, List, [], ◌∷◌, ◌++◌, length, refl, sym, ap, ◌∙◌, subst, append_assoc, arith, Some, None, inl, inr, rules}
-use Rattle.std.proofs.lemmas.Bool.{cases_Bool, cond-true, cond-false}
+use Rattle.std.proofs.lemmas.Grind.{common_steps}
+use Rattle.std.proofs.Common.{◌≡◌, ℕ, ◌≤◌, List, [], ◌∷◌, ◌++◌, length, refl, ap, ◌∙◌, subst, append_assoc, arith, Some, None, rules}
 use Rattle.std.proofs.lemmas.List.{append-nil}
 use Rattle.std.proofs.lemmas.List.Elements.{filter-append}
 use Rattle.std.specs.List.{concat}
 use Rattle.std.specs.Prelude.{filter}
-use Rattle.stk_frame.specs.Cut.{cut, rest, frames, is_frame, is_good, body_of}
+use Rattle.stk_frame.specs.Cut.{cut, rest, frames, is_frame}
 use Rattle.stk_frame.proofs.Cuts.{cut_append}
 use Rattle.stk_frame.proofs.Laws.{frame_is_piece, length_frame}
 use Rattle.stk_host.specs.Dialog.{Dialog, Event, played, frames_in, bytes_sent}
@@ -14,7 +14,7 @@ use Rattle.stk_host.specs.Transcript.{Transcript, sent, heard}
 use Rattle.stk_host.specs.Tape.{Tape, bytes_of}
 use Rattle.stk_emu.specs.Along.{AsksBodies}
 use Rattle.avr_laws.specs.AnyTape.{AreHonest, after_pieces}
-use Rattle.stk_emu.specs.Device.{device, refusal, answer_body, answer_frame, after_frame}
+use Rattle.stk_emu.specs.Device.{device, answer_body, answer_frame, after_frame}
 use Rattle.stk_emu.specs.Emulator.{Machine}
 use Rattle.stk_emu.specs.Lawful.{IsBody}
 use Rattle.stk_emu.specs.Programmer.{Programmer}
@@ -23,7 +23,6 @@ use Rattle.stk_emu.proofs.Answers.BodySizes.{answers_bodies, obey_body}
 use Rattle.avr_laws.proofs.Lines.InTurn.{sends_whole, frames_prefix}
 use Rattle.avr_emulator.specs.Serving.{HasNoEnd, AnswersAll, BreaksOff, ServingLeaves}
 use Rattle.avr_emulator.specs.declared.serving.Served.{Served}
-use Rattle.avr_emulator.specs.declared.serving.Served.TheVariants.{Ended, RecvFailed, SendFailed, TooManyReads}
 use Rattle.avr_beyond.specs.TwoProcesses.{IsJoined, IsPrompt, StallsBetweenAnswers, HasServed, obeyed}
 use Rattle.avr_beyond.proofs.TwoProcesses.InOrder.{MissesFew, first_of, answer_list, Brings, in_order_honest, in_order_ends, answers_joined, after_first}
 use Rattle.avr_beyond.proofs.TwoProcesses.NeverSilent.{Straight, goes_straight}
@@ -35,17 +34,11 @@ first_prefix (x ∷ xs) ys = ap (λ zs. x ∷ zs) (first_prefix xs ys)
 
 -- each answer is a frame
 body_answered : (piece : List ℕ) (p : Programmer) → IsBody (answer_body device piece p)
-body_answered piece p = elim (cases_Bool (is_good piece)) [
-  | inl good ↦ subst IsBody (sym (cond-true (is_good piece) (device.answer (body_of piece) p) refusal good))
-      (obey_body (body_of piece) p)
-  | inr bad ↦ subst IsBody (sym (cond-false (is_good piece) (device.answer (body_of piece) p) refusal bad))
-      (record { some = omega arith; few = omega arith })
-]
+body_answered piece p = grind (arith, common_steps, obey_body)
 
 answer_short : (piece : List ℕ) (p : Programmer) → IsShort (answer_frame device piece p)
 answer_short piece p =
-    let b = body_answered piece p in
-    search (rules, frame_is_piece, length_frame)
+    let b = body_answered piece p in search (rules, frame_is_piece, length_frame)
 
 answers_short : (pieces : List (List ℕ)) (p : Programmer) → AreShort (answer_list device pieces p)
 answers_short [] p = tt
@@ -55,32 +48,18 @@ answers_short (piece ∷ pieces) p = (answer_short piece p, answers_short pieces
 
 pub all_served : (p : Programmer) (transcript : Transcript) (left : Machine)
     → AnswersAll p [] (bytes_of (heard transcript)) (sent transcript) left → HasServed p transcript left.programmer
-all_served p transcript left all = record {
-  used = bytes_of (heard transcript);
-  unused = [];
-  heard_is = append-nil (bytes_of (heard transcript));
-  unsent = [];
-  sent_is = append-nil (sent transcript) ∙ sym all.answered;
-  left_is = all.fed.obeyed;
-}
+all_served p transcript left all = search (rules, append-nil (bytes_of (heard transcript)))
 
 broken_served : (p : Programmer) (transcript : Transcript) (left : Machine)
     → BreaksOff p [] (bytes_of (heard transcript)) transcript left → HasServed p transcript left.programmer
-broken_served p transcript left b = search (rules, append_assoc, append-nil, answers_more)
+broken_served p transcript left b = search (rules, append_assoc, answers_more)
 
 pub has_served : (served : Served) (p : Programmer) (transcript : Transcript) (left : Machine)
     → ServingLeaves served p [] transcript left
     → HasServed p transcript left.programmer
-has_served Ended p transcript left l = all_served p transcript left l
-has_served RecvFailed p transcript left l = all_served p transcript left l
-has_served SendFailed p transcript left l = broken_served p transcript left l.1
-has_served TooManyReads p transcript left l = all_served p transcript left l
+has_served served p transcript left l = search (rules, all_served, broken_served)
 
 -- ---- both ends
-
--- the frames of some bytes are the first among those of more
-frames_more : (used more : List ℕ) → frames (used ++ more) ≡ frames used ++ filter is_frame (cut (rest used ++ more))
-frames_more used more = search (rules, cut_append, filter-append)
 
 -- the server obeyed the frames that it took, and this is its state after them
 pub meet_sent : (p left : Programmer) (host server : Transcript) (serves : HasServed p server left)
@@ -93,8 +72,7 @@ meet_sent p left host server serves joined =
     search (rules, append_assoc) in
     let others = filter is_frame (cut (rest serves.used ++ more)) in
     let first : first_of arrived (frames (sent host)) ≡ frames serves.used =
-    search (rules, first_of, frames_more, first_prefix) in
-    search (rules, after_first, answers_bodies)
+    search (rules, cut_append, filter-append, first_prefix) in search (rules, after_first, answers_bodies)
 
 module _ {E R : Type 0} (d : Dialog E R) (asks : AsksBodies d) (p left : Programmer) (host server : Transcript)
     (serves : HasServed p server left) (joined : IsJoined host server)
@@ -108,13 +86,9 @@ module _ {E R : Type 0} (d : Dialog E R) (asks : AsksBodies d) (p left : Program
   abbrev given : List (List ℕ)
   given = answer_list device (frames serves.used) p
 
-  prefix : serves.used ++ (serves.unused ++ (joined.up.0 ++ plays.0)) ≡ bytes_sent events
-  prefix =
-      search (rules, append_assoc)
-
   some_frames : (others : List (List ℕ)) × (frames_in events ≡ frames serves.used ++ others)
   some_frames = frames_prefix events serves.used (serves.unused ++ (joined.up.0 ++ plays.0))
-      (sends_whole d 1 (heard host) asks) prefix
+      (sends_whole d 1 (heard host) asks) (search (rules, append_assoc))
 
   arrived_are : first_of arrived (frames_in events) ≡ frames serves.used
   arrived_are = ap (first_of arrived) some_frames.1 ∙ first_prefix (frames serves.used) some_frames.0
@@ -129,14 +103,13 @@ module _ {E R : Type 0} (d : Dialog E R) (asks : AsksBodies d) (p left : Program
     unheard = joined.down.0 ++ serves.unsent
 
     heard_are : bytes_of (heard host) ++ unheard ≡ concat given
-    heard_are =
-        search (rules, append_assoc, answers_joined, answers_bodies)
+    heard_are = search (rules, append_assoc, answers_joined, answers_bodies)
 
     slots : InSlots [] (heard host) given unheard
     slots = search (rules, parted, answers_short, heard_are)
 
     brings : Brings device d 1 (heard host) p arrived 8 slots.more
-    brings = search (rules, slots, answer_list, arrived_are)
+    brings = search (rules, arrived_are)
 
     -- what the host reads is honest, by what arrived
     pub meet_honest : AreHonest device d 1 (heard host) p (obeyed arrived)
@@ -152,4 +125,4 @@ module _ {E R : Type 0} (d : Dialog E R) (asks : AsksBodies d) (p left : Program
     -- on a link without timeouts all goes straight
     pub meet_straight : IsPrompt (heard host) → (r : R) (seq : ℕ) (unread : Tape)
         → (played d 1 (heard host)).outcome ≡ Some (r, seq, unread) → Straight device d 1 (heard host) p arrived r
-    meet_straight prompt r seq unread e = search (rules, goes_straight, answers_bodies, slots, brings)
+    meet_straight prompt r seq unread e = search (rules, goes_straight, answers_bodies, brings)

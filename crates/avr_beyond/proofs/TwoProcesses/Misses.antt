@@ -1,23 +1,21 @@
 -- At most eight of a session's questions in a row go unanswered: four attempts of a step, and four to leave.
-use Rattle.std.proofs.Common.{◌≡◌, ℕ, zero, suc, ◌+◌, ◌≤◌, List, [], ◌∷◌, ◌++◌, refl, sym, subst, arith, Bool, Ok, Err, Result, Option, rules}
+use Rattle.std.proofs.Common.{◌≡◌, ℕ, zero, suc, ◌+◌, ◌≤◌, List, [], ◌∷◌, ◌++◌, refl, arith, Bool, Ok, Err, Result, rules}
 use Rattle.avr_cli.specs.declared.settings.Switches.{Switches}
 use Rattle.avr_desk.specs.Said.{OutputEvent}
-use Rattle.avr_part.specs.declared.part.Mem.{Mem}
 use Rattle.avr_part.specs.Part.{Part}
 use Rattle.avr_plan.specs.Plan.{Plan}
-use Rattle.stk_frame.specs.HostCommands.{leave, erase}
+use Rattle.stk_frame.specs.HostCommands.{leave}
 use Rattle.stk_frame.specs.declared.command.Command.{Command}
 use Rattle.stk_host.specs.declared.fault.HostFault.{HostFault}
-use Rattle.stk_host.specs.declared.fault.HostFault.TheVariants.{LinkEnded}
 use Rattle.stk_host.specs.declared.fault.StepFault.{StepFault}
 use Rattle.stk_host.specs.declared.fault.StepFault.TheVariants.{NoAnswer}
 use Rattle.stk_host.specs.Tape.{Answered, Silent}
 use Rattle.stk_host.specs.Dialog.{Dialog, Done, Say, Ask, ◌>>=◌, lifted}
-use Rattle.stk_host.specs.Steps.{exchange, Reply, Data, Again, Stop, with_data, attempt, StepOutcome, end_or_again, tries, step, if_done, play}
-use Rattle.stk_host.specs.Operations.{handshake, opening, without_bytes, closing, judged_by, operation, no_result, erasing, writing}
+use Rattle.stk_host.specs.Steps.{exchange, Reply, Data, Again, Stop, attempt, StepOutcome, end_or_again, tries, step, if_done, play}
+use Rattle.stk_host.specs.Operations.{handshake, opening, without_bytes, closing, judged_by, operation}
 use Rattle.avr_session.specs.Standing.{Standing, Fine, Faulty, Over}
-use Rattle.avr_session.specs.Actions.{Action, OpenSession, EraseChip, WriteImage, CompareImage, SaveMemory, LeaveOut, actions}
-use Rattle.avr_session.specs.Session.{says, standing, reported, unless_fault, erased_says, left_out_says, action_dialog, actions_dialog, ending, playing, status_of, session}
+use Rattle.avr_session.specs.Actions.{Action, actions}
+use Rattle.avr_session.specs.Session.{says, standing, reported, unless_fault, action_dialog, actions_dialog, ending, playing, status_of, session}
 use Rattle.avr_beyond.proofs.TwoProcesses.InOrder.{MissesFew}
 
 -- how many more may go unanswered now, and how many at the end
@@ -75,22 +73,11 @@ AfterAttempt j k (Data bytes) = k ≡ 8
 AfterAttempt j k (Again fault) = Between j k
 AfterAttempt j k (Stop fault) = k ≡ 8
 
-fewer : (i j : ℕ) → i ≤ j → (k : ℕ) (reply : Reply) → AfterAttempt j k reply → AfterAttempt i k reply
-fewer i j le k (Data bytes) f = f
-fewer i j le k (Again fault) f = let first = f.0 in (omega (arith, le, first), f.1)
-fewer i j le k (Stop fault) f = f
-
-by_reply : (j : ℕ) (go_on : List ℕ → Dialog ⊥ Reply) (reply : Reply) → j ≤ 7
-    → ((bytes : List ℕ) → Misses (AfterAttempt 7) 8 (go_on bytes)) → Misses (AfterAttempt j) 8 (with_data go_on reply)
-by_reply j go_on (Data bytes) le f = weaker (AfterAttempt 7) (AfterAttempt j) 8 (go_on bytes) (fewer j 7 le) (f bytes)
-by_reply j go_on (Again fault) le f = (omega (arith, le), omega arith)
-by_reply j go_on (Stop fault) le f = refl
-
 turn_few : (command : Command) (commands : List Command) (before : List ℕ) (j : ℕ) → j ≤ 7
     → ((bytes : List ℕ) → Misses (AfterAttempt 7) 8 (attempt commands bytes))
     → Misses (AfterAttempt j) (suc j) (attempt (command ∷ commands) before)
 unfolding attempt exchange
-turn_few command commands before j le f = search (rules, by_reply)
+turn_few command commands before j le f = search (rules, weaker)
 
 attempt_few : (commands : List Command) (before : List ℕ) → Misses (AfterAttempt 7) 8 (attempt commands before)
 unfolding attempt
@@ -104,9 +91,7 @@ AfterStep r k (Err fault) = Between r k
 by_settled : (more : ℕ) (again : StepFault → Dialog ⊥ StepOutcome) (r k : ℕ) → r + suc more ≤ suc k → suc k ≤ 8
     → ((fault : StepFault) (j : ℕ) → r + more ≤ j → j ≤ 8 → Misses (AfterStep r) j (again fault))
     → (j : ℕ) (reply : Reply) → AfterAttempt k j reply → Misses (AfterStep r) j (end_or_again again reply)
-by_settled more again r k le most each j (Data bytes) f = f
-by_settled more again r k le most each j (Again fault) f = search rules
-by_settled more again r k le most each j (Stop fault) f = (omega (arith, f, le, most), omega (arith, f))
+by_settled more again r k le most each j x8 f = search rules
 
 tries_few : (more : ℕ) (command : Command) (commands : List Command) (fault : StepFault) (r k : ℕ) → r + more ≤ k
     → k ≤ 8 → Misses (AfterStep r) k (tries more (command ∷ commands) fault)
@@ -142,8 +127,7 @@ AfterCall k (Ok a) = k ≡ 8
 AfterCall k (Err fault) = Between 4 k
 
 all_left : {A : Type 0} (k : ℕ) (result : Result A HostFault) → k ≡ 8 → AfterCall k result
-all_left k (Ok a) e = e
-all_left k (Err fault) e = (omega (arith, e), omega (arith, e))
+all_left k result e = search rules
 
 operation_few : {A : Type 0} (steps : List (List Command)) (judge_by : List ℕ → Result A HostFault)
     → Misses AfterCall 8 (operation steps judge_by)
@@ -157,12 +141,11 @@ operation_few steps judge_by = bind (AfterStep 4) AfterCall 8 (play steps [])
 
 handshake_few : Misses (AfterStep 4) 8 handshake
 unfolding handshake
-handshake_few =
-    search (rules, then_few, step_few, play_few)
+handshake_few = search (rules, then_few, step_few, play_few)
 
 opening_few : (signature : List ℕ) (force : Bool) → Misses AfterCall 8 (opening signature force)
 unfolding opening
-opening_few signature force = search (rules, bind, handshake_few, all_left)
+opening_few signature force = search (rules, bind, handshake_few)
 
 abbrev Any : {R : Type 0} → ℕ → R → Type 0
 Any k r = Unit {0}
@@ -172,9 +155,6 @@ unfolding closing
 closing_few k b =
     bind (AfterStep 0) Any k (step (leave ∷ [])) (λ outcome. Done (without_bytes outcome))
     (let first = b.0 in tries_few 4 leave [] NoAnswer 0 k (omega (arith, first)) b.1) (λ j o e. tt)
-
-writing_few : (part : Part) (mem : Mem) (image : List (Option ℕ)) → Misses AfterCall 8 (writing part mem image)
-writing_few part mem image = search (rules, operation_few)
 
 -- ---- the actions of a session
 
@@ -189,17 +169,12 @@ says_few : {R : Type 0} (Post : ℕ → R → Type 0) (k : ℕ) (outputs : List 
 says_few Post k [] d f = f
 says_few Post k (output ∷ outputs) d f = says_few Post k outputs d f
 
-stands : {A : Type 0} (k : ℕ) (result : Result A HostFault) → AfterCall k result → AfterAction k (standing result)
-stands k (Ok a) f = f
-stands k (Err LinkEnded) f = f
-stands k (Err fault) f = f
-
 reported_few : {A : Type 0} (call : Dialog ⊥ (Result A HostFault)) (tells : Result A HostFault → List OutputEvent)
     → Misses AfterCall 8 call → Misses AfterAction 8 (reported call tells)
 reported_few call tells f =
     bind AfterCall AfterAction 8 (lifted call) (λ outcome. says (tells outcome) (Done (standing outcome)))
     (lifts OutputEvent AfterCall 8 call f)
-    (λ j outcome post. says_few AfterAction j (tells outcome) (Done (standing outcome)) (stands j outcome post))
+    (λ j outcome post. says_few AfterAction j (tells outcome) (Done (standing outcome)) (search rules))
 
 any_reported : {A : Type 0} (k : ℕ) (call : Dialog ⊥ (Result A HostFault)) (tells : Result A HostFault
     → List OutputEvent)
@@ -211,20 +186,12 @@ any_reported k call tells f =
 
 module _ (part : Part) (s : Switches) where
   action_few : (action : Action) → Misses AfterAction 8 (action_dialog part s action)
-  action_few OpenSession = search (rules, reported_few, opening_few)
-  action_few EraseChip = reported_few erasing (erased_says s.quiet part) (operation_few ((erase ∷ []) ∷ []) no_result)
-  action_few (WriteImage mem image) = search (rules, reported_few, writing_few)
-  action_few (CompareImage mem image) = search (rules, reported_few, operation_few)
-  action_few (SaveMemory mem format file) =
-      search (rules, reported_few, operation_few)
-  action_few (LeaveOut what) = says_few AfterAction 8 (left_out_says s.quiet what) (Done Fine) refl
+  action_few action = search (rules, reported_few, opening_few, operation_few)
 
   unless_few : (next : Dialog OutputEvent Standing) → Misses AfterAction 8 next → (j : ℕ) (at : Standing)
       → AfterAction j at
       → Misses AfterAction j (unless_fault next at)
-  unless_few next f j Fine e = subst (λ k. Misses AfterAction k next) (sym e) f
-  unless_few next f j Faulty e = e
-  unless_few next f j Over e = e
+  unless_few next f j x3 e = search rules
 
   actions_few : (actions : List Action) → Misses AfterAction 8 (actions_dialog part s actions)
   actions_few [] = refl

@@ -1,6 +1,6 @@
 -- Over a link without timeouts all turns are right.
 use Rattle.std.proofs.Common.{◌≡◌, ℕ, zero, suc, List, [], ◌∷◌, ◌++◌, length, take, drop, refl, sym, ap, ◌∙◌, subst, Bool, true, false, inl, inr, Option, Some, None, rules}
-use Rattle.std.proofs.lemmas.Bool.{cases_Bool, cond-true, cond-false, false≢true}
+use Rattle.std.proofs.lemmas.Bool.{cases_Bool, cond-true, false≢true}
 use Rattle.std.proofs.lemmas.Option.{none-some}
 use Rattle.std.specs.Prelude.{nat_le}
 use Rattle.stk_frame.specs.Frame.{frame}
@@ -14,7 +14,7 @@ use Rattle.stk_emu.specs.Device.{Device}
 use Rattle.stk_emu.specs.Turn.{after_became}
 use Rattle.stk_emu.proofs.Answers.BodySizes.{AnswersBodies}
 use Rattle.avr_beyond.specs.TwoProcesses.{IsPrompt, StallsBetweenAnswers, obeyed}
-use Rattle.avr_beyond.proofs.TwoProcesses.InOrder.{MissesFew, one_less, others_obeyed, Brings, Comes, asked, after_is}
+use Rattle.avr_beyond.proofs.TwoProcesses.InOrder.{MissesFew, one_less, Brings, Comes, asked, after_is}
 
 pub no_silence : (tape before after : Tape) → IsPrompt tape → tape ≡ before ++ Silence ∷ after → ⊥
 no_silence tape before after prompt e = none before (subst IsPrompt e prompt)
@@ -50,17 +50,14 @@ record ReadsOn (o : Option (Reading × Tape)) : Type 0 where
   left : IsPrompt (left_of o)
 
 end_on : (tape : Tape) → IsPrompt tape → ReadsOn (silence_or_end tape)
-end_on [] p = record { heard = refl; left = tt }
-end_on (Byte b ∷ tape) p = record { heard = refl; left = tt }
-end_on (Silence ∷ tape) p = absurd p
-end_on (End ∷ tape) p = record { heard = refl; left = p }
+end_on tape p = search rules
 
 read_on : (o : Option (List ℕ × ℕ)) (bytes : List ℕ) (tape : Tape) → IsPrompt tape → ReadsOn (read_to o bytes tape)
 read_on (Some (body, used)) bytes tape p = record { heard = refl; left = dropped used tape p }
 read_on None bytes tape p = elim (cases_Bool (nat_le limit (length bytes))) [
   | inl full ↦ subst ReadsOn (sym (cond-true (nat_le limit (length bytes)) (Some (Babbled, drop limit tape))
       (silence_or_end (drop (length bytes) tape)) full)) (record { heard = refl; left = dropped limit tape p })
-  | inr few ↦ subst ReadsOn (search (rules, cond-false))
+  | inr few ↦ subst ReadsOn (search rules)
       (end_on (drop (length bytes) tape) (dropped (length bytes) tape p))
 ]
 
@@ -101,8 +98,7 @@ module _ {P : Type 0} (m : Device P) (sound : AnswersBodies m) where
       let inner = each (Answered (m.answer bytes p)) c.left
       (after_became (first_became (obeyed h)) (m.after bytes p) p m.reset) (one_less h) 8 more c.brings
       (few.0 (m.answer bytes p)) (asks.1 (Answered (m.answer bytes p))) goes r seq unread
-      (sym (ap (λ x. x.outcome) first) ∙ e) in
-      search (rules, one_less, others_obeyed, after_is)
+      (sym (ap (λ x. x.outcome) first) ∙ e) in search (rules, after_is)
   straight_by bytes go_on n tape p h count more each (inr (inl c)) few asks prompt r seq unread e =
       absurd (false≢true (sym (sym (ap is_silent c.is) ∙ (answer_on n tape prompt).heard)))
   straight_by bytes go_on n tape p h count more each (inr (inr c)) few asks prompt r seq unread e =
@@ -111,8 +107,7 @@ module _ {P : Type 0} (m : Device P) (sound : AnswersBodies m) where
   pub goes_straight : {E R : Type 0} (d : Dialog E R) (n : ℕ) → GoesStraight d n
   goes_straight (Done q) n tape p h left more b few asks prompt r seq unread e = search rules
   goes_straight (Say s d) n tape p h left more b few asks prompt r seq unread e =
-      let inner = goes_straight d n tape p h left more (search rules) few asks prompt r seq unread e in
-      record { dialog = inner.dialog; programmer = inner.programmer; says = ap (λ said. s ∷ said) inner.says }
+      search (rules, goes_straight d n tape p h left more (search rules) few asks prompt r seq unread e)
   goes_straight (Ask bytes go_on) n tape p h zero more b few asks prompt r seq unread e = absurd few
   goes_straight (Ask bytes go_on) n tape p h (suc count) more b few asks prompt r seq unread e =
       straight_by bytes go_on n tape p h count more (λ reading. goes_straight (go_on reading) (next n))

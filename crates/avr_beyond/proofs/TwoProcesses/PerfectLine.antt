@@ -1,8 +1,6 @@
 -- A session and a server over a link that cuts nothing and has no timeouts: for every dialog there is such a run.
-use Rattle.std.proofs.Common.{◌≡◌, ◌∙◌, ap, subst, sym, refl, arith, ℕ, ◌≤◌, length, List, [], ◌∷◌, ◌++◌, append_assoc, append-nil, Some, None, inl, rules}
-use Rattle.std.proofs.lemmas.Bool.{and_from, eq-eqb, cond-true, and_parts}
-use Rattle.std.proofs.lemmas.List.Elements.{filter-append}
-use Rattle.std.specs.Prelude.{filter}
+use Rattle.std.proofs.lemmas.Grind.{common_steps}
+use Rattle.std.proofs.Common.{◌≡◌, ◌∙◌, ap, subst, sym, refl, arith, ℕ, ◌≤◌, length, List, [], ◌∷◌, ◌++◌, append_assoc, Some, None, inl, rules}
 use Rattle.avr_desk.specs.Record.{Bytes, DeskState, nothing_kept, showing, with_replaced}
 use Rattle.avr_desk.specs.Said.{after_all}
 use Rattle.avr_part.specs.ChipFile.{chip_file}
@@ -11,11 +9,11 @@ use Rattle.avr_plan.specs.Plan.{Plan}
 use Rattle.avr_session.specs.Runs.{Ran, devices, start}
 use Rattle.avr_session.specs.Session.{session}
 use Rattle.stk_frame.specs.Frame.{frame}
-use Rattle.stk_frame.specs.Cut.{cut, frames, is_frame, rest}
+use Rattle.stk_frame.specs.Cut.{cut, frames, rest}
 use Rattle.stk_frame.proofs.Cuts.{cut_append, rest_append}
 use Rattle.stk_frame.proofs.FedReaders.{cut_whole, rest_whole}
 use Rattle.stk_frame.proofs.Laws.{body_of_frame, frame_is_good, frame_is_piece, length_frame}
-use Rattle.stk_host.specs.Dialog.{Dialog, Done, Say, Ask, Event, Frame, Said, behind, by_answer, bytes_sent, next, played, outputs}
+use Rattle.stk_host.specs.Dialog.{Dialog, Done, Say, Ask, Event, Frame, Said, behind, bytes_sent, next, played, outputs}
 use Rattle.stk_host.specs.Play.{IsPrefixOf, TurnsFrom}
 use Rattle.stk_host.specs.Transcript.{LinkState, Transcript, Sent, Taken, Got, NoneTaken, heard, sent}
 use Rattle.stk_host.specs.Tape.{Tape, Answered, Reading, answer, bytes_of, first_answer, limit, on_tape}
@@ -25,14 +23,13 @@ use Rattle.stk_host.proofs.Tapes.Answers.{answer_found, answer_waits, bytes_of_a
 use Rattle.stk_emu.proofs.Answers.Texts.{after_more, answers_more}
 use Rattle.stk_emu.proofs.Answers.BodySizes.{answers_bodies}
 use Rattle.stk_emu.specs.Along.{AsksBodies}
-use Rattle.stk_emu.specs.Device.{after_frame, after_frames, answer_frame, answers, device}
+use Rattle.stk_emu.specs.Device.{after_frames, device}
 use Rattle.stk_emu.specs.Emulator.{Machine, IsFed, emulate}
 use Rattle.stk_emu.specs.Lawful.{IsBody}
 use Rattle.stk_emu.specs.Programmer.{Programmer, fresh_programmer}
 use Rattle.avr_emulator.specs.Serving.{AnswersAll, AnswersInTurn, HasNoEnd, reads}
 use Rattle.avr_emulator.specs.ServedRun.{ServesChip, fresh_machine}
 use Rattle.avr_emulator.specs.declared.serving.Served.TheVariants.{Ended}
-use Rattle.avr_beyond.proofs.TwoProcesses.InOrder.{after_is, answer_is}
 use Rattle.avr_beyond.specs.TwoProcesses.{EndCall, HostSays, HostBreaks, HostHears, ServerSays, ServerBreaks, ServerHears, HasRun, IsOrdered, IsPrompt, of_host, of_server}
 
 -- each frame is received and answered at once, and at last the server receives the end of the link
@@ -72,18 +69,13 @@ JoinedFrom said_up heard_up said_down heard_down (ServerHears items ∷ calls) =
 
 joined_now : (a b c d : List ℕ) (calls : List EndCall) → JoinedFrom a b c d calls → Joined a b c d
 joined_now a b c d [] j = j
-joined_now a b c d (HostSays bytes ∷ calls) j = j.0
-joined_now a b c d (HostBreaks bytes ∷ calls) j = j.0
-joined_now a b c d (HostHears items ∷ calls) j = j.0
-joined_now a b c d (ServerSays bytes ∷ calls) j = j.0
-joined_now a b c d (ServerBreaks bytes ∷ calls) j = j.0
-joined_now a b c d (ServerHears items ∷ calls) j = j.0
+joined_now a b c d calls j = search rules
 
 -- after some first calls
 joined_behind : (a b c d : List ℕ) (first later : List EndCall) → JoinedFrom a b c d (first ++ later)
     → Joined (a ++ sent (of_host first)) (b ++ bytes_of (heard (of_server first))) (c ++ sent (of_server first))
     (d ++ bytes_of (heard (of_host first)))
-joined_behind a b c d [] later j = search (rules, append-nil, joined_now)
+joined_behind a b c d [] later j = search (rules, joined_now)
 joined_behind a b c d (HostSays bytes ∷ first) later j =
     search (rules, append_assoc, joined_behind (a ++ bytes) b c d first later j.1)
 joined_behind a b c d (HostBreaks bytes ∷ first) later j =
@@ -97,22 +89,17 @@ joined_behind a b c d (ServerBreaks bytes ∷ first) later j =
 joined_behind a b c d (ServerHears items ∷ first) later j =
     search (rules, append_assoc, bytes_of_append, joined_behind a (b ++ bytes_of items) c d first later j.1)
 
--- all was received
-even : (a : List ℕ) → IsPrefixOf a a
-even a = ([], append-nil a)
-
 more : (a bytes : List ℕ) → IsPrefixOf a (a ++ bytes)
 more a bytes = (bytes, refl)
 
 asking_joined : (a c question reply : List ℕ) (later : List EndCall)
     → JoinedFrom (a ++ question) (a ++ question) (c ++ reply) (c ++ reply) later
     → JoinedFrom a a c c (asking question reply later)
-asking_joined a c question reply later j =
-    search (rules, bytes_of_on_tape, even, more)
+asking_joined a c question reply later j = search (rules, bytes_of_on_tape)
 
 calls_joined : {E R : Type 0} (d : Dialog E R) (n : ℕ) (p : Programmer) (a c : List ℕ)
     → JoinedFrom a a c c (calls_of d n p)
-calls_joined (Done r) n p a c = ((even a, even c), (subst (λ x. IsPrefixOf x a) (sym (append-nil a)) (even a), even c))
+calls_joined (Done r) n p a c = search rules
 calls_joined (Say e d) n p a c = calls_joined d n p a c
 calls_joined (Ask bytes go_on) n p a c =
     search (
@@ -161,7 +148,7 @@ own_answer : (n : ℕ) (bytes : List ℕ) (later : Tape) → IsBody bytes
 own_answer n bytes later b =
     let found : first_answer n (cut (frame n bytes)) ≡ Some (bytes, length (frame n bytes)) =
     ap (first_answer n) (cut_whole (frame n bytes) (frame_is_piece n bytes b.some b.few))
-    ∙ (search (rules, cond-true, and_from, frame_is_good, eq-eqb, body_of_frame)) in
+    ∙ (search (rules, frame_is_good, body_of_frame)) in
     let few : length (frame n bytes) ≤ limit = let f = b.few in rw (length_frame n bytes) (omega (arith, f)) in
     answer_found n (frame n bytes) later bytes found few
 
@@ -170,8 +157,7 @@ asked : {E R : Type 0} (bytes : List ℕ) (go_on : Reading → Dialog E R) (n : 
     → IsBody reply
     → played (Ask bytes go_on) n (on_tape (frame n reply) ++ later)
     ≡ behind (Frame (frame n bytes) ∷ []) (played (go_on (Answered reply)) (next n) later)
-asked bytes go_on n reply later b =
-    search (rules, own_answer)
+asked bytes go_on n reply later b = search (rules, own_answer)
 
 -- the run of the dialog, whatever follows on the link
 pub record IsWhole {E R : Type 0} (d : Dialog E R) (n : ℕ) (transcript : Transcript) : Type 0 where
@@ -201,7 +187,6 @@ host_plays (Ask bytes go_on) n p asks =
     let d = go_on (Answered reply) in
     let inner = host_plays (go_on (Answered (device.answer bytes p))) (next n) (device.after bytes p)
     (asks.1 (Answered (device.answer bytes p))) in
-    let transcript = of_host (calls_of d (next n) (device.after bytes p)) in
     record {
       events = Frame (frame n bytes) ∷ inner.events;
       result = inner.result;
@@ -218,7 +203,7 @@ module _ {E R : Type 0} (d e : Dialog E R) (n k : ℕ) (prefix : Tape) (events :
       → TurnsFrom d n (prefix ++ tape) (bytes_sent events ++ bytes) transcript
   turns_behind [] tape bytes turns = tt
   turns_behind (Sent more ∷ transcript) tape bytes turns =
-      search (rules, append_assoc, more, turns_behind transcript tape (bytes ++ more) turns)
+      search (rules, append_assoc, turns_behind transcript tape (bytes ++ more) turns)
   turns_behind (Taken more ∷ transcript) tape bytes turns = turns
   turns_behind (Got items ∷ transcript) tape bytes turns =
       search (rules, bytes_append, append_assoc, turns_behind transcript (tape ++ items) bytes turns.1)
@@ -234,13 +219,11 @@ host_in_turn (Ask bytes go_on) n p asks =
     let d = go_on (Answered reply) in
     let transcript = of_host (calls_of d (next n) (device.after bytes p)) in
     let waits : answer n [] ≡ None = answer_waits n [] refl (omega arith) in
-    let nothing : played (Ask bytes go_on) n [] ≡ record { events = Frame (frame n bytes) ∷ []; outcome = None } =
-    ap (λ o. behind (Frame (frame n bytes) ∷ []) (by_answer (λ reading. played (go_on reading) (next n)) o)) waits in
     let later : TurnsFrom (Ask bytes go_on) n (on_tape (frame n reply) ++ []) ((frame n bytes ++ []) ++ []) transcript =
     turns_behind (Ask bytes go_on) d n (next n) (on_tape (frame n reply)) (Frame (frame n bytes) ∷ [])
     (λ tape. asked bytes go_on n reply tape (answers_bodies bytes p asks.0)) transcript [] []
     (host_in_turn (go_on (Answered (device.answer bytes p))) (next n) (device.after bytes p)
-    (asks.1 (Answered (device.answer bytes p)))) in search (rules, append-nil)
+    (asks.1 (Answered (device.answer bytes p)))) in search rules
 
 -- ---- the server
 
@@ -259,22 +242,16 @@ module _ (p : Programmer) (text : List ℕ) (n : ℕ) (bytes : List ℕ) (body :
   one_more =
       let cut_so : cut (text ++ question) ≡ cut text ++ question ∷ [] =
       search (rules, cut_append, cut_whole, frame_is_piece) in
-      ap (filter is_frame) cut_so ∙ filter-append is_frame (cut text) (question ∷ [])
-      ∙ ap (λ ps. frames text ++ ps) (cond-true (is_frame question) (question ∷ []) []
-      (and_parts _ _ (frame_is_good n bytes body.some)).0)
+      grind (arith, common_steps)
 
   fed_more : HasObeyed p (text ++ question) (device.after bytes now)
   fed_more = record {
     whole = search (rules, rest_append, rest_whole, frame_is_piece);
-    stands = sym (ap (λ fs. after_frames device fs p) one_more ∙ after_more device (frames text) (question ∷ []) p
-        ∙ ap (after_frame device question) (sym was.stands) ∙ after_is device answers_bodies n bytes now body);
+    stands = sym (grind (arith, common_steps, one_more, after_more));
   }
 
   answered_more : emulate p (text ++ question) ≡ emulate p text ++ frame n (device.answer bytes now)
-  answered_more =
-      ap (λ fs. answers device fs p) one_more ∙ answers_more device (frames text) (question ∷ []) p
-      ∙ ap (λ q. emulate p text ++ (answer_frame device question q ++ [])) (sym was.stands)
-      ∙ ap (λ bs. emulate p text ++ bs) (search (rules, append-nil, answer_is, answers_bodies))
+  answered_more = grind (arith, common_steps, one_more, answers_more)
 
 -- what is left of the programmer
 abbrev pub left_of : {E R : Type 0} → Dialog E R → ℕ → Programmer → Programmer
@@ -292,7 +269,7 @@ record ServesOn (p : Programmer) (text : List ℕ) (transcript : Transcript) (le
 serves_on : {E R : Type 0} (d : Dialog E R) (n : ℕ) (now p : Programmer) (text : List ℕ) → AsksBodies d
     → HasObeyed p text now
     → ServesOn p text (of_server (calls_of d n now)) (left_of d n now)
-serves_on (Done r) n now p text asks was = search (rules, append-nil)
+serves_on (Done r) n now p text asks was = search rules
 serves_on (Say e d) n now p text asks was = serves_on d n now p text asks was
 serves_on (Ask bytes go_on) n now p text asks was =
     let question = frame n bytes in
@@ -302,7 +279,6 @@ serves_on (Ask bytes go_on) n now p text asks was =
     serves_on (go_on (Answered (device.answer bytes now))) (next n) (device.after bytes now) p (text ++ question)
     (asks.1 (Answered (device.answer bytes now)))
     (fed_more p text n bytes asks.0 now was) in
-    let later = of_server (calls_of d (next n) (device.after bytes now)) in
     let answered = answered_more p text n bytes asks.0 now was in
     search (rules, bytes_of_append, bytes_of_on_tape, append_assoc)
 
@@ -351,16 +327,14 @@ module _ (plan : Plan) (s : chips.ChipState) (file : Bytes) (asks : AsksBodies (
   runs : Ran (session plan) start (devices silent empty_desk)
       (devices (record { transcript = host; failures = 0 }) said_desk)
       whole.result (record { next = whole.at; unread = [] })
-  runs = search (rules, whole, host_in_turn)
+  runs = search (rules, host_in_turn)
 
   on : (p : Programmer) (text : List ℕ) → IsFed p text (fresh_machine s) → ServesOn p text server left.programmer
-  on p text was = search (rules, serves_on, whole)
+  on p text was = search (rules, serves_on)
 
   answers_all : (p : Programmer) (text : List ℕ) → IsFed p text (fresh_machine s)
       → AnswersAll p text (bytes_of (heard server)) (sent server) left
-  answers_all p text was =
-      let it = on p text was in
-      record { fed = record { stands = it.fed.whole; obeyed = it.fed.stands }; answered = it.answered }
+  answers_all p text was = search (rules, on p text was)
 
   fed_nothing : IsFed (fresh_programmer s) [] (fresh_machine s)
   fed_nothing = record { stands = refl; obeyed = refl }
@@ -391,4 +365,4 @@ module _ (plan : Plan) (s : chips.ChipState) (file : Bytes) (asks : AsksBodies (
       }
 
   pub has_run : HasRun plan s file
-  has_run = search (rules, calls_ordered, calls_prompt, whole, runs, serves)
+  has_run = search (rules, calls_ordered, calls_prompt, runs, serves)

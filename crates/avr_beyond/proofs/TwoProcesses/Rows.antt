@@ -1,5 +1,5 @@
 -- Worked links that are refused, because they lose a byte, deliver it early, or time out within an answer.
-use Rattle.std.proofs.Common.{◌≡◌, [], ◌∷◌, refl, sym, arith}
+use Rattle.std.proofs.Common.{◌≡◌, [], ◌∷◌, refl, sym, arith, rules}
 use Rattle.stk_host.specs.declared.link.Item.TheVariants.{Byte, Silence}
 use Rattle.avr_beyond.specs.TwoProcesses.{HostSays, ServerHears, IsOrdered, StallsBetweenAnswers}
 use Rattle.avr_laws.proofs.Lines.Plays.{cons_none, head_is}
@@ -17,5 +17,4 @@ lost_refused o =
 -- and one that was received before it was sent
 pub early_refused : IsOrdered (ServerHears (Byte 1 ∷ []) ∷ HostSays (1 ∷ []) ∷ []) → ⊥
 early_refused o =
-    let up = (o.joined (ServerHears (Byte 1 ∷ []) ∷ []) (HostSays (1 ∷ []) ∷ []) refl).up in
-    cons_none 1 up.0 (sym up.1)
+    let up = (o.joined (ServerHears (Byte 1 ∷ []) ∷ []) (HostSays (1 ∷ []) ∷ []) refl).up in search rules

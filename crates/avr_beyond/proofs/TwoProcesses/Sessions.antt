@@ -46,7 +46,7 @@ use Rattle.avr_laws.proofs.AnyLink.{over_any_line, over_any_end, IsFirst, sent_f
 answered_at : (p : Programmer) (text answered : List ℕ) (before after : Transcript) (items : Tape)
     → AnswersInTurn p text answered (before ++ Got items ∷ after)
     → answered ++ sent before ≡ emulate p (text ++ bytes_of (heard before))
-answered_at p text answered [] after items turns = search (rules, append-nil)
+answered_at p text answered [] after items turns = search rules
 answered_at p text answered (Sent more ∷ before) after items turns =
     sym (append_assoc answered more (sent before)) ∙ answered_at p text (answered ++ more) before after items turns
 answered_at p text answered (Taken more ∷ before) after items turns = absurd (not_behind before after items turns)
@@ -97,7 +97,7 @@ module _ (plan : Plan) (s : chips.ChipState) (is_sound : IsSoundChip s) (part_is
         let all : frames_in events ≡ frames (bytes_of (heard server)) =
         search (rules, frames_sent, sends_whole, asks) in
         meet_ends (session plan) asks p (after_frames device (frames (bytes_of (heard server))) p) host server serves
-        (search (rules, append-nil)) ([], append-nil (sent host) ∙ sym due.all_sent)
+        (search rules) ([], append-nil (sent host) ∙ sym due.all_sent)
         (session_few plan) endless stalls
         refl (let same = ap length all in omega (arith, same)) due.waits
 
@@ -179,7 +179,7 @@ module _ (plan : Plan) (s : chips.ChipState) (is_sound : IsSoundChip s) (part_is
       let becames = obeyed (length (frames serves.used)) in
       subst (λ q. WholeOverTurns plan (fresh_programmer s) q (turns_heard (session plan) 1 (heard host) becames)
       (sent host) events status) (meet_sent (fresh_programmer s) left host server serves joined)
-      (search (rules, over_any_line, no_frame_honest, over))
+      (search (rules, over_any_line, no_frame_honest))
 
   -- whatever happens to both
   module _ (calls : List EndCall) (ordered : IsOrdered calls) (stalls : StallsBetweenAnswers (heard (of_host calls)))

@@ -1,5 +1,5 @@
 -- A tape that carries answers in their order, with timeouts between them: what is read of it for one question.
-use Rattle.std.proofs.Common.{◌≡◌, ℕ, suc, ◌+◌, ◌*◌, ◌%◌, ◌≤◌, ◌≢◌, List, [], ◌∷◌, ◌++◌, length, refl, sym, ap, ◌∙◌, subst, append_assoc, arith, inl, inr, ◌⊎◌, Some, None, length-append, rules}
+use Rattle.std.proofs.Common.{◌≡◌, ℕ, suc, ◌+◌, ◌*◌, ◌%◌, ◌≤◌, List, [], ◌∷◌, ◌++◌, length, refl, sym, ap, ◌∙◌, append_assoc, arith, inl, inr, ◌⊎◌, Some, None, length-append, rules}
 use Rattle.std.proofs.lemmas.List.{append-nil}
 use Rattle.stk_frame.specs.Frame.{frame}
 use Rattle.stk_frame.specs.Cut.{cut}
@@ -10,7 +10,7 @@ use Rattle.stk_host.specs.Dialog.{next}
 use Rattle.stk_host.proofs.Tapes.Answers.{answer_found, answer_silent, answer_waits, on_tape_append}
 use Rattle.stk_emu.specs.Lawful.{IsBody}
 use Rattle.stk_emu.proofs.Wires.Arrivals.{found_frame, Skipped, frame_skipped, both_skipped}
-use Rattle.avr_laws.proofs.Lines.Plays.{head_is, tail_is, cons_none}
+use Rattle.avr_laws.proofs.Lines.Plays.{head_is, tail_is}
 
 -- a whole answer came, or nothing did
 pub data Slot : Type 0 where
@@ -70,25 +70,17 @@ pub all_older : (n c : ℕ) (pieces : List (List ℕ)) → AreOld n c pieces →
 all_older n c [] o = tt
 all_older n c (piece ∷ pieces) o = (one_older n c piece o.0, all_older n c pieces o.1)
 
-own_older : (n c : ℕ) (piece : List ℕ) → IsOwn n piece → IsOld (next n) (suc c) piece
-own_older n c piece o = search rules
-
 -- those before, and one more after them
 pub old_and_own : (n c : ℕ) (pieces : List (List ℕ)) (piece : List ℕ) → AreOld n c pieces → IsOwn n piece
     → AreOld (next n) (suc c) (pieces ++ piece ∷ [])
-old_and_own n c [] piece o own = (own_older n c piece own, tt)
+old_and_own n c [] piece o own = ((search rules), tt)
 old_and_own n c (old ∷ pieces) piece o own = (one_older n c old o.0, old_and_own n c pieces piece o.1 own)
 
 -- ---- bytes that are skipped
 
-other_number : (n seq back c : ℕ) → c ≤ 255 → 1 ≤ back → back ≤ c → (seq + back) % 256 ≡ n % 256 → seq ≢ n
-other_number n seq back c most some few number e = omega (arith, most, some, few, number, e)
-
 passed_on : (n c : ℕ) (prefix piece : List ℕ) → c ≤ 255 → Skipped n prefix → IsOld n c piece
     → Skipped n (prefix ++ piece)
-passed_on n c prefix piece most f o =
-    let other = other_number n o.seq o.back c most o.some o.few o.number in
-    both_skipped n prefix piece f (subst (Skipped n) (sym o.is) (frame_skipped n o.seq o.bytes other o.carried))
+passed_on n c prefix piece most f o = search (rules, both_skipped, frame_skipped, o.some, o.few, o.number, o.is)
 
 -- ---- what is read
 
@@ -145,8 +137,7 @@ module _ (n c : ℕ) (most : c ≤ 255) (last : List ℕ) (stub : IsStub last) (
             (rw (length-append prefix last) (omega (arith, short, few)));
         left = e;
       }))
-  reads prefix (Quiet ∷ slots) old answers passed short are_old own e =
-      search (rules, answer_silent, prefix_none)
+  reads prefix (Quiet ∷ slots) old answers passed short are_old own e = search (rules, answer_silent, prefix_none)
   reads prefix (Came piece ∷ slots) (first ∷ old) answers passed short are_old own e =
       let same : piece ≡ first = head_is piece first (came slots ++ more) (old ++ answers) e in
       let length_is = old_length n c first are_old.0 in
@@ -154,7 +145,7 @@ module _ (n c : ℕ) (most : c ≤ 255) (last : List ℕ) (stub : IsStub last) (
       (rw (length-append prefix first) (omega (arith, short, length_is))) are_old.1 own
       (tail_is piece first (came slots ++ more) (old ++ answers) e) in
       search (rules, on_tape_append, append_assoc)
-  reads prefix (Came piece ∷ slots) [] [] passed short are_old own e = search (rules, cons_none)
+  reads prefix (Came piece ∷ slots) [] [] passed short are_old own e = search rules
   reads prefix (Came piece ∷ slots) [] (first ∷ later) passed short are_old own e =
       let o = own first later refl in
       let few = o.carried.few in

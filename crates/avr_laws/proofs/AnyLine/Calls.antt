@@ -1,20 +1,16 @@
 -- A run of steps, its judgement and the output about it: where they are along a link.
-use Rattle.std.proofs.Common.{◌≡◌, ℕ, zero, suc, List, [], ◌∷◌, refl, sym, ◌∙◌, Ok, Err, Result}
+use Rattle.std.proofs.Common.{◌≡◌, ℕ, zero, suc, List, [], ◌∷◌, refl, Ok, Err, Result, rules}
 use Rattle.avr_desk.specs.Said.{OutputEvent}
 use Rattle.stk_host.specs.declared.fault.HostFault.{HostFault}
 use Rattle.stk_host.specs.Dialog.{Dialog, Done, Say, Ask, ◌>>=◌}
 use Rattle.stk_host.specs.Steps.{StepOutcome}
-use Rattle.stk_host.specs.Operations.{host_fault, judged_by}
+use Rattle.stk_host.specs.Operations.{judged_by}
 use Rattle.stk_emu.specs.Turn.{Turn, other_turns}
 use Rattle.stk_emu.specs.Device.{Device}
 use Rattle.stk_emu.specs.Along.{along}
 use Rattle.avr_laws.proofs.Hosts.AnyTurn.{asks≢done, done_is}
 use Rattle.avr_session.specs.Standing.{Standing, Fine}
-use Rattle.avr_session.specs.Session.{says, standing, reported}
-use Rattle.avr_laws.proofs.Plans.Standings.{after_fault, faulty_fine, over_fine}
-
-pub says≢done : {E R : Type 0} (e : E) (d : Dialog E R) (r : R) → ◌≡◌ {A = Dialog E R} (Say e d) (Done r) → ⊥
-says≢done e d r s = cc
+use Rattle.avr_session.specs.Session.{says, reported}
 
 module _ {P : Type 0} (m : Device P) where
   says_programmer : (k : ℕ) (outputs : List OutputEvent) (s : Standing) (p : P) (turns : List Turn)
@@ -35,8 +31,7 @@ module _ {P : Type 0} (m : Device P) where
     -- output moves nothing
     pub told_programmer : (k : ℕ) (d : Dialog ⊥ StepOutcome) (p : P) (turns : List Turn)
         → (along m k (told d) p turns).programmer ≡ (along m k d p turns).programmer
-    told_programmer k (Done o) p turns =
-        says_programmer k (outcome_says (judged_by judge o)) (standing (judged_by judge o)) p turns
+    told_programmer k (Done o) p turns = search (rules, says_programmer)
     told_programmer k (Say e d) p turns = absurd e
     told_programmer zero (Ask bytes go_on) p turns = refl
     told_programmer (suc k) (Ask bytes go_on) p turns = told_programmer k (go_on _) _ (other_turns turns)
@@ -46,10 +41,7 @@ module _ {P : Type 0} (m : Device P) where
         → (along m k (told d) p turns).dialog ≡ Done Fine
         → (got : List ℕ) × ((along m k d p turns).dialog ≡ Done (Ok got))
     told_fine k (Done (Ok got)) p turns e = (got, refl)
-    told_fine k (Done (Err fault)) p turns e =
-        let r : Result A HostFault = Err (host_fault fault) in
-        absurd (after_fault A (λ s. s ≡ Fine → ⊥) (host_fault fault) faulty_fine over_fine
-        (done_is _ _ (sym (says_dialog k (outcome_says r) (standing r) p turns) ∙ e)))
+    told_fine k (Done (Err fault)) p turns e = search (rules, done_is, says_dialog)
     told_fine k (Say s d) p turns e = absurd s
     told_fine zero (Ask bytes go_on) p turns e = absurd (asks≢done _ _ _ e)
     told_fine (suc k) (Ask bytes go_on) p turns e = told_fine k (go_on _) _ (other_turns turns) e

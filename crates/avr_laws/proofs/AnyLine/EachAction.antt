@@ -1,10 +1,10 @@
 -- The actions of a session over one link, on which steps may fail or none does: their output, and what they leave.
-use Rattle.std.proofs.Common.{◌≡◌, List, [], ◌∷◌, ◌++◌, append_assoc, refl, sym, ap, ap₂, ◌∙◌, subst, inl, inr, ◌⊎◌, Ok, Err, Result}
+use Rattle.std.proofs.Common.{◌≡◌, List, [], ◌∷◌, ◌++◌, append_assoc, refl, sym, ap, ap₂, ◌∙◌, subst, inl, inr, ◌⊎◌, Ok, Err, Result, rules}
 use Rattle.std.specs.Prelude.{⊤}
 use Rattle.avr_cli.specs.declared.settings.Switches.{Switches}
 use Rattle.avr_desk.specs.Said.{OutputEvent, Line}
 use Rattle.avr_part.specs.Part.{Part, IsPart}
-use Rattle.avr_session.specs.Actions.{Action, OpenSession, EraseChip, WriteImage, CompareImage, SaveMemory, LeaveOut}
+use Rattle.avr_session.specs.Actions.{Action, OpenSession}
 use Rattle.avr_session.specs.Lines.{fault_line}
 use Rattle.avr_session.specs.PlanSteps.{action_steps}
 use Rattle.avr_session.specs.Session.{standing, unless_fault, action_dialog, actions_dialog}
@@ -144,12 +144,7 @@ module _ (part : Part) (s : Switches) where
   fault_says : (action : Action) (fault : StepFault)
       → outcome_says part s action (Err (host_fault fault)) ≡ fault_told part fault
   fault_says OpenSession of_step.NoAnswer = refl
-  fault_says OpenSession fault = refl
-  fault_says EraseChip fault = refl
-  fault_says (WriteImage mem image) fault = refl
-  fault_says (CompareImage mem image) fault = refl
-  fault_says (SaveMemory mem format file) fault = refl
-  fault_says (LeaveOut what) fault = refl
+  fault_says action fault = search rules
 
   -- the output of an action is true
   module _ (True : OutputEvent → Programmer → Type 0) where
@@ -242,12 +237,8 @@ module _ (part : Part) (sound : IsPart part) (s : Switches) (True : OutputEvent 
 
       after_behind : (at : Standing) (x : List OutputEvent) (y : Spot) → After part s At Fails rest c.memories at x y
           → After part s At Fails (action ∷ rest) m at (said ++ x) y
-      after_behind at x y (rests, inl own) = (
-        rests_later y rests,
-        inl (subst (λ z. Own part s At Fails z at (said ++ x) y)
-            (sym (goes_as (actions_expected part s rest) Fine fine))
-            (record { stands = own.stands; says_are = ap₂ ◌++◌ is own.says_are; left = own.left })),
-      )
+      after_behind at x y (rests, inl own) =
+          search (rules, rests_later y rests, goes_as (actions_expected part s rest) Fine fine)
       after_behind at x y (rests, inr broken) =
           let line = broken.line in (
             rests_later y rests,
@@ -296,12 +287,7 @@ module _ (part : Part) (sound : IsPart part) (s : Switches) (True : OutputEvent 
   -- the actions after the opening
   pub goes_actions : (actions : List Action) (m : Memories) (z : Spot) → AllFitActions part actions → FitsPart part m
       → ActionsTrue part s True actions m → At m z → Goes actions m z
-  goes_actions [] m z fits f holds at = record {
-    holds = (
-      rests_here part [] m z.0 (pass.idle m z at),
-      inl (record { stands = refl; says_are = refl; left = at }),
-    );
-  }
+  goes_actions [] m z fits f holds at = search rules
   goes_actions (action ∷ rest) m z fits f holds at =
       goes_cons action rest m (action_items_fit part action fits.0) f z holds.0 (pass.calls action m z fits.0 f at)
       (λ y there. goes_actions rest (effects part (action_items action) m) y fits.1

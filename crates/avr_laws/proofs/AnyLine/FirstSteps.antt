@@ -2,7 +2,7 @@
 use Rattle.std.proofs.Common.{◌≡◌, ℕ, zero, suc, ◌+◌, ◌≤◌, List, [], ◌∷◌, ◌++◌, length, refl, sym, ap, ◌∙◌, subst, append_assoc, arith, rules}
 use Rattle.std.specs.Prelude.{min}
 use Rattle.avr_part.specs.declared.part.Mem.{Mem}
-use Rattle.avr_part.specs.declared.part.Mem.TheVariants.{Flash, Eeprom, Signature}
+use Rattle.avr_part.specs.declared.part.Mem.TheVariants.{Flash}
 use Rattle.avr_part.specs.Part.{Part, IsPart}
 use Rattle.stk_frame.specs.declared.command.Command.{Command}
 use Rattle.stk_host.specs.ReadSteps.{read_count, read_step, read_steps}
@@ -77,11 +77,7 @@ module _ (part : Part) where
   pub rests_all : (sound : IsPart part) (items : List Item) (m : Memories) (q : Programmer) → AllFitItems part items
       → FitsPart part m → Idle part (effects part items m) q
       → Rests part (all_steps part items) m q
-  rests_all sound items m q fits f idle = record {
-    count = length (all_steps part items);
-    stands =
-        subst (λ z. Idle part z q) (sym (all_changed sound items m fits f)) idle;
-  }
+  rests_all sound items m q fits f idle = search (rules, all_changed sound items m fits f)
 
   -- all of the first steps and some of more
   pub rests_behind : (sound : IsPart part) (xs ys : List Item) (m : Memories) (q : Programmer) → AllFitItems part xs
@@ -105,12 +101,9 @@ pub quiet_stays : (part : Part) (count : ℕ) (steps : List (List Command)) (m :
     → changed_by part count steps m ≡ m
 quiet_stays part zero steps m quiet = refl
 quiet_stays part (suc count) [] m quiet = refl
-quiet_stays part (suc count) (commands ∷ steps) m quiet =
-    ap (λ items. changed_by part count steps (effects part items m)) quiet.0 ∙ quiet_stays part count steps m quiet.1
+quiet_stays part (suc count) (commands ∷ steps) m quiet = search (rules, quiet_stays part count steps m quiet.1)
 
 -- reading writes nothing
 pub read_quiet : (part : Part) (mem : Mem) → AreQuiet (read_steps part mem)
 read_quiet part Flash = each_of IsQuiet (read_step part Flash) 0 (read_count part Flash) (λ i. (refl, tt))
-read_quiet part Eeprom = each_of IsQuiet (read_step part Eeprom) 0 (read_count part Eeprom) (λ i. (refl, tt))
-read_quiet part Signature = each_of IsQuiet (read_step part Signature) 0 3 (λ i. (refl, tt))
-read_quiet part mem = (refl, tt)
+read_quiet part mem = search (rules, each_of)

@@ -6,30 +6,24 @@ use Rattle.avr_part.specs.Part.{Part, IsPart}
 use Rattle.avr_plan.specs.Plan.{Plan, IsFitted}
 use Rattle.stk_frame.specs.Commands.{body}
 use Rattle.stk_frame.specs.declared.command.Command.{Command}
-use Rattle.stk_host.specs.Bound.{erasing_steps, closing_steps}
 use Rattle.stk_host.specs.Dialog.{Dialog, Done, Say, Ask}
-use Rattle.stk_host.specs.ReadSteps.{read_steps}
 use Rattle.stk_emu.specs.Along.{AsksBodies}
-use Rattle.stk_emu.specs.Effect.{Erase}
 use Rattle.stk_emu.specs.Lawful.{IsBody}
 use Rattle.avr_laws.proofs.Each.{each_on}
 use Rattle.avr_laws.proofs.Hosts.FrameSizes.{AreSendable, EachSendable, all_sendable}
-use Rattle.avr_laws.proofs.PageWrites.Items.{write_are_steps, read_are_steps, item_are_steps}
-use Rattle.avr_session.specs.Actions.{Action, OpenSession, EraseChip, WriteImage, CompareImage, SaveMemory, LeaveOut}
+use Rattle.avr_laws.proofs.PageWrites.Items.{write_are_steps, read_are_steps}
+use Rattle.avr_session.specs.Actions.{Action}
 use Rattle.avr_session.specs.Session.{session}
 use Rattle.avr_laws.specs.AnyLine.{Weight, weighed, bodies_in}
-use Rattle.avr_session.specs.PlanSteps.{action_steps, actions_steps, run_steps}
-use Rattle.avr_laws.proofs.Plans.Fits.{FitsAction, AllFitActions, work, work_fits}
+use Rattle.avr_session.specs.PlanSteps.{action_steps, actions_steps}
+use Rattle.avr_laws.proofs.Plans.Fits.{FitsAction, AllFitActions, work_fits}
 use Rattle.avr_laws.proofs.Bounds.Weights.{WeighsAtMost, weighed_append, session_weighs}
 
 abbrev unsendable : Weight
 unsendable bytes = if nat_le 1 (length bytes) && nat_le (length bytes) 275 then 0 else 1
 
-light : (bytes : List ℕ) → IsBody bytes → unsendable bytes ≡ 0
-light bytes is = let some = is.some in let few = is.few in grind (arith, nat_tests, some, few)
-
 sendable : (bytes : List ℕ) → unsendable bytes ≤ 0 → IsBody bytes
-sendable bytes le = record { some = grind (arith, nat_tests, le); few = grind (arith, nat_tests, le) }
+sendable bytes le = record { some = grind (arith, nat_tests); few = grind (arith, nat_tests) }
 
 asks_light : {E R : Type 0} (d : Dialog E R) → WeighsAtMost unsendable 0 d → AsksBodies d
 asks_light (Done r) f = tt
@@ -43,41 +37,21 @@ asks_light (Ask asked answered) f = (
 
 commands_light : (commands : List Command) → AreSendable commands → weighed unsendable (map body commands) ≡ 0
 commands_light [] s = omega arith
-commands_light (command ∷ commands) s = let first = light (body command) s.0 in let more =
-    commands_light commands s.1 in omega (arith, first, more)
+commands_light (command ∷ commands) s = search (rules, nat_tests, commands_light commands s.1)
 
 steps_light : (steps : List (List Command)) → EachSendable steps → weighed unsendable (bodies_in steps) ≡ 0
 steps_light [] s = omega arith
-steps_light (commands ∷ steps) s =
-    let first = commands_light commands s.0 in
-    let more = steps_light steps s.1 in
-    search (rules, weighed_append)
-
-closing_sendable : EachSendable closing_steps
-closing_sendable = ((record { some = omega arith; few = omega arith }, tt), tt)
+steps_light (commands ∷ steps) s = search (rules, commands_light, weighed_append, steps_light steps s.1)
 
 module _ (part : Part) (sound : IsPart part) where
   action_sendable : (action : Action) → FitsAction part action → EachSendable (action_steps part action)
-  action_sendable OpenSession fits = absurd fits
-  action_sendable EraseChip fits = all_sendable part sound erasing_steps (item_are_steps part sound Erase tt)
-  action_sendable (WriteImage mem image) fits =
-      search (rules, all_sendable, write_are_steps)
-  action_sendable (CompareImage mem image) fits =
-      all_sendable part sound (read_steps part mem) (read_are_steps part sound mem)
-  action_sendable (SaveMemory mem format file) fits =
-      all_sendable part sound (read_steps part mem) (read_are_steps part sound mem)
-  action_sendable (LeaveOut what) fits = tt
+  action_sendable action fits = search (rules, all_sendable, write_are_steps, read_are_steps)
 
   actions_sendable : (actions : List Action) → AllFitActions part actions → EachSendable (actions_steps part actions)
   actions_sendable [] fits = tt
-  actions_sendable (action ∷ actions) fits =
-      search (rules, each_on, action_sendable, actions_sendable actions fits.1)
-
-run_sendable : (plan : Plan) → IsPart plan.part → All (IsFitted plan.part) plan.tasks → EachSendable (run_steps plan)
-run_sendable plan sound fitted =
-    search (rules, work, each_on, actions_sendable, work_fits, closing_sendable)
+  actions_sendable (action ∷ actions) fits = search (rules, each_on, action_sendable, actions_sendable actions fits.1)
 
 -- every question of a session
 pub session_asks : (plan : Plan) → IsPart plan.part → All (IsFitted plan.part) plan.tasks → AsksBodies (session plan)
 session_asks plan sound fitted =
-    search (rules, steps_light, run_sendable, asks_light, session_weighs)
+    search (rules, steps_light, each_on, actions_sendable, work_fits, asks_light, session_weighs)

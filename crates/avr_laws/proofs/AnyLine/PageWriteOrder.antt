@@ -1,6 +1,5 @@
 -- A session makes the page writes of its plan in order.
-use Rattle.std.proofs.Common.{◌≡◌, ℕ, ◌+◌, ◌-◌, List, [], ◌∷◌, take, refl, sym, ap, ◌∙◌, subst, arith, inl, inr, Result}
-use Rattle.std.proofs.lemmas.List.{append-nil}
+use Rattle.std.proofs.Common.{◌≡◌, ℕ, ◌+◌, ◌-◌, List, [], ◌∷◌, take, refl, ap, ◌∙◌, subst, arith, inl, inr, Result, rules}
 use Rattle.std.specs.Prelude.{All, ⊤}
 use Rattle.avr_cli.specs.declared.settings.Switches.{Switches}
 use Rattle.avr_desk.specs.Said.{OutputEvent}
@@ -8,8 +7,7 @@ use Rattle.avr_part.specs.Part.{Part, IsPart}
 use Rattle.avr_plan.specs.Plan.{Plan, IsFitted}
 use Rattle.stk_host.specs.declared.fault.HostFault.{HostFault}
 use Rattle.stk_host.specs.Dialog.{Dialog, Done, ◌>>=◌}
-use Rattle.stk_host.specs.WriteSteps.{write_steps}
-use Rattle.stk_host.specs.Operations.{operation, closing}
+use Rattle.stk_host.specs.Operations.{closing}
 use Rattle.stk_emu.specs.Turn.{Turn}
 use Rattle.stk_emu.specs.Programmer.{Programmer}
 use Rattle.stk_emu.specs.Device.{device}
@@ -18,7 +16,7 @@ use Rattle.stk_emu.specs.Effect.{Memories, Item, effects, memories_of}
 use Rattle.stk_emu.specs.Settled.{Idle, Settled, FitsPart}
 use Rattle.stk_emu.specs.PageWrites.{changed_by, all_steps, AreSteps, AllFitItems}
 use Rattle.avr_laws.proofs.Leads.{Leads, GoesOn}
-use Rattle.avr_laws.specs.Tallies.{Count, with_next, then_count, Tallies}
+use Rattle.avr_laws.specs.Tallies.{Count, then_count, Tallies}
 use Rattle.avr_laws.proofs.PageWrites.StepCounts.{items_counted}
 use Rattle.avr_laws.proofs.PageWrites.Counts.{tallies_none, tallies_as, tallies_bind}
 use Rattle.avr_session.specs.Standing.{Standing, Fine, Faulty, Over}
@@ -44,10 +42,6 @@ use Rattle.avr_laws.proofs.AnyLine.PageWrites.{Changed, Makes, makes_none, makes
 abbrev Strikes : Part → Memories → List Item → Count Programmer → Dialog OutputEvent Standing → Type 0
 Strikes part m items made d = (p : Programmer) (turns : List Turn) → Settled part m p
     → Makes part m items d made p turns
-
-nothing_after : (x : Dialog OutputEvent Standing) (n : ℕ) → with_next x n (λ s. 0) ≡ n
-nothing_after (Done s) n = omega arith
-nothing_after d n = refl
 
 -- ---- no condition on the output
 
@@ -84,16 +78,14 @@ module _ (part : Part) (sound : IsPart part) (s : Switches) where
   makes_written action m fits f same p turns settled =
       let o = is_operation part s sound m f action fits in
       subst (λ d. Makes part m (action_items action) d (action_made part action) p turns)
-      (ap (λ steps. reported (operation steps o.judge) (outcome_says part s action)) (sym same)
-      ∙ (ap (λ call. reported call (outcome_says part s action)) o.call_is ∙ dialog_is part s action))
+      (search (rules, dialog_is))
       (makes_items part sound m (action_items action) o.judge (outcome_says part s action) p turns
       (subst (AreSteps part) same o.are) settled)
 
   makes_action : (action : Action) (m : Memories) → FitsAction part action → FitsPart part m
       → Strikes part m (action_items action) (action_made part action) (action_dialog part s action)
   makes_action EraseChip m fits f = makes_written EraseChip m fits f refl
-  makes_action (WriteImage mem image) m fits f =
-      makes_written (WriteImage mem image) m fits f (sym (append-nil (write_steps part mem image)))
+  makes_action (WriteImage mem image) m fits f = search (rules, makes_written)
   makes_action action m fits f = λ p turns settled.
       makes_none part m (action_dialog part s action) p turns
       (λ at q. at ≡ Fine → Settled part (effects part (action_items action) m) q)
@@ -110,8 +102,7 @@ module _ (part : Part) (sound : IsPart part) (s : Switches) where
       makes_then part sound m items (actions_items actions) (action_dialog part s action)
       (actions_dialog part s actions) (action_made part action) (actions_made part s actions) p turns
       (action_items_fit part action fits.0) f
-      (action_leads action m p turns (action_items_fit part action fits.0) f
-      (operation_comes part sound s action m fits.0 f p settled))
+      (search (rules, action_leads, action_items_fit, operation_comes))
       (makes_action action m fits.0 f p turns settled)
       (λ q fs there. makes_each_action actions left fits.1 (effects_sizes part sound items m f) q fs there)
 
@@ -180,7 +171,7 @@ module _ (plan : Plan) (sound : IsPart plan.part) (fitted : All (IsFitted plan.p
       tallies_as device (playing plan) (playing plan >>= (λ t. Done (status_of t)))
       (then_count device all_actions (made_by plan) (λ t. none_made)) (made_by plan) At
       (λ j q. memories_of q.chip ≡ effects plan.part (take j (page_writes plan)) m) p turns
-      (λ k. nothing_after (along device k all_actions p turns).dialog (made_by plan k p turns))
+      (λ k. (search rules))
       (λ k j changed. ap (λ z. memories_of z.programmer.chip) (along_told device k (playing plan) status_of p turns)
       ∙ (changed.stands.memories ∙ items_counted plan.part (items plan) j m))
       (tallies_bind device all_actions (ending plan.part plan.switches) (made_by plan) (λ t. none_made) At p turns

@@ -1,4 +1,5 @@
 -- The actions of a session, by the page writes that they make one after another.
+use Rattle.std.proofs.lemmas.Grind.{common_steps}
 use Rattle.std.proofs.Common.{◌≡◌, ℕ, zero, suc, ◌+◌, ◌-◌, ◌≤◌, List, [], ◌∷◌, ◌++◌, length, refl, sym, ap, ◌∙◌, subst, arith, inl, inr, Result, rules}
 use Rattle.std.proofs.lemmas.List.{length-append}
 use Rattle.std.specs.Prelude.{min}
@@ -6,7 +7,7 @@ use Rattle.avr_desk.specs.Said.{OutputEvent}
 use Rattle.avr_part.specs.Part.{Part, IsPart}
 use Rattle.stk_frame.specs.declared.command.Command.{Command}
 use Rattle.stk_host.specs.declared.fault.HostFault.{HostFault}
-use Rattle.stk_host.specs.Dialog.{Dialog, Done, Say, Ask, ◌>>=◌}
+use Rattle.stk_host.specs.Dialog.{Dialog, Done, ◌>>=◌}
 use Rattle.stk_host.specs.Steps.{step, play}
 use Rattle.stk_host.specs.Operations.{operation}
 use Rattle.stk_emu.specs.Turn.{Turn}
@@ -19,15 +20,15 @@ use Rattle.stk_emu.specs.Settled.{Idle, Settled, FitsPart}
 use Rattle.stk_emu.specs.PageWrites.{changed_by, all_steps, AreSteps, AllFitItems}
 use Rattle.avr_laws.specs.Tallies.{Count, with_next, then_count, Tallies}
 use Rattle.avr_laws.proofs.Hosts.Attempts.{along_bind, onward}
-use Rattle.avr_laws.proofs.Hosts.AnyTurn.{asks≢done, done_is}
+use Rattle.avr_laws.proofs.Hosts.AnyTurn.{done_is}
 use Rattle.avr_laws.proofs.PageWrites.Conditions.{along_before}
 use Rattle.stk_emu.proofs.Answers.Commands.{settled_idle}
 use Rattle.avr_laws.proofs.PageWrites.Counts.{tallies_none, tallies_as, tallies_bind, steps_all, tallies_play, none_left}
 use Rattle.avr_session.specs.Standing.{Standing, Fine}
 use Rattle.avr_session.specs.Session.{reported, unless_fault}
 use Rattle.avr_laws.specs.Made.{none_made, made_unless_fault, steps_done}
-use Rattle.avr_laws.proofs.AnyLine.FirstSteps.{Rests, quiet_stays, changed_min, changed_prefix, changed_behind, all_on, all_changed}
-use Rattle.avr_laws.proofs.AnyLine.Calls.{says≢done, told_programmer, told_fine}
+use Rattle.avr_laws.proofs.AnyLine.FirstSteps.{Rests, changed_min, changed_prefix, changed_behind, all_on, all_changed}
+use Rattle.avr_laws.proofs.AnyLine.Calls.{told_programmer, told_fine}
 
 -- the memories after `j` first steps of these items
 pub record Changed (part : Part) (items : List Item) (m : Memories) (j : ℕ) (q : Programmer) : Type 0 where
@@ -51,8 +52,7 @@ makes_none part m d p turns After l = record {
       let r = l.during k in
       record {
         few = omega arith;
-        stands = subst (λ z. Idle part z (along device k d p turns).programmer) (quiet_stays part r.count [] m tt)
-            r.stands;
+        stands = search rules;
       });
   complete = λ k e. refl;
 }
@@ -61,8 +61,7 @@ steps_most : (steps : List (List Command)) (k : ℕ) (p : Programmer) (turns : L
     → steps_done device steps k p turns ≤ length steps
 steps_most [] k p turns = omega arith
 steps_most (commands ∷ steps) k p turns =
-    let s = along device k (step commands) p turns in
-    search (rules, steps_most steps s.left s.programmer s.turns)
+    let s = along device k (step commands) p turns in search (rules, steps_most steps s.left s.programmer s.turns)
 
 module _ (part : Part) (sound : IsPart part) where
   -- the steps of items
@@ -85,7 +84,7 @@ module _ (part : Part) (sound : IsPart part) where
 
     stands : (k : ℕ) (q : Programmer) → Settled part (changed_by part (played.count k) steps m) q
         → Changed part items m (min (played.count k) (length steps)) q
-    stands k q at = search (rules, changed_min, played, settled_idle)
+    stands k q at = search (rules, changed_min, settled_idle)
 
     told_tally : Tallies device told (steps_done device steps) (Changed part items m) p turns
     told_tally = record {
@@ -101,8 +100,7 @@ module _ (part : Part) (sound : IsPart part) where
         → steps_done device steps k p turns ≡ length steps
     unfolding operation
     all_done k e =
-        let got = told_fine device judge outcome_says k (play steps []) p turns e in
-        steps_all device steps k [] p turns got.0 got.1
+        let got = told_fine device judge outcome_says k (play steps []) p turns e in search (rules, steps_all)
 
     pub makes_items : Makes part m items told (steps_done device steps) p turns
     makes_items = record { tally = told_tally; complete = λ k e. all_done k e }
@@ -113,8 +111,7 @@ module _ (part : Part) (sound : IsPart part) where
 
   changed_first : (xs ys : List Item) (m : Memories) (j : ℕ) (q : Programmer) → Changed part xs m j q
       → Changed part (xs ++ ys) m j q
-  changed_first xs ys m j q s =
-      search (rules, size_on, stands, all_on, changed_prefix)
+  changed_first xs ys m j q s = search (rules, size_on, all_on, changed_prefix)
 
   changed_next : (xs ys : List Item) (m : Memories) (made j : ℕ) (q : Programmer) → AllFitItems part xs
       → FitsPart part m
@@ -123,10 +120,9 @@ module _ (part : Part) (sound : IsPart part) where
       → Changed part (xs ++ ys) m (made + j) q
   changed_next xs ys m made j q fits f whole s =
       let size = size_on xs ys in
-      let few = s.few in
       let steps = all_steps part xs in
       let past : made + j ≡ j + length steps = omega (arith, whole) in
-      search (rules, whole, stands, all_on, changed_behind, all_changed)
+      search (rules, all_on, changed_behind, all_changed)
 
   -- one action, then the next unless there was a fault
   module _ (m : Memories) (xs ys : List Item) (d next : Dialog OutputEvent Standing)
@@ -145,17 +141,12 @@ module _ (part : Part) (sound : IsPart part) where
 
     -- if it is fine, it made all its page writes before the last question of what follows
     whole : (k : ℕ) → (along device k d p turns).dialog ≡ Done Fine → first.tally.count k ≡ length (all_steps part xs)
-    whole k e =
-        search rules
+    whole k e = search rules
 
     sharp : (k l : ℕ) → (along device k d p turns).dialog ≡ Done Fine → (along device k d p turns).left ≡ suc l
         → first.tally.count k ≤ made (k - 1) p turns
     sharp zero l e n = absurd (let z = none_left device d p turns in omega (arith, z, n))
-    sharp (suc k) l e n =
-        let back : suc k - 1 ≡ k = omega arith in
-        let all : made k p turns ≡ length (all_steps part xs) =
-        first.complete k (ap (λ z. z.dialog) (along_before device k l d p turns Fine e n)) in
-        search (rules, whole)
+    sharp (suc k) l e n = search (rules, along_before device k l d p turns Fine e n)
 
     abbrev GoesFrom : ℕ → Standing → Type 0
     GoesFrom k s = GoesOn device At (along device k d p turns) (first.tally.count k) (made (k - 1) p turns)
@@ -209,9 +200,7 @@ module _ (part : Part) (sound : IsPart part) where
     complete_fine k at e = λ done. let same : at ≡ Fine = done_is _ _ done in absurd (cc)
 
     complete_from : (k : ℕ) (x : Dialog OutputEvent Standing) → (along device k d p turns).dialog ≡ x → Ends k x
-    complete_from k (Done s) e = complete_fine k s e
-    complete_from k (Say s dialog) e = λ done. absurd (says≢done _ _ _ done)
-    complete_from k (Ask bytes go_on) e = λ done. absurd (asks≢done _ _ _ done)
+    complete_from k x e = grind (arith, common_steps, complete_fine)
 
     pub makes_then : Makes part m (xs ++ ys) (d >>= unless_fault next) (then_count device d made after) p turns
     makes_then = record {

@@ -1,5 +1,5 @@
 -- A session over one link, from its opening to its end: its output, its status, and what it leaves.
-use Rattle.std.proofs.Common.{◌≡◌, ℕ, List, [], ◌++◌, refl, sym, ap, ◌∙◌, subst, inl, inr, ◌⊎◌, Ok, Err, Result, All}
+use Rattle.std.proofs.Common.{◌≡◌, ℕ, List, [], ◌++◌, refl, sym, ap, ◌∙◌, subst, inl, inr, ◌⊎◌, Ok, Err, Result, All, rules}
 use Rattle.std.proofs.lemmas.List.{append-nil}
 use Rattle.std.specs.Prelude.{⊤}
 use Rattle.avr_cli.specs.declared.settings.Switches.{Switches}
@@ -26,7 +26,6 @@ use Rattle.avr_laws.proofs.Hosts.Outputs.{AllTrue, Prints, stops, prints_reporte
 use Rattle.avr_laws.proofs.PageWrites.StepCounts.{items_counted}
 use Rattle.avr_laws.proofs.PageWrites.Steps.{leave_fits}
 use Rattle.avr_laws.proofs.Plans.Fits.{work, work_fits}
-use Rattle.avr_laws.proofs.Plans.Standings.{after_fault}
 use Rattle.avr_laws.specs.ExpectedRun.{Expected, working_expected, ending_says}
 use Rattle.avr_laws.specs.Foretold.{SaysFirst, SaysFault, IsForetold}
 use Rattle.avr_laws.specs.Items.{items}
@@ -59,8 +58,7 @@ module _ (plan : Plan) (m : Memories) where
 
   pub at_last : (Fails : Type 0) (status : ℕ) (said : List OutputEvent) (y : Spot) → AtEnd Fails status said y
       → AtMoment said y
-  at_last Fails status said y (touched, inl own) = (touched, inl own.said)
-  at_last Fails status said y (touched, inr broke) = (touched, inr (inr broke.1.0))
+  at_last Fails status said y e' = search rules
 
 module _ (plan : Plan) (sound : IsPart plan.part) (fitted : All (IsFitted plan.part) plan.tasks)
     (True : OutputEvent → Programmer → Type 0)
@@ -77,13 +75,6 @@ module _ (plan : Plan) (sound : IsPart plan.part) (fitted : All (IsFitted plan.p
   abbrev w : Expected
   w = working_expected plan m
 
-  touched : (y z : Spot) → RestsIn part (items plan) m y → memories_of z.0.chip ≡ memories_of y.0.chip
-      → IsTouched plan m (memories_of z.0.chip)
-  touched y z r kept = record {
-    count = r.count;
-    memories = kept ∙ (r.stands.memories ∙ items_counted part (items plan) r.count m);
-  }
-
   all_done : (said : List OutputEvent) → said ≡ w.says → w.standing ≡ Fine → SaysFirst part s (actions plan) m said
   all_done said is fine = record {
     done = actions plan;
@@ -97,7 +88,7 @@ module _ (plan : Plan) (sound : IsPart plan.part) (fitted : All (IsFitted plan.p
   module _ (said : List OutputEvent) (y : Spot) (rests : RestsIn part (items plan) m y)
       (own : Own part s At Fails w Fine said y) where
     left : (z : Spot) → Idle part w.memories z.0 → IsTouched plan m (memories_of z.0.chip)
-    left z i = touched y z rests (i.memories ∙ sym (pass.idle w.memories y own.left).memories)
+    left z i = search (rules, items_counted)
 
     abbrev Told : Result ⊤ HostFault → Spot → Type 0
     Told r z = AllTrue True (closed_says s.quiet part r) z.0
@@ -123,13 +114,7 @@ module _ (plan : Plan) (sound : IsPart plan.part) (fitted : All (IsFitted plan.p
           fault_true fault z.0,
           (
             left z i,
-            inr (
-              broke.0,
-              (
-                record { told = said; first = all_done said own.says_are own.stands; fault = fault; says_are = refl },
-                after_fault ⊤ (λ at. status_of at ≡ 1) (host_fault fault) refl refl,
-              ),
-            ),
+            inr (search (rules, all_done)),
           ),
         )
 
@@ -137,17 +122,8 @@ module _ (plan : Plan) (sound : IsPart plan.part) (fitted : All (IsFitted plan.p
   with_fault : (at : Standing) (said : List OutputEvent) (y z : Spot) → ending_says plan at ≡ [] → status_of at ≡ 1
       → After part s At Fails (actions plan) m at said y → memories_of z.0.chip ≡ memories_of y.0.chip
       → AtEnd plan m Fails 1 said z
-  with_fault at said y z none one (rests, inl own) kept = (
-    touched y z rests kept,
-    inl (record {
-      said = own.says_are ∙ sym (ap (λ t. w.says ++ ending_says plan t) own.stands
-          ∙ (ap (λ xs. w.says ++ xs) none ∙ append-nil w.says));
-      status_is = sym one ∙ sym (ap status_of own.stands);
-      memories = kept ∙ (pass.idle w.memories y own.left).memories;
-    }),
-  )
-  with_fault at said y z none one (rests, inr broken) kept =
-      (touched y z rests kept, inr (broken.fails, (broken.line, refl)))
+  with_fault at said y z none one (rests, inl own) kept = search (rules, items_counted)
+  with_fault at said y z none one (rests, inr broken) kept = search (rules, items_counted)
 
   ending_prints : (at : Standing) (said : List OutputEvent) (y : Spot)
       → After part s At Fails (actions plan) m at said y
@@ -171,9 +147,7 @@ module _ (plan : Plan) (sound : IsPart plan.part) (fitted : All (IsFitted plan.p
       (on_link device (closing_goes (Idle part before) (leave_fits part before) y.0 after.0.stands))
       (λ z i. at_last plan m Fails 1 (said ++ []) z (left z i)) (λ r z x. (tt, left z x.0)))
       (λ closed x z a. stops True (λ b v. AtEnd plan m Fails (status_of b) (said ++ v)) Over x z a)
-  ending_prints Over said y after =
-      stops True (λ b. AtEnd plan m Fails (status_of b)) Over said y
-      (with_fault Over said y y refl refl after refl)
+  ending_prints Over said y after = search (rules, with_fault Over said y y refl refl after refl)
 
   pub session_prints : ActionTrue part s True OpenSession m → ActionsTrue part s True (work plan) m → (z : Spot)
       → Comes part s At Fails OpenSession m z
@@ -181,8 +155,7 @@ module _ (plan : Plan) (sound : IsPart plan.part) (fitted : All (IsFitted plan.p
   unfolding session
   session_prints opening_true work_true z opened =
       prints_then True (λ x y now. now)
-      (prints_then True (λ x y now. (touched y y now.0 refl, inr (inl now.1)))
+      (prints_then True (λ x y now. ((search (rules, items_counted)), inr (inl now.1)))
       (goes_cons part sound s True fault_true At Fails pass OpenSession (work plan) m tt f z opening_true opened
-      (λ y there. goes_actions part sound s True fault_true At Fails pass (work plan) m y (work_fits plan fitted) f
-      work_true there)) ending_prints)
+      (search (rules, goes_actions, work_fits))) ending_prints)
       (λ at said y a. stops True (AtEnd plan m Fails) (status_of at) said y a)

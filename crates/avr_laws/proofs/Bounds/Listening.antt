@@ -14,7 +14,7 @@ use Rattle.stk_host.specs.Dialog.{Dialog, Done, Say, Ask, Event, Frame, Played, 
 use Rattle.stk_host.specs.Play.{Progress, Plays, InTurn}
 use Rattle.stk_host.specs.Transcript.{Transcript, Got, sent, heard}
 use Rattle.stk_host.specs.Tape.{Tape, Reading, on_tape, bytes_in, answer, read_to, silence_or_end, first_answer, limit, Babbled}
-use Rattle.stk_host.specs.declared.link.Item.TheVariants.{Byte, Silence, End}
+use Rattle.stk_host.specs.declared.link.Item.TheVariants.{Byte, Silence}
 use Rattle.stk_host.proofs.Dialogs.Questions.{sends_most}
 use Rattle.stk_emu.specs.Along.{AsksBodies}
 use Rattle.avr_laws.proofs.Lines.InTurn.{sends_whole, frames_sent, due_at}
@@ -80,18 +80,11 @@ left_of None = []
 left_of (Some (reading, left)) = left
 
 cut_within : (bytes : List ℕ) → length (concat (cut bytes)) ≤ length bytes
-cut_within bytes =
-    let all : length (concat (cut bytes)) + length (rest bytes) ≡ length bytes =
-    sym (length-append (concat (cut bytes)) (rest bytes)) ∙ ap length (cut_joined bytes) in
-    omega (arith, all)
+cut_within bytes = search (rules, length-append (concat (cut bytes)) (rest bytes), cut_joined bytes)
 
 stopped_costs : (tape : Tape) (reading : Reading) (left : Tape) → silence_or_end tape ≡ Some (reading, left)
     → (silences tape ≤ suc (silences left)) × (bytes_on tape ≡ bytes_on left)
-stopped_costs (Silence ∷ tape) reading left e =
-    search rules
-stopped_costs (End ∷ tape) reading left e =
-    search rules
-stopped_costs tape reading left e = absurd (cc)
+stopped_costs tape reading left e = search rules
 
 dropped_costs : (n : ℕ) (tape left : Tape) → n ≤ limit → Drops n tape left → Costs tape left
 dropped_costs n tape left few d = search rules
@@ -107,7 +100,7 @@ read_costs tape bytes (Some (body, used)) reading left few within each e =
 read_costs tape bytes None reading left few within each e = elim (cases_Bool (nat_le limit (length bytes))) [
   | inl full ↦
       let enough : limit ≤ length bytes = leb-true limit (length bytes) full in
-      let is : drop limit tape ≡ left = search (rules, cond-true) in
+      let is : drop limit tape ≡ left = search rules in
       subst (Costs tape) is (dropped_costs limit tape (drop limit tape) (omega arith)
       (drops limit tape (omega (arith, enough, within))))
   | inr part ↦
@@ -148,7 +141,7 @@ read_waits tape None e =
       | inr part ↦
           let few : length bytes < limit = leb-false limit (length bytes) part in
           let whole : length bytes ≡ length (bytes_in tape) = take_short limit (bytes_in tape) few in
-          let none = sym (search (rules, cond-false)) ∙ e in
+          let none = sym (search rules) ∙ e in
           let w = all_waiting tape (subst (λ (n : ℕ). silence_or_end (drop n tape) ≡ None) whole none) in
           search rules
     ]
@@ -161,9 +154,6 @@ answer_waits_for seq tape e = read_waits tape (first_answer seq (cut (take limit
 record ListensOnce (tape : Tape) (got : Option (Reading × Tape)) : Type 0 where
   waiting : got ≡ None → (silences tape ≡ 0) × (bytes_on tape < limit)
   done : (reading : Reading) (left : Tape) → got ≡ Some (reading, left) → Costs tape left
-
-answer_listens : (seq : ℕ) (tape : Tape) → ListensOnce tape (answer seq tape)
-answer_listens seq tape = search (rules, answer_waits_for, answer_costs)
 
 -- ---- a run
 
@@ -187,7 +177,6 @@ listens_asked : {E R : Type 0} (f : List ℕ) (go_on : Reading → Tape → Play
 listens_asked f go_on tape None once more = search rules
 listens_asked f go_on tape (Some (reading, rest)) once more =
     let c = once.done reading rest refl in
-    let silent = c.silent in
     let bytes = c.bytes in
     record {
       waiting = search rules;
@@ -196,19 +185,15 @@ listens_asked f go_on tape (Some (reading, rest)) once more =
 
 listens : {E R : Type 0} (d : Dialog E R) (seq : ℕ) (tape : Tape) → Listens (played d seq tape) tape
 listens (Done r) seq tape = search rules
-listens (Say s d) seq tape = let more = listens d seq tape in
-    record { waiting = λ e. more.waiting e; done = λ r n left e. more.done r n left e }
+listens (Say s d) seq tape = search (rules, listens d seq tape)
 listens (Ask body answered) seq tape =
     listens_asked (frame seq body) (λ reading. played (answered reading) (next seq)) tape (answer seq tape)
-    (answer_listens seq tape) (λ reading left. listens (answered reading) (next seq) left)
+    (search (rules, answer_waits_for, answer_costs)) (λ reading left. listens (answered reading) (next seq) left)
 
 -- ---- a transcript
 
 pub listens_at_most : {E R : Type 0} (n : ℕ) (d : Dialog E R) → AsksAtMost n d → AsksBodies d → ListensAtMost n d
-listens_at_most {E = E} {R = R} n d most bodies = record {
-  whole = λ first transcript events result last p. whole first transcript events result last p;
-  wherever = λ first before after items turns. wherever first before after items turns;
-}
+listens_at_most {E = E} {R = R} n d most bodies = search (rules, whole, wherever)
   where
     whole : (first : Progress) (transcript : Transcript) (events : List (Event E)) (result : R) (last : Progress)
         → Plays d first transcript events result last

@@ -22,10 +22,7 @@ commands_weigh (command ∷ commands) = let more = commands_weigh commands in om
 
 steps_weigh : (steps : List (List Command)) → weighed one (bodies_in steps) ≡ commands_in steps
 steps_weigh [] = omega arith
-steps_weigh (commands ∷ steps) =
-    let first = commands_weigh commands in
-    let more = steps_weigh steps in
-    search (rules, weighed_append)
+steps_weigh (commands ∷ steps) = search (rules, commands_weigh, weighed_append, steps_weigh steps)
 
 asks_weighed : {E R : Type 0} (n : ℕ) (d : Dialog E R) → WeighsAtMost one n d → AsksAtMost n d
 asks_weighed n (Done r) f = tt
@@ -36,8 +33,7 @@ asks_weighed (suc n) (Ask asked answered) f = λ reading.
     asks_weighed n (answered reading) (subst (λ k. WeighsAtMost one k (answered reading)) rest (f.1 reading))
 
 pub session_most : (plan : Plan) → AsksAtMost (4 * commands_in (run_steps plan)) (session plan)
-session_most plan =
-    search (rules, asks_weighed, steps_weigh, session_weighs)
+session_most plan = search (rules, asks_weighed, steps_weigh, session_weighs)
 
 pub session_sends : (plan : Plan) → SendsAtMost SaidPart (4 * commands_in (run_steps plan)) (session plan)
 session_sends plan = sends_asked SaidPart (4 * commands_in (run_steps plan)) (session plan) (session_most plan)

@@ -1,9 +1,8 @@
 -- How much a session asks, by any weight of bodies: at most four times the commands of its plan's steps.
-use Rattle.std.proofs.Common.{◌≡◌, ℕ, ◌+◌, ◌*◌, ◌-◌, ◌≤◌, List, [], ◌∷◌, ◌++◌, map, append_assoc, refl, ap, ◌∙◌, subst, arith, Bool, Ok, Err, Result, Option, rules}
+use Rattle.std.proofs.Common.{◌≡◌, ℕ, ◌+◌, ◌*◌, ◌-◌, ◌≤◌, List, [], ◌∷◌, ◌++◌, map, append_assoc, refl, ap, ◌∙◌, subst, arith, Bool, Ok, Err, Result, rules}
 use Rattle.std.proofs.Math.Nat.{suc-mul}
 use Rattle.avr_cli.specs.declared.settings.Switches.{Switches}
 use Rattle.avr_desk.specs.Said.{OutputEvent}
-use Rattle.avr_part.specs.declared.part.Mem.{Mem}
 use Rattle.avr_part.specs.Part.{Part}
 use Rattle.avr_plan.specs.Plan.{Plan}
 use Rattle.stk_frame.specs.Commands.{body}
@@ -16,15 +15,14 @@ use Rattle.stk_host.specs.Tape.{Reading}
 use Rattle.stk_host.proofs.Dialogs.Logic.{World, HoldsFrom, Upholds, NoSays, OnReply, done, say, ask, bind, told, wider, call, attempts}
 use Rattle.stk_host.specs.Dialog.{Dialog, Done, ◌>>=◌}
 use Rattle.stk_host.specs.Steps.{exchange, Reply, Data, Again, Stop, reading_reply, with_data, attempt, StepOutcome, step, if_done, play}
-use Rattle.stk_host.specs.WriteSteps.{write_steps}
-use Rattle.stk_host.specs.ReadSteps.{signature_steps, read_steps}
-use Rattle.stk_host.specs.Operations.{handshake, signature_judged, opening, without_bytes, closing, judged_by, operation, no_result, writing, comparison}
-use Rattle.stk_host.specs.Bound.{opening_steps, erasing_steps, closing_steps}
+use Rattle.stk_host.specs.ReadSteps.{signature_steps}
+use Rattle.stk_host.specs.Operations.{handshake, signature_judged, opening, without_bytes, closing, judged_by, operation}
+use Rattle.stk_host.specs.Bound.{opening_steps, closing_steps}
 use Rattle.avr_session.specs.Standing.{Standing, Fine, Faulty, Over}
-use Rattle.avr_session.specs.Actions.{Action, OpenSession, EraseChip, WriteImage, CompareImage, SaveMemory, LeaveOut, actions}
+use Rattle.avr_session.specs.Actions.{Action, OpenSession, actions}
 use Rattle.avr_session.specs.Session.{says, standing, reported, unless_fault, closed_says, action_dialog, actions_dialog, ending, status_of, session}
 use Rattle.avr_session.specs.PlanSteps.{action_steps, actions_steps, run_steps}
-use Rattle.avr_laws.proofs.Plans.Calls.{call_of, outcome_says, dialog_is}
+use Rattle.avr_laws.proofs.Plans.Calls.{call_of, dialog_is}
 use Rattle.avr_laws.specs.AnyLine.{Weight, weighed, bodies_in}
 
 -- what is left of a budget after each question, whatever is read
@@ -73,9 +71,7 @@ module _ (w : Weight) where
   by_reply : {After : Reply → ℕ → Type 0} (go_on : List ℕ → Dialog ⊥ Reply) (reply : Reply) (left : ℕ)
       → ((bytes : List ℕ) → Call After (go_on bytes) left)
       → ((other : Reply) → After other left) → Call After (with_data go_on reply) left
-  by_reply go_on (Data bytes) left each stop = each bytes
-  by_reply go_on (Again fault) left each stop = done (stop (Again fault))
-  by_reply go_on (Stop fault) left each stop = done (stop (Stop fault))
+  by_reply go_on reply left each stop = search rules
 
   attempt_spends : (commands : List Command) (before : List ℕ) → Spends (of_step commands) (attempt commands before)
   unfolding attempt exchange
@@ -142,11 +138,6 @@ module _ (w : Weight) where
       let size = weighed_append (map body (leave ∷ [])) [] in
       told without_bytes (step_spends (leave ∷ []) k left (omega (arith, le, size))) (λ o t e. e)
 
-  -- a memory that can't be written is asked nothing
-  writing_spends : (part : Part) (mem : Mem) (image : List (Option ℕ))
-      → Spends (4 * total (write_steps part mem image)) (writing part mem image)
-  writing_spends part mem image = search (rules, operation_spends, done)
-
   -- ---- the actions of a session
 
   says_costs : (outputs : List OutputEvent) (s : Standing) (k left : ℕ) → k ≤ left
@@ -162,16 +153,11 @@ module _ (w : Weight) where
   module _ (part : Part) (s : Switches) where
     call_spends : (action : Action) → Spends (4 * total (action_steps part action)) (call_of part s action)
     call_spends OpenSession = opening_spends part.signature s.force
-    call_spends EraseChip = operation_spends erasing_steps no_result
-    call_spends (WriteImage mem image) = writing_spends part mem image
-    call_spends (CompareImage mem image) = operation_spends (read_steps part mem) (comparison mem image)
-    call_spends (SaveMemory mem format file) = operation_spends (read_steps part mem) Ok
-    call_spends (LeaveOut what) = λ k left le. done (omega (arith, le))
+    call_spends action = search (rules, operation_spends)
 
     action_costs : (action : Action) → Costs (4 * total (action_steps part action)) (action_dialog part s action)
     action_costs action = subst (Costs (4 * total (action_steps part action))) (dialog_is part s action)
-        (reported_costs (4 * total (action_steps part action)) (call_of part s action) (outcome_says part s action)
-        (call_spends action))
+        (search (rules, reported_costs, call_spends))
 
     actions_cost : (actions : List Action)
         → Costs (4 * total (actions_steps part actions)) (actions_dialog part s actions)

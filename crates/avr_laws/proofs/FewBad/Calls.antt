@@ -1,6 +1,6 @@
 -- The calls of a host over a link on which few frames go wrong. Each has all its data, and only the faults that these
 -- data give.
-use Rattle.std.proofs.Common.{ℕ, List, [], ◌∷◌, length, refl, subst, arith, inl, Bool, Ok}
+use Rattle.std.proofs.Common.{ℕ, List, [], ◌∷◌, length, refl, subst, arith, inl, Bool, Ok, rules}
 use Rattle.avr_cli.specs.declared.settings.Switches.{Switches}
 use Rattle.avr_part.specs.declared.part.Mem.TheVariants.{Signature}
 use Rattle.avr_part.specs.Part.{Part, IsPart}
@@ -57,8 +57,7 @@ module _ (part : Part) (sound : IsPart part) (m : Memories) (f : FitsPart part m
       let name : List ℕ = 0x53 ∷ 0x54 ∷ 0x4B ∷ 0x35 ∷ 0x30 ∷ 0x30 ∷ 0x5F ∷ 0x32 ∷ [] in
       few_bind (if_done (λ signed. step (enter ∷ []) >>= if_done read)) (Ok name) (Ok part.signature) (Idle part m)
       (Idle part m) (Ready part m) (step (SignOn ∷ []))
-      (few_step (SignOn ∷ []) name (Idle part m) (Idle part m) (sign_on_steady part m) (omega arith)
-      (λ q stands. refl))
+      (search (rules, few_step, sign_on_steady))
       (few_bind (if_done read) (Ok []) (Ok part.signature) (Idle part m) (Ready part m) (Ready part m)
       (step (enter ∷ []))
       (few_step (enter ∷ []) [] (Idle part m) (Ready part m) (enter_ready part m) (omega arith) (λ q stands. refl))

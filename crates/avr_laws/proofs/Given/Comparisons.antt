@@ -1,42 +1,31 @@
 -- The output of a comparison without a difference, and which comparisons have none.
-use Rattle.std.proofs.Common.{◌≡◌, ℕ, zero, suc, ◌+◌, ◌<◌, List, [], ◌∷◌, refl, ◌∙◌, arith, Bool, true, false, Ok, Err, Option, Some, None, bit_and, rules}
-use Rattle.std.proofs.lemmas.Bool.{cases_Bool, eqb-true, eq-eqb, cond-true, cond-false}
+use Rattle.std.proofs.Common.{◌≡◌, ℕ, zero, suc, ◌+◌, ◌<◌, List, [], ◌∷◌, refl, ◌∙◌, arith, Bool, true, Ok, Some, None, bit_and, rules}
+use Rattle.std.proofs.lemmas.Bool.{eq-eqb, cond-true}
 use Rattle.std.proofs.Math.Nat.{mod-eq_of_lt}
 use Rattle.std.proofs.lemmas.Grind.{and_numeral}
 use Rattle.std.proofs.lemmas.Nat.{and_comm}
-use Rattle.std.specs.Prelude.{◌==◌, ◌&&◌}
+use Rattle.std.specs.Prelude.{◌==◌}
 use Rattle.std.specs.Str.{bytes_eq}
-use Rattle.stk_host.specs.declared.fault.HostFault.TheVariants.{WrongSignature}
-use Rattle.stk_host.specs.Operations.{Difference, difference_from, signature_judged}
+use Rattle.stk_host.specs.Operations.{difference_from, signature_judged}
 use Rattle.stk_emu.specs.Effect.{Image, with_image}
 use Rattle.stk_emu.specs.Given.{HoldsImage}
 use Rattle.stk_emu.proofs.Memories.LaidImages.{get_laid, length-laid}
-
-none_some : (b : ℕ) → ◌≡◌ {A = Option ℕ} None (Some b) → ⊥
-none_some b e = cc
-
-some_is : (a b : ℕ) → Some a ≡ Some b → a ≡ b
-some_is a b e = cc
-
-differs : (d : Difference) → ◌≡◌ {A = Option Difference} (Some d) None → ⊥
-differs d e = cc
 
 -- one byte that is equal
 same_byte : (addr want found : ℕ) (image : Image) (bytes : List ℕ)
     → difference_from addr (Some want ∷ image) (found ∷ bytes) ≡ None
     → (found ≡ want) × (difference_from (addr + 1) image bytes ≡ None)
-same_byte addr want found image bytes e = search (rules, cases_Bool, eqb-true, cond-true, differs, cond-false)
+same_byte addr want found image bytes e = search rules
 
 -- without a difference the memory holds the image
 pub no_difference : (addr : ℕ) (image : Image) (bytes : List ℕ) → difference_from addr image bytes ≡ None
     → HoldsImage image bytes
-no_difference addr [] bytes e i b held l = absurd (none_some b held)
+no_difference addr [] bytes e i b held l = absurd (cc)
 no_difference addr (x ∷ image) [] e i b held l = absurd (omega (arith, l))
-no_difference addr (None ∷ image) (found ∷ bytes) e zero b held l = absurd (none_some b held)
+no_difference addr (None ∷ image) (found ∷ bytes) e zero b held l = absurd (cc)
 no_difference addr (None ∷ image) (found ∷ bytes) e (suc i) b held l =
     no_difference (addr + 1) image bytes e i b held (omega (arith, l))
-no_difference addr (Some want ∷ image) (found ∷ bytes) e zero b held l =
-    (same_byte addr want found image bytes e).0 ∙ some_is want b held
+no_difference addr (Some want ∷ image) (found ∷ bytes) e zero b held l = search rules
 no_difference addr (Some want ∷ image) (found ∷ bytes) e (suc i) b held l =
     no_difference (addr + 1) image bytes (same_byte addr want found image bytes e).1 i b held (omega (arith, l))
 
@@ -55,8 +44,7 @@ held_same addr (Some want ∷ image) (found ∷ bytes) holds =
 
 -- an image that was laid over a memory is held
 pub laid_holds : (image : Image) (bytes : List ℕ) → HoldsImage image (with_image image bytes)
-laid_holds image bytes i b held l =
-    search (rules, get_laid, length-laid)
+laid_holds image bytes i b held l = search (rules, get_laid, length-laid)
 
 pub and_from_blank : (b : ℕ) → b < 256 → bit_and 255 b ≡ b
 and_from_blank b l = and_comm 255 b ∙ (and_numeral b 254 refl ∙ mod-eq_of_lt l)
@@ -65,16 +53,9 @@ and_from_blank b l = and_comm 255 b ∙ (and_numeral b 254 refl ∙ mod-eq_of_lt
 
 pub bytes_same : (xs : List ℕ) → bytes_eq xs xs ≡ true
 bytes_same [] = refl
-bytes_same (x ∷ xs) = both (x == x) (bytes_eq xs xs) (eq-eqb x x refl) (bytes_same xs)
-  where
-    both : (a b : Bool) → a ≡ true → b ≡ true → (a && b) ≡ true
-    both true b e f = f
-    both false b e f = e
+bytes_same (x ∷ xs) = search rules
 
 -- it is taken, whether or not any is
 pub signature_taken : (signature : List ℕ) (force : Bool)
     → signature_judged signature force (Ok signature) ≡ Ok signature
-signature_taken signature true = refl
-signature_taken signature false = cond-true (bytes_eq signature signature) (Ok signature)
-    (Err (WrongSignature signature))
-    (bytes_same signature)
+signature_taken signature force = search rules

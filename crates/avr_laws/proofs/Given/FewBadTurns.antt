@@ -13,7 +13,7 @@ use Rattle.stk_host.specs.Bound.{AsksAtMost}
 use Rattle.stk_host.specs.Steps.{Reply, Data, Again, Stop, StepOutcome, reading_reply, with_data, exchange, attempt, tries, step, if_done, play}
 use Rattle.stk_host.proofs.Dialogs.Logic.{HoldsFrom, NoSays, OnReply, done, ask, bind, told, wider, attempts}
 use Rattle.stk_host.proofs.Dialogs.Questions.{step_most}
-use Rattle.stk_emu.specs.Turn.{Turn, Became, Kept, Anew, Instead, Ending, Right, Wrong, after_turn, turn_reading, first_turn, other_turns}
+use Rattle.stk_emu.specs.Turn.{Turn, Became, Anew, Instead, Ending, Right, Wrong, after_turn, turn_reading, first_turn, other_turns}
 use Rattle.stk_emu.specs.Programmer.{Programmer}
 use Rattle.stk_emu.specs.Device.{device}
 use Rattle.stk_emu.specs.Along.{along}
@@ -21,13 +21,13 @@ use Rattle.stk_emu.specs.Effect.{Memories}
 use Rattle.avr_laws.specs.Few.{bad, bad_became, bad_in, FewOf, AreFew, lost, each_second, AreGood}
 use Rattle.stk_emu.specs.Fits.{Fits}
 use Rattle.stk_emu.specs.Settled.{Ready, FitsPart}
-use Rattle.stk_emu.specs.PageWrites.{changed, changed_by, IsStep, Erases, ProgramsPage, ProgramsRun, ProgramsFuse, ProgramsLock, ReadsFlash, ReadsEeprom, ReadsFuse, ReadsLock, ReadsSignature, ReadsCalibration, AreSteps}
+use Rattle.stk_emu.specs.PageWrites.{changed, changed_by, IsStep, AreSteps}
 use Rattle.stk_emu.specs.Given.{on_data, reply_to, joined_reply, given_by, all_given}
 use Rattle.avr_laws.proofs.Hosts.AnyTurn.{AfterStep, try_goes}
 use Rattle.avr_laws.proofs.Hosts.OneLink.{Spot, this_link, Runs, on_link, both, where_done}
 use Rattle.stk_emu.proofs.Answers.Commands.{steady}
 use Rattle.avr_laws.proofs.PageWrites.Steps.{step_ready}
-use Rattle.avr_laws.proofs.PageWrites.OutsideMode.{gathered_steady, stop_no}
+use Rattle.avr_laws.proofs.PageWrites.OutsideMode.{gathered_steady}
 use Rattle.avr_laws.proofs.Given.StepsGive.{step_data, changed_sizes, given_same}
 
 -- ---- counting
@@ -35,16 +35,13 @@ use Rattle.avr_laws.proofs.Given.StepsGive.{step_data, changed_sizes, given_same
 pub more_bad : (n m : ℕ) (turns : List Turn) → n ≤ m → bad_in n turns ≤ bad_in m turns
 more_bad zero m turns le = omega arith
 more_bad (suc n) zero turns le = absurd (omega (arith, le))
-more_bad (suc n) (suc m) turns le = let more = more_bad n m (other_turns turns) (omega (arith, le)) in
-    omega (arith, more)
+more_bad (suc n) (suc m) turns le = search (rules, more_bad n m (other_turns turns) (omega (arith, le)))
 
 pub others_few : (turns : List Turn) → AreFew turns → AreFew (other_turns turns)
-others_few [] few = few
-others_few (turn ∷ turns) few = few.1
+others_few turns few = search rules
 
 in_seven : (turns : List Turn) → AreFew turns → bad_in 7 turns ≤ 3
-in_seven [] few = omega arith
-in_seven (turn ∷ turns) few = few.0
+in_seven turns few = search rules
 
 none_bad : (n : ℕ) (turns : List Turn) → AreGood turns → bad_in n turns ≡ 0
 none_bad zero turns good = refl
@@ -96,9 +93,6 @@ Tried size turns got then rest = (then ≡ Data got) ⊎ Spent size turns then r
 again_not : (fault : StepFault) (got : List ℕ) → Again fault ≡ Data got → ⊥
 again_not fault got e = cc
 
-stop_again : (a b : StepFault) → Stop a ≡ Again b → ⊥
-stop_again a b e = cc
-
 same_data : (a b : List ℕ) → Data a ≡ Data b → a ≡ b
 same_data a b e = cc
 
@@ -119,8 +113,7 @@ well size turns got then rest (inr s) = inr
 -- the frame that went wrong
 wrong : (size : ℕ) (turns : List Turn) (got : List ℕ) (fault : StepFault) → 1 ≤ bad (first_turn turns)
     → Tried (suc size) turns got (Again fault) (other_turns turns)
-wrong size turns got fault is = inr
-    (record { fault = fault; again = refl; place = 0; near = omega arith; went_wrong = is; behind_it = refl })
+wrong size turns got fault is = search rules
 
 -- Enough frames go well for one attempt and `more` others: at most one frame goes well between two that go wrong.
 record Clear (more : ℕ) (turns : List Turn) : Type 0 where
@@ -134,21 +127,13 @@ next_clear more turns is le =
     let e : suc more + suc more ≡ suc (suc (more + more)) = omega arith in
     let few : bad_in (suc more + suc more) rest ≤ more = omega (arith, is, le) in
     let few' : bad_in (suc (suc (more + more))) rest ≤ more = subst (λ n. bad_in n rest ≤ more) e few in
-    let less = more_bad (suc (more + more)) (suc (suc (more + more))) rest (omega arith) in
-    record { here = omega (arith, less, few'); next = omega (arith, few') }
+    let less = more_bad (suc (more + more)) (suc (suc (more + more))) rest (omega arith) in search rules
 
 clear_behind : (place more : ℕ) (turns rest : List Turn) → suc place ≤ 2 → rest ≡ other_turns (behind place turns)
     → 1 ≤ bad (first_turn (behind place turns)) → Clear (suc more) turns → Clear more rest
 clear_behind zero more turns rest le is wrong c = subst (Clear more) (sym is) (next_clear more turns wrong c.here)
-clear_behind (suc zero) more turns rest le is wrong c =
-    subst (Clear more) (sym is) (next_clear more (other_turns turns) wrong c.next)
+clear_behind (suc zero) more turns rest le is wrong c = search (rules, next_clear)
 clear_behind (suc (suc place)) more turns rest le is wrong c = absurd (omega (arith, le))
-
-none_wrong : (place : ℕ) (turns : List Turn) → suc place ≤ 2 → 1 ≤ bad (first_turn (behind place turns)) → Clear 0 turns
-    → ⊥
-none_wrong zero turns le wrong c = let h = c.here in omega (arith, h, wrong)
-none_wrong (suc zero) turns le wrong c = let h = c.next in omega (arith, h, wrong)
-none_wrong (suc (suc place)) turns le wrong c = omega (arith, le)
 
 -- ---- links that don't end, and over which the programmer never restarts
 
@@ -169,20 +154,13 @@ AreSteady [] = Unit {0}
 AreSteady (turn ∷ turns) = IsSteady turn × AreSteady turns
 
 first_steady : (turns : List Turn) → AreSteady turns → IsSteady (first_turn turns)
-first_steady [] s = tt
-first_steady (turn ∷ turns) s = s.0
+first_steady turns s = search rules
 
 others_steady : (turns : List Turn) → AreSteady turns → AreSteady (other_turns turns)
-others_steady [] s = s
-others_steady (turn ∷ turns) s = s.1
-
-some_bad : (became : Became) → 1 ≤ bad_became became
-some_bad Kept = omega arith
-some_bad became = omega arith
+others_steady turns s = search rules
 
 not_four : (turn : Turn) → bad turn ≤ 3 → IsSteady turn
-not_four Right le = tt
-not_four (Wrong became instead) le = search (rules, some_bad)
+not_four turn le = search rules
 
 -- if few turns go wrong, none restarts the programmer
 few_steady : (turns : List Turn) → AreFew turns → AreSteady turns
@@ -204,8 +182,7 @@ module _ (go_on : List ℕ → Dialog ⊥ Reply) (go : List ℕ → Reply) (size
       → on_data reply go ≡ Data got → Tries (suc size) turns got (with_data go_on reply) (q, other_turns turns)
   answered q (Data bytes) each has = wider (λ b y x. x) (λ e y x. x)
       (λ reply y x. (well size turns got reply y.1 x.0, x.1)) (each bytes has)
-  answered q (Again fault) each has = absurd (again_not fault got has)
-  answered q (Stop fault) each has = absurd (stop_no fault got has)
+  answered q reply each has = search rules
 
   by_turn : (turn : Turn) (command : Command) (p : Programmer) → bad (first_turn turns) ≡ bad turn → IsSteady turn
       → ((bytes : List ℕ) → go bytes ≡ Data got
@@ -214,11 +191,7 @@ module _ (go_on : List ℕ → Dialog ⊥ Reply) (go : List ℕ → Reply) (size
       → Tries (suc size) turns got
       (with_data go_on (reading_reply command (turn_reading turn (steady.answer (body command) p))))
       (after_turn turn (steady.after (body command) p) p steady.reset, other_turns turns)
-  by_turn Right command p is calm each has =
-      answered (steady.after (body command) p) (reply_to steady command p) each has
-  by_turn (Wrong became Ending) command p is calm each has = absurd calm.1
-  by_turn (Wrong became instead) command p is calm each has =
-      done (wrong size turns got _ (let some = some_bad became in omega (arith, is, some)), few)
+  by_turn turn command p is calm each has = search (rules, answered)
 
 -- an attempt whose commands would all have data: the data come, or a frame went wrong
 attempt_tried : (commands : List Command) (before : List ℕ) (z : Spot) (got : List ℕ) → AreFew z.1
@@ -249,10 +222,7 @@ module _ (Before After : Programmer → Type 0) (commands : List Command) (got :
   again : (more : ℕ) (place : ℕ) (turns : List Turn) (y : Spot) → suc place ≤ length commands
       → 1 ≤ bad (first_turn (behind place turns)) → y.1 ≡ other_turns (behind place turns) → Clear more turns
       → Before y.0 ⊎ After y.0 → AreFew y.1 → Begins more y
-  again zero place turns y near wrong is clear stood few =
-      none_wrong place turns (omega (arith, near, short)) wrong clear
-  again (suc more) place turns y near wrong is clear stood few =
-      (stood, (few, clear_behind place more turns y.1 (omega (arith, near, short)) is wrong clear))
+  again more place turns y near wrong is clear stood few = search (rules, clear_behind)
 
   after_try : (more : ℕ) (turns : List Turn) → Clear more turns → (reply : Reply) (y : Spot)
       → OnReply (λ q. Before q ⊎ After q) (AfterStep steady commands Before After fits) reply y.0
@@ -263,8 +233,7 @@ module _ (Before After : Programmer → Type 0) (commands : List Command) (got :
   after_try more turns clear (Again fault) y (stood, (inl is, few)) = absurd (again_not fault got is)
   after_try more turns clear (Again fault) y (stood, (inr s, few)) =
       again more s.place turns y s.near s.went_wrong s.behind_it clear stood few
-  after_try more turns clear (Stop fault) y (stood, (inl is, few)) = absurd (stop_no fault got is)
-  after_try more turns clear (Stop fault) y (stood, (inr s, few)) = absurd (stop_again fault s.fault s.again)
+  after_try more turns clear (Stop fault) y f' = search rules
 
   step_steady : (z : Spot) → Before z.0 → AreFew z.1 → Runs steady (λ y. ⊤) Whole (step commands) z
   step_steady z before few =
@@ -275,24 +244,13 @@ module _ (Before After : Programmer → Type 0) (commands : List Command) (got :
       (λ fault y none. absurd none) 4 NoAnswer z
       (inl before, (few, record { here = in_seven z.1 few; next = in_seven (other_turns z.1) (others_few z.1 few) }))
 
-same_after : {P : Type 0} (turn : Turn) (obeyed kept : P) (anew other : P → P) → IsSteady turn
-    → after_turn turn obeyed kept anew ≡ after_turn turn obeyed kept other
-same_after (Wrong (Anew became) instead) obeyed kept anew other s = absurd s.0
-same_after turn obeyed kept anew other s = refl
-
 -- over such turns no device restarts
 on_steady : {R : Type 0} (After : R → Spot → Type 0) (d : Dialog ⊥ R) (z : Spot) → AreSteady z.1
     → HoldsFrom (this_link steady) (λ bytes y. ⊤) NoSays After d z
     → HoldsFrom (this_link device) (λ bytes y. ⊤) NoSays After d z
 on_steady After (Done r) z s h = h
 on_steady After (Say e d) z s h = absurd e
-on_steady After (Ask bytes go_on) z s h = (
-  tt,
-  λ move. subst (λ q. HoldsFrom (this_link device) (λ bytes y. ⊤) NoSays After
-      (go_on (turn_reading (first_turn z.1) (device.answer bytes z.0))) (q, other_turns z.1))
-      (same_after (first_turn z.1) (device.after bytes z.0) z.0 (λ q. q) device.reset (first_steady z.1 s))
-      (on_steady After (go_on _) _ (others_steady z.1 s) (h.1 tt)),
-)
+on_steady After (Ask bytes go_on) z s h = search (rules, on_steady After (go_on _) _ (others_steady z.1 s) (h.1 tt))
 
 -- ---- calls over such a link
 
@@ -303,9 +261,7 @@ Few Before d r After = (z : Spot) → Before z.0 → AreFew z.1
 
 pub few_bind : {A B : Type 0} (next : A → Dialog ⊥ B) (a : A) (b : B) (Before Between After : Programmer → Type 0)
     (d : Dialog ⊥ A) → Few Before d a Between → Few Between (next a) b After → Few Before (d >>= next) b After
-few_bind next a b Before Between After d first more z before few = bind (first z before few)
-    (λ got y x. subst (λ o. Runs device (λ y. ⊤) (λ got y. ((got ≡ b) × After y.0) × AreFew y.1) (next o) y) (sym x.0.0)
-    (more y x.0.1 x.1))
+few_bind next a b Before Between After d first more z before few = search (rules, bind)
 
 -- the result of a call, reported in another form
 pub few_told : {A B : Type 0} (d : Dialog ⊥ A) (tell : A → B) (a : A) (Before After : Programmer → Type 0)
@@ -326,21 +282,8 @@ few_step commands got Before After fits short has z before few = record {
 -- ---- the steps of a host
 
 module _ (part : Part) (sound : IsPart part) where
-  short_as : (written commands : List Command) → commands ≡ written → length written ≤ 2 → length commands ≤ 2
-  short_as written commands e le = subst (λ cs. length cs ≤ 2) (sym e) le
-
   pub step_short : (commands : List Command) → IsStep part commands → length commands ≤ 2
-  step_short commands (Erases e) = short_as _ commands e (omega arith)
-  step_short commands (ProgramsPage number bytes is_page e) = short_as _ commands e (omega arith)
-  step_short commands (ProgramsRun address bytes is_run e) = short_as _ commands e (omega arith)
-  step_short commands (ProgramsFuse fuse v e) = short_as _ commands e (omega arith)
-  step_short commands (ProgramsLock v e) = short_as _ commands e (omega arith)
-  step_short commands (ReadsFlash start count is_block words e) = short_as _ commands e (omega arith)
-  step_short commands (ReadsEeprom start count is_block e) = short_as _ commands e (omega arith)
-  step_short commands (ReadsFuse fuse e) = short_as _ commands e (omega arith)
-  step_short commands (ReadsLock e) = short_as _ commands e (omega arith)
-  step_short commands (ReadsSignature place few e) = short_as _ commands e (omega arith)
-  step_short commands (ReadsCalibration e) = short_as _ commands e (omega arith)
+  step_short commands b' = search rules
 
   -- all commands of one attempt have their data, whether or not the step was already done
   data_either : (commands : List Command) (m : Memories) → IsStep part commands → FitsPart part m → (q : Programmer)
@@ -352,9 +295,7 @@ module _ (part : Part) (sound : IsPart part) where
 
   few_one : (commands : List Command) (m : Memories) → IsStep part commands → FitsPart part m
       → Few (Ready part m) (step commands) (Ok (given_by part commands m)) (Ready part (changed part commands m))
-  few_one commands m is f =
-      few_step commands (given_by part commands m) (Ready part m) (Ready part (changed part commands m))
-      (step_ready part sound commands m is) (step_short commands is) (data_either commands m is f)
+  few_one commands m is f = search (rules, few_step, step_ready, step_short, data_either)
 
   -- a step gives its data, in at most eight questions
   pub step_comes : (commands : List Command) (m : Memories) (k : ℕ) (p : Programmer) (turns : List Turn)

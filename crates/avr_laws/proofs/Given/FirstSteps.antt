@@ -1,5 +1,5 @@
 -- A programmer in any state, and runs of steps from a settled one.
-use Rattle.std.proofs.Common.{ℕ, List, [], ◌∷◌, refl, rules}
+use Rattle.std.proofs.Common.{ℕ, List, [], ◌∷◌, rules}
 use Rattle.avr_part.specs.State as chip
 use Rattle.avr_part.specs.Sound.{IsSoundChip}
 use Rattle.avr_part.specs.Part.{Part, IsPart}
@@ -17,12 +17,7 @@ use Rattle.avr_laws.proofs.PageWrites.Conditions.{play_climbs}
 use Rattle.avr_laws.proofs.PageWrites.OutsideMode.{all_fit}
 
 pub sound_idle : (p : Programmer) → IsSoundChip p.chip → Idle p.chip.part (memories_of p.chip) p
-sound_idle p sound = record {
-  memories = refl;
-  part_is = refl;
-  flash_buffer = sound.flash_buffer_size;
-  eeprom_buffer = sound.eeprom_buffer_size;
-}
+sound_idle p sound = search rules
 
 pub sound_fits : (s : chip.ChipState) → IsSoundChip s → FitsPart s.part (memories_of s)
 sound_fits s sound = record { flash = sound.flash_size; eeprom = sound.eeprom_size; bytes = sound.flash }
@@ -37,5 +32,4 @@ pub steps_climb : (part : Part) (steps : List (List Command)) (m : Memories) (k 
     → IsPart part → AreSteps part steps → Settled part m p
     → Climbs device (λ j. Settled part (changed_by part j steps m)) k steps p turns
     (along device k (play steps before) p turns)
-steps_climb part steps m k before p turns sound are s =
-    search (rules, play_climbs, are_some, all_fit)
+steps_climb part steps m k before p turns sound are s = search (rules, play_climbs, are_some, all_fit)

@@ -7,8 +7,8 @@ use Rattle.std.specs.List.{concat}
 use Rattle.std.specs.Prelude.{nat_le as leb}
 use Rattle.stk_frame.specs.Cut.{cut, rest, body_of}
 use Rattle.stk_frame.proofs.Cuts.{cut_append, cut_joined}
-use Rattle.stk_host.specs.declared.link.Item.TheVariants.{Byte, Silence, End}
-use Rattle.stk_host.specs.Tape.{Tape, on_tape, bytes_in, answer, read_to, silence_or_end, first_answer, is_answer, further, limit, Reading, Answered, Babbled}
+use Rattle.stk_host.specs.declared.link.Item.TheVariants.{Byte}
+use Rattle.stk_host.specs.Tape.{Tape, on_tape, bytes_in, answer, read_to, silence_or_end, first_answer, is_answer, further, limit, Reading, Babbled}
 use Rattle.stk_host.proofs.Tapes.Answers.{answer_silent, answer_ended, first_answer_stays, drop_tape, answer_by}
 
 -- a tape is its bytes, and then no byte
@@ -20,8 +20,7 @@ pub record Split (tape : Tape) : Type 0 where
 split : (tape : Tape) → Split tape
 split [] = record { tail = []; is = refl; stops = refl }
 split (Byte b ∷ tape) = let s = split tape in record { tail = s.tail; is = ap (λ t. Byte b ∷ t) s.is; stops = s.stops }
-split (Silence ∷ tape) = record { tail = Silence ∷ tape; is = refl; stops = refl }
-split (End ∷ tape) = record { tail = End ∷ tape; is = refl; stops = refl }
+split tape = search rules
 
 bytes_more : (t u : Tape) → (z : List ℕ) × (bytes_in (t ++ u) ≡ bytes_in t ++ z)
 bytes_more [] u = (bytes_in u, refl)
@@ -44,9 +43,7 @@ bytes_few t = omega arith
 
 further_used : (a n : ℕ) (o : Option (List ℕ × ℕ)) (body : List ℕ) (used : ℕ) → further a o ≡ Some (body, used)
     → ((b : List ℕ) (k : ℕ) → o ≡ Some (b, k) → k ≤ n) → used ≤ a + n
-further_used a n None body used e each = absurd (none-some (body, used) e)
-further_used a n (Some (b, k)) body used e each =
-    search rules
+further_used a n o body used e each = search rules
 
 pub used_within : (seq : ℕ) (pieces : List (List ℕ)) (body : List ℕ) (used : ℕ)
     → first_answer seq pieces ≡ Some (body, used) → used ≤ length (concat pieces)
@@ -70,27 +67,17 @@ used_few : (seq : ℕ) (x body : List ℕ) (used : ℕ) → first_answer seq (cu
 used_few seq x body used e =
     let joined : length (concat (cut x)) + length (rest x) ≡ length x =
     sym (length-append (concat (cut x)) (rest x)) ∙ ap length (cut_joined x) in
-    let few = used_within seq (cut x) body used e in
-    omega arith
+    let few = used_within seq (cut x) body used e in search rules
 
 -- an answer that is given, by cases
 some_tape : (a b : Reading) (s t : Tape) → ◌≡◌ {A = Option (Reading × Tape)} (Some (a, s)) (Some (b, t))
     → (a ≡ b) × (s ≡ t)
-some_tape a b s t e =
-    search rules
-
-cons_nil : (b : ℕ) (bs : List ℕ) → b ∷ bs ≡ [] → ⊥
-cons_nil b bs e = cc
+some_tape a b s t e = search rules
 
 stops_more : (seq : ℕ) (b : List ℕ) (tail u : Tape) (reading : Reading) (left : Tape) → bytes_in tail ≡ []
     → first_answer seq (cut b) ≡ None → length b < limit → silence_or_end tail ≡ Some (reading, left)
     → answer seq ((on_tape b ++ tail) ++ u) ≡ Some (reading, left ++ u)
-stops_more seq b [] u reading left stops none few e = absurd (none-some (reading, left) e)
-stops_more seq b (Byte c ∷ tail) u reading left stops none few e = absurd (cons_nil c (bytes_in tail) stops)
-stops_more seq b (Silence ∷ tail) u reading left stops none few e =
-    search (rules, some_tape, append_assoc, answer_silent)
-stops_more seq b (End ∷ tail) u reading left stops none few e =
-    search (rules, some_tape, append_assoc, answer_ended)
+stops_more seq b tail u reading left stops none few e = search (rules, append_assoc, answer_silent, answer_ended)
 
 given_more : (seq : ℕ) (t u : Tape) (o : Option (List ℕ × ℕ)) (reading : Reading) (left : Tape)
     → first_answer seq (cut (take limit (bytes_in t))) ≡ o
@@ -103,7 +90,6 @@ given_more seq t u (Some (body, used)) reading left found e =
     let a : used ≤ length x = used_few seq x body used found in
     let b : length x ≤ length (bytes_in t) = simp length-take (omega arith) in
     let c : length (bytes_in t) ≤ length t = bytes_few t in
-    let f = some_tape (Answered body) reading (drop used t) left e in
     answer_by seq (t ++ u) (x ++ y.0) bytes
     ∙ (ap (λ o. read_to o (x ++ y.0) (t ++ u))
     (ap (first_answer seq) (cut_append x y.0)
@@ -120,7 +106,7 @@ given_more seq t u None reading left none e =
           let bytes : take limit (bytes_in (t ++ u)) ≡ x =
           ap (take limit) z.1 ∙ take-append-le limit (bytes_in t) z.0 (omega arith) in
           let f = some_tape Babbled reading (drop limit t) left
-          (search (rules, cond-true)) in
+          (search rules) in
           answer_by seq (t ++ u) x bytes
           ∙ (ap (λ o. read_to o x (t ++ u)) none
           ∙ (cond-true (leb limit (length x)) (Some (Babbled, drop limit (t ++ u)))
@@ -132,7 +118,7 @@ given_more seq t u None reading left none e =
           let same : x ≡ bytes_in t = take_all limit (bytes_in t) (omega arith) in
           let s = split t in
           let stop : silence_or_end (drop (length x) t) ≡ Some (reading, left) =
-          search (rules, cond-false) in
+          search rules in
           let at : drop (length x) t ≡ s.tail = search (rules, drop_tape) in
           ap (λ w. answer seq (w ++ u)) s.is
           ∙ stops_more seq (bytes_in t) s.tail u reading left s.stops

@@ -1,15 +1,12 @@
 -- What each step gives from a settled programmer: nothing, or the bytes of the memories.
-use Rattle.std.proofs.Common.{◌≡◌, ℕ, ◌+◌, ◌*◌, ◌/◌, ◌%◌, ◌≤◌, ◌<◌, List, [], ◌∷◌, ◌++◌, length, take, drop, refl, sym, ap, ◌∙◌, subst, arith, inl, inr, ◌⊎◌, true, false, cond, Ok, drop-cons, length-append, rules}
-use Rattle.std.proofs.lemmas.Bool.{ne_eqb, eq-eqb, ltb-false, cond-true, cond-false}
+use Rattle.std.proofs.Common.{◌≡◌, ℕ, ◌+◌, ◌*◌, ◌/◌, ◌%◌, ◌≤◌, ◌<◌, List, [], ◌∷◌, length, take, drop, ap, ◌∙◌, arith, inl, inr, ◌⊎◌, true, false, cond, drop-cons, length-append, rules}
+use Rattle.std.proofs.lemmas.Bool.{ne_eqb, eq-eqb, ltb-false, cond-true}
 use Rattle.std.proofs.lemmas.List.{length-take, length-drop, get_or-append_right, take-append-le, take_all}
-use Rattle.std.proofs.Math.Nat.{mod-eq_of_lt}
 use Rattle.avr_part.specs.declared.part.Mem.TheVariants.{Flash, Eeprom}
 use Rattle.avr_part.specs.Part.{Part, IsPart}
-use Rattle.stk_frame.specs.declared.answer.Shape.TheVariants.{Closed}
 use Rattle.stk_frame.specs.declared.command.Command.{Command}
 use Rattle.stk_frame.specs.declared.host_command.Fuse.{Fuse}
-use Rattle.stk_frame.specs.declared.host_command.Fuse.TheVariants.{Low, High, Extended}
-use Rattle.stk_frame.specs.Commands.{body, data_of}
+use Rattle.stk_frame.specs.Commands.{body}
 use Rattle.stk_frame.specs.HostCommands.{program_page, program_eeprom_block, program_fuse, read_flash_block, read_eeprom_block, read_fuse, read_lock, read_signature, read_calibration}
 use Rattle.stk_host.specs.Tape.{Answered}
 use Rattle.stk_host.specs.Places.{flash_address, load_flash, load_eeprom}
@@ -26,7 +23,6 @@ use Rattle.stk_emu.proofs.Answers.Commands.{settled_ready}
 use Rattle.stk_emu.proofs.Memories.Pages.{is_wide, flash_loaded_at, flash_address_back}
 use Rattle.stk_emu.proofs.Memories.Runs.{narrow_loaded}
 use Rattle.stk_emu.proofs.Memories.BlocksRead.{Looked, flash_looked, eeprom_looked}
-use Rattle.avr_laws.proofs.Given.ReadAnswers.{flash_block}
 use Rattle.avr_laws.proofs.PageWrites.Steps.{address_fits}
 use Rattle.avr_laws.proofs.PageWrites.OutsideMode.{in_mode_by_data, load_reply}
 use Rattle.avr_laws.proofs.PageWrites.Items.{effect_sizes, flash_even}
@@ -38,33 +34,26 @@ module _ {P : Type 0} (m : Device P) where
 
   two_gathered : (c d : Command) (p : P) (bytes : List ℕ) → reply_to m c p ≡ Data []
       → reply_to m d (m.after (body c) p) ≡ Data bytes → joined_reply m (c ∷ d ∷ []) [] p ≡ Data bytes
-  two_gathered c d p bytes e f =
-      search rules
+  two_gathered c d p bytes e f = search rules
 
 in_mode_reply : (c : Command) (p : Programmer) (x y : programmer.Response) → p.mode ≡ true
     → reading_reply c (Answered (cond p.mode x y).0) ≡ reading_reply c (Answered x.0)
 in_mode_reply c p x y e = ap (λ (z : programmer.Response). reading_reply c (Answered z.0)) (cond-true p.mode x y e)
 
--- data with a good status behind them
-closed_data : (n : ℕ) (bytes : List ℕ) → length bytes ≡ n → data_of (Closed n) (bytes ++ 0 ∷ []) ≡ Ok bytes
-closed_data n bytes len =
-    search (rules, length-append, get_or-append_right, take-append-le, take_all, cond-true, eq-eqb)
-
 fuse_reply : (f : Fuse) (v : ℕ) (p : Programmer) → p.mode ≡ true → reply_to device (program_fuse f v) p ≡ Data []
-fuse_reply Low v p e = in_mode_reply (program_fuse Low v) p _ _ e
-fuse_reply f v p e = in_mode_reply (program_fuse f v) p _ _ e
+fuse_reply f v p e = search rules
 
 flash_read_reply : (count : ℕ) (bytes : List ℕ) (p : Programmer) → p.mode ≡ true → 0 < count → count % 2 ≡ 0
     → count ≤ 256 → (flash_looks p.wide 0x20 p.address 0 count p.chip).0 ≡ bytes → length bytes ≡ count
     → reply_to device (read_flash_block count) p ≡ Data bytes
 flash_read_reply count bytes p mode some even few is len =
-    search (rules, flash_block, closed_data)
+    search (rules, length-append, get_or-append_right, take-append-le, take_all, eq-eqb)
 
 eeprom_read_reply : (count : ℕ) (bytes : List ℕ) (p : Programmer) → p.mode ≡ true → 0 < count → count ≤ 256
     → (eeprom_looks 0xA0 p.address 0 count p.chip).0 ≡ bytes → length bytes ≡ count
     → reply_to device (read_eeprom_block count) p ≡ Data bytes
 eeprom_read_reply count bytes p mode some few is len =
-    search (rules, closed_data)
+    search (rules, length-append, get_or-append_right, take-append-le, take_all)
 
 module _ (part : Part) (sound : IsPart part) where
   block_length : (start count size : ℕ) (xs : List ℕ) → length xs ≡ size → start + count ≤ size
@@ -76,7 +65,6 @@ module _ (part : Part) (sound : IsPart part) where
       → joined_reply device (load_flash part start ∷ read_flash_block count ∷ []) [] p
       ≡ Data (given_by part (load_flash part start ∷ read_flash_block count ∷ []) m)
   flash_given start count m p is_block words f s =
-      let inside = is_block.inside in
       let most = sound.flash_most in
       let few : start < 4294967296 = omega arith in
       let halves : start / 2 * 2 + 0 ≡ start = let e = words.start_even in omega arith in
@@ -117,20 +105,13 @@ module _ (part : Part) (sound : IsPart part) where
       ∙ eeprom_read_reply count bytes q s.mode is_block.some is_block.few is
       (block_length start count part.eeprom_size m.eeprom f.eeprom inside))
 
-  fuse_given : (f : Fuse) (m : Memories) (p : Programmer) → Ready part m p
-      → reply_to device (read_fuse f) p ≡ Data (given_by part (read_fuse f ∷ []) m)
-  fuse_given Low m p s = search (rules, in_mode_reply)
-  fuse_given High m p s = search (rules, in_mode_reply)
-  fuse_given Extended m p s = search (rules, in_mode_reply)
-
   lock_given : (m : Memories) (p : Programmer) → Ready part m p
       → reply_to device read_lock p ≡ Data (given_by part (read_lock ∷ []) m)
   lock_given m p s = in_mode_reply read_lock p _ _ s.mode ∙ ap (λ (x : Memories). Data (x.lock ∷ [])) s.memories
 
   signature_given : (place : ℕ) (m : Memories) (p : Programmer) → place < 3 → Ready part m p
       → reply_to device (read_signature place) p ≡ Data (given_by part (read_signature place ∷ []) m)
-  signature_given place m p few s =
-      search (rules, mod-eq_of_lt, in_mode_reply, cond-false, ne_eqb, drop-cons)
+  signature_given place m p few s = search (rules, ne_eqb, drop-cons)
 
   calibration_given : (m : Memories) (p : Programmer) → Ready part m p
       → reply_to device read_calibration p ≡ Data (given_by part (read_calibration ∷ []) m)
@@ -140,23 +121,20 @@ module _ (part : Part) (sound : IsPart part) where
   as_written : (written commands : List Command) (m : Memories) (p : Programmer) → commands ≡ written
       → joined_reply device written [] p ≡ Data (given_by part written m)
       → joined_reply device commands [] p ≡ Data (given_by part commands m)
-  as_written written commands m p e given =
-      subst (λ cs. joined_reply device cs [] p ≡ Data (given_by part cs m)) (sym e) given
+  as_written written commands m p e given = search rules
 
   page_given : (number : ℕ) (bytes : List ℕ) (m : Memories) (p : Programmer) → IsPage part number bytes → Ready part m p
       → joined_reply device (load_flash part (number * part.flash_page) ∷ program_page bytes ∷ []) [] p ≡ Data []
-  page_given number bytes m p is_page s =
-      search (rules, page_most, address_fits, two_gathered, load_reply)
+  page_given number bytes m p is_page s = search (rules, page_most)
 
   run_given : (address : ℕ) (bytes : List ℕ) (m : Memories) (p : Programmer) → FitsEepromPage part address bytes
       → Ready part m p → joined_reply device (load_eeprom address ∷ program_eeprom_block bytes ∷ []) [] p ≡ Data []
-  run_given address bytes m p is_run s =
-      search (rules, two_gathered, load_reply)
+  run_given address bytes m p is_run s = search rules
 
   -- all commands of a step, each obeyed and answered
   pub step_data : (commands : List Command) (m : Memories) (p : Programmer) → IsStep part commands → FitsPart part m
       → Ready part m p → joined_reply device commands [] p ≡ Data (given_by part commands m)
-  step_data commands m p (Erases e) f s = search (rules, as_written, one_gathered, in_mode_reply)
+  step_data commands m p (Erases e) f s = search rules
   step_data commands m p (ProgramsPage number bytes is_page e) f s =
       as_written _ commands m p e (page_given number bytes m p is_page s)
   step_data commands m p (ProgramsRun address bytes is_run e) f s =
@@ -169,14 +147,12 @@ module _ (part : Part) (sound : IsPart part) where
       as_written _ commands m p e (flash_given start count m p is_block words f s)
   step_data commands m p (ReadsEeprom start count is_block e) f s =
       as_written _ commands m p e (eeprom_given start count m p is_block f s)
-  step_data commands m p (ReadsFuse fuse e) f s =
-      as_written _ commands m p e (one_gathered device (read_fuse fuse) p _ (fuse_given fuse m p s))
+  step_data commands m p (ReadsFuse fuse e) f s = search rules
   step_data commands m p (ReadsLock e) f s =
       as_written _ commands m p e (one_gathered device read_lock p _ (lock_given m p s))
   step_data commands m p (ReadsSignature place few e) f s =
       as_written _ commands m p e (one_gathered device (read_signature place) p _ (signature_given place m p few s))
-  step_data commands m p (ReadsCalibration e) f s =
-      as_written _ commands m p e (one_gathered device read_calibration p _ (calibration_given m p s))
+  step_data commands m p (ReadsCalibration e) f s = search (rules, as_written, one_gathered, calibration_given)
 
 -- a step keeps the sizes of the memories
 changed_sizes_by : (part : Part) (items : List Item) (m : Memories) → IsPart part → FitsPart part m
@@ -190,51 +166,20 @@ pub changed_sizes : (part : Part) (commands : List Command) (m : Memories) → I
 changed_sizes part commands m sound f = changed_sizes_by part (page_write_of commands) m sound f
 
 module _ (part : Part) (sound : IsPart part) where
-  -- a step that writes gives nothing, and one that reads changes nothing
-  same_as : (written commands : List Command) (m : Memories) → commands ≡ written
-      → given_by part written (changed part written m) ≡ given_by part written m
-      → given_by part commands (changed part commands m) ≡ given_by part commands m
-  same_as written commands m e same = search rules
-
-  fuse_same : (f : Fuse) (m : Memories) → given_by part (read_fuse f ∷ []) (changed part (read_fuse f ∷ []) m)
-      ≡ given_by part (read_fuse f ∷ []) m
-  fuse_same Low m = refl
-  fuse_same f m = refl
-
-  fuse_none : (f : Fuse) (v : ℕ) (m : Memories)
-      → given_by part (program_fuse f v ∷ []) (changed part (program_fuse f v ∷ []) m)
-      ≡ given_by part (program_fuse f v ∷ []) m
-  fuse_none Low v m = refl
-  fuse_none f v m = refl
-
   pub given_same : (commands : List Command) (m : Memories) → IsStep part commands
       → given_by part commands (changed part commands m) ≡ given_by part commands m
-  given_same commands m (Erases e) = same_as _ commands m e refl
-  given_same commands m (ProgramsPage number bytes is_page e) = same_as _ commands m e refl
-  given_same commands m (ProgramsRun address bytes is_run e) = same_as _ commands m e refl
-  given_same commands m (ProgramsFuse fuse v e) = same_as _ commands m e (fuse_none fuse v m)
-  given_same commands m (ProgramsLock v e) = same_as _ commands m e refl
-  given_same commands m (ReadsFlash start count is_block words e) = same_as _ commands m e refl
-  given_same commands m (ReadsEeprom start count is_block e) = same_as _ commands m e refl
-  given_same commands m (ReadsFuse fuse e) = same_as _ commands m e (fuse_same fuse m)
-  given_same commands m (ReadsLock e) = same_as _ commands m e refl
-  given_same commands m (ReadsSignature place few e) = same_as _ commands m e refl
-  given_same commands m (ReadsCalibration e) = same_as _ commands m e refl
-
-  same_data : (a b : List ℕ) → Data a ≡ Data b → a ≡ b
-  same_data a b e = cc
+  given_same commands m c' = search rules
 
   -- an attempt under either condition gives what the memories hold
   pub gives_given : (commands : List Command) (m : Memories) (got : List ℕ) → IsStep part commands → FitsPart part m
       → Gives device commands (Settled part m) (Settled part (changed part commands m)) got
       → got ≡ given_by part commands m
-  gives_given commands m got is f g = same_data got (given_by part commands m)
-      (sym g.is ∙ from_either g.from g.stood g.is)
+  gives_given commands m got is f g = search (rules, from_either)
     where
       from_either : (q : Programmer) → Settled part m q ⊎ Settled part (changed part commands m) q
           → joined_reply device commands [] q ≡ Data got
           → joined_reply device commands [] q ≡ Data (given_by part commands m)
-      from_either q (inl t) has = search (rules, step_data, settled_ready, in_mode_by_data)
+      from_either q (inl t) has = search (rules, step_data, in_mode_by_data)
       from_either q (inr t) has =
           step_data part sound commands (changed part commands m) q is (changed_sizes part commands m sound f)
           (settled_ready part (changed part commands m) q (in_mode_by_data part sound commands q got is has) t)

@@ -1,9 +1,10 @@
 -- What all blocks of a memory give.
-use Rattle.std.proofs.Common.{◌≡◌, ℕ, zero, suc, ◌+◌, ◌-◌, ◌*◌, ◌%◌, ◌<◌, List, [], ◌∷◌, ◌++◌, length, take, drop, refl, sym, ap, ◌∙◌, arith, rules}
+use Rattle.std.proofs.lemmas.Grind.{common_steps}
+use Rattle.std.proofs.Common.{◌≡◌, ℕ, zero, suc, ◌+◌, ◌-◌, ◌*◌, ◌%◌, ◌<◌, List, [], ◌++◌, length, take, drop, sym, ap, ◌∙◌, arith, rules}
 use Rattle.std.proofs.lemmas.List.{drop_all, length-drop, take-append-drop, take_min, drop-drop}
 use Rattle.std.specs.Prelude.{min}
 use Rattle.avr_part.specs.declared.part.Mem.{Mem}
-use Rattle.avr_part.specs.declared.part.Mem.TheVariants.{Flash, Eeprom, Signature}
+use Rattle.avr_part.specs.declared.part.Mem.TheVariants.{Flash, Eeprom}
 use Rattle.avr_part.specs.Part.{Part, IsPart}
 use Rattle.stk_host.specs.Places.{each_from}
 use Rattle.stk_host.specs.ReadSteps.{read_count, read_step, read_steps}
@@ -24,8 +25,7 @@ block_join xs start size long =
 
 pub one_by_one : (xs : List ℕ) → length xs ≡ 3
     → take 1 (drop 0 xs) ++ (take 1 (drop 1 xs) ++ (take 1 (drop 2 xs) ++ [])) ≡ xs
-one_by_one (a ∷ b ∷ c ∷ []) e = refl
-one_by_one xs e = absurd (omega arith)
+one_by_one xs e = grind (arith, common_steps)
 
 module _ (part : Part) (sound : IsPart part) (m : Memories) (f : FitsPart part m) where
   flash_blocks : (n k : ℕ) → n + k ≡ read_count part Flash
@@ -36,28 +36,15 @@ module _ (part : Part) (sound : IsPart part) (m : Memories) (f : FitsPart part m
       let few : n * 256 < 4294967296 = omega (arith, e) in
       let even : n * 256 % 2 ≡ 0 = omega arith in
       let next : (n + 1) * 256 ≡ n * 256 + 256 = omega arith in
-      search (
-        rules,
-        block_join,
-        flash_blocks (n + 1) k (let g : n + 1 + k ≡ n + suc k = omega arith in g ∙ e)
-            ∙ ap (λ j. drop j m.flash) next,
-      )
+      search (rules, block_join, flash_blocks (n + 1) k (let g : n + 1 + k ≡ n + suc k = omega arith in g ∙ e))
 
   eeprom_blocks : (n k : ℕ) → n + k ≡ read_count part Eeprom
       → all_given part (each_from (read_step part Eeprom) n k) m ≡ drop (n * 256) m.eeprom
   eeprom_blocks n zero e = let long = f.eeprom in sym (drop_all (n * 256) m.eeprom (omega (arith, e, long)))
   eeprom_blocks n (suc k) e =
       let next : (n + 1) * 256 ≡ n * 256 + 256 = omega arith in
-      search (
-        rules,
-        block_join,
-        eeprom_blocks (n + 1) k (let g : n + 1 + k ≡ n + suc k = omega arith in g ∙ e) ∙ ap (λ
-            j. drop j m.eeprom) next,
-      )
+      search (rules, block_join, eeprom_blocks (n + 1) k (let g : n + 1 + k ≡ n + suc k = omega arith in g ∙ e))
 
   -- all blocks of a memory are the memory
   pub read_gives : (mem : Mem) → all_given part (read_steps part mem) m ≡ memory_in part mem m
-  read_gives Flash = flash_blocks 0 (read_count part Flash) (omega arith)
-  read_gives Eeprom = eeprom_blocks 0 (read_count part Eeprom) (omega arith)
-  read_gives Signature = one_by_one part.signature sound.signature
-  read_gives mem = refl
+  read_gives mem = grind (arith, common_steps, flash_blocks, eeprom_blocks)

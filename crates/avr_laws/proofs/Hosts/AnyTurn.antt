@@ -1,14 +1,14 @@
 -- A device behind a line that may make any turn at any question, in the logic of dialogs: attempts and steps of a host.
-use Rattle.std.proofs.Common.{◌≡◌, ℕ, zero, suc, List, [], ◌∷◌, ◌++◌, length, refl, subst, ◌⊎◌, inl, inr, Ok, Err, rules}
+use Rattle.std.proofs.Common.{◌≡◌, ℕ, zero, suc, List, [], ◌∷◌, ◌++◌, length, refl, ◌⊎◌, inl, inr, Ok, Err, rules}
 use Rattle.stk_frame.specs.declared.command.Command.{Command}
 use Rattle.stk_frame.specs.Commands.{body}
 use Rattle.stk_host.specs.declared.fault.StepFault.{StepFault}
 use Rattle.stk_host.specs.declared.fault.StepFault.TheVariants.{NoAnswer}
 use Rattle.stk_host.specs.Tape.{Reading}
 use Rattle.stk_host.specs.Dialog.{Dialog, Done, Say, Ask}
-use Rattle.stk_host.specs.Steps.{Reply, Data, Again, Stop, reading_reply, with_data, exchange, attempt, StepOutcome, step}
+use Rattle.stk_host.specs.Steps.{Reply, Data, reading_reply, with_data, exchange, attempt, StepOutcome, step}
 use Rattle.stk_host.proofs.Dialogs.Logic.{World, HoldsFrom, Upholds, NoSays, OnReply, OnOutcome, done, ask, wider, attempts}
-use Rattle.stk_emu.specs.Turn.{Turn, Became, Kept, Obeyed, Anew, Ending, Right, Wrong}
+use Rattle.stk_emu.specs.Turn.{Turn, Became, Kept, Obeyed, Anew}
 use Rattle.stk_emu.specs.Turn.{after_became, after_turn, turn_reading, first_turn, other_turns}
 use Rattle.stk_emu.specs.Device.{Device}
 use Rattle.stk_emu.specs.Along.{along}
@@ -38,8 +38,7 @@ module _ {P : Type 0} (m : Device P) where
         → HoldsFrom (any_turn m) (λ bytes q. During q) Says After d p
         → During (along m k d p turns).programmer
         × ((r : R) → (along m k d p turns).dialog ≡ Done r → After' r (along m k d p turns).programmer)
-    led (Done a) k p turns h =
-        ((at_end a p h).0, λ r e. subst (λ x. After' x p) (done_is a r e) (at_end a p h).1)
+    led (Done a) k p turns h = search (rules, done_is)
     led (Say e d) k p turns h = led d k p turns h.1
     led (Ask bytes go_on) zero p turns h = (h.0, λ r e. absurd (asks≢done bytes go_on r e))
     led (Ask bytes go_on) (suc k) p turns h = led (go_on _) k _ (other_turns turns) (h.1 (first_turn turns))
@@ -67,9 +66,7 @@ module _ {P : Type 0} (m : Device P) where
         (All : List ℕ → Type 0) → Stands q
         → ((bytes : List ℕ) → ((got : List ℕ) → joined bytes ≡ Data got → All got) → Tries (go_on bytes) q)
         → ((got : List ℕ) → on_data reply joined ≡ Data got → All got) → Tries (with_data go_on reply) q
-    answered (Data bytes) joined go_on q All stands each whole = each bytes whole
-    answered (Again fault) joined go_on q All stands each whole = done stands
-    answered (Stop fault) joined go_on q All stands each whole = done (failed fault q stands)
+    answered reply joined go_on q All stands each whole = search rules
 
     lost : (became : Became) (obeyed p : P) → Stands obeyed → Stands p → Stands (after_became became obeyed p m.reset)
     lost Kept obeyed p o s = s
@@ -81,9 +78,7 @@ module _ {P : Type 0} (m : Device P) where
         → Tries (with_data go_on (reply_to m command p)) (m.after (body command) p)
         → Tries (with_data go_on (reading_reply command (turn_reading turn (m.answer (body command) p))))
         (after_turn turn (m.after (body command) p) p m.reset)
-    by_turn Right command go_on p o s right = right
-    by_turn (Wrong became Ending) command go_on p o s right = done (failed _ _ (lost became _ p o s))
-    by_turn (Wrong became instead) command go_on p o s right = done (lost became _ p o s)
+    by_turn turn command go_on p o s right = search (rules, lost)
 
     attempt_goes : (commands : List Command) (before : List ℕ) (p : P)
         → ((i : ℕ) → Stands (after_commands m i commands p))
@@ -109,8 +104,7 @@ module _ {P : Type 0} (m : Device P) where
     AfterStep (Err fault) q = Either q
 
     anew : (q : P) → Either q → Either (m.reset q)
-    anew q (inl b) = inl (fits.anew q b)
-    anew q (inr a) = inr (fits.anew_again q a)
+    anew q b' = search rules
 
     prefixes : (q : P) → Either q → (i : ℕ) → Either (after_commands m i commands q)
     prefixes q (inl b) i = fits.prefix q i b
@@ -122,8 +116,7 @@ module _ {P : Type 0} (m : Device P) where
     wholes q (inr a) got has = fits.again q (length commands) a
 
     pub try_goes : (p : P) → Either p → Keeps Either (OnReply Either AfterStep) (attempt commands []) p
-    try_goes p stood =
-        search (rules, attempt_goes, anew, prefixes, wholes)
+    try_goes p stood = search (rules, attempt_goes, anew, prefixes, wholes)
 
     step_goes : (p : P) → Before p → Keeps Either AfterStep (step commands) p
     step_goes p before =
@@ -134,8 +127,7 @@ module _ {P : Type 0} (m : Device P) where
     pub step_leads : (During : P → Type 0) (Whole : StepOutcome → P → Type 0) (p : P) → ((q : P) → Before q → During q)
         → ((q : P) → After q → During q) → ((fault : StepFault) (q : P) → During q → Whole (Err fault) q) → Before p
         → Keeps During (OnOutcome (λ got q. After q × Gives m commands Before After got) Whole) (step commands) p
-    step_leads During Whole p from to failed before =
-        search (rules, wider, step_goes)
+    step_leads During Whole p from to failed before = search (rules, wider, step_goes)
 
     -- along each link
     pub step_along : (p : P) (turns : List Turn) → Before p → Leads m (step commands) p turns Either AfterStep

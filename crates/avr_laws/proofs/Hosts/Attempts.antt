@@ -29,10 +29,6 @@ along_bind m k (Say e d) next p turns = along_bind m k d next p turns
 along_bind m zero (Ask bytes go_on) next p turns = refl
 along_bind m (suc k) (Ask bytes go_on) next p turns = along_bind m k (go_on _) next _ (other_turns turns)
 
-pub err≢ok : (fault : StepFault) (bytes : List ℕ) → ◌≡◌ {A = Dialog ⊥ StepOutcome} (Done (Err fault)) (Done (Ok bytes))
-    → ⊥
-err≢ok fault bytes e = cc
-
 -- After a step either condition holds; if it was completed, the second.
 pub record Stepped {P : Type 0} (m : Device P) (Before After : P → Type 0) (s : LineState ⊥ StepOutcome P) : Type
     0 where

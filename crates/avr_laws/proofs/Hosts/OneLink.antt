@@ -1,5 +1,5 @@
 -- Calls over one link, in the logic of dialogs.
-use Rattle.std.proofs.Common.{◌≡◌, ℕ, zero, suc, List, subst}
+use Rattle.std.proofs.Common.{◌≡◌, ℕ, zero, suc, List, subst, rules}
 use Rattle.std.specs.Prelude.{⊤}
 use Rattle.stk_emu.specs.Along.{along}
 use Rattle.stk_emu.specs.Device.{Device}
@@ -43,8 +43,7 @@ module _ (m : Device Programmer) where
   -- two facts of one call hold together
   pub both : {R : Type 0} {During : Spot → Type 0} {After Here : R → Spot → Type 0} {d : Dialog ⊥ R} {z : Spot}
       → Runs During After d z → Runs (λ y. ⊤) Here d z → Runs During (λ r y. After r y × Here r y) d z
-  both {R = R} {During = During} {After = After} {Here = Here} {d = d} {z = z} l g =
-      record { holds = on d z l.holds g.holds }
+  both {R = R} {During = During} {After = After} {Here = Here} {d = d} {z = z} l g = search (rules, on)
     where
       on : (d : Dialog ⊥ R) (z : Spot) → HoldsFrom this_link (λ bytes y. During y) NoSays After d z
           → HoldsFrom this_link (λ bytes y. ⊤) NoSays Here d z

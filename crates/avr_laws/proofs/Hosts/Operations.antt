@@ -1,5 +1,5 @@
 -- The operations of a host over any link, in the logic of dialogs: what holds during and after them.
-use Rattle.std.proofs.Common.{◌≡◌, ℕ, suc, List, [], ◌∷◌, ◌++◌, length, append_assoc, refl, sym, ap, ◌∙◌, ◌⊎◌, inl, inr, Ok, Err, Result, rules}
+use Rattle.std.proofs.Common.{◌≡◌, ℕ, suc, List, [], ◌∷◌, ◌++◌, length, append_assoc, refl, sym, ap, ◌⊎◌, inl, inr, Ok, Err, Result, rules}
 use Rattle.std.proofs.lemmas.List.{append-nil}
 use Rattle.std.specs.Prelude.{⊤}
 use Rattle.avr_part.specs.Part.{Part, IsPart}
@@ -46,8 +46,7 @@ module _ (part : Part) (sound : IsPart part) where
       (q : Programmer) → bytes ≡ given_by part commands m
       → AfterSteps part steps (changed part commands m) (before ++ bytes) o q
       → AfterSteps part (commands ∷ steps) m before o q
-  stepped commands steps m before bytes (Ok got) q is a = search (rules, append_assoc)
-  stepped commands steps m before bytes (Err fault) q is a = one_more commands steps m q a
+  stepped commands steps m before bytes o q is a = search (rules, append_assoc, one_more)
 
   play_goes : (steps : List (List Command)) (m : Memories) (before : List ℕ) (p : Programmer) → AreSteps part steps
       → FitsPart part m → Settled part m p
@@ -114,8 +113,7 @@ module _ (part : Part) (sound : IsPart part) where
       (play_goes signature_steps m [] r (read_are_steps part sound Signature) f t.0)))))
     where
       begun : (o : StepOutcome) (q : Programmer) → AfterSteps part signature_steps m [] o q → AfterBeginning part m o q
-      begun (Ok got) q a = (a.0, a.1 ∙ one_by_one part.signature sound.signature)
-      begun (Err fault) q a = idle_reached m q a
+      begun o q a = search (rules, one_by_one, idle_reached)
 
 -- Closing a session keeps what leaving programming mode keeps; its fault is a step's.
 abbrev pub IsClosed : Result ⊤ HostFault → Type 0

@@ -1,5 +1,5 @@
 -- Dialogs over one link, by their output: what holds at each question, and when they are done.
-use Rattle.std.proofs.Common.{◌≡◌, ℕ, zero, suc, List, [], ◌∷◌, ◌++◌, sym, subst, Result}
+use Rattle.std.proofs.Common.{◌≡◌, ℕ, zero, suc, List, [], ◌∷◌, ◌++◌, sym, subst, Result, rules}
 use Rattle.std.proofs.lemmas.List.{append-nil}
 use Rattle.std.specs.Prelude.{⊤}
 use Rattle.avr_desk.specs.Said.{OutputEvent}
@@ -114,10 +114,7 @@ module _ (True : OutputEvent → Programmer → Type 0) where
   on_moment : {R : Type 0} (Now : Moment) (After : End R)
       → ((r : R) (said : List OutputEvent) (y : Spot) → After r said y → Now said y)
       → (k : ℕ) (d : Dialog OutputEvent R) (z : Spot) → PrintsFrom Now After d z → Printed Now After k d z
-  on_moment Now After last k (Done a) z h = record {
-    now = last a [] z h;
-    after = λ r e. subst (λ x. After x [] z) (done_is {E = OutputEvent} a r e) h;
-  }
+  on_moment Now After last k (Done a) z h = search (rules, done_is)
   on_moment Now After last k (Say output d) z h =
       let more = on_moment (λ x. Now (output ∷ x)) (λ r x. After r (output ∷ x)) (λ r x. last r (output ∷ x)) k d z h.1
       in record { now = more.now; after = more.after }

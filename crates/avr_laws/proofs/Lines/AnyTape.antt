@@ -1,17 +1,17 @@
 -- A dialog over any tape goes along turns.
-use Rattle.std.proofs.Common.{◌≡◌, ◌≤◌, ℕ, zero, suc, List, [], ◌∷◌, ◌++◌, length, take, refl, sym, ap, ◌∙◌, inl, inr, arith, Bool, true, false, Option, Some, None, rules}
-use Rattle.std.proofs.lemmas.Bool.{cases_Bool, cond-true, cond-false}
+use Rattle.std.proofs.Common.{◌≡◌, ◌≤◌, ℕ, zero, suc, List, [], ◌∷◌, ◌++◌, length, take, refl, sym, ap, ◌∙◌, arith, Bool, true, false, Option, Some, None, rules}
+use Rattle.std.proofs.lemmas.Bool.{cond-true}
 use Rattle.std.proofs.lemmas.Slice.Eq.{bytes_eq-Decides}
 use Rattle.std.proofs.lemmas.Option.{none-some}
 use Rattle.std.specs.Prelude.{filter}
 use Rattle.stk_frame.specs.Frame.{frame}
 use Rattle.stk_frame.specs.Cut.{frames, is_good}
 use Rattle.stk_frame.proofs.Laws.{frame_is_good, body_of_frame}
-use Rattle.stk_host.specs.Tape.{Tape, Reading, Answered, Silent, answer}
+use Rattle.stk_host.specs.Tape.{Tape, Reading, answer}
 use Rattle.stk_host.specs.Dialog.{Dialog, Done, Say, Ask, Frame, Played, played, behind, by_answer, next, frames_in}
 use Rattle.stk_emu.specs.Device.{Device, after_frame, after_frames}
 use Rattle.stk_emu.specs.Lawful.{IsBody}
-use Rattle.stk_emu.specs.Turn.{Became, Kept, Obeyed, Anew, Nothing, Turn, Wrong, after_became, after_turn, turn_reading, IsHonest}
+use Rattle.stk_emu.specs.Turn.{Became, Obeyed, Anew, Nothing, Turn, Wrong, after_became, after_turn, turn_reading, IsHonest}
 use Rattle.stk_emu.specs.Along.{along, AsksBodies}
 use Rattle.avr_laws.specs.AnyTape.{first_became, other_becames, on_answer, AreHonest, after_pieces, turn_by, turns_from, turns_heard, GoesAs, let_through, CameThrough, became_by}
 use Rattle.avr_laws.proofs.Given.LaterAnswers.{answer_extends}
@@ -23,21 +23,12 @@ IsTurn m bytes p became reading turn =
     (turn_reading turn (m.answer bytes p) ≡ reading)
     × (after_turn turn (m.after bytes p) p m.reset ≡ after_became became (m.after bytes p) p m.reset)
 
-never_own : (became : Became) → became ≡ Obeyed → became ≡ Kept → ⊥
-never_own became e is = cc
-
 not_anew : (became : Became) → ◌≡◌ {A = Became} (Anew became) Obeyed → ⊥
 not_anew became e = cc
 
 pub honest_turn : {P : Type 0} (m : Device P) (bytes : List ℕ) (p : P) (became : Became) (reading : Reading)
     → IsHonest m bytes p became reading → IsTurn m bytes p became reading (turn_by became reading)
-honest_turn m bytes p Obeyed (Answered body) h =
-    search (rules, bytes_eq-Decides)
-honest_turn m bytes p Kept (Answered body) (inl own) = absurd (never_own Kept own.0 refl)
-honest_turn m bytes p Kept (Answered body) (inr e) = (ap (λ x. Answered x) (sym e), refl)
-honest_turn m bytes p (Anew became) (Answered body) (inl own) = absurd (not_anew became own.0)
-honest_turn m bytes p (Anew became) (Answered body) (inr e) = (ap (λ x. Answered x) (sym e), refl)
-honest_turn m bytes p became reading h = (refl, refl)
+honest_turn m bytes p became reading h = search (rules, bytes_eq-Decides, not_anew)
 
 -- without a further question the programmer stays as it is
 none_asked : {E R P : Type 0} (m : Device P) (d : Dialog E R) (p : P) (turns : List Turn)
@@ -45,10 +36,6 @@ none_asked : {E R P : Type 0} (m : Device P) (d : Dialog E R) (p : P) (turns : L
 none_asked m (Done r) p turns = refl
 none_asked m (Say e d) p turns = none_asked m d p turns
 none_asked m (Ask bytes go_on) p turns = refl
-
-pub obeyed_frame : {P : Type 0} (m : Device P) (n : ℕ) (bytes : List ℕ) (p : P) → IsBody bytes
-    → after_frame m (frame n bytes) p ≡ m.after bytes p
-obeyed_frame m n bytes p b = search (rules, cond-true, frame_is_good, body_of_frame)
 
 -- A run over a tape is the run along these turns, of which `answered` are read; if it is done, these are as many as its
 -- frames. After any first frames the programmer is as the list of what happened to it gives.
@@ -73,20 +60,14 @@ module _ {P : Type 0} (m : Device P) where
     on_time = after_became became (m.after bytes p) p m.reset
 
     arrives : on_time ≡ after_became became (after_frame m (frame n bytes) p) p m.reset
-    arrives = ap (λ q. after_became became q p m.reset) (sym (obeyed_frame m n bytes p b))
+    arrives = ap (λ q. after_became became q p m.reset) (sym (search (rules, cond-true, frame_is_good, body_of_frame)))
 
     abbrev on_asking : Option (Reading × Tape) → Played E R
     on_asking o = behind (Frame (frame n bytes) ∷ []) (by_answer (λ reading. played (go_on reading) (next n)) o)
 
     -- a question that waits for its answer
     waiting : answer n tape ≡ None → HeardAs m (Ask bytes go_on) n tape p becames (Wrong became Nothing ∷ [])
-    waiting e = search (rules, none-some, stands)
-      where
-        stands : (k : ℕ) → k ≤ 1 → (along m k (Ask bytes go_on) p (Wrong became Nothing ∷ [])).programmer
-            ≡ after_pieces m (take k (frame n bytes ∷ [])) becames p
-        stands zero le = refl
-        stands (suc zero) le = none_asked m (go_on Silent) on_time [] ∙ arrives
-        stands (suc (suc k)) le = absurd (omega (arith, le))
+    waiting e = search (rules, none-some, none_asked, arrives)
 
     -- a question that was answered, by its turn
     module _ (turn : Turn) (later : List Turn) (left : Tape)
@@ -100,8 +81,7 @@ module _ {P : Type 0} (m : Device P) where
 
       stands : (k : ℕ) → k ≤ suc (length fs) → (along m k (Ask bytes go_on) p (turn ∷ later)).programmer
           ≡ after_pieces m (take k (frame n bytes ∷ fs)) becames p
-      stands zero le = refl
-      stands (suc k) le = search (rules, arrives)
+      stands k le = search (rules, arrives)
 
       by_turn : HeardAs m (Ask bytes go_on) n tape p becames (turn ∷ later)
       by_turn = record {
@@ -120,12 +100,7 @@ module _ {P : Type 0} (m : Device P) where
         × AreHonest m (go_on reading) (next n) left on_time (other_becames becames)) o
         → HeardAs m (Ask bytes go_on) n tape p becames
         (turns_from became (λ reading left. turns_heard (go_on reading) (next n) left (other_becames becames)) o)
-    asked None e each h = waiting e
-    asked (Some (reading, left)) e each h =
-        let turn = turn_by became reading in
-        let later = turns_heard (go_on reading) (next n) left (other_becames becames) in
-        let t = honest_turn m bytes p became reading h.0 in
-        search (rules, by_turn)
+    asked o e each h = search (rules, waiting, honest_turn, by_turn)
 
   heard_as : {E R : Type 0} (d : Dialog E R) (n : ℕ) (tape : Tape) (p : P) (becames : List Became) → AsksBodies d
       → AreHonest m d n tape p becames
@@ -136,9 +111,7 @@ module _ {P : Type 0} (m : Device P) where
       none_sent : (k : ℕ) → k ≤ 0 → p ≡ after_pieces m (take k []) becames p
       none_sent zero le = refl
       none_sent (suc k) le = absurd (omega (arith, le))
-  heard_as (Say e d) n tape p becames asks h =
-      let goes = heard_as d n tape p becames asks h in
-      search rules
+  heard_as (Say e d) n tape p becames asks h = search (rules, heard_as d n tape p becames asks h)
   heard_as (Ask bytes go_on) n tape p becames asks h =
       asked bytes go_on n tape p becames asks.0 (answer n tape) refl
       (λ reading left inner. heard_as (go_on reading) (next n) left _ (other_becames becames) (asks.1 reading)
@@ -147,8 +120,7 @@ module _ {P : Type 0} (m : Device P) where
   -- THE LAW
   pub goes_as : {E R : Type 0} (d : Dialog E R) (n : ℕ) (tape : Tape) (p : P) (becames : List Became) → AsksBodies d
       → AreHonest m d n tape p becames → GoesAs m d n tape p becames
-  goes_as {R = R} d n tape p becames asks h =
-      search (rules, heard_as, said_played, played_along, done_played, waits_played)
+  goes_as {R = R} d n tape p becames asks h = search (rules, heard_as, said_played, done_played, waits_played)
 
 -- ---- the first readings of an honest tape
 
@@ -169,8 +141,7 @@ module _ {P : Type 0} (m : Device P) where
       → AreHonest m (Ask bytes go_on) n (t ++ u) p becames
       → HonestOn m bytes go_on n p becames o
   shorter bytes go_on n t u p becames None e each h = tt
-  shorter bytes go_on n t u p becames (Some (reading, left)) e each h =
-      search (rules, answer_extends)
+  shorter bytes go_on n t u p becames (Some (reading, left)) e each h = search (rules, answer_extends)
 
   pub honest_prefix : {E R : Type 0} (d : Dialog E R) (n : ℕ) (t u : Tape) (p : P) (becames : List Became)
       → AreHonest m d n (t ++ u) p becames → AreHonest m d n t p becames
@@ -186,20 +157,7 @@ module _ {P : Type 0} (m : Device P) where
   -- pieces that aren't good frames change nothing
   good_alone : (pieces : List (List ℕ)) (p : P) → after_frames m pieces p ≡ after_frames m (filter is_good pieces) p
   good_alone [] p = refl
-  good_alone (piece ∷ pieces) p = elim (cases_Bool (is_good piece)) [
-    | inl good ↦
-        good_alone pieces (after_frame m piece p)
-        ∙ ap (λ ps. after_frames m ps p) (sym (cond-true (is_good piece) (piece ∷ filter is_good pieces)
-        (filter is_good pieces) good))
-    | inr bad ↦
-        ap (after_frames m pieces) (cond-false (is_good piece) _ _ bad)
-        ∙ (search (
-          rules,
-          cond-false,
-          good_alone pieces p ∙ ap (λ ps. after_frames m ps p) (sym (cond-false (is_good
-              piece) (piece ∷ filter is_good pieces) (filter is_good pieces) bad)),
-        ))
-  ]
+  good_alone (piece ∷ pieces) p = search (rules, good_alone pieces (after_frame m piece p), good_alone pieces p)
 
   let_through_after : (through : List Bool) (sent : List (List ℕ)) (p : P)
       → after_frames m (let_through through sent) p ≡ after_pieces m sent (became_by through) p

@@ -18,7 +18,6 @@ use Rattle.stk_emu.specs.Programmer.{Programmer}
 use Rattle.stk_emu.specs.Device.{device}
 use Rattle.stk_emu.specs.Wire.{AreLawful, turns_of, becames_of, fresh_wire}
 use Rattle.stk_emu.specs.Wired.{WiredState, FollowsFates, NeverIdle, brought}
-use Rattle.stk_emu.specs.Lawful.{IsBody}
 use Rattle.stk_emu.specs.Along.{along, said_along, AsksBodies}
 use Rattle.stk_emu.proofs.Wires.Arrivals.{none_clear}
 use Rattle.stk_emu.proofs.Answers.BodySizes.{answers_bodies}
@@ -37,17 +36,13 @@ abbrev pub AreWhole : List (List ℕ) → Type 0
 AreWhole [] = Unit {0}
 AreWhole (f ∷ fs) = IsWhole f × AreWhole fs
 
-frame_whole : (n : ℕ) (body : List ℕ) → IsBody body → IsWhole (frame n body)
-frame_whole n body b = search (rules, frame_is_piece, and_parts, frame_is_good)
-
 frame_first : (f bytes : List ℕ) → IsWhole f → frames (f ++ bytes) ≡ f ∷ frames bytes
 frame_first f bytes w = search (rules, cut_first, cond-true)
 
 whole_by : {E R : Type 0} (go_on : Reading → Tape → Played E R) (o : Option (Reading × Tape))
     → ((reading : Reading) (left : Tape) → AreWhole (frames_in (go_on reading left).events))
     → AreWhole (frames_in (by_answer go_on o).events)
-whole_by go_on None each = tt
-whole_by go_on (Some (reading, left)) each = each reading left
+whole_by go_on o each = search rules
 
 -- a run sends whole frames
 pub sends_whole : {E R : Type 0} (d : Dialog E R) (n : ℕ) (t : Tape) → AsksBodies d
@@ -55,7 +50,7 @@ pub sends_whole : {E R : Type 0} (d : Dialog E R) (n : ℕ) (t : Tape) → AsksB
 sends_whole (Done r) n t asks = tt
 sends_whole (Say e d) n t asks = sends_whole d n t asks
 sends_whole (Ask bytes go_on) n t asks = (
-  frame_whole n bytes asks.0,
+  (search (rules, frame_is_piece, and_parts, frame_is_good)),
   whole_by (λ reading. played (go_on reading) (next n)) (answer n t)
       (λ reading left. sends_whole (go_on reading) (next n) left (asks.1 reading)),
 )
@@ -71,8 +66,7 @@ frames_sent (Said e ∷ events) whole = frames_sent events whole
 pub due_at : {E R : Type 0} (d : Dialog E R) (n : ℕ) (tape : Tape) (bytes : List ℕ) (before after : Transcript)
     (items : Tape)
     → TurnsFrom d n tape bytes (before ++ Got items ∷ after) → IsDue d n (tape ++ heard before) (bytes ++ sent before)
-due_at d n tape bytes [] after items turns =
-    search (rules, append-nil)
+due_at d n tape bytes [] after items turns = search (rules, append-nil)
 due_at d n tape bytes (Sent more ∷ before) after items turns =
     search (rules, append_assoc, due_at d n tape (bytes ++ more) before after items turns)
 due_at d n tape bytes (Taken more ∷ before) after items turns = absurd (not_behind before after items turns)
@@ -86,8 +80,6 @@ pub never_idle : {E R : Type 0} (d : Dialog E R) (n : ℕ) (p : Programmer) (fat
 never_idle d n p fates transcript asks lawful turns before after items split same =
     let due : IsDue d n (heard before) (sent before) =
     due_at d n [] [] before after items (subst (TurnsFrom d n [] []) split turns) in
-    let here : IsDue d n (brought p fates (sent before)) (sent before) =
-    subst (λ t. IsDue d n t (sent before)) (sym same) due in
     let play = played d n (brought p fates (sent before)) in
     let gone : frames_in play.events ≡ frames (sent before) =
     search (rules, frames_sent, sends_whole) in
@@ -155,35 +147,25 @@ pub plays_prefix : {E R : Type 0} (d : Dialog E R) (n : ℕ) (transcript : Trans
     (after : Progress)
     → Plays d (progress_at n []) transcript events r after
     → IsPrefixOf (sent transcript) (bytes_sent (played d n (heard transcript)).events)
-plays_prefix d n transcript events r after plays = (
-  [],
-  append-nil (sent transcript) ∙ (sym plays.all_sent
-      ∙ ap (λ x. bytes_sent x.events) (sym (ap (played d n) (sym (append-nil (heard transcript))) ∙ plays.plays []))),
-)
+plays_prefix d n transcript events r after plays =
+    search (rules, append-nil (sent transcript), append-nil (heard transcript))
 
 -- the events of a run that broke off send a prefix of the bytes
 begun_prefix : {E : Type 0} (SaidPart : E → E → Type 0) (begun later : List (Event E)) → IsBegun SaidPart begun later
     → IsPrefixOf (bytes_sent begun) (bytes_sent later)
 begun_prefix SaidPart [] later part = (bytes_sent later, refl)
-begun_prefix SaidPart (Frame x ∷ []) (Frame y ∷ later) part = (
-  part.0 ++ bytes_sent later,
-  ap (λ bs. bs ++ (part.0 ++ bytes_sent later)) (append-nil x)
-      ∙ (sym (append_assoc x part.0 (bytes_sent later)) ∙ ap (λ bs. bs ++ bytes_sent later) part.1),
-)
+begun_prefix SaidPart (Frame x ∷ []) (Frame y ∷ later) part =
+    search (rules, append-nil x, append_assoc x part.0 (bytes_sent later))
 begun_prefix SaidPart (Said x ∷ []) (Said y ∷ later) part = (bytes_sent later, refl)
 begun_prefix SaidPart begun later part = absurd part
 
 pub shown_prefix : {E : Type 0} (SaidPart : E → E → Type 0) (shown events : List (Event E))
     → IsPrefixOfEvents SaidPart shown events → IsPrefixOf (bytes_sent shown) (bytes_sent events)
-shown_prefix SaidPart shown events f =
-    let g = begun_prefix SaidPart f.begun f.later f.part in search (rules, bytes_append, append_assoc)
+shown_prefix SaidPart shown events f = search (rules, begun_prefix, bytes_append, append_assoc)
 
 module _ {E R : Type 0} (d : Dialog E R) (n : ℕ) (p : Programmer) (fates : List Fate) (w : WiredState)
     (asks : AsksBodies d) (lawful : AreLawful fates) (keeps : FollowsFates p fates w)
     (turns : InTurn d (progress_at n []) w.transcript) where
-  brings : brought p fates (sent w.transcript) ≡ heard w.transcript ++ w.waits
-  brings = keeps.brings (never_idle d n p fates w.transcript asks lawful turns)
-
   -- what was sent is a prefix of what the run over what was received sends
   abbrev SendsFirst : Type 0
   SendsFirst = IsPrefixOf (sent w.transcript) (bytes_sent (played d n (heard w.transcript)).events)
@@ -199,13 +181,12 @@ module _ {E R : Type 0} (d : Dialog E R) (n : ℕ) (p : Programmer) (fates : Lis
       over_wire device answers_bodies d n (fresh_wire p fates) (frames (sent w.transcript)) (f.0 ++ g.0) asks
       (none_clear n)
       lawful
-      (search (rules, brings, append_assoc))
+      (search (rules, never_idle, append_assoc))
 
   -- what was received is honest, by the fates of all frames that the run over it sends
   pub honest_heard : SendsFirst → AreHonest device d n (heard w.transcript) p
       (becames_of (length (frames_in (played d n (heard w.transcript)).events)) fates)
-  honest_heard prefix =
-      search (rules, frames_prefix, sends_whole, length-append, honest_prefix, brings, goes_along)
+  honest_heard prefix = search (rules, frames_prefix, sends_whole, length-append, honest_prefix, never_idle, goes_along)
 
   -- the programmer is where the link leads it
   pub stands_along : SendsFirst → w.wire.programmer ≡ (along device count d p (turns_of fates)).programmer
@@ -217,7 +198,7 @@ module _ {E R : Type 0} (d : Dialog E R) (n : ℕ) (p : Programmer) (fates : Lis
     -- the run along the link
     over : played_along device count d n p (turns_of fates) []
         ≡ record { events = events; outcome = Some (r, after.next, on_tape after.unread ++ w.waits) }
-    over = sym (goes_along prefix).play ∙ (ap (played d n) brings ∙ plays.plays w.waits)
+    over = search (rules, goes_along, never_idle)
 
     pub whole_said : outputs events ≡ said_along device count d p (turns_of fates)
     whole_said = sym (ap (λ x. outputs x.events) over) ∙ said_played device count d n p (turns_of fates) []

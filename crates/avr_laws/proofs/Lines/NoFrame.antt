@@ -4,7 +4,6 @@ use Rattle.std.proofs.lemmas.Bool.{cases_Bool, and_parts, eqb-true, false≢true
 use Rattle.std.specs.Prelude.{◌==◌, filter, replicate}
 use Rattle.stk_frame.specs.Cut.{cut, frames, is_good, seq_of, body_of}
 use Rattle.stk_frame.proofs.Laws.{body_of_frame}
-use Rattle.stk_host.specs.declared.link.Item.TheVariants.{Byte}
 use Rattle.stk_host.specs.Tape.{Tape, Reading, Answered, answer, read_to, silence_or_end, first_answer, is_answer, further, bytes_in, limit}
 use Rattle.stk_host.specs.Dialog.{Dialog, Done, Say, Ask, next}
 use Rattle.stk_emu.specs.Device.{Device, refusal}
@@ -23,12 +22,7 @@ Past n k (answer ∷ before) = ((answer ≡ []) ⊎ ((seq_of answer + k) % 256 �
 
 further_back : (n k : ℕ) (before : List (List ℕ)) → Past n k before → Past (next n) (suc k) before
 further_back n k [] past = tt
-further_back n k (answer ∷ before) past = (one past.0, further_back n (suc k) before past.1)
-  where
-    one : (answer ≡ []) ⊎ ((seq_of answer + k) % 256 ≡ n % 256)
-        → (answer ≡ []) ⊎ ((seq_of answer + suc k) % 256 ≡ next n % 256)
-    one (inl e) = inl e
-    one (inr e) = inr (omega (arith, e))
+further_back n k (answer ∷ before) past = search (rules, further_back n (suc k) before past.1)
 
 none_good : (piece : List ℕ) → piece ≡ [] → is_good piece ≡ true → ⊥
 none_good piece e good = search rules
@@ -55,10 +49,6 @@ abbrev body_read : Option (Reading × Tape) → List ℕ
 body_read (Some (Answered body, left)) = body
 body_read other = []
 
-abbrev is_answered : Option (Reading × Tape) → Bool
-is_answered (Some (Answered body, left)) = true
-is_answered other = false
-
 further_body : (count : ℕ) (o : Option (List ℕ × ℕ)) (body : List ℕ) (used : ℕ) → further count o ≡ Some (body, used)
     → (u : ℕ) × (o ≡ Some (body, u))
 further_body count None body used e = cc
@@ -77,8 +67,7 @@ taken n sent (piece ∷ pieces) body used e were = elim (cases_Bool (is_answer n
 
 -- a timeout or the end is never an answered body
 no_answer : (tape left : Tape) (body : List ℕ) → silence_or_end tape ≡ Some (Answered body, left) → ⊥
-no_answer (Byte b ∷ tape) left body e = false≢true (ap is_answered e)
-no_answer tape left body e = false≢true (ap is_answered e)
+no_answer tape left body e = search (rules, false≢true)
 
 found_by : (o : Option (List ℕ × ℕ)) (bytes : List ℕ) (tape left : Tape) (body : List ℕ)
     → read_to o bytes tape ≡ Some (Answered body, left) → (used : ℕ) × (o ≡ Some (body, used))
@@ -136,9 +125,7 @@ module _ {P : Type 0} (m : Device P) where
       × MakesNoFrame m (go_on reading) (next n) left (after_became (first_became becames) (m.after bytes p) p m.reset)
       (other_becames becames) (given m n bytes p (first_became becames) ∷ before)) o
       → HonestOn m bytes go_on n p becames o
-  honest_by bytes go_on n tape p becames before None e past each made = tt
-  honest_by bytes go_on n tape p becames before (Some (reading, left)) e past each made =
-      (by_reading n bytes p (first_became becames) before reading tape left e past made.0, each reading left made.1)
+  honest_by bytes go_on n tape p becames before o e past each made = search (rules, by_reading)
 
   -- THE LAW
   pub no_frame_honest : {E R : Type 0} (d : Dialog E R) (n : ℕ) (tape : Tape) (p : P) (becames : List Became)

@@ -1,5 +1,5 @@
 -- Worked links that aren't honest.
-use Rattle.std.proofs.Common.{ℕ, [], ◌∷◌, inl, inr, rules}
+use Rattle.std.proofs.Common.{ℕ, [], ◌∷◌, rules}
 use Rattle.stk_frame.specs.Frame.{frame}
 use Rattle.stk_host.specs.Tape.{on_tape, answer}
 use Rattle.stk_host.specs.Dialog.{Dialog, Done, Ask}
@@ -15,11 +15,9 @@ asks = Ask (0x05 ∷ []) (λ reading. Done 0)
 -- a forged answer, though all else is in order
 pub forged : AreHonest device asks 1 (on_tape (frame 1 (0x05 ∷ 0x00 ∷ []))) start (Obeyed ∷ []) → ⊥
 unfolding answer
-forged (inl own, rest) = search rules
-forged (inr e, rest) = search rules
+forged a' = search rules
 
 -- and the programmer's own answer to a question that it didn't obey now, as an answer kept from before under the number
 pub unseen : AreHonest device asks 1 (on_tape (told 1)) start (Kept ∷ []) → ⊥
 unfolding answer
-unseen (inl own, rest) = search rules
-unseen (inr e, rest) = search rules
+unseen a' = search rules

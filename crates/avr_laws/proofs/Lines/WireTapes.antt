@@ -1,9 +1,9 @@
 -- A dialog run over what a wire brings runs along the turns of its fates, and nothing of the tape is left.
 use Rattle.std.proofs.Common.{◌≡◌, ◌≤◌, ℕ, List, [], ◌∷◌, ◌++◌, length, refl, sym, ap, ◌∙◌, subst, arith, Some, None, rules}
-use Rattle.std.proofs.lemmas.List.Elements.{All-head, All-tail}
+use Rattle.std.proofs.lemmas.List.Elements.{All-tail}
 use Rattle.stk_frame.specs.Frame.{frame}
 use Rattle.stk_host.specs.Tape.{Reading, answer}
-use Rattle.stk_host.specs.Dialog.{Dialog, Done, Say, Ask, Frame, Said, played, behind, next, frames_in}
+use Rattle.stk_host.specs.Dialog.{Dialog, Done, Say, Ask, Frame, played, behind, next, frames_in}
 use Rattle.stk_host.proofs.Tapes.Answers.{answer_waits}
 use Rattle.stk_emu.specs.declared.fate.Fate.{Fate}
 use Rattle.stk_emu.specs.Device.{Device}
@@ -17,8 +17,7 @@ use Rattle.avr_laws.specs.AnyTape.{AreHonest}
 use Rattle.avr_laws.proofs.Lines.Plays.{played_along, head_is, tail_is, cons_none}
 
 first_lawful : (fates : List Fate) → AreLawful fates → IsLawfulFate (first_fate fates)
-first_lawful [] l = tt
-first_lawful (fate ∷ fates) l = All-head IsLawfulFate fate fates l
+first_lawful fates l = search rules
 
 others_lawful : (fates : List Fate) → AreLawful fates → AreLawful (other_fates fates)
 others_lawful [] l = l
@@ -52,9 +51,7 @@ module _ {P : Type 0} (m : Device P) (answers : AnswersBodies m) where
       (sent : List (List ℕ)) (p : P) (fates : List Fate)
       → GoesOver m (Ask bytes go_on) n w (f ∷ sent) p (turn_of (first_fate fates) ∷ turns_of (other_fates fates))
       → GoesOver m (Ask bytes go_on) n w (f ∷ sent) p (turns_of fates)
-  by_fates bytes go_on n w f sent p [] goes =
-      record { programmer = goes.programmer; play = goes.play; honest = goes.honest }
-  by_fates bytes go_on n w f sent p (fate ∷ fates) goes = goes
+  by_fates bytes go_on n w f sent p fates goes = search rules
 
   pub over_wire : {E R : Type 0} (d : Dialog E R) (n : ℕ) (w : Wire P) (sent more : List (List ℕ)) → AsksBodies d
       → IsClear n w.late → AreLawful w.fates
@@ -62,9 +59,7 @@ module _ {P : Type 0} (m : Device P) (answers : AnswersBodies m) where
       → GoesOver m d n w sent w.programmer (turns_of w.fates)
   over_wire (Done r) n w [] more asks clear lawful e = record { programmer = refl; play = refl; honest = λ j le. tt }
   over_wire (Done r) n w (f ∷ sent) more asks clear lawful e = absurd (cons_none f (sent ++ more) e)
-  over_wire (Say s d) n w sent more asks clear lawful e =
-      let goes = over_wire d n w sent more asks clear lawful e in
-      record { programmer = goes.programmer; play = ap (behind (Said s ∷ [])) goes.play; honest = goes.honest }
+  over_wire (Say s d) n w sent more asks clear lawful e = search (rules, over_wire d n w sent more asks clear lawful e)
   over_wire (Ask bytes go_on) n w [] more asks clear lawful e =
       let waits : answer n [] ≡ None = answer_waits n [] refl (omega arith) in
       search rules

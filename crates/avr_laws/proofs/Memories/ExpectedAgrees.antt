@@ -5,15 +5,15 @@ use Rattle.avr_cli.specs.declared.settings.Switches.{Switches}
 use Rattle.avr_part.specs.Part.{Part}
 use Rattle.avr_part.specs.declared.part.Mem.{Mem}
 use Rattle.avr_plan.specs.Plan.{Plan}
-use Rattle.avr_session.specs.Standing.{Standing, Fine}
-use Rattle.avr_session.specs.Actions.{Action, CompareImage, actions}
+use Rattle.avr_session.specs.Standing.{Fine}
+use Rattle.avr_session.specs.Actions.{Action, actions}
 use Rattle.avr_session.specs.Session.{standing}
 use Rattle.stk_host.specs.Operations.{Difference, differs}
 use Rattle.stk_emu.specs.Effect.{Memories, effects}
 use Rattle.avr_laws.proofs.Given.Comparisons.{no_difference, held_same}
 use Rattle.avr_laws.proofs.PageWrites.Pages.{effects_on}
 use Rattle.avr_laws.specs.Agrees.{ActionAgrees, ActionsAgree, Agrees}
-use Rattle.avr_laws.specs.ExpectedRun.{Expected, then_from, ◌then◌, action_expected, actions_expected, working_expected, expected_run}
+use Rattle.avr_laws.specs.ExpectedRun.{Expected, ◌then◌, action_expected, actions_expected, working_expected, expected_run}
 use Rattle.avr_laws.specs.Items.{action_items, actions_items, items}
 use Rattle.avr_laws.proofs.Plans.Standings.{faulty_fine}
 
@@ -24,16 +24,9 @@ record Turns (c : Expected) (Agree : Type 0) (left : Memories) : Type 0 where
   memories : c.standing ≡ Fine → c.memories ≡ left
 
 -- one expected run after another
-turns_on : (first : Expected) (next : Memories → Expected) (A B : Type 0) (between left : Memories) (s : Standing)
-    → first.standing ≡ s
-    → Turns first A between → Turns (next between) B left → Turns (then_from first s next) (A × B) left
-turns_on first next A B between left Fine e turns more =
-    search rules
-turns_on first next A B between left at e turns more = search rules
-
 turns_then : (first : Expected) (next : Memories → Expected) (A B : Type 0) (between left : Memories)
     → Turns first A between → Turns (next between) B left → Turns (first then next) (A × B) left
-turns_then first next A B between left turns more = turns_on first next A B between left first.standing refl turns more
+turns_then first next A B between left turns more = search rules
 
 -- ---- an action
 
@@ -47,8 +40,7 @@ turns_fine c is = record { if_fine = λ f. tt; is_fine = λ agree. is; memories 
 module _ (part : Part) (s : Switches) where
   turns_action : (action : Action) (m : Memories)
       → Turns (action_expected part s action m) (ActionAgrees part action m) (effects part (action_items action) m)
-  turns_action (CompareImage mem image) m = search (rules, no_difference, no_difference_if_fine, held_same)
-  turns_action action m = turns_fine (action_expected part s action m) refl
+  turns_action action m = search (rules, no_difference, faulty_fine, held_same, turns_fine)
 
   turns_actions : (actions : List Action) (m : Memories)
       → Turns (actions_expected part s actions m) (ActionsAgree part actions m) (effects part (actions_items actions) m)
@@ -68,8 +60,7 @@ turns_working : (plan : Plan) (m : Memories)
 turns_working plan m = turns_actions plan.part plan.switches (actions plan) m
 
 pub expected_status : (plan : Plan) (m : Memories) → (expected_run plan m).status ≡ 0 ↔ Agrees plan m
-expected_status plan m =
-    let turns = turns_working plan m in search rules
+expected_status plan m = search (rules, turns_working)
 
 pub expected_memories : (plan : Plan) (m : Memories) → Agrees plan m
     → (expected_run plan m).memories ≡ effects plan.part (items plan) m

@@ -1,12 +1,12 @@
 -- A byte of flash, after items.
-use Rattle.std.proofs.Common.{◌≡◌, ◌⊎◌, ◌<◌, ℕ, zero, suc, List, [], ◌∷◌, length, get_or, take, bit_and, refl, sym, ap, ◌∙◌, subst, inl, inr, arith, Bool, true, false, if◌then◌else◌, Option, Some, None, rules}
+use Rattle.std.proofs.Common.{◌≡◌, ◌⊎◌, ◌<◌, ℕ, zero, suc, List, [], ◌∷◌, length, get_or, take, bit_and, refl, sym, ap, ◌∙◌, subst, inl, inr, Bool, true, if◌then◌else◌, Some, rules}
 use Rattle.std.proofs.lemmas.Bool.{true≢false}
 use Rattle.std.proofs.lemmas.List.{length-replicate, get_or-replicate}
 use Rattle.avr_image.specs.Image.{byte_at}
 use Rattle.avr_part.specs.Part.{Part}
 use Rattle.avr_part.specs.declared.part.Mem.TheVariants.{Flash}
 use Rattle.avr_plan.specs.Plan.{Plan}
-use Rattle.stk_emu.specs.Effect.{Image, Item, Erase, Write, Memories, and_with, and_in, are_locked, effect, effects}
+use Rattle.stk_emu.specs.Effect.{Image, Item, Erase, Write, Memories, and_in, are_locked, effect, effects}
 use Rattle.stk_emu.proofs.Memories.LaidImages.{length-and_in, get_and_in}
 use Rattle.avr_laws.specs.Items.{items, has_erase}
 use Rattle.avr_laws.specs.Outcome.{page_writes, IsTouched, IsDone}
@@ -16,12 +16,6 @@ are_later : (item : Item) (xs : List Item) (addr : ℕ) (bytes : List ℕ) → A
     → AreThere (item ∷ xs) addr bytes
 are_later item xs addr [] are = tt
 are_later item xs addr (b ∷ bytes) are = (inr are.0, are_later item xs addr bytes are.1)
-
--- an earlier item that the byte has nothing of
-later : (item : Item) (xs : List Item) (addr before after : ℕ) → IsMade xs addr before after
-    → IsMade (item ∷ xs) addr before after
-later item xs addr before after m =
-    search (rules, are_later)
 
 -- an erase
 erased : (xs : List Item) (addr before mid after : ℕ) → mid ≡ 255 → IsMade xs addr mid after
@@ -55,26 +49,17 @@ abbrev Writes : Image → ℕ → ℕ → ℕ → Type 0
 Writes image addr before mid = (mid ≡ before)
     ⊎ ((byte : ℕ) × (byte_at image addr ≡ Some byte) × (mid ≡ bit_and before byte))
 
-with_byte : (image : Image) (addr before mid : ℕ) (b : Option ℕ) → byte_at image addr ≡ b → mid ≡ and_with b before
-    → Writes image addr before mid
-with_byte image addr before mid None at e = inl e
-with_byte image addr before mid (Some byte) at e = inr (byte, at, e)
-
 writes : (image : Image) (xs : List ℕ) (addr : ℕ) (lock : Bool) → addr < length xs
     → Writes image addr (get_or xs addr 0) (get_or (if lock then xs else and_in image xs) addr 0)
-writes image xs addr true l = inl refl
-writes image xs addr false l = search (rules, with_byte, get_and_in)
+writes image xs addr lock l = search (rules, get_and_in)
 
 still_inside : (image : Image) (xs : List ℕ) (addr : ℕ) (lock : Bool) → addr < length xs
     → addr < length (if lock then xs else and_in image xs)
-still_inside image xs addr true l = l
-still_inside image xs addr false l = omega (arith, l, length-and_in image xs)
+still_inside image xs addr lock l = search (rules, length-and_in)
 
 joined : (image : Image) (xs : List Item) (addr before mid after : ℕ) → Writes image addr before mid
     → IsMade xs addr mid after → IsMade (Write Flash image ∷ xs) addr before after
-joined image xs addr before mid after (inl same) m =
-    later (Write Flash image) xs addr before after (subst (λ (b : ℕ). IsMade xs addr b after) same m)
-joined image xs addr before mid after (inr by) m = anded image xs addr before by.0 mid after by.1 by.2 m
+joined image xs addr before mid after g' m = search (rules, are_later, anded)
 
 module _ (part : Part) (addr : ℕ) where
   abbrev byte : Memories → ℕ
@@ -89,11 +74,7 @@ module _ (part : Part) (addr : ℕ) where
         erased,
         get_or-replicate,
         length-replicate,
-        made xs (effect part Erase m) (omega (
-          arith,
-          l,
-          length-replicate {A = ℕ} (length m.flash) 255,
-        )),
+        made xs (effect part Erase m) (search (rules, length-replicate)),
       )
   made (Write Flash image ∷ xs) m l =
       search (
@@ -104,8 +85,7 @@ module _ (part : Part) (addr : ℕ) where
         made xs (effect part (Write Flash image) m) (still_inside image
             m.flash addr (are_locked m) l),
       )
-  made (Write mem image ∷ xs) m l =
-      search (rules, later, made xs (effect part (Write mem image) m) l)
+  made (Write mem image ∷ xs) m l = search (rules, are_later, made xs (effect part (Write mem image) m) l)
 
 -- the first items of a list
 there_of : (k : ℕ) (xs : List Item) (addr byte : ℕ) → IsThere (take k xs) addr byte → IsThere xs addr byte
@@ -144,12 +124,4 @@ touched_made plan before after addr l touched =
     elim m.first_is [
       | inl same ↦ inl same
       | inr blank ↦ inr (blank.0, erase_of touched.count (page_writes plan) blank.1)
-    ] in
-    record {
-      first = m.first;
-      bytes = m.bytes;
-      first_is = first_is;
-      are_there =
-          all_there touched.count (page_writes plan) addr m.bytes m.are_there;
-      is = m.is;
-    }
+    ] in search (rules, all_there)

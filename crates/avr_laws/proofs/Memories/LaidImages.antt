@@ -1,5 +1,5 @@
 -- What writes leave in a memory: their images laid over each other, and elsewhere the bytes before.
-use Rattle.std.proofs.Common.{◌≡◌, ℕ, zero, suc, ◌≤◌, arith, refl, ap, ◌∙◌, List, [], ◌∷◌, ◌++◌, length, get_or, Bool, true, false, Option, Some, None, unwrap_or, rules}
+use Rattle.std.proofs.Common.{◌≡◌, ℕ, zero, suc, ◌≤◌, arith, refl, ap, List, [], ◌∷◌, ◌++◌, length, get_or, Bool, true, false, Option, None, unwrap_or, rules}
 use Rattle.std.proofs.lemmas.Bool.{true≢false}
 use Rattle.std.proofs.lemmas.List.{length-replicate}
 use Rattle.std.specs.Prelude.{◌==◌, if◌then◌else◌}
@@ -12,17 +12,11 @@ use Rattle.avr_plan.specs.declared.planned.Task.TheVariants as task
 use Rattle.avr_session.specs.Actions.{TheWrite, Action, WriteImage, CompareImage, LeaveOut, tasks_actions}
 use Rattle.stk_emu.specs.Effect.{Image, Memories, with_image, and_in, and_with, write_effect, effects, memory_in}
 use Rattle.stk_emu.proofs.Memories.LaidImages.{length-laid, length-and_in}
-use Rattle.avr_laws.proofs.PageWrites.EachMemory.{same_memory, keeps_zeros, laid, spares, write_is, others_stay}
+use Rattle.avr_laws.proofs.PageWrites.EachMemory.{same_memory, write_is, others_stay}
 use Rattle.avr_laws.specs.Agrees.{Shows, ActionsAgree}
 use Rattle.avr_laws.specs.Items.{actions_items}
 use Rattle.avr_laws.specs.Written.{memory_number, written_to, byte_in}
 use Rattle.avr_laws.proofs.Plans.Fits.{AllFitActions}
-
-none_some : {A : Type 0} (b : ℕ) → ◌≡◌ {A = Option ℕ} None (Some b) → A
-none_some b e = absurd (let no : ⊥ = cc in no)
-
-some_none : {A : Type 0} (b : ℕ) → ◌≡◌ {A = Option ℕ} (Some b) None → A
-some_none b e = absurd (let no : ⊥ = cc in no)
 
 -- ---- images laid over each other, byte by byte
 
@@ -51,12 +45,10 @@ pub record Keeps (image : Image) (old new : List ℕ) : Type 0 where
   pub rest : (i : ℕ) → byte_at image i ≡ None → get_or new i 0 ≡ get_or old i 0
 
 kept_byte : (o : Option ℕ) (x : ℕ) → o ≡ None → unwrap_or o x ≡ x
-kept_byte None x e = refl
-kept_byte (Some b) x e = some_none b e
+kept_byte o x e = search rules
 
 kept_bits : (o : Option ℕ) (x : ℕ) → o ≡ None → and_with o x ≡ x
-kept_bits None x e = refl
-kept_bits (Some b) x e = some_none b e
+kept_bits o x e = search rules
 
 rest_laid : (image : Image) (xs : List ℕ) (i : ℕ) → byte_at image i ≡ None
     → get_or (with_image image xs) i 0 ≡ get_or xs i 0
@@ -72,16 +64,9 @@ rest_anded [] (x ∷ xs) i e = refl
 rest_anded (b ∷ image) (x ∷ xs) zero e = kept_bits b x e
 rest_anded (b ∷ image) (x ∷ xs) (suc i) e = rest_anded image xs i e
 
-keeps_written : (spared zeros : Bool) (image : Image) (xs : List ℕ)
-    → Keeps image xs (if spared then xs else laid zeros image xs)
-keeps_written true zeros image xs = record { size = refl; rest = λ i none. refl }
-keeps_written false true image xs =
-    record { size = length-and_in image xs; rest = λ i none. rest_anded image xs i none }
-keeps_written false false image xs = record { size = length-laid image xs; rest = λ i none. rest_laid image xs i none }
-
 pub write_keeps : (part : Part) (mem : Mem) (image : Image) (m : Memories)
     → Keeps image (memory_in part mem m) (memory_in part mem (write_effect mem image m))
-write_keeps part mem image m = search (rules, write_is, keeps_written, spares, keeps_zeros)
+write_keeps part mem image m = search (rules, write_is, length-and_in, rest_anded, length-laid, rest_laid)
 
 -- ---- what is left of one memory
 
@@ -93,37 +78,24 @@ pub record Left (part : Part) (mem : Mem) (image : Image) (old new : Memories) :
 
 module _ (part : Part) where
   left_as_it_is : (mem : Mem) (size : ℕ) (m : Memories) → Left part mem (empty size) m m
-  left_as_it_is mem size m = search (rules, none_some, byte_of_empty)
+  left_as_it_is mem size m = search (rules, byte_of_empty)
 
   left_by_write : (mem : Mem) (image : Image) (m : Memories) → Shows part mem image (write_effect mem image m)
       → Left part mem image m (write_effect mem image m)
   left_by_write mem image m shows = search (rules, write_keeps)
 
-  -- from a memory that was the same
-  left_from : (mem : Mem) (image : Image) (old between new : Memories)
-      → memory_in part mem between ≡ memory_in part mem old
-      → Left part mem image between new → Left part mem image old new
-  left_from mem image old between new same left = search rules
-
   -- one image after another
   left_over : (mem : Mem) (first second : Image) (old between new : Memories) → length second ≤ length first
       → Left part mem first old between → Left part mem second between new → Left part mem (over first second) old new
-  left_over mem first second old between new l a b = search (rules, byte_of_over, some_none)
+  left_over mem first second old between new l a b = search (rules, byte_of_over)
 
   -- ---- what actions leave
-
-  size_over : (mem other : Mem) (image more : Image) (same : Bool) → (memory_number other == memory_number mem) ≡ same
-      → length image ≡ size_of other part → length more ≡ size_of mem part
-      → length (if same then over image more else more) ≡ size_of mem part
-  size_over mem other image more true e fits rest =
-      length-over image more ∙ (fits ∙ ap (λ (x : Mem). size_of x part) (same_memory other mem e))
-  size_over mem other image more false e fits rest = rest
 
   length-written_to : (mem : Mem) (actions : List Action) → AllFitActions part actions
       → length (written_to part mem (actions_items actions)) ≡ size_of mem part
   length-written_to mem [] fit = length-replicate {A = Option ℕ} (size_of mem part) None
   length-written_to mem (WriteImage other image ∷ actions) fit =
-      search (rules, size_over, length-written_to mem actions fit.1)
+      search (rules, length-over, same_memory, length-written_to mem actions fit.1)
   length-written_to mem (action ∷ actions) fit = length-written_to mem actions fit.1
 
   -- a write, and what follows it
@@ -135,8 +107,7 @@ module _ (part : Part) where
   write_left mem other image more m new true e fits size shows left =
       let is = same_memory other mem e in
       search (rules, left_by_write, left_over)
-  write_left mem other image more m new false e fits size shows left =
-      left_from mem more m (write_effect other image m) new (others_stay part other mem image m e) left
+  write_left mem other image more m new false e fits size shows left = search (rules, others_stay)
 
   -- what actions that agree leave of a memory
   abbrev Leave : Mem → List Action → Memories → Type 0

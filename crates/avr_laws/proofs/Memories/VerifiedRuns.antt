@@ -1,9 +1,9 @@
 -- What a verified run leaves in each memory, and that a further comparison agrees.
-use Rattle.std.proofs.Common.{◌≡◌, ℕ, ◌<◌, arith, refl, sym, ap, ◌∙◌, subst, List, [], ◌∷◌, ◌++◌, map, length, get_or, Bool, true, false, rules}
+use Rattle.std.proofs.Common.{◌≡◌, ℕ, ◌<◌, arith, refl, sym, ap, ◌∙◌, subst, List, [], ◌∷◌, map, length, get_or, Bool, false, rules}
 use Rattle.std.proofs.lemmas.Bool.{true≢false}
 use Rattle.std.proofs.lemmas.List.{get_or-replicate}
 use Rattle.std.specs.List.{list_any}
-use Rattle.std.specs.Prelude.{◌&&◌, ◌||◌, not, if◌then◌else◌, All}
+use Rattle.std.specs.Prelude.{not, if◌then◌else◌, All}
 use Rattle.avr_cli.specs.declared.settings.Switches.{Switches}
 use Rattle.avr_part.specs.Memory.{blank}
 use Rattle.avr_part.specs.Part.{Part, IsPart}
@@ -11,13 +11,13 @@ use Rattle.avr_part.specs.declared.part.Mem.{Mem}
 use Rattle.avr_part.specs.declared.part.Mem.TheVariants.{Flash, Eeprom, Lfuse, Hfuse, Efuse, Lock}
 use Rattle.avr_plan.specs.Plan.{Plan, IsFitted}
 use Rattle.avr_plan.specs.declared.planned.Task.TheVariants as task
-use Rattle.avr_session.specs.Actions.{writes_flash, tasks_actions, TheErase, EraseChip, LeaveOut}
-use Rattle.stk_emu.specs.Effect.{Image, Memories, Item, Erase, erase_keeps_eeprom, effect, effects}
+use Rattle.avr_session.specs.Actions.{writes_flash, tasks_actions}
+use Rattle.stk_emu.specs.Effect.{Image, Memories, Erase, effect, effects}
 use Rattle.stk_emu.specs.Settled.{FitsPart}
 use Rattle.avr_laws.proofs.PageWrites.Pages.{effects_on}
 use Rattle.avr_laws.specs.Agrees.{Shows, ActionsAgree}
 use Rattle.avr_laws.specs.ExpectedRun.{expected_run}
-use Rattle.avr_laws.specs.Items.{actions_items, items, asked_items, has_erase}
+use Rattle.avr_laws.specs.Items.{items, asked_items, has_erase}
 use Rattle.avr_laws.specs.Outcome.{IsDone}
 use Rattle.avr_laws.specs.Written.{IsWritten, written_to}
 use Rattle.avr_laws.proofs.Plans.Fits.{tasks_fit}
@@ -30,36 +30,20 @@ use Rattle.avr_laws.proofs.AnyLine.FirstSteps.{effects_sizes}
 
 flash_erased : (part : Part) (due : Bool) (m : Memories) (addr : ℕ) → addr < length m.flash
     → get_or (effects part (erase_if due) m).flash addr 0 ≡ (if due then 255 else get_or m.flash addr 0)
-flash_erased part true m addr l = get_or-replicate (length m.flash) addr 255 0 l
-flash_erased part false m addr l = refl
+flash_erased part due m addr l = search (rules, get_or-replicate)
 
 eeprom_blanked : (keeps : Bool) (xs : List ℕ) (addr : ℕ) → addr < length xs
     → get_or (if keeps then xs else blank xs) addr 0 ≡ (if not keeps then 255 else get_or xs addr 0)
-eeprom_blanked true xs addr l = refl
-eeprom_blanked false xs addr l = get_or-replicate (length xs) addr 255 0 l
-
-eeprom_erased : (part : Part) (due : Bool) (m : Memories) (addr : ℕ) → addr < length m.eeprom
-    → get_or (effects part (erase_if due) m).eeprom addr 0
-    ≡ (if due && not (erase_keeps_eeprom part m) then 255 else get_or m.eeprom addr 0)
-eeprom_erased part true m addr l = eeprom_blanked (erase_keeps_eeprom part m) m.eeprom addr l
-eeprom_erased part false m addr l = refl
+eeprom_blanked keeps xs addr l = search (rules, get_or-replicate)
 
 -- an erase keeps a fuse
 fuse_kept : (part : Part) (fuse : Memories → ℕ) (due : Bool) (m : Memories) → fuse (effect part Erase m) ≡ fuse m
     → fuse (effects part (erase_if due) m) ≡ fuse m
-fuse_kept part fuse true m kept = kept
-fuse_kept part fuse false m kept = refl
+fuse_kept part fuse due m kept = search rules
 
 lock_erased : (part : Part) (due : Bool) (m : Memories)
     → (effects part (erase_if due) m).lock ≡ (if due then 255 else m.lock)
-lock_erased part true m = refl
-lock_erased part false m = refl
-
--- an erase writes no image
-written_behind : (part : Part) (mem : Mem) (due : Bool) (xs : List Item)
-    → written_to part mem (erase_if due ++ xs) ≡ written_to part mem xs
-written_behind part mem true xs = refl
-written_behind part mem false xs = refl
+lock_erased part due m = search rules
 
 -- ---- the whole run
 
@@ -77,7 +61,7 @@ module _ (plan : Plan) (before after : Memories) (all : All (IsFitted plan.part)
   memory_left : (mem : Mem) → Left plan.part mem (written_to plan.part mem (items plan)) erased after
   memory_left mem =
       subst (λ image. Left plan.part mem image erased after)
-      (sym (ap (written_to plan.part mem) (items_are plan) ∙ written_behind plan.part mem due (writes plan)))
+      (sym (ap (written_to plan.part mem) (items_are plan) ∙ (search rules)))
       (subst (λ new. Left plan.part mem (written_to plan.part mem (writes plan)) erased new) is_after
       (search (rules, tasks_left, tasks_fit, tasks_agree)))
 
@@ -93,7 +77,7 @@ module _ (plan : Plan) (before after : Memories) (all : All (IsFitted plan.part)
         rest_of_flash = λ addr l none. (memory_left Flash).rest addr none
             ∙ flash_erased part due before addr (omega (arith, l, fits.flash));
         rest_of_eeprom = λ addr l none. (memory_left Eeprom).rest addr none
-            ∙ eeprom_erased part due before addr (omega (arith, l, fits.eeprom));
+            ∙ (search (rules, eeprom_blanked));
         lfuse = λ none. (memory_left Lfuse).rest 0 none ∙ fuse_kept part (λ m. m.lfuse) due before refl;
         hfuse = λ none. (memory_left Hfuse).rest 0 none ∙ fuse_kept part (λ m. m.hfuse) due before refl;
         efuse = λ none. (memory_left Efuse).rest 0 none ∙ fuse_kept part (λ m. m.efuse) due before refl;
@@ -102,8 +86,7 @@ module _ (plan : Plan) (before after : Memories) (all : All (IsFitted plan.part)
 
   -- the same by what the tasks ask for
   pub run_written : IsPart plan.part → FitsPart plan.part before → IsWritten plan.part (asked_items plan) before after
-  run_written sound fits =
-      subst (λ xs. IsWritten plan.part xs before after) (items_by_tasks plan) (items_written sound fits)
+  run_written sound fits = search (rules, items_by_tasks, items_written)
 
 -- images that are shown agree once more
 shown_agree : (part : Part) (s : Switches) (image_of : Mem → Image) (m : Memories) (mems : List Mem)
@@ -118,14 +101,6 @@ none_writes : (image_of : Mem → Image) (mems : List Mem)
 none_writes image_of [] = refl
 none_writes image_of (mem ∷ mems) = none_writes image_of mems
 
-no_erase : (dry erase any keep : Bool) → erase ≡ false → any ≡ false
-    → actions_items (if dry then (if erase then LeaveOut TheErase ∷ [] else []) else if erase || (any && keep)
-    then EraseChip ∷ [] else []) ≡ []
-no_erase dry true any keep e n = absurd (true≢false e)
-no_erase dry false true keep e n = absurd (true≢false n)
-no_erase true false false keep e n = refl
-no_erase false false false keep e n = refl
-
 -- so a run that only compares what is shown has status 0
 pub shown_succeeds : (part : Part) (s : Switches) (image_of : Mem → Image) (m : Memories) (mems : List Mem)
     → s.erase ≡ false → ((mem : Mem) → Shows part mem (image_of mem) m)
@@ -136,4 +111,4 @@ shown_succeeds part s image_of m mems kept shown =
     let tasks = map (λ mem. task.Verify mem (image_of mem)) mems in
     let plan : Plan = record { part = part; tasks = tasks; switches = s } in
     (expected_status plan m).1
-    (search (rules, no_erase, none_writes, shown_agree))
+    (search (rules, true≢false, none_writes, shown_agree))

@@ -1,20 +1,20 @@
 -- An image that a memory takes is there once it is written.
-use Rattle.std.proofs.Common.{◌≡◌, ◌<◌, ℕ, zero, suc, List, [], ◌∷◌, ◌++◌, length, get_or, refl, sym, ◌∙◌, arith, Bool, true, false, Option, Some, None, unwrap_or, rules}
+use Rattle.std.proofs.Common.{◌≡◌, ◌<◌, ℕ, List, [], ◌∷◌, ◌++◌, length, get_or, refl, sym, ◌∙◌, arith, Bool, true, false, Option, Some, rules}
 use Rattle.std.proofs.lemmas.Bool.{cases_Bool, eqb-true, true≢false}
 use Rattle.std.proofs.lemmas.List.{length-replicate, get_or-replicate}
 use Rattle.std.specs.Prelude.{if◌then◌else◌}
 use Rattle.avr_image.specs.Image.{byte_at, HoldsBytes}
 use Rattle.avr_part.specs.Part.{Part}
 use Rattle.avr_part.specs.declared.part.Mem.{Mem}
-use Rattle.avr_part.specs.declared.part.Mem.TheVariants.{Flash, Eeprom, Lfuse, Hfuse, Efuse, Lock, Signature, Calibration}
-use Rattle.stk_emu.specs.Effect.{Image, Item, Erase, Write, Memories, with_image, and_in, and_with, are_locked, effect, effects, write_effect, memory_in}
+use Rattle.avr_part.specs.declared.part.Mem.TheVariants.{Flash, Lock}
+use Rattle.stk_emu.specs.Effect.{Image, Item, Erase, Write, Memories, with_image, and_in, and_with, effect, effects, write_effect, memory_in}
 use Rattle.stk_emu.specs.Given.{HoldsImage}
 use Rattle.avr_laws.proofs.Given.Comparisons.{and_from_blank, laid_holds}
 use Rattle.stk_emu.proofs.Memories.LaidImages.{length-and_in, get_and_in}
 use Rattle.avr_laws.proofs.PageWrites.Pages.{effects_on}
 use Rattle.avr_laws.specs.Agrees.{Shows}
 use Rattle.avr_laws.specs.Items.{has_erase}
-use Rattle.avr_laws.specs.Written.{memory_number, LeaveFree, IsErasedFor, IsTaken}
+use Rattle.avr_laws.specs.Written.{LeaveFree, IsErasedFor, IsTaken}
 use Rattle.avr_laws.proofs.PageWrites.EachMemory.{same_memory, size_stays, others_stay}
 use Rattle.avr_laws.proofs.Memories.LaidImages.{write_keeps}
 
@@ -30,12 +30,6 @@ module _ (part : Part) (mem : Mem) (addr : ℕ)
   abbrev IsInside : Memories → Type 0
   IsInside m = addr < length (memory_in part mem m)
 
-  -- a write that has no byte there
-  past_write : (other : Mem) (image : Image) (m : Memories)
-      → (memory_number other ≡ memory_number mem → byte_at image addr ≡ None)
-      → held (write_effect other image m) ≡ held m
-  past_write other image m free = search (rules, cases_Bool, same_memory, write_keeps, eqb-true, others_stay)
-
   stays_blank : (xs : List Item) (m : Memories) → IsInside m → LeaveFree xs mem addr → held m ≡ 255
       → held (effects part xs m) ≡ 255
   stays_blank [] m inside free blank = blank
@@ -43,13 +37,12 @@ module _ (part : Part) (mem : Mem) (addr : ℕ)
       stays_blank xs (effect part Erase m) (omega (arith, inside, sized m)) free (blanked m inside)
   stays_blank (Write other image ∷ xs) m inside free blank =
       stays_blank xs (write_effect other image m) (omega (arith, inside, size_stays part other mem image m)) free.1
-      (past_write other image m free.0 ∙ blank)
+      ((search (rules, cases_Bool, same_memory, write_keeps, eqb-true, others_stay)) ∙ blank)
 
   pub erased_is_blank : (xs : List Item) (m : Memories) → IsInside m → LeaveFree xs mem addr → has_erase xs ≡ true
       → held (effects part xs m) ≡ 255
   erased_is_blank [] m inside free has = absurd (true≢false (sym has))
-  erased_is_blank (Erase ∷ xs) m inside free has =
-      stays_blank xs (effect part Erase m) (omega (arith, inside, sized m)) free (blanked m inside)
+  erased_is_blank (Erase ∷ xs) m inside free has = search (rules, stays_blank)
   erased_is_blank (Write other image ∷ xs) m inside free has =
       erased_is_blank xs (write_effect other image m) (omega (arith, inside, size_stays part other mem image m)) free.1
       has
@@ -58,8 +51,7 @@ module _ (part : Part) (mem : Mem) (addr : ℕ)
       → length (memory_in part mem (effects part xs m)) ≡ length (memory_in part mem m)
   sizes_stay [] m = refl
   sizes_stay (Erase ∷ xs) m = sizes_stay xs (effect part Erase m) ∙ sized m
-  sizes_stay (Write other image ∷ xs) m =
-      sizes_stay xs (write_effect other image m) ∙ size_stays part other mem image m
+  sizes_stay (Write other image ∷ xs) m = search (rules, size_stays, sizes_stay xs (write_effect other image m))
 
 -- ---- and it takes the image's byte
 
@@ -69,22 +61,14 @@ anded_blank o x b is blank small = search (rules, and_from_blank)
 flash_there : (image : Image) (xs : List ℕ) (is_locked : Bool) → is_locked ≡ false → HoldsBytes image
     → ((i b : ℕ) → byte_at image i ≡ Some b → i < length xs → get_or xs i 0 ≡ 255)
     → HoldsImage image (if is_locked then xs else and_in image xs)
-flash_there image xs true free bytes blank = absurd (true≢false free)
-flash_there image xs false free bytes blank = search (rules, length-and_in, get_and_in, anded_blank)
+flash_there image xs is_locked free bytes blank = search (rules, true≢false, length-and_in, get_and_in, anded_blank)
 
 eeprom_there : (image : Image) (xs : List ℕ) (is_locked : Bool) → is_locked ≡ false
     → HoldsImage image (if is_locked then xs else with_image image xs)
-eeprom_there image xs true free = absurd (true≢false free)
-eeprom_there image xs false free = laid_holds image xs
+eeprom_there image xs is_locked free = search (rules, true≢false, laid_holds)
 
 one_there : (image : Image) (y : ℕ) → ((b : ℕ) → byte_at image 0 ≡ Some b → y ≡ b) → HoldsImage image (y ∷ [])
-one_there image y there zero b is l = there b is
-one_there image y there (suc i) b is l = absurd (omega (arith, l))
-
-fuse_there : (image : Image) (x : ℕ) (is_locked : Bool) → is_locked ≡ false
-    → HoldsImage image ((if is_locked then x else unwrap_or (byte_at image 0) x) ∷ [])
-fuse_there image x true free = absurd (true≢false free)
-fuse_there image x false free = search (rules, one_there)
+one_there image y there d' b is l = search (rules, there)
 
 module _ (part : Part) (image : Image) (first : List Item) (before : Memories) (bytes : HoldsBytes image) where
   abbrev mid : Memories
@@ -106,18 +90,9 @@ module _ (part : Part) (image : Image) (first : List Item) (before : Memories) (
       (erased.1 0 b is) erased.0
 
   there : (mem : Mem) → IsTaken mem image first mid → Shows part mem image (write_effect mem image mid)
-  there Flash taken = flash_there image mid.flash (are_locked mid) taken.0 bytes (flash_blank taken.1)
-  there Eeprom taken = eeprom_there image mid.eeprom (are_locked mid) taken
-  there Lfuse taken = fuse_there image mid.lfuse (are_locked mid) taken
-  there Hfuse taken = fuse_there image mid.hfuse (are_locked mid) taken
-  there Efuse taken = fuse_there image mid.efuse (are_locked mid) taken
-  there Lock taken =
-      search (rules, one_there, anded_blank, lock_blank)
-  there Signature taken = absurd taken
-  there Calibration taken = absurd taken
+  there mem taken = search (rules, flash_there, flash_blank, eeprom_there, true≢false, anded_blank, lock_blank)
 
 pub written_there : (part : Part) (before now : Memories) (mem : Mem) (image : Image) (first : List Item)
     → HoldsBytes image → now ≡ effects part (first ++ Write mem image ∷ []) before
     → IsTaken mem image first (effects part first before) → Shows part mem image now
-written_there part before now mem image first bytes is taken =
-    search (rules, effects_on, there)
+written_there part before now mem image first bytes is taken = search (rules, effects_on, there)

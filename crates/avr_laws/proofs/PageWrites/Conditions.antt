@@ -1,5 +1,5 @@
 -- A run of steps along a link: how many of their conditions it has climbed.
-use Rattle.std.proofs.Common.{◌≡◌, ℕ, zero, suc, ◌≤◌, List, [], ◌∷◌, ◌++◌, length, refl, ap, arith, Ok, Err, rules}
+use Rattle.std.proofs.Common.{◌≡◌, ℕ, zero, suc, ◌≤◌, List, [], ◌∷◌, ◌++◌, length, refl, arith, Ok, rules}
 use Rattle.stk_frame.specs.declared.command.Command.{Command}
 use Rattle.stk_host.specs.Dialog.{Dialog, Done, Say, Ask}
 use Rattle.stk_host.specs.Steps.{StepOutcome, exchange, attempt, tries, step, if_done, play}
@@ -9,7 +9,6 @@ use Rattle.stk_emu.specs.Along.{LineState, along}
 use Rattle.avr_laws.proofs.Leads.{AllFit, AreSome, Climbs}
 use Rattle.avr_laws.specs.Made.{step_count, steps_done}
 use Rattle.avr_laws.proofs.Hosts.Attempts.{along_bind, onward, step_stands, Stepped}
-use Rattle.avr_laws.proofs.Hosts.AnyTurn.{done_is}
 
 module _ {P : Type 0} (m : Device P) where
   -- a dialog that is done with questions to spare was done without the last
@@ -22,8 +21,7 @@ module _ {P : Type 0} (m : Device P) where
             (along m (suc k) d p turns).turns;
         left = left;
       }
-  along_before k left (Done q) p turns r e n =
-      search (rules, done_is)
+  along_before k left (Done q) p turns r e n = search rules
   along_before k left (Say s d) p turns r e n = along_before k left d p turns r e n
   along_before zero left (Ask bytes go_on) p turns r e n = absurd (none_left (go_on _) _ _ e n)
     where
@@ -53,12 +51,7 @@ module _ {P : Type 0} (m : Device P) where
     behind zero k steps commands p turns bytes t e n c =
         search rules
     behind (suc left) k steps commands p turns bytes t e n c =
-        let q = (along m (suc k) (step commands) p turns).programmer in
-        let fs = (along m (suc k) (step commands) p turns).turns in
-        let before : steps_done m (commands ∷ steps) k p turns ≡ suc (steps_done m steps left q fs) =
-        ap (λ (s : LineState ⊥ StepOutcome P). step_count s.dialog (steps_done m steps s.left s.programmer s.turns))
-        (along_before k left (step commands) p turns (Ok bytes) e n) in
-        search rules
+        search (rules, along_before k left (step commands) p turns (Ok bytes) e n)
 
     climbs_from : (k : ℕ) (steps : List (List Command)) (commands : List Command) (p : P) (turns : List Turn)
         (go_on : List ℕ → Dialog ⊥ StepOutcome) (d : Dialog ⊥ StepOutcome)
@@ -77,11 +70,7 @@ module _ {P : Type 0} (m : Device P) where
     climbs_from k steps commands p turns go_on (Done (Ok bytes)) e stepped rest =
         behind (along m (suc k) (step commands) p turns).left k steps commands p turns bytes _ e refl
         (rest bytes (stepped.whole bytes e))
-    climbs_from k steps commands p turns go_on (Done (Err fault)) e stepped rest =
-        search rules
-    climbs_from k steps commands p turns go_on (Say said dialog) e stepped rest = absurd said
-    climbs_from k steps commands p turns go_on (Ask bytes more) e stepped rest =
-        search (rules, onward)
+    climbs_from k steps commands p turns go_on d e stepped rest = search rules
 
     -- before the first question
     none_asked : (command : Command) (commands : List Command) (steps : List (List Command)) (before : List ℕ) (p : P)
@@ -98,8 +87,7 @@ module _ {P : Type 0} (m : Device P) where
   unfolding play
   play_climbs At [] k before p turns some fit at = search rules
   play_climbs At ([] ∷ steps) k before p turns some fit at = absurd some
-  play_climbs At ((command ∷ commands) ∷ steps) zero before p turns some fit at =
-      none_asked At command commands steps before p turns at
+  play_climbs At ((command ∷ commands) ∷ steps) zero before p turns some fit at = search (rules, none_asked)
   play_climbs At ((command ∷ commands) ∷ steps) (suc k) before p turns some fit at =
       let cs = command ∷ commands in
       let s = along m (suc k) (step cs) p turns in

@@ -1,5 +1,5 @@
 -- Counts of page writes, composed.
-use Rattle.std.proofs.Common.{◌≡◌, ℕ, zero, suc, ◌+◌, ◌-◌, ◌≤◌, List, [], ◌∷◌, ◌++◌, length, refl, ap, subst, arith, ◌⊎◌, inl, inr, Ok, Err, rules}
+use Rattle.std.proofs.Common.{◌≡◌, ℕ, zero, suc, ◌+◌, ◌-◌, ◌≤◌, List, [], ◌∷◌, ◌++◌, length, refl, ap, subst, arith, ◌⊎◌, inl, inr, Ok, rules}
 use Rattle.avr_part.specs.Part.{Part, IsPart}
 use Rattle.stk_frame.specs.declared.command.Command.{Command}
 use Rattle.stk_host.specs.Dialog.{Dialog, Done, Say, Ask, ◌>>=◌}
@@ -14,8 +14,7 @@ use Rattle.avr_laws.specs.Made.{step_count, steps_done}
 use Rattle.avr_laws.proofs.Leads.{Climbs, GoesOn}
 use Rattle.stk_emu.specs.PageWrites.{changed_by, AreSteps}
 use Rattle.avr_laws.specs.Tallies.{Count, with_next, then_count, Tallies}
-use Rattle.avr_laws.proofs.Hosts.Attempts.{along_bind, onward, err≢ok}
-use Rattle.avr_laws.proofs.Hosts.AnyTurn.{asks≢done}
+use Rattle.avr_laws.proofs.Hosts.Attempts.{along_bind, onward}
 use Rattle.avr_laws.proofs.PageWrites.Conditions.{along_before}
 use Rattle.avr_laws.proofs.Given.FirstSteps.{steps_climb}
 
@@ -60,22 +59,18 @@ module _ {P : Type 0} (m : Device P) where
 
     with_more : (k : ℕ) (x : Dialog E A) → first k p turns ≤ with_next x (first k p turns)
         (λ a. more a (along m k d p turns).left (along m k d p turns).programmer (along m k d p turns).turns)
-    with_more k (Done a) = omega arith
-    with_more k x = omega arith
+    with_more k x = search rules
 
     first_below : (k : ℕ) → first k p turns ≤ then_count m d first more k p turns
     first_below k = with_more k (along m k d p turns).dialog
 
     none_from : (x : Dialog E A) (e : (along m 0 d p turns).dialog ≡ x) → total 0 x e ≡ 0
-    none_from (Done a) e =
-        search (rules, none_left)
-    none_from x e = t.none
+    none_from x e = search (rules, none_left)
 
     at_least_from : (k : ℕ) (x : Dialog E A) (e : (along m k d p turns).dialog ≡ x)
         → with_next x (first k p turns) (λ a. more a (along m k d p turns).left (along m k d p turns).programmer
         (along m k d p turns).turns) ≤ total k x e
-    at_least_from k (Done a) e = search rules
-    at_least_from k x e = t.at_least k
+    at_least_from k x e = search rules
 
     quiet_most : (k n : ℕ) → n ≡ 0 → t.count k + n ≤ suc (then_count m d first more (k - 1) p turns)
     quiet_most k n e = let l = t.at_most k in let b = first_below (k - 1) in omega (arith, l, b, e)
@@ -83,21 +78,11 @@ module _ {P : Type 0} (m : Device P) where
     sharp_most : (k l : ℕ) (a : A) (e : (along m (suc k) d p turns).dialog ≡ Done a)
         → (along m (suc k) d p turns).left ≡ suc l → t.count (suc k) ≤ first (suc k - 1) p turns
         → total (suc k) (Done a) e ≤ suc (then_count m d first more (suc k - 1) p turns)
-    sharp_most k l a e n exact =
-        let s = along m (suc k) d p turns in
-        let g = follow (suc k) a e in
-        let back : suc k - 1 ≡ k = omega arith in
-        let made : t.count (suc k) ≤ first k p turns = subst (λ i. t.count (suc k) ≤ first i p turns) back exact in
-        let r : g.rest.count s.left ≤ suc (more a l s.programmer s.turns) =
-        search rules in
-        let both : then_count m d first more k p turns ≡ first k p turns + more a l s.programmer s.turns =
-        ap (λ (z : LineState E A P). with_next z.dialog (first k p turns) (λ b. more b z.left z.programmer z.turns))
-        (along_before m k l d p turns a e n) in
-        search rules
+    sharp_most k l a e n exact = search (rules, along_before m k l d p turns a e n)
 
     done_most : (k left : ℕ) (a : A) (e : (along m k d p turns).dialog ≡ Done a) → (along m k d p turns).left ≡ left
         → total k (Done a) e ≤ suc (then_count m d first more (k - 1) p turns)
-    done_most k zero a e n = search (rules, quiet_most)
+    done_most k zero a e n = search rules
     done_most zero (suc l) a e n = absurd (omega (arith, none_left m d p turns, n))
     done_most (suc k) (suc l) a e n = by_sharp (follow (suc k) a e).sharp
       where
@@ -109,8 +94,7 @@ module _ {P : Type 0} (m : Device P) where
 
     at_most_from : (k : ℕ) (x : Dialog E A) (e : (along m k d p turns).dialog ≡ x)
         → total k x e ≤ suc (then_count m d first more (k - 1) p turns)
-    at_most_from k (Done a) e = done_most k (along m k d p turns).left a e refl
-    at_most_from k x e = let l = t.at_most k in let b = first_below (k - 1) in omega (arith, l, b)
+    at_most_from k x e = search (rules, done_most)
 
     -- a dialog, then the next one
     pub tallies_bind : Tallies m (d >>= next) (then_count m d first more) At p turns
@@ -127,10 +111,7 @@ module _ {P : Type 0} (m : Device P) where
       (got : List ℕ) (rest total : ℕ)
       → ((bytes : List ℕ) → (along m left (go_on bytes) q turns).dialog ≡ Done (Ok got) → rest ≡ total)
       → (onward m (if_done go_on) left turns q x).dialog ≡ Done (Ok got) → step_count x rest ≡ suc total
-  all_on left turns q (Done (Ok bytes)) go_on got rest total each e = ap suc (each bytes e)
-  all_on left turns q (Done (Err fault)) go_on got rest total each e = absurd (err≢ok fault got e)
-  all_on left turns q (Say s dialog) go_on got rest total each e = absurd s
-  all_on left turns q (Ask bytes answered) go_on got rest total each e = absurd (asks≢done _ _ _ e)
+  all_on left turns q x go_on got rest total each e = search rules
 
   pub steps_all : (steps : List (List Command)) (k : ℕ) (before : List ℕ) (p : P) (turns : List Turn) (got : List ℕ)
       → (along m k (play steps before) p turns).dialog ≡ Done (Ok got) → steps_done m steps k p turns ≡ length steps
@@ -156,11 +137,10 @@ module _ (part : Part) (steps : List (List Command)) (m : Memories) (before : Li
       → (climbs k).count ≤ steps_done device steps (k - 1) p turns
   play_sharp zero l got e n = absurd (omega (arith, none_left device (play steps before) p turns, n))
   play_sharp (suc k) l got e n =
-      let back : suc k - 1 ≡ k = omega arith in
       let then = along_before device k l (play steps before) p turns (Ok got) e n in
       let all : steps_done device steps k p turns ≡ length steps =
       steps_all device steps k before p turns got (ap (λ (z : LineState ⊥ StepOutcome Programmer). z.dialog) then) in
-      search (rules, climbs)
+      search rules
 
   -- a run of steps; if it was completed, all its page writes were, before the last question of what follows
   pub tallies_play : (t : Tallies device (play steps before) (steps_done device steps)

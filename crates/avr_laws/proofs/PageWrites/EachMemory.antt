@@ -1,13 +1,11 @@
 -- Writes, memory by memory: what a write makes of a memory, by whether the memory can only lose bits.
-use Rattle.std.proofs.Common.{◌≡◌, ℕ, refl, sym, ap, ◌∙◌, List, [], ◌∷◌, length, get_or, Bool, true, false, unwrap_or, rules}
-use Rattle.std.proofs.lemmas.Bool.{true≢false, cond-true}
+use Rattle.std.proofs.Common.{◌≡◌, ℕ, ap, ◌∙◌, List, length, get_or, Bool, true, false, rules}
 use Rattle.std.specs.Prelude.{◌==◌, ◌||◌, not, if◌then◌else◌}
-use Rattle.avr_image.specs.Image.{byte_at}
 use Rattle.avr_part.specs.Part.{Part}
 use Rattle.avr_part.specs.declared.part.Mem.{Mem}
 use Rattle.avr_part.specs.declared.part.Mem.TheVariants.{Flash, Eeprom, Lfuse, Hfuse, Efuse, Lock, Signature, Calibration}
-use Rattle.stk_emu.specs.Effect.{Image, Memories, with_image, and_in, and_with, are_locked, write_effect, memory_in}
-use Rattle.stk_emu.proofs.Memories.LaidImages.{length-laid, length-and_in, laid_twice, and_in_twice}
+use Rattle.stk_emu.specs.Effect.{Image, Memories, with_image, and_in, are_locked, write_effect, memory_in}
+use Rattle.stk_emu.proofs.Memories.LaidImages.{length-laid, length-and_in}
 use Rattle.avr_laws.specs.Written.{memory_number}
 
 -- memories are equal if each of them is
@@ -24,15 +22,7 @@ same_memories part m n each =
     ∙ ap (λ (x : ℕ). record n { lock = x }) (byte Lock)))))
 
 pub same_memory : (other mem : Mem) → (memory_number other == memory_number mem) ≡ true → other ≡ mem
-same_memory Flash Flash e = refl
-same_memory Eeprom Eeprom e = refl
-same_memory Lfuse Lfuse e = refl
-same_memory Hfuse Hfuse e = refl
-same_memory Efuse Efuse e = refl
-same_memory Lock Lock e = refl
-same_memory Signature Signature e = refl
-same_memory Calibration Calibration e = refl
-same_memory other mem e = absurd (true≢false (sym e))
+same_memory other mem e = search rules
 
 -- whether no write turns a zero of the memory into a one: flash, the lock, and what can't be written
 abbrev pub keeps_zeros : Mem → Bool
@@ -46,15 +36,6 @@ abbrev pub laid : Bool → Image → List ℕ → List ℕ
 laid true image xs = and_in image xs
 laid false image xs = with_image image xs
 
-pub length_laid : (zeros : Bool) (image : Image) (xs : List ℕ) → length (laid zeros image xs) ≡ length xs
-length_laid true image xs = length-and_in image xs
-length_laid false image xs = length-laid image xs
-
-pub laid_again : (zeros : Bool) (image : Image) (xs : List ℕ)
-    → laid zeros image (laid zeros image xs) ≡ laid zeros image xs
-laid_again true image xs = and_in_twice image xs
-laid_again false image xs = laid_twice image xs
-
 -- whether a memory can't be written, given whether the chip is locked
 abbrev pub is_barred : Mem → Bool → Bool
 is_barred Lock locked = false
@@ -66,42 +47,18 @@ is_barred mem locked = locked
 abbrev pub spares : Mem → Mem → Bool → Bool
 spares other mem locked = not (memory_number other == memory_number mem) || is_barred mem locked
 
-one_byte : (locked : Bool) (image : Image) (x : ℕ)
-    → (if locked then x else unwrap_or (byte_at image 0) x) ∷ []
-    ≡ (if locked then x ∷ [] else with_image image (x ∷ []))
-one_byte true image x = refl
-one_byte false [] x = refl
-one_byte false (b ∷ image) x = refl
-
-lock_byte : (image : Image) (x : ℕ) → and_with (byte_at image 0) x ∷ [] ≡ and_in image (x ∷ [])
-lock_byte [] x = refl
-lock_byte (b ∷ image) x = refl
-
 pub write_is : (part : Part) (other mem : Mem) (image : Image) (m : Memories)
     → memory_in part mem (write_effect other image m)
     ≡ (if spares other mem (are_locked m) then memory_in part mem m
     else laid (keeps_zeros mem) image (memory_in part mem m))
-write_is part Flash Flash image m = refl
-write_is part Eeprom Eeprom image m = refl
-write_is part Lfuse Lfuse image m = one_byte (are_locked m) image m.lfuse
-write_is part Hfuse Hfuse image m = one_byte (are_locked m) image m.hfuse
-write_is part Efuse Efuse image m = one_byte (are_locked m) image m.efuse
-write_is part Lock Lock image m = lock_byte image m.lock
-write_is part Signature Signature image m = refl
-write_is part Calibration Calibration image m = refl
-write_is part other mem image m = refl
-
-written_size : (spared zeros : Bool) (image : Image) (xs : List ℕ)
-    → length (if spared then xs else laid zeros image xs) ≡ length xs
-written_size true zeros image xs = refl
-written_size false zeros image xs = length_laid zeros image xs
+write_is part other mem image m = search rules
 
 -- a write keeps the size of each memory, and changes no other memory
 pub size_stays : (part : Part) (other mem : Mem) (image : Image) (m : Memories)
     → length (memory_in part mem (write_effect other image m)) ≡ length (memory_in part mem m)
-size_stays part other mem image m = search (rules, write_is, written_size)
+size_stays part other mem image m = search (rules, length-and_in, length-laid)
 
 pub others_stay : (part : Part) (other mem : Mem) (image : Image) (m : Memories)
     → (memory_number other == memory_number mem) ≡ false
     → memory_in part mem (write_effect other image m) ≡ memory_in part mem m
-others_stay part other mem image m e = search (rules, write_is, cond-true)
+others_stay part other mem image m e = search rules

@@ -1,15 +1,15 @@
 -- The steps of an item do what the item does, and fit the part.
-use Rattle.std.proofs.Common.{◌≡◌, ℕ, zero, suc, ◌+◌, ◌-◌, ◌*◌, ◌/◌, ◌%◌, ◌≤◌, ◌<◌, List, [], ◌∷◌, ◌++◌, length, refl, sym, ap, ◌∙◌, arith, Bool, true, false, cond, Option, Some, None, is_some, unwrap_or, rules}
-use Rattle.std.proofs.lemmas.Bool.{cases_lt, and_parts}
+use Rattle.std.proofs.Common.{◌≡◌, ℕ, zero, suc, ◌+◌, ◌-◌, ◌*◌, ◌/◌, ◌%◌, ◌≤◌, ◌<◌, List, [], ◌∷◌, ◌++◌, length, refl, ap, ◌∙◌, arith, Bool, true, cond, Option, Some, None, is_some, rules}
+use Rattle.std.proofs.lemmas.Bool.{and_parts}
 use Rattle.std.proofs.lemmas.List.{length-replicate, get_or-replicate}
 use Rattle.std.proofs.lemmas.Nat.{div-add-mod'}
 use Rattle.std.proofs.lemmas.List.Elements.{All-get_or, All-from_get_or}
 use Rattle.std.specs.Int.{div_ceil}
-use Rattle.avr_part.specs.Memory.{AreBytes, blank}
+use Rattle.avr_part.specs.Memory.{AreBytes}
 use Rattle.stk_emu.proofs.Memories.Pages.{page_even}
 use Rattle.std.proofs.Math.Nat.{suc-mul, mul-le-mul_right}
 use Rattle.std.specs.Prelude.{◌==◌, ◌||◌, not, min}
-use Rattle.avr_image.specs.Image.{byte_at, filled_bytes, holds_any, run_end}
+use Rattle.avr_image.specs.Image.{byte_at, filled_bytes, run_end}
 use Rattle.avr_image.proofs.Lemmas.{held_within, filled_is, run_is_longest}
 use Rattle.avr_part.specs.declared.part.Mem.{Mem}
 use Rattle.avr_part.specs.declared.part.Mem.TheVariants.{Flash, Eeprom, Lfuse, Hfuse, Efuse, Lock, Signature, Calibration}
@@ -20,51 +20,28 @@ use Rattle.stk_frame.specs.HostCommands.{program_fuse, program_lock}
 use Rattle.stk_host.specs.Places.{each_from}
 use Rattle.stk_host.specs.WriteSteps.{page_step, page_steps, page_end, begins_run, run_step, run_steps_at, byte_steps, write_steps}
 use Rattle.stk_host.specs.ReadSteps.{read_count, block_size, read_step, read_steps}
-use Rattle.stk_emu.specs.Effect.{Memories, Image, Item, Erase, Write, effect, effects, and_with}
+use Rattle.stk_emu.specs.Effect.{Memories, Image, Item, Erase, Write, effect, effects}
 use Rattle.stk_emu.specs.Settled.{FitsPart}
-use Rattle.stk_emu.specs.PageWrites.{changed, changed_by, page_write_of, page_writes_of, IsStep, Erases, ProgramsPage, ProgramsRun, ProgramsFuse, ProgramsLock, ReadsFlash, ReadsEeprom, ReadsFuse, ReadsLock, ReadsSignature, ReadsCalibration, AreSteps, IsBlock, AreWords, steps_of, all_steps, FitsItem, AllFitItems}
+use Rattle.stk_emu.specs.PageWrites.{changed, changed_by, page_writes_of, IsStep, ProgramsPage, ProgramsRun, ProgramsFuse, ProgramsLock, ReadsFlash, ReadsEeprom, ReadsFuse, ReadsLock, ReadsSignature, ReadsCalibration, AreSteps, IsBlock, AreWords, steps_of, all_steps, FitsItem, AllFitItems}
 use Rattle.avr_laws.proofs.PageWrites.EachMemory.{size_stays}
 use Rattle.avr_laws.proofs.PageWrites.Pages.{page_writes_on, effects_on, pages_effect, AllBelow, below_and_in}
 use Rattle.avr_laws.proofs.PageWrites.Runs.{runs_effect}
 
 -- a choice between equals
 either_way : {A : Type 0} (b : Bool) (x : A) → cond b x x ≡ x
-either_way true x = refl
-either_way false x = refl
-
-module _ (part : Part) where
-  -- a byte that is written, or none
-  byte_item : (m : Memories) (with_byte : ℕ → Memories) (is_locked : Bool) (x : ℕ) (program : ℕ → Command)
-      (o : Option ℕ) → ((v : ℕ) → effects part (page_writes_of ((program v ∷ []) ∷ [])) m
-      ≡ with_byte (cond is_locked x v))
-      → m ≡ with_byte x
-      → effects part (page_writes_of (byte_steps program o)) m ≡ with_byte (cond is_locked x (unwrap_or o x))
-  byte_item m with_byte is_locked x program (Some v) each same = each v
-  byte_item m with_byte is_locked x program None each same = same ∙ ap with_byte (sym (either_way is_locked x))
-
-  lock_item : (o : Option ℕ) (m : Memories)
-      → effects part (page_writes_of (byte_steps program_lock o)) m ≡ record m { lock = and_with o m.lock }
-  lock_item (Some v) m = refl
-  lock_item None m = refl
-
-below_all : (xs : List ℕ) → AreBytes xs → AllBelow xs
-below_all xs bytes = λ i l. All-get_or (λ b. b < 256) xs i 0 l bytes
+either_way b x = search rules
 
 all_below : (xs : List ℕ) → AllBelow xs → AreBytes xs
 all_below xs below = All-from_get_or (λ b. b < 256) xs 0 below
 
-blank_below : (xs : List ℕ) → AllBelow (blank xs)
-blank_below xs i l =
-    search (rules, length-replicate, get_or-replicate)
-
 module _ (part : Part) (sound : IsPart part) where
   flash_bytes : (mem : Mem) (image : Image) (m : Memories) → AreBytes m.flash
       → AreBytes (effect part (Write mem image) m).flash
-  flash_bytes Flash image m bytes = search (rules, all_below, below_and_in, below_all)
+  flash_bytes Flash image m bytes = search (rules, all_below, below_and_in)
   flash_bytes mem image m bytes = bytes
 
   pub effect_sizes : (item : Item) (m : Memories) → FitsPart part m → FitsPart part (effect part item m)
-  effect_sizes Erase m f = search (rules, length-replicate, all_below, blank_below)
+  effect_sizes Erase m f = search (rules, length-replicate, get_or-replicate)
   effect_sizes (Write mem image) m f = record {
     flash = size_stays part mem Flash image m ∙ f.flash;
     eeprom = size_stays part mem Eeprom image m ∙ f.eeprom;
@@ -74,18 +51,11 @@ module _ (part : Part) (sound : IsPart part) where
   -- the steps of an item do what it does
   write_does : (mem : Mem) (image : Image) (m : Memories) → length image ≤ size_of mem part → FitsPart part m
       → effects part (page_writes_of (write_steps part mem image)) m ≡ effect part (Write mem image) m
-  write_does Flash image m fits f = pages_effect part sound image m f.flash (below_all m.flash f.bytes)
-  write_does Eeprom image m fits f = runs_effect part sound image m fits
-  write_does Lfuse image m fits f = search (rules, byte_item)
-  write_does Hfuse image m fits f = search (rules, byte_item)
-  write_does Efuse image m fits f = search (rules, byte_item)
-  write_does Lock image m fits f = lock_item part (byte_at image 0) m
-  write_does mem image m fits f = refl
+  write_does mem image m fits f = search (rules, pages_effect, runs_effect, either_way)
 
   pub item_does : (item : Item) (m : Memories) → FitsItem part item → FitsPart part m
       → effects part (page_writes_of (steps_of part item)) m ≡ effect part item m
-  item_does Erase m fits f = refl
-  item_does (Write mem image) m fits f = write_does mem image m fits f
+  item_does item m fits f = search (rules, write_does)
 
   pub items_do : (items : List Item) (m : Memories) → AllFitItems part items → FitsPart part m
       → effects part (page_writes_of (all_steps part items)) m ≡ effects part items m
@@ -93,15 +63,13 @@ module _ (part : Part) (sound : IsPart part) where
   items_do (item ∷ items) m fits f =
       ap (λ page_writes. effects part page_writes m) (page_writes_on (steps_of part item) (all_steps part items))
       ∙ (effects_on part (page_writes_of (steps_of part item)) (page_writes_of (all_steps part items)) m
-      ∙ (ap (effects part (page_writes_of (all_steps part items))) (item_does item m fits.0 f)
-      ∙ items_do items (effect part item m) fits.1 (effect_sizes item m f)))
+      ∙ (search (rules, item_does, items_do items (effect part item m) fits.1 (effect_sizes item m f))))
 
 -- the memories after all steps
 pub changed_all : (part : Part) (steps : List (List Command)) (m : Memories)
     → changed_by part (length steps) steps m ≡ effects part (page_writes_of steps) m
 changed_all part [] m = refl
-changed_all part (commands ∷ steps) m = changed_all part steps (changed part commands m)
-    ∙ sym (effects_on part (page_write_of commands) (page_writes_of steps) m)
+changed_all part (commands ∷ steps) m = search (rules, changed_all part steps (changed part commands m))
 
 -- ---- the steps fit the part
 
@@ -120,14 +88,12 @@ each_step part steps_at place (suc count) each =
 
 either_steps : (part : Part) (b : Bool) (x y : List (List Command)) → (b ≡ true → AreSteps part x) → AreSteps part y
     → AreSteps part (cond b x y)
-either_steps part true x y f g = f refl
-either_steps part false x y f g = g
+either_steps part b x y f g = search rules
 
 module _ (part : Part) (sound : IsPart part) where
   page_is_step : (image : Image) (n : ℕ) → n < part.flash_size / part.flash_page
       → AreSteps part (page_steps part image n)
-  page_is_step image n l = either_steps part (holds_any image (n * part.flash_page) part.flash_page)
-      (page_step part image (n * part.flash_page) ∷ []) [] (λ used. (is_page, tt)) tt
+  page_is_step image n l = search (rules, either_steps, is_page)
     where
       is_page : IsStep part (page_step part image (n * part.flash_page))
       is_page =
@@ -141,8 +107,7 @@ module _ (part : Part) (sound : IsPart part) where
 
   run_is_step : (image : Image) (addr : ℕ) → length image ≤ part.eeprom_size
       → AreSteps part (run_steps_at part image addr)
-  run_is_step image addr fits = either_steps part (begins_run part.eeprom_page image addr)
-      (run_step part image addr ∷ []) [] (λ begins. (is_run begins, tt)) tt
+  run_is_step image addr fits = search (rules, either_steps, is_run)
     where
       is_run : begins_run part.eeprom_page image addr ≡ true → IsStep part (run_step part image addr)
       is_run begins =
@@ -154,7 +119,7 @@ module _ (part : Part) (sound : IsPart part) where
           let rest : addr % page < page = omega arith in
           let end = run_end image addr (page_end page addr) in
           let run = run_is_longest image addr (page_end page addr) (omega (arith, here, rest)) in
-          let longer : addr < end = search (rules, cases_lt) in
+          let longer : addr < end = search rules in
           let last : end - 1 < length image = held_within image (end - 1)
           (run.held (end - 1) (omega (arith, longer)) (omega (arith, longer))) in
           let size = (filled_is image addr (end - addr)).size in
@@ -178,16 +143,14 @@ module _ (part : Part) (sound : IsPart part) where
   write_are_steps mem image fits = tt
 
   pub item_are_steps : (item : Item) → FitsItem part item → AreSteps part (steps_of part item)
-  item_are_steps Erase fits = (Erases refl, tt)
-  item_are_steps (Write mem image) fits = write_are_steps mem image fits
+  item_are_steps item fits = search (rules, write_are_steps)
 
   -- and so do those that read
   pub flash_even : part.flash_size % 2 ≡ 0
   flash_even =
       let all = div-add-mod' part.flash_size part.flash_page in
       let whole = sound.flash_pages in
-      let even = page_even part sound (part.flash_size / part.flash_page) in
-      search rules
+      let even = page_even part sound (part.flash_size / part.flash_page) in search rules
 
   block_words : (number size : ℕ) → size % 2 ≡ 0 → AreWords (number * 256) (min 256 (size - number * 256))
   block_words number size even = record { start_even = omega arith; count_even = omega (arith, even) }

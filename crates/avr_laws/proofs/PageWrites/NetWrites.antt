@@ -1,19 +1,20 @@
 -- Writes, one after another, are one write to each memory. So writing twice is writing once, also after an erase.
-use Rattle.std.proofs.Common.{◌≡◌, ℕ, zero, suc, refl, sym, ap, ap₂, ◌∙◌, List, [], ◌∷◌, length, Bool, true, false, Option, Some, None, unwrap_or, bit_and, rules}
-use Rattle.std.proofs.lemmas.Bool.{true≢false, cases_Bool, eqb-true, cond-true, or_right}
+use Rattle.std.proofs.lemmas.Grind.{common_steps}
+use Rattle.std.proofs.Common.{◌≡◌, ℕ, zero, suc, refl, sym, ap, ap₂, ◌∙◌, List, [], ◌∷◌, length, Bool, true, false, Option, Some, None, bit_and, rules, arith}
+use Rattle.std.proofs.lemmas.Bool.{true≢false}
 use Rattle.std.proofs.lemmas.List.{length-replicate}
 use Rattle.std.proofs.lemmas.Nat.{and_assoc}
 use Rattle.std.proofs.lemmas.Nat.Bits.{bit_at_and}
 use Rattle.std.specs.Prelude.{⊤, ◌==◌, if◌then◌else◌, replicate, take, drop}
 use Rattle.std.specs.Int.{bit_at}
-use Rattle.avr_image.specs.Image.{byte_at, either}
+use Rattle.avr_image.specs.Image.{either}
 use Rattle.avr_part.specs.Memory.{blank}
 use Rattle.avr_part.specs.Part.{Part}
 use Rattle.avr_part.specs.declared.part.Mem.{Mem}
 use Rattle.avr_part.specs.declared.part.Mem.TheVariants.{Flash, Eeprom, Lock}
 use Rattle.stk_emu.specs.Effect.{Image, Memories, Item, Erase, Write, with_image, and_in, and_with, are_locked, erase_keeps_eeprom, write_effect, effect, effects, memory_in}
-use Rattle.stk_emu.proofs.Memories.LaidImages.{length-laid, laid_twice}
-use Rattle.avr_laws.proofs.PageWrites.EachMemory.{same_memories, keeps_zeros, laid, length_laid, laid_again, is_barred, spares, write_is}
+use Rattle.stk_emu.proofs.Memories.LaidImages.{length-laid, laid_twice, and_in_twice, length-and_in}
+use Rattle.avr_laws.proofs.PageWrites.EachMemory.{same_memories, keeps_zeros, laid, is_barred, spares, write_is}
 use Rattle.avr_laws.specs.Items.{has_erase}
 
 -- ---- two images are one
@@ -22,15 +23,6 @@ abbrev both : Option ℕ → Option ℕ → Option ℕ
 both None b = b
 both (Some a) None = Some a
 both (Some a) (Some b) = Some (bit_and a b)
-
-both_byte : (a b : Option ℕ) (x : ℕ) → and_with b (and_with a x) ≡ and_with (both a b) x
-both_byte None b x = refl
-both_byte (Some a) None x = refl
-both_byte (Some a) (Some b) x = and_assoc b x a
-
-later_byte : (a b : Option ℕ) (x : ℕ) → unwrap_or b (unwrap_or a x) ≡ unwrap_or (either b a) x
-later_byte a None x = refl
-later_byte a (Some b) x = refl
 
 abbrev joined : Bool → Image → Image → Image
 joined zeros [] b = b
@@ -49,27 +41,14 @@ laid_joined zeros [] b xs = ap (laid zeros b) (laid_nothing zeros xs)
 laid_joined zeros (p ∷ a) [] xs = laid_nothing zeros (laid zeros (p ∷ a) xs)
 laid_joined true (p ∷ a) (q ∷ b) [] = refl
 laid_joined false (p ∷ a) (q ∷ b) [] = refl
-laid_joined true (p ∷ a) (q ∷ b) (x ∷ xs) = ap₂ (λ y ys. y ∷ ys) (both_byte p q x) (laid_joined true a b xs)
-laid_joined false (p ∷ a) (q ∷ b) (x ∷ xs) = ap₂ (λ y ys. y ∷ ys) (later_byte p q x) (laid_joined false a b xs)
+laid_joined true (p ∷ a) (q ∷ b) (x ∷ xs) = ap₂ (λ y ys. y ∷ ys) (search (rules, and_assoc)) (laid_joined true a b xs)
+laid_joined false (p ∷ a) (q ∷ b) (x ∷ xs) = ap₂ (λ y ys. y ∷ ys) (search rules) (laid_joined false a b xs)
 
 -- ---- a lock that is set stays set
 
 stays : (o : Option ℕ) (lock : ℕ) → (bit_at lock 0 == 0) ≡ true → (bit_at (and_with o lock) 0 == 0) ≡ true
 stays None lock e = e
-stays (Some b) lock e =
-    let zero_is : bit_at lock 0 ≡ 0 = eqb-true (bit_at lock 0) 0 e in
-    let both_is = bit_at_and lock b 0 in
-    search rules
-
-write_stays : (mem : Mem) (image : Image) (m : Memories) → are_locked m ≡ true
-    → are_locked (write_effect mem image m) ≡ true
-write_stays Lock image m e = stays (byte_at image 0) m.lock e
-write_stays mem image m e = e
-
-same_lock : (mem : Mem) (image : Image) (m n : Memories) → m.lock ≡ n.lock
-    → (write_effect mem image m).lock ≡ (write_effect mem image n).lock
-same_lock Lock image m n e = ap (and_with (byte_at image 0)) e
-same_lock mem image m n e = e
+stays (Some b) lock e = search (rules, bit_at_and lock b 0)
 
 module _ (part : Part) where
   ends_locked : (items : List Item) (m : Memories) → has_erase items ≡ false → are_locked m ≡ true
@@ -77,11 +56,11 @@ module _ (part : Part) where
   ends_locked [] m w e = e
   ends_locked (Erase ∷ items) m w e = absurd (true≢false w)
   ends_locked (Write mem image ∷ items) m w e =
-      ends_locked items (write_effect mem image m) w (write_stays mem image m e)
+      ends_locked items (write_effect mem image m) w (search (rules, stays))
 
   begins_open : (items : List Item) (m : Memories) → has_erase items ≡ false
       → are_locked (effects part items m) ≡ false → are_locked m ≡ false
-  begins_open items m w e = search (rules, cases_Bool, ends_locked)
+  begins_open items m w e = search (rules, ends_locked)
 
   -- ---- writes alone, in one memory
 
@@ -121,14 +100,14 @@ module _ (part : Part) where
     same_net [] m n alike = refl
     same_net (Erase ∷ items) m n alike = refl
     same_net (Write other image ∷ items) m n alike =
-        search (rules, keeps_zeros, same_net items (write_effect other image m) (write_effect other image n) alike.1)
+        search (rules, same_net items (write_effect other image m) (write_effect other image n) alike.1)
 
     by_lock : (items : List Item) (m n : Memories) → has_erase items ≡ false → m.lock ≡ n.lock → Alike items m n
     by_lock [] m n w e = tt
     by_lock (Erase ∷ items) m n w e = absurd (true≢false w)
     by_lock (Write other image ∷ items) m n w e = (
       ap (λ (k : ℕ). is_barred mem (bit_at k 0 == 0)) e,
-      by_lock items (write_effect other image m) (write_effect other image n) w (same_lock other image m n e),
+      by_lock items (write_effect other image m) (write_effect other image n) w (search rules),
     )
 
     open_alike : (items : List Item) (m n : Memories) → has_erase items ≡ false
@@ -144,8 +123,7 @@ module _ (part : Part) where
     never_barred : (items : List Item) (m n : Memories) → ((b c : Bool) → is_barred mem b ≡ is_barred mem c)
         → Alike items m n
     never_barred [] m n e = tt
-    never_barred (item ∷ items) m n e =
-        (e (are_locked m) (are_locked n), never_barred items (effect part item m) (effect part item n) e)
+    never_barred (item ∷ items) m n e = search (rules, never_barred items (effect part item m) (effect part item n) e)
 
     -- under a lock nothing changes
     locked_keeps : (items : List Item) (m : Memories) → is_barred mem true ≡ true → has_erase items ≡ false
@@ -153,43 +131,26 @@ module _ (part : Part) where
     locked_keeps [] m barred w e = refl
     locked_keeps (Erase ∷ items) m barred w e = absurd (true≢false w)
     locked_keeps (Write other image ∷ items) m barred w e =
-        locked_keeps items (write_effect other image m) barred w (write_stays other image m e)
-        ∙ (search (rules, write_is, cond-true, spares, laid, keeps_zeros, or_right, is_barred))
+        search (rules, locked_keeps items (write_effect other image m) barred w (search (rules, stays)))
 
     -- if what they leave bars them alike, writing twice is writing once
     net_again : (items : List Item) (m : Memories) → has_erase items ≡ false → Alike items (effects part items m) m
         → memory_in part mem (effects part items (effects part items m)) ≡ memory_in part mem (effects part items m)
-    net_again items m w alike =
-        search (rules, net_is, laid, keeps_zeros, same_net, laid_again)
+    net_again items m w alike = search (rules, net_is, same_net, and_in_twice, laid_twice)
 
   lock_again : (items : List Item) (m : Memories) → has_erase items ≡ false
       → memory_in part Lock (effects part items (effects part items m)) ≡ memory_in part Lock (effects part items m)
   lock_again items m w = net_again Lock items m w (never_barred Lock items (effects part items m) m (λ b c. refl))
 
-  guarded_again : (mem : Mem) → is_barred mem true ≡ true → (items : List Item) (m : Memories)
-      → has_erase items ≡ false
-      → memory_in part mem (effects part items (effects part items m)) ≡ memory_in part mem (effects part items m)
-  guarded_again mem barred items m w = search (rules, cases_Bool, locked_keeps, net_again, open_alike, lock_again)
-
   each_again : (items : List Item) (m : Memories) → has_erase items ≡ false → (mem : Mem)
       → memory_in part mem (effects part items (effects part items m)) ≡ memory_in part mem (effects part items m)
-  each_again items m w Lock = lock_again items m w
-  each_again items m w mem = guarded_again mem refl items m w
+  each_again items m w mem = search (rules, lock_again, locked_keeps, net_again, open_alike)
 
   pub written_again : (items : List Item) (m : Memories) → has_erase items ≡ false
       → effects part items (effects part items m) ≡ effects part items m
   written_again items m w = same_memories part _ _ (each_again items m w)
 
   -- ---- after an erase
-
-  eeprom_again : (before after : Bool) (image : Image) (xs : List ℕ) → (before ≡ true → after ≡ true)
-      → with_image image (if after then with_image image (if before then xs else blank xs)
-      else blank (with_image image (if before then xs else blank xs)))
-      ≡ with_image image (if before then xs else blank xs)
-  eeprom_again before true image xs kept = laid_twice image (if before then xs else blank xs)
-  eeprom_again true false image xs kept = absurd (true≢false (sym (kept refl)))
-  eeprom_again false false image xs kept =
-      search (rules, length-laid, length-replicate)
 
   module _ (items : List Item) (m : Memories) (w : has_erase items ≡ false)
       (kept : erase_keeps_eeprom part m ≡ true → erase_keeps_eeprom part (effects part (Erase ∷ items) m) ≡ true) where
@@ -203,21 +164,16 @@ module _ (part : Part) where
         ≡ laid (keeps_zeros mem) (net mem items blanked) (memory_in part mem blanked)
     back Flash = ap (λ (k : ℕ). and_in (net Flash items blanked) (replicate k 255))
         (ap (λ (xs : List ℕ). length xs) (net_is Flash items blanked w)
-        ∙ (length_laid true (net Flash items blanked) (blank m.flash) ∙ length-replicate {A = ℕ} (length m.flash) 255))
+        ∙ ((search (rules, length-and_in)) ∙ length-replicate {A = ℕ} (length m.flash) 255))
     back Eeprom = ap (λ xs. with_image (net Eeprom items blanked)
         (if erase_keeps_eeprom part left then xs else blank xs)) (net_is Eeprom items blanked w)
-        ∙ eeprom_again (erase_keeps_eeprom part m) (erase_keeps_eeprom part left) (net Eeprom items blanked) m.eeprom
-        kept
+        ∙ (search (rules, laid_twice, true≢false, length-laid, length-replicate))
     back Lock = refl
-    back mem = ap (laid (keeps_zeros mem) (net mem items blanked)) (net_is mem items blanked w)
-        ∙ laid_again (keeps_zeros mem) (net mem items blanked) (memory_in part mem blanked)
+    back mem = search (rules, net_is mem items blanked w)
 
     pub erased_again : effects part (Erase ∷ items) left ≡ left
     erased_again = same_memories part _ _
-        (λ mem. net_is mem items (effect part Erase left) w
-        ∙ (ap (λ n. laid (keeps_zeros mem) n (memory_in part mem (effect part Erase left)))
-        (search (rules, same_net, by_lock))
-        ∙ (back mem ∙ sym (net_is mem items blanked w))))
+        (grind (arith, common_steps, net_is, same_net, by_lock, back))
 
   -- ---- some first ones, and then all
 

@@ -13,7 +13,7 @@ use Rattle.stk_host.proofs.ImagePlaces.PagesAndRuns.{page_most}
 use Rattle.stk_host.specs.declared.fault.StepFault.{StepFault}
 use Rattle.stk_host.specs.declared.fault.StepFault.TheVariants.{Refused}
 use Rattle.stk_host.specs.Places.{flash_address}
-use Rattle.stk_host.specs.Steps.{Reply, Data, Stop, reading_reply}
+use Rattle.stk_host.specs.Steps.{Data, Stop, reading_reply}
 use Rattle.stk_host.specs.Tape.{Answered}
 use Rattle.stk_emu.specs.Programmer.{Programmer, Response, fail, obey, obey_command}
 use Rattle.stk_emu.specs.Device.{device}
@@ -114,7 +114,7 @@ loaded : (address : ℕ) (p : Programmer) → address < 2 ^ 32
 loaded address p few = ap (λ (z : Response). z.1) (obeys (LoadAddress address) p few)
 
 pub load_reply : (address : ℕ) (p : Programmer) → address < 2 ^ 32 → reply_to device (LoadAddress address) p ≡ Data []
-load_reply address p few = search (rules, obeys)
+load_reply address p few = search rules
 
 two_idles : (part : Part) (address : ℕ) (c : Command) → address < 2 ^ 32 → FailsOutside c
     → Idles part (LoadAddress address ∷ c ∷ [])
@@ -122,7 +122,7 @@ two_idles part address c few fails = record {
   keeps = λ m p i off s. keeps m p i off s;
   none = λ p bytes off e.
       let f = fails (device.after (body (LoadAddress address)) p) (outside p off) in
-      search (rules, stop_no, load_reply);
+      search rules;
 }
   where
     outside : (p : Programmer) → p.mode ≡ false → (device.after (body (LoadAddress address)) p).mode ≡ false
@@ -148,16 +148,9 @@ obeyed_steady zero commands p = refl
 obeyed_steady (suc i) [] p = refl
 obeyed_steady (suc i) (command ∷ commands) p = obeyed_steady i commands (device.after (body command) p)
 
-same_on : (reply : Reply) (f g : List ℕ → Reply) → ((bytes : List ℕ) → f bytes ≡ g bytes)
-    → on_data reply f ≡ on_data reply g
-same_on (Data bytes) f g each = each bytes
-same_on reply f g each = refl
-
 pub gathered_steady : (commands : List Command) (before : List ℕ) (p : Programmer)
     → joined_reply steady commands before p ≡ joined_reply device commands before p
-gathered_steady [] before p = refl
-gathered_steady (command ∷ commands) before p =
-    same_on (reply_to device command p) _ _ (search rules)
+gathered_steady commands before p = search rules
 
 module _ (part : Part) (sound : IsPart part) where
   as_written : (written commands : List Command) → commands ≡ written → Idles part written → Idles part commands
@@ -166,15 +159,13 @@ module _ (part : Part) (sound : IsPart part) where
   idles : (commands : List Command) → IsStep part commands → Idles part commands
   idles commands (Erases e) = as_written _ commands e (one_idles part erase erase_fails)
   idles commands (ProgramsPage number bytes is_page e) =
-      let inside = is_page.inside in
       let count = is_page.whole in
       let most = sound.flash_most in
       let some = sound.flash_page in
       let short = page_most part.flash_page (omega arith) sound.flash_fits in
       as_written _ commands e (two_idles part (flash_address part (number * part.flash_page)) (program_page bytes)
       (address_fits part sound (number * part.flash_page) (omega arith)) (page_fails bytes (omega arith)))
-  idles commands (ProgramsRun address bytes is_run e) =
-      search (rules, as_written, two_idles, run_fails)
+  idles commands (ProgramsRun address bytes is_run e) = search (rules, two_idles, run_fails)
   idles commands (ProgramsFuse f v e) = as_written _ commands e (one_idles part (program_fuse f v) (fuse_fails f v))
   idles commands (ProgramsLock v e) = as_written _ commands e (one_idles part (program_lock v) (lock_fails v))
   idles commands (ReadsFlash start count is_block words e) =
@@ -194,15 +185,11 @@ module _ (part : Part) (sound : IsPart part) where
   -- a step that brings its data began in programming mode
   pub in_mode_by_data : (commands : List Command) (p : Programmer) (bytes : List ℕ) → IsStep part commands
       → joined_reply device commands [] p ≡ Data bytes → p.mode ≡ true
-  in_mode_by_data commands p bytes is has = elim (cases_Bool p.mode) [
-    | inl on ↦ on
-    | inr off ↦ absurd ((idles commands is).none p bytes off has)
-  ]
+  in_mode_by_data commands p bytes is has = search rules
 
   either_settled : (m n : Memories) (q r : Programmer) → q ≡ r → Ready part m q ⊎ Ready part n q
       → Settled part m r ⊎ Settled part n r
-  either_settled m n q r e (inl s) = inl (subst (Settled part m) e (ready_settled part m q s))
-  either_settled m n q r e (inr s) = inr (subst (Settled part n) e (ready_settled part n q s))
+  either_settled m n q r e f' = search rules
 
   pub step_fits : (commands : List Command) (m : Memories) → IsStep part commands
       → Fits device commands (Settled part m) (Settled part (changed part commands m))

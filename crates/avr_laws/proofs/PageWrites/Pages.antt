@@ -1,10 +1,10 @@
 -- The pages of a write do what the write does.
 use Rattle.std.proofs.Common.{◌≡◌, ℕ, zero, suc, ◌+◌, ◌-◌, ◌*◌, ◌/◌, ◌≤◌, ◌<◌, List, [], ◌∷◌, ◌++◌, length, get_or, refl, sym, ap, ◌∙◌, subst, append_assoc, arith, inl, inr, true, false, Option, Some, None, is_some, bit_and, rules}
 use Rattle.std.proofs.lemmas.Grind.{and_numeral}
-use Rattle.std.proofs.lemmas.Nat.{div-add-mod', and_le_l}
+use Rattle.std.proofs.lemmas.Nat.{and_le_l}
 use Rattle.std.proofs.lemmas.Bool.{cases_Bool, false≢true, cond-true, cond-false}
 use Rattle.std.proofs.lemmas.List.{get_or-take, get_or-drop}
-use Rattle.std.proofs.Math.Nat.{mod-eq_of_lt, suc-mul, zero-mul, mul-le-mul_right}
+use Rattle.std.proofs.Math.Nat.{suc-mul, zero-mul, mul-le-mul_right}
 use Rattle.std.specs.List.{list_any}
 use Rattle.avr_image.specs.Image.{byte_at, filled_bytes, holds_any, or_blank}
 use Rattle.avr_image.proofs.Lemmas.{filled_is}
@@ -15,9 +15,9 @@ use Rattle.stk_host.specs.Places.{each_from}
 use Rattle.stk_host.specs.WriteSteps.{page_step, page_steps}
 use Rattle.stk_emu.specs.Effect.{Memories, Image, Item, Write, effect, effects, and_in, and_with, are_locked}
 use Rattle.stk_emu.specs.PageWrites.{image_at, page_writes_of}
-use Rattle.stk_emu.proofs.Memories.LaidImages.{get_and_in, length-and_in}
+use Rattle.stk_emu.proofs.Memories.LaidImages.{get_and_in, length-and_in, in_part, some_at}
 use Rattle.stk_emu.proofs.Memories.Pages.{page_even}
-use Rattle.avr_laws.proofs.PageWrites.Places.{Written, Changed, changed_first, gap_first, nothing_left, all_anded, placed_before, placed_within, placed_behind}
+use Rattle.avr_laws.proofs.PageWrites.Places.{Written, Changed, changed_first, gap_first, all_anded, placed_before, placed_behind}
 
 pub page_writes_on : (xs ys : List (List Command)) → page_writes_of (xs ++ ys) ≡ page_writes_of xs ++ page_writes_of ys
 page_writes_on [] ys = refl
@@ -30,19 +30,13 @@ effects_on part (x ∷ xs) ys m = effects_on part xs ys (effect part x m)
 
 -- a byte AND FF is itself
 and_blank : (o : Option ℕ) (x : ℕ) → x < 256 → bit_and x (or_blank o) ≡ and_with o x
-and_blank (Some b) x l = refl
-and_blank None x l = and_numeral x 254 refl ∙ mod-eq_of_lt l
-
-and_below : (o : Option ℕ) (x : ℕ) → x < 256 → and_with o x < 256
-and_below None x l = l
-and_below (Some y) x l = let e = and_le_l x y in omega arith
+and_blank o x l = search (rules, and_numeral)
 
 abbrev pub AllBelow : List ℕ → Type 0
 AllBelow xs = (i : ℕ) → i < length xs → get_or xs i 0 < 256
 
 pub below_and_in : (image : Image) (xs : List ℕ) → AllBelow xs → AllBelow (and_in image xs)
-below_and_in image xs below i l =
-    search (rules, length-and_in, get_and_in, and_below)
+below_and_in image xs below i l = search (rules, length-and_in, get_and_in, and_le_l)
 
 -- a page without a byte of the image
 none_any : (xs : List (Option ℕ)) (k : ℕ) → list_any is_some xs ≡ false → get_or xs k None ≡ None
@@ -61,7 +55,7 @@ unused_gap page image start unused i from to =
 page_changed : (image : Image) (start page : ℕ) (old : List ℕ) → AllBelow old
     → Changed and_with image start (start + page) old (and_in (image_at start (filled_bytes image start page)) old)
 page_changed image start page old below =
-    search (rules, filled_is, length-and_in, get_and_in, placed_before, placed_within, and_blank, placed_behind)
+    search (rules, filled_is, length-and_in, get_and_in, placed_before, in_part, some_at, and_blank, placed_behind)
 
 module _ (part : Part) (sound : IsPart part) (image : Image) where
   -- flash after the page writes of these steps
@@ -85,11 +79,9 @@ module _ (part : Part) (sound : IsPart part) (image : Image) where
             let mid = and_in (image_at start bytes) old in
             let r : Flashed others m ((n + 1) * page) mid =
             rest mid (below_and_in (image_at start bytes) old below) (length-and_in (image_at start bytes) old) in
-            let steps_are : page_steps part image n ≡ page_step part image start ∷ [] =
-            cond-true (holds_any image start page) (page_step part image start ∷ []) [] used in
             record {
               new = r.new;
-              is = search (rules, effects_on, page_even, cond-false);
+              is = search (rules, page_even, cond-false);
               written = changed_first and_with image start (start + page) old mid r.new
                   (page_changed image start page old below)
                   (subst (λ to. Written and_with image to mid r.new) next r.written);
@@ -109,7 +101,7 @@ module _ (part : Part) (sound : IsPart part) (image : Image) where
   pages_free : (n k : ℕ) (m : Memories) (old : List ℕ) → are_locked m ≡ false → AllBelow old
       → (n + k) * part.flash_page ≡ length old → length old ≤ 262144
       → Flashed (each_from (page_steps part image) n k) m (n * part.flash_page) old
-  pages_free n zero m old free below long most = search (rules, nothing_left)
+  pages_free n zero m old free below long most = search rules
   pages_free n (suc k) m old free below long most =
       let within : n * part.flash_page ≤ (n + suc k) * part.flash_page =
       less n (n + suc k) part.flash_page (omega arith) in
@@ -125,21 +117,12 @@ module _ (part : Part) (sound : IsPart part) (image : Image) where
   page_locked : (n : ℕ) (others : List (List Command)) (m : Memories) → are_locked m ≡ true
       → n * part.flash_page < 4294967296 → effects part (page_writes_of others) m ≡ m
       → effects part (page_writes_of (page_steps part image n ++ others)) m ≡ m
-  page_locked n others m lock few rest =
-      search (rules, cases_Bool, cond-true, effects_on, page_even, cond-false)
+  page_locked n others m lock few rest = search rules
 
   pages_locked : (n k : ℕ) (m : Memories) → are_locked m ≡ true → (n + k) * part.flash_page ≤ 262144
       → effects part (page_writes_of (each_from (page_steps part image) n k)) m ≡ m
   pages_locked n zero m lock most = refl
-  pages_locked n (suc k) m lock most =
-      search (
-        rules,
-        mul-le-mul_right,
-        page_locked,
-        pages_locked (n + 1) k m lock (let e : (n + 1 + k) *
-            part.flash_page ≡ (n + suc k) * part.flash_page = ap (λ j. j * part.flash_page) (omega arith) in omega
-            (arith, e, most)),
-      )
+  pages_locked n (suc k) m lock most = search (rules, page_locked, pages_locked (n + 1) k m lock (search rules))
 
   -- the pages of an image do what its write does
   pub pages_effect : (m : Memories) → length m.flash ≡ part.flash_size → AllBelow m.flash
@@ -147,8 +130,7 @@ module _ (part : Part) (sound : IsPart part) (image : Image) where
       ≡ effect part (Write Flash image) m
   pages_effect m long below =
       let count : (0 + part.flash_size / part.flash_page) * part.flash_page ≡ part.flash_size =
-      search (rules, div-add-mod') in
-      let most = sound.flash_most in
+      search rules in
       elim (cases_Bool (are_locked m)) [
         | inl lock ↦ pages_locked 0 (part.flash_size / part.flash_page) m lock (omega (arith, count))
             ∙ ap (λ f. record m { flash = f }) (sym (cond-true (are_locked m) m.flash (and_in image m.flash) lock))

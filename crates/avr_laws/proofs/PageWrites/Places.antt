@@ -1,11 +1,10 @@
 -- A memory that is changed place by place, by its image.
-use Rattle.std.proofs.Common.{◌≡◌, ℕ, ◌+◌, ◌-◌, ◌≤◌, ◌<◌, List, length, get_or, map, sym, ◌∙◌, arith, Option, Some, None, unwrap_or, rules}
-use Rattle.std.proofs.lemmas.Bool.{cases_lt}
+use Rattle.std.proofs.Common.{◌≡◌, ℕ, ◌+◌, ◌≤◌, ◌<◌, List, length, get_or, map, sym, ◌∙◌, arith, Option, Some, None, unwrap_or, rules}
 use Rattle.std.proofs.lemmas.List.{ext_get_or, length-map, get_or_past}
 use Rattle.avr_image.specs.Image.{byte_at}
 use Rattle.stk_emu.specs.Effect.{Image, with_image, and_in, and_with}
 use Rattle.stk_emu.specs.PageWrites.{image_at}
-use Rattle.stk_emu.proofs.Memories.LaidImages.{length-laid, length-and_in, get_laid, get_and_in, before_part, in_part, some_at}
+use Rattle.stk_emu.proofs.Memories.LaidImages.{length-laid, length-and_in, get_laid, get_and_in, before_part, in_part}
 
 -- From a place on each byte is changed by the image.
 pub record Written (f : Option ℕ → ℕ → ℕ) (image : Image) (from : ℕ) (old new : List ℕ) : Type 0 where
@@ -24,12 +23,7 @@ pub record Changed (f : Option ℕ → ℕ → ℕ) (image : Image) (from to : �
 -- a page write, then the others
 pub changed_first : (f : Option ℕ → ℕ → ℕ) (image : Image) (from to : ℕ) (old mid new : List ℕ)
     → Changed f image from to old mid → Written f image to mid new → Written f image from old new
-changed_first f image from to old mid new s w = search (rules, cases_lt)
-
--- nothing is left to change
-pub nothing_left : (f : Option ℕ → ℕ → ℕ) (image : Image) (from : ℕ) (old : List ℕ) → ((x : ℕ) → f None x ≡ x)
-    → ((i : ℕ) → i < length old → from ≤ i → byte_at image i ≡ None) → Written f image from old old
-nothing_left f image from old none gap = search rules
+changed_first f image from to old mid new s w = search rules
 
 -- a gap is skipped
 pub gap_first : (f : Option ℕ → ℕ → ℕ) (image : Image) (from to : ℕ) (old new : List ℕ) → ((x : ℕ) → f None x ≡ x)
@@ -52,11 +46,6 @@ all_anded image old new w = ext_get_or 0 new (and_in image old) (w.long ∙ sym 
 pub placed_before : (start : ℕ) (bytes : List ℕ) (i : ℕ) → i < start → get_or (image_at start bytes) i None ≡ None
 placed_before start bytes i l = before_part start (map Some bytes) i l
 
-pub placed_within : (start : ℕ) (bytes : List ℕ) (i : ℕ) → start ≤ i → i < start + length bytes
-    → get_or (image_at start bytes) i None ≡ Some (get_or bytes (i - start) 0)
-placed_within start bytes i from to = in_part start (map Some bytes) i from ∙ some_at bytes (i - start) (omega arith)
-
 pub placed_behind : (start : ℕ) (bytes : List ℕ) (i : ℕ) → start + length bytes ≤ i
     → get_or (image_at start bytes) i None ≡ None
-placed_behind start bytes i past =
-    search (rules, in_part, get_or_past, length-map)
+placed_behind start bytes i past = search (rules, in_part, get_or_past, length-map)

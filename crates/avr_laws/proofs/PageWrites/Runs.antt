@@ -1,6 +1,7 @@
 -- The runs of a write do what the write does.
+use Rattle.std.proofs.lemmas.Grind.{common_steps}
 use Rattle.std.proofs.Common.{◌≡◌, ℕ, zero, suc, ◌+◌, ◌-◌, ◌*◌, ◌/◌, ◌%◌, ◌≤◌, ◌<◌, List, ◌∷◌, length, refl, sym, ap, ◌∙◌, arith, inl, inr, ◌⊎◌, true, false, Option, Some, None, is_some, unwrap_or, rules}
-use Rattle.std.proofs.lemmas.Bool.{cases_Bool, cond-true, cond-false}
+use Rattle.std.proofs.lemmas.Bool.{cases_Bool, cond-true}
 use Rattle.avr_image.specs.Image.{byte_at, filled_bytes, run_end, first_from}
 use Rattle.avr_image.specs.Walk.{IsNextHeld}
 use Rattle.avr_image.proofs.Lemmas.{filled_is, run_is_longest, next_held, none_held}
@@ -12,8 +13,8 @@ use Rattle.stk_host.specs.WriteSteps.{page_end, run_step, run_steps_at}
 use Rattle.stk_host.proofs.ImagePlaces.PagesAndRuns.{IsNextRun, next_run, last_run, zero_border}
 use Rattle.stk_emu.specs.Effect.{Memories, Image, Write, effect, effects, with_image, are_locked}
 use Rattle.stk_emu.specs.PageWrites.{image_at, page_writes_of}
-use Rattle.stk_emu.proofs.Memories.LaidImages.{get_laid, length-laid}
-use Rattle.avr_laws.proofs.PageWrites.Places.{Written, Changed, changed_first, gap_first, nothing_left, all_laid, placed_before, placed_within, placed_behind}
+use Rattle.stk_emu.proofs.Memories.LaidImages.{get_laid, length-laid, in_part, some_at}
+use Rattle.avr_laws.proofs.PageWrites.Places.{Written, Changed, changed_first, gap_first, all_laid, placed_before, placed_behind}
 
 -- the page write of a run
 run_changed : (image : Image) (start end : ℕ) (old : List ℕ) → start ≤ end
@@ -21,7 +22,7 @@ run_changed : (image : Image) (start end : ℕ) (old : List ℕ) → start ≤ e
     → Changed (λ b x. unwrap_or b x) image start end old
     (with_image (image_at start (filled_bytes image start (end - start))) old)
 run_changed image start end old order held =
-    search (rules, filled_is, length-laid, get_laid, placed_before, placed_within, placed_behind)
+    search (rules, filled_is, length-laid, get_laid, placed_before, in_part, some_at, placed_behind)
 
 module _ (part : Part) (sound : IsPart part) (image : Image) where
   -- EEPROM after the page writes of these steps
@@ -42,7 +43,7 @@ module _ (part : Part) (sound : IsPart part) (image : Image) where
       let r : Loaded others m end mid = rest mid (length-laid (image_at start bytes) old) in
       record {
         new = r.new;
-        is = search (rules, cond-false);
+        is = search rules;
         written = search (rules, gap_first, changed_first, run_changed);
       }
 
@@ -60,7 +61,7 @@ module _ (part : Part) (sound : IsPart part) (image : Image) where
       record {
         new = old;
         is = search (rules, last_run);
-        written = nothing_left (λ b x. unwrap_or b x) image next old (λ x. refl) (λ i l from. gap i from);
+        written = search rules;
       }
   runs_from next (Some start) m old free fits border e others =
       let first : IsNextHeld image next start = next_held image next start e in
@@ -81,8 +82,7 @@ module _ (part : Part) (sound : IsPart part) (image : Image) where
   runs_free : (fuel next : ℕ) (m : Memories) (old : List ℕ) → are_locked m ≡ false → length image ≤ part.eeprom_size
       → part.eeprom_size ≤ next + fuel
       → (next % part.eeprom_page ≡ 0) ⊎ (byte_at image next ≡ None) → From next m old
-  runs_free zero next m old free fits enough border =
-      search (rules, runs_from)
+  runs_free zero next m old free fits enough border = search (rules, runs_from)
   runs_free (suc fuel) next m old free fits enough border =
       runs_from next (first_from image next) m old free fits border refl
       (λ end mid longer inside b. runs_free fuel end m mid free fits (omega (arith, longer, enough)) b)
@@ -104,6 +104,5 @@ module _ (part : Part) (sound : IsPart part) (image : Image) where
         runs_free part.eeprom_size 0 m m.eeprom free fits (omega arith) (inl (zero_border part.eeprom_page)) in
         let all : part.eeprom_size ≡ part.eeprom_size - 0 = omega arith in
         ap (λ count. effects part (page_writes_of (each_from (run_steps_at part image) 0 count)) m) all
-        ∙ (r.is
-        ∙ (search (rules, all_laid, cond-false)))
+        ∙ (grind (arith, common_steps, all_laid))
   ]

@@ -1,15 +1,13 @@
 -- Each step of a write has one page write: steps are counted as page writes.
-use Rattle.std.proofs.Common.{◌≡◌, ℕ, zero, suc, List, [], ◌∷◌, ◌++◌, length, take, refl, arith, Bool, true, false, cond, Option, Some, None, rules}
-use Rattle.avr_image.specs.Image.{byte_at}
+use Rattle.std.proofs.lemmas.Grind.{common_steps}
+use Rattle.std.proofs.Common.{◌≡◌, ℕ, zero, suc, List, [], ◌∷◌, ◌++◌, length, take, refl, arith, Bool, cond, rules}
 use Rattle.avr_part.specs.declared.part.Mem.{Mem}
-use Rattle.avr_part.specs.declared.part.Mem.TheVariants.{Flash, Eeprom, Lfuse, Hfuse, Efuse, Lock}
+use Rattle.avr_part.specs.declared.part.Mem.TheVariants.{Flash}
 use Rattle.avr_part.specs.Part.{Part}
 use Rattle.stk_frame.specs.declared.command.Command.{Command}
-use Rattle.stk_frame.specs.declared.host_command.Fuse.TheVariants.{Low, High, Extended}
-use Rattle.stk_frame.specs.HostCommands.{program_fuse, program_lock}
-use Rattle.stk_host.specs.WriteSteps.{byte_steps, write_steps}
+use Rattle.stk_host.specs.WriteSteps.{write_steps}
 use Rattle.avr_laws.proofs.Each.{Each, each_on, each_of}
-use Rattle.stk_emu.specs.Effect.{Memories, Image, Item, Erase, Write, effect, effects}
+use Rattle.stk_emu.specs.Effect.{Memories, Image, Item, Erase, Write, effects}
 use Rattle.stk_emu.specs.PageWrites.{page_write_of, page_writes_of, changed_by, all_steps}
 
 -- each step has one page write
@@ -24,8 +22,7 @@ one_more : (part : Part) (items others : List Item) (steps : List (List Command)
     → ((n : Memories) → changed_by part count steps n ≡ effects part (take count others) n)
     → changed_by part count steps (effects part items m) ≡ effects part (take (suc count) (items ++ others)) m
 one_more part [] others steps count m e rest = absurd (omega arith)
-one_more part (item ∷ []) others steps count m e rest = rest (effect part item m)
-one_more part (item ∷ next ∷ items) others steps count m e rest = absurd (omega arith)
+one_more part items others steps count m e rest = grind (arith, common_steps)
 
 -- so the memories after the first `count` steps are those after the first `count` page writes
 pub counted_page_writes : (part : Part) (count : ℕ) (steps : List (List Command)) (m : Memories) → ArePageWrites steps
@@ -37,29 +34,17 @@ counted_page_writes part (suc count) (commands ∷ steps) m are =
     (λ n. counted_page_writes part count steps n are.1)
 
 either_page_writes : (b : Bool) (x : List (List Command)) → ArePageWrites x → ArePageWrites (cond b x [])
-either_page_writes true x f = f
-either_page_writes false x f = tt
-
-byte_page_writes : (program : ℕ → Command) (o : Option ℕ) → ((v : ℕ) → IsPageWrite (program v ∷ []))
-    → ArePageWrites (byte_steps program o)
-byte_page_writes program None each = tt
-byte_page_writes program (Some v) each = (each v, tt)
+either_page_writes b x f = search rules
 
 image_page_writes : (part : Part) (mem : Mem) (image : Image) → ArePageWrites (write_steps part mem image)
 image_page_writes part Flash image =
     search (rules, each_of, either_page_writes)
-image_page_writes part Eeprom image = search (rules, each_of, either_page_writes)
-image_page_writes part Lfuse image = byte_page_writes (program_fuse Low) (byte_at image 0) (λ v. refl)
-image_page_writes part Hfuse image = byte_page_writes (program_fuse High) (byte_at image 0) (λ v. refl)
-image_page_writes part Efuse image = byte_page_writes (program_fuse Extended) (byte_at image 0) (λ v. refl)
-image_page_writes part Lock image = byte_page_writes program_lock (byte_at image 0) (λ v. refl)
-image_page_writes part mem image = tt
+image_page_writes part mem image = search (rules, each_of, either_page_writes)
 
 pub all_page_writes : (part : Part) (items : List Item) → ArePageWrites (all_steps part items)
 all_page_writes part [] = tt
 all_page_writes part (Erase ∷ items) = (refl, all_page_writes part items)
-all_page_writes part (Write mem image ∷ items) =
-    search (rules, each_on, image_page_writes, all_page_writes part items)
+all_page_writes part (Write mem image ∷ items) = search (rules, each_on, image_page_writes, all_page_writes part items)
 
 pub items_counted : (part : Part) (items : List Item) (count : ℕ) (m : Memories)
     → changed_by part count (all_steps part items) m

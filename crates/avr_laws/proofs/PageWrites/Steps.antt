@@ -1,14 +1,13 @@
 -- Each step leads from its memories to those that it leaves, also if it is cut short and repeated.
-use Rattle.std.proofs.Common.{◌≡◌, ℕ, ◌*◌, ◌<◌, ◌^◌, List, [], ◌∷◌, refl, sym, subst, arith, Some, rules}
-use Rattle.std.proofs.lemmas.Bool.{cases_Bool, cond-true, cond-false}
-use Rattle.avr_part.specs.declared.part.Mem.TheVariants.{Flash, Eeprom, Lfuse, Hfuse, Efuse}
+use Rattle.std.proofs.lemmas.Grind.{common_steps}
+use Rattle.std.proofs.Common.{◌≡◌, ℕ, ◌*◌, ◌<◌, ◌^◌, List, [], ◌∷◌, refl, sym, subst, arith, rules}
+use Rattle.avr_part.specs.declared.part.Mem.TheVariants.{Flash, Eeprom}
 use Rattle.avr_part.specs.Part.{Part, IsPart}
 use Rattle.stk_frame.specs.declared.command.Command.{Command}
 use Rattle.stk_frame.specs.declared.command.Command.TheVariants.{SignOn}
 use Rattle.stk_frame.specs.declared.host_command.Fuse.{Fuse}
-use Rattle.stk_frame.specs.declared.host_command.Fuse.TheVariants.{Low, High, Extended}
 use Rattle.stk_frame.specs.Commands.{body}
-use Rattle.stk_frame.specs.HostCommands.{enter, leave, program_page, program_eeprom_block, program_fuse, read_flash_block, read_eeprom_block, read_fuse, read_lock, read_calibration}
+use Rattle.stk_frame.specs.HostCommands.{enter, leave, program_page, program_eeprom_block, program_fuse, read_flash_block, read_eeprom_block, read_fuse, read_lock}
 use Rattle.stk_host.specs.Places.{flash_address, load_flash, load_eeprom}
 use Rattle.stk_emu.specs.Programmer.{Programmer}
 use Rattle.stk_emu.specs.Device.{device}
@@ -31,9 +30,7 @@ effect_twice part (Write mem image) m = written_again part (Write mem image ∷ 
 fuse_twice : (part : Part) (f : Fuse) (v : ℕ) (m : Memories)
     → changed part (program_fuse f v ∷ []) (changed part (program_fuse f v ∷ []) m)
     ≡ changed part (program_fuse f v ∷ []) m
-fuse_twice part Low v m = effect_twice part (Write Lfuse (Some v ∷ [])) m
-fuse_twice part High v m = effect_twice part (Write Hfuse (Some v ∷ [])) m
-fuse_twice part Extended v m = effect_twice part (Write Efuse (Some v ∷ [])) m
+fuse_twice part f v m = search rules
 
 module _ (part : Part) where
   -- a command that changes nothing that a host sees
@@ -45,8 +42,7 @@ module _ (part : Part) where
   sign_on_fits m = search (rules, one_fits, anew_idle)
 
   pub enter_fits : (m : Memories) → Fits device (enter ∷ []) (Idle part m) (Settled part m)
-  enter_fits m =
-      search (rules, one_fits, ready_settled, enter_does, settled_idle, anew_idle, anew_settled)
+  enter_fits m = search (rules, one_fits, ready_settled, enter_does, settled_idle, anew_idle, anew_settled)
 
   pub leave_fits : (m : Memories) → Fits device (leave ∷ []) (Idle part m) (Idle part m)
   leave_fits m = search (rules, one_fits, leave_keeps, anew_idle)
@@ -70,13 +66,12 @@ module _ (part : Part) where
 
     -- the address of a place in flash fits its command
     pub address_fits : (start : ℕ) → start < 4294967296 → flash_address part start < 2 ^ 32
-    address_fits start few = search (rules, cases_Bool, cond-true, cond-false)
+    address_fits start few = search rules
 
     page_fits : (number : ℕ) (bytes : List ℕ) (m : Memories) → IsPage part number bytes
         → Fits steady (load_flash part (number * part.flash_page) ∷ program_page bytes ∷ []) (Ready part m)
         (Ready part (changed part (load_flash part (number * part.flash_page) ∷ program_page bytes ∷ []) m))
     page_fits number bytes m is_page =
-        let inside = is_page.inside in
         let most = sound.flash_most in
         let few : flash_address part (number * part.flash_page) < 2 ^ 32 =
         address_fits (number * part.flash_page) (omega arith) in
@@ -86,7 +81,6 @@ module _ (part : Part) where
         → Fits steady (load_eeprom address ∷ program_eeprom_block bytes ∷ []) (Ready part m)
         (Ready part (changed part (load_eeprom address ∷ program_eeprom_block bytes ∷ []) m))
     run_fits address bytes m is_run =
-        let inside = is_run.inside in
         let most = sound.eeprom_most in
         let few : address < 2 ^ 32 = omega arith in
         search (rules, two_steady, load_keeps, run_does, again_of, effect_twice)
@@ -94,7 +88,6 @@ module _ (part : Part) where
     flash_read_fits : (start count : ℕ) (m : Memories) → IsBlock part Flash start count → AreWords start count
         → Fits steady (load_flash part start ∷ read_flash_block count ∷ []) (Ready part m) (Ready part m)
     flash_read_fits start count m is_block words =
-        let inside = is_block.inside in
         let most = sound.flash_most in
         let few : flash_address part start < 2 ^ 32 = address_fits start (omega arith) in
         search (rules, two_steady, load_keeps, flash_read_keeps)
@@ -104,8 +97,7 @@ module _ (part : Part) where
     eeprom_read_fits start count m is_block =
         let inside = is_block.inside in
         let most = sound.eeprom_most in
-        let few : start < 2 ^ 32 = omega arith in
-        search (rules, two_steady, load_keeps, eeprom_read_keeps)
+        let few : start < 2 ^ 32 = omega arith in search (rules, two_steady, load_keeps, eeprom_read_keeps)
 
     pub fuse_read_fits : (f : Fuse) (m : Memories) → Fits steady (read_fuse f ∷ []) (Ready part m) (Ready part m)
     fuse_read_fits f m = quiet (read_fuse f) m (λ p s. subst (Ready part m) (sym (fuse_read_after f p s.mode)) s)
@@ -114,7 +106,7 @@ module _ (part : Part) where
     by_commands : (written commands : List Command) (m : Memories) → commands ≡ written
         → Fits steady written (Ready part m) (Ready part (changed part written m))
         → Fits steady commands (Ready part m) (Ready part (changed part commands m))
-    by_commands written commands m e fits = search (rules, steady)
+    by_commands written commands m e fits = search rules
 
     pub step_ready : (commands : List Command) (m : Memories) → IsStep part commands
         → Fits steady commands (Ready part m) (Ready part (changed part commands m))
@@ -136,6 +128,4 @@ module _ (part : Part) where
         (quiet read_lock m (λ p s. subst (Ready part m) (sym (lock_read_after p s.mode)) s))
     step_ready commands m (ReadsSignature place few e) =
         by_commands _ commands m e (search (rules, quiet))
-    step_ready commands m (ReadsCalibration e) =
-        by_commands _ commands m e (quiet read_calibration m
-        (λ p s. subst (Ready part m) (sym (calibration_read_after p s.mode)) s))
+    step_ready commands m (ReadsCalibration e) = grind (arith, common_steps, quiet, calibration_read_after)

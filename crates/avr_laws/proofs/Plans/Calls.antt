@@ -1,5 +1,5 @@
 -- Each action is one call of the host and the output about its outcome. All but the opening are steps and a judgement.
-use Rattle.std.proofs.Common.{◌≡◌, ℕ, List, [], length, refl, sym, ap, ◌∙◌, arith, Ok, Err, Result}
+use Rattle.std.proofs.Common.{◌≡◌, ℕ, List, [], length, refl, sym, ap, ◌∙◌, arith, Ok, Err, Result, rules}
 use Rattle.std.proofs.lemmas.Bool.{cond-true}
 use Rattle.std.proofs.lemmas.List.{append-nil}
 use Rattle.std.specs.Prelude.{⊤, ◌≤◌}
@@ -63,11 +63,7 @@ module _ (part : Part) where
 
     pub dialog_is : (action : Action) → reported (call_of action) (outcome_says action) ≡ action_dialog part s action
     dialog_is OpenSession = refl
-    dialog_is EraseChip = refl
-    dialog_is (WriteImage mem image) = refl
-    dialog_is (CompareImage mem image) = refl
-    dialog_is (SaveMemory mem format file) = refl
-    dialog_is (LeaveOut what) = refl
+    dialog_is action = search rules
 
     abbrev pub outcome_expected : Action → Memories → Expected
     outcome_expected action m =
@@ -75,11 +71,7 @@ module _ (part : Part) where
 
     pub expected_is : (action : Action) (m : Memories) → action_expected part s action m ≡ outcome_expected action m
     expected_is OpenSession m = refl
-    expected_is EraseChip m = refl
-    expected_is (WriteImage mem image) m = refl
-    expected_is (CompareImage mem image) m = refl
-    expected_is (SaveMemory mem format file) m = refl
-    expected_is (LeaveOut what) m = refl
+    expected_is action m = search rules
 
     -- the judgement of a call, and what its steps give and leave
     pub record IsOperation (action : Action) (m : Memories) : Type 0 where

@@ -1,18 +1,17 @@
 -- The actions of a session after its opening fit the part: an image is as large as its memory, and a memory that is
 -- written can be.
-use Rattle.std.proofs.Common.{List, [], ◌∷◌, ◌++◌, arith, rules}
+use Rattle.std.proofs.Common.{List, [], ◌∷◌, ◌++◌, rules}
 use Rattle.std.proofs.lemmas.List.Elements.{All-head, All-tail}
 use Rattle.std.specs.Prelude.{All, ⊤}
 use Rattle.avr_cli.specs.declared.settings.Switches.{Switches}
 use Rattle.avr_part.specs.Part.{Part}
 use Rattle.avr_plan.specs.Plan.{Plan, IsFitted}
 use Rattle.avr_plan.specs.declared.planned.Task.{Task}
-use Rattle.avr_plan.specs.declared.planned.Task.TheVariants.{Write, Verify, Read}
-use Rattle.avr_session.specs.Actions.{Action, OpenSession, EraseChip, WriteImage, CompareImage, erase_actions, task_actions, tasks_actions}
+use Rattle.avr_plan.specs.declared.planned.Task.TheVariants.{Write, Verify}
+use Rattle.avr_session.specs.Actions.{Action, OpenSession, WriteImage, CompareImage, erase_actions, task_actions, tasks_actions}
 use Rattle.stk_emu.specs.PageWrites.{AllFitItems}
 use Rattle.avr_laws.specs.Items.{action_items, actions_items}
 use Rattle.avr_laws.proofs.Each.{Each, each_on}
-use Rattle.avr_laws.proofs.Plans.Items.{by_erase, by_write}
 
 -- what follows the opening of a session
 abbrev pub work : Plan → List Action
@@ -30,10 +29,7 @@ AllFitActions part actions = Each (FitsAction part) actions
 
 module _ (part : Part) where
   task_fits : (s : Switches) (task : Task) → IsFitted part task → AllFitActions part (task_actions s task)
-  task_fits s (Write mem image) fitted =
-      by_write (AllFitActions part) s mem image (tt, tt) (fitted, tt) (fitted, (fitted.0, tt))
-  task_fits s (Verify mem image) fitted = (fitted, tt)
-  task_fits s (Read mem format file) fitted = (tt, tt)
+  task_fits s task fitted = search rules
 
   pub tasks_fit : (s : Switches) (tasks : List Task) → All (IsFitted part) tasks
       → AllFitActions part (tasks_actions s tasks)
@@ -45,19 +41,16 @@ module _ (part : Part) where
 
   -- so their items do
   pub action_items_fit : (action : Action) → FitsAction part action → AllFitItems part (action_items action)
-  action_items_fit EraseChip fits = (tt, tt)
-  action_items_fit (WriteImage mem image) fits = ((let size = fits.0 in omega (arith, size)), tt)
-  action_items_fit action fits = tt
+  action_items_fit action fits = search rules
 
   pub items_fit : (actions : List Action) → AllFitActions part actions → AllFitItems part (actions_items actions)
   items_fit [] fits = tt
-  items_fit (action ∷ actions) fits =
-      search (rules, action_items_fit, items_fit actions fits.1)
+  items_fit (action ∷ actions) fits = search (rules, items_fit actions fits.1)
 
 pub work_fits : (plan : Plan) → All (IsFitted plan.part) plan.tasks → AllFitActions plan.part (work plan)
 work_fits plan fitted =
     let part = plan.part in
     let s = plan.switches in
     each_on (FitsAction part) (erase_actions s plan.tasks) (tasks_actions s plan.tasks)
-    (by_erase (AllFitActions part) s plan.tasks tt (tt, tt) (tt, tt))
+    (search rules)
     (tasks_fit part s plan.tasks fitted)

@@ -1,29 +1,15 @@
 -- The items of a plan: an erase, if it has one, and then writes alone.
-use Rattle.std.proofs.Common.{◌≡◌, refl, sym, ap, ◌∙◌, List, [], ◌∷◌, ◌++◌, append_assoc, Bool, true, false, rules}
-use Rattle.std.proofs.lemmas.Bool.{true≢false}
+use Rattle.std.proofs.Common.{◌≡◌, refl, sym, ◌∙◌, List, [], ◌∷◌, ◌++◌, Bool, true, false, rules}
 use Rattle.std.specs.Prelude.{filter_map, if◌then◌else◌}
 use Rattle.avr_cli.specs.declared.settings.Switches.{Switches}
 use Rattle.avr_part.specs.Part.{Part}
-use Rattle.avr_part.specs.declared.part.Mem.{Mem}
 use Rattle.avr_plan.specs.Plan.{Plan}
 use Rattle.avr_plan.specs.declared.planned.Task.{Task}
 use Rattle.avr_plan.specs.declared.planned.Task.TheVariants as task
-use Rattle.avr_session.specs.Actions.{TheErase, TheWrite, Action, EraseChip, WriteImage, CompareImage, LeaveOut, erase_actions, write_actions, tasks_actions}
-use Rattle.stk_emu.specs.Effect.{Image, Memories, Item, Erase, Write, effects}
-use Rattle.avr_laws.proofs.PageWrites.Pages.{effects_on}
+use Rattle.avr_session.specs.Actions.{Action, erase_actions, tasks_actions}
+use Rattle.stk_emu.specs.Effect.{Memories, Item, Erase, Write, effects}
 use Rattle.avr_laws.specs.Agrees.{ActionsAgree, Agrees}
 use Rattle.avr_laws.specs.Items.{action_items, actions_items, items, has_erase, task_item, asked_items}
-
--- the cases of a session's erase
-pub by_erase : (P : List Action → Type 0) (s : Switches) (tasks : List Task) → P [] → P (LeaveOut TheErase ∷ [])
-    → P (EraseChip ∷ []) → P (erase_actions s tasks)
-by_erase P s tasks none left_out done = search rules
-
--- and of a write
-pub by_write : (P : List Action → Type 0) (s : Switches) (mem : Mem) (image : Image)
-    → P (LeaveOut (TheWrite mem image) ∷ []) → P (WriteImage mem image ∷ [])
-    → P (WriteImage mem image ∷ CompareImage mem image ∷ []) → P (write_actions s mem image)
-by_write P s mem image left_out alone compared = search rules
 
 abbrev pub writes : Plan → List Item
 writes plan = actions_items (tasks_actions plan.switches plan.tasks)
@@ -34,19 +20,16 @@ erase_if false = []
 
 pub items_on : (xs ys : List Action) → actions_items (xs ++ ys) ≡ actions_items xs ++ actions_items ys
 items_on [] ys = refl
-items_on (x ∷ xs) ys = search (rules, append_assoc, items_on xs ys)
+items_on (x ∷ xs) ys = search (rules, items_on xs ys)
 
 pub tasks_write : (s : Switches) (tasks : List Task) → has_erase (actions_items (tasks_actions s tasks)) ≡ false
 tasks_write s [] = refl
-tasks_write s (task.Write mem image ∷ tasks) =
-    let none = tasks_write s tasks in
-    by_write (λ xs. has_erase (actions_items (xs ++ tasks_actions s tasks)) ≡ false) s mem image none none none
+tasks_write s (task.Write mem image ∷ tasks) = search (rules, tasks_write s tasks)
 tasks_write s (task.Verify mem image ∷ tasks) = tasks_write s tasks
 tasks_write s (task.Read mem format file ∷ tasks) = tasks_write s tasks
 
 pub begins : (plan : Plan) → actions_items (erase_actions plan.switches plan.tasks) ≡ erase_if (has_erase (items plan))
-begins plan =
-    search (rules, tasks_write, by_erase)
+begins plan = search (rules, tasks_write)
 
 pub items_are : (plan : Plan) → items plan ≡ erase_if (has_erase (items plan)) ++ writes plan
 items_are plan =
@@ -60,10 +43,7 @@ erases_behind (Write mem image ∷ xs) ys has = erases_behind xs ys has
 nothing_before : (due : Bool) (xs first later : List Item) → has_erase xs ≡ false
     → erase_if due ++ xs ≡ first ++ Erase ∷ later → first ≡ []
 nothing_before due xs [] later none e = refl
-nothing_before true xs (x ∷ first) later none e =
-    search (rules, erases_behind)
-nothing_before false xs (x ∷ first) later none e =
-    absurd (true≢false (sym (erases_behind (x ∷ first) (Erase ∷ later) refl) ∙ (sym (ap has_erase e) ∙ none)))
+nothing_before due xs (x ∷ first) later none e = search (rules, erases_behind)
 
 -- nothing comes before an erase
 pub erase_first : (plan : Plan) (first later : List Item) → items plan ≡ first ++ Erase ∷ later → first ≡ []
@@ -73,21 +53,15 @@ erase_first plan first later e =
 
 -- ---- by the tasks
 
-none_unless : (dry : Bool) → ◌≡◌ {A = List Item} [] (if dry then [] else [])
-none_unless true = refl
-none_unless false = refl
-
 writes_by_tasks : (s : Switches) (tasks : List Task)
     → actions_items (tasks_actions s tasks) ≡ (if s.dry then [] else filter_map task_item tasks)
-writes_by_tasks s [] = none_unless s.dry
-writes_by_tasks s (task.Write mem image ∷ tasks) =
-    search (rules, writes_by_tasks s tasks)
+writes_by_tasks s [] = search rules
+writes_by_tasks s (task.Write mem image ∷ tasks) = search (rules, writes_by_tasks s tasks)
 writes_by_tasks s (task.Verify mem image ∷ tasks) = writes_by_tasks s tasks
 writes_by_tasks s (task.Read mem format file ∷ tasks) = writes_by_tasks s tasks
 
 pub items_by_tasks : (plan : Plan) → items plan ≡ asked_items plan
-items_by_tasks plan =
-    search (rules, items_on, writes_by_tasks)
+items_by_tasks plan = search (rules, writes_by_tasks)
 
 -- ---- what they compare
 
@@ -95,8 +69,7 @@ module _ (part : Part) where
   agree_behind : (xs ys : List Action) (m : Memories) → ActionsAgree part (xs ++ ys) m
       → ActionsAgree part ys (effects part (actions_items xs) m)
   agree_behind [] ys m agree = agree
-  agree_behind (x ∷ xs) ys m agree =
-      search (rules, effects_on, agree_behind xs ys (effects part (action_items x) m) agree.1)
+  agree_behind (x ∷ xs) ys m agree = search (rules, agree_behind xs ys (effects part (action_items x) m) agree.1)
 
 -- the comparisons of a plan are those of its tasks, after the erase
 pub tasks_agree : (plan : Plan) (m : Memories) → Agrees plan m

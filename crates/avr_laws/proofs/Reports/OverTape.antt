@@ -1,18 +1,18 @@
 -- Over any link that forges no frame whatever is reported is true.
-use Rattle.std.proofs.Common.{◌≡◌, ℕ, zero, suc, Bool, true, false, List, [], ◌∷◌, ◌++◌, length, refl, subst, Option, Some, None, rules}
-use Rattle.std.specs.Prelude.{if◌then◌else◌}
-use Rattle.std.specs.Str.{bytes_eq}
+use Rattle.stk_frame.proofs.Laws.{body_of_frame, frame_is_good}
+use Rattle.std.proofs.lemmas.Bool.{cond-true}
+use Rattle.std.proofs.Common.{◌≡◌, ℕ, zero, suc, List, [], ◌∷◌, ◌++◌, length, refl, subst, Option, Some, None, rules}
 use Rattle.stk_frame.specs.Frame.{frame}
-use Rattle.stk_host.specs.Tape.{Tape, Reading, Answered, answer}
+use Rattle.stk_host.specs.Tape.{Tape, Reading, answer}
 use Rattle.stk_host.specs.Dialog.{Dialog, Done, Say, Ask, Event, Frame, Said, Played, played, by_answer, next, frames_in}
 use Rattle.stk_emu.specs.declared.fate.Fate.{Fate}
-use Rattle.stk_emu.specs.Device.{Device, after_frame, refusal}
+use Rattle.stk_emu.specs.Device.{Device, after_frame}
 use Rattle.stk_emu.specs.Lawful.{IsBody}
 use Rattle.stk_emu.specs.Along.{AsksBodies}
-use Rattle.stk_emu.specs.Turn.{Turn, Right, Wrong, Refusal, Became, Kept, Obeyed, Anew, became_in, after_became, after_turn, first_turn, other_turns, IsHonest}
+use Rattle.stk_emu.specs.Turn.{Turn, Became, became_in, after_became, after_turn, first_turn, other_turns, IsHonest}
 use Rattle.stk_emu.specs.Wire.{turns_of, becames_of}
 use Rattle.avr_laws.specs.AnyTape.{first_became, other_becames, on_answer, AreHonest, turn_by, turns_from, turns_heard}
-use Rattle.avr_laws.proofs.Lines.AnyTape.{honest_turn, obeyed_frame}
+use Rattle.avr_laws.proofs.Lines.AnyTape.{honest_turn}
 use Rattle.avr_laws.specs.Told.{TellsTrue, SaidTrue}
 
 -- ---- what happened to the programmer at the first frames, and their turns
@@ -27,24 +27,15 @@ by_fates zero fates = tt
 by_fates (suc k) [] = (refl, by_fates k [])
 by_fates (suc k) (fate ∷ fates) = (refl, by_fates k fates)
 
-by_body : (told : Bool) → Obeyed ≡ became_in (if told then Wrong Obeyed Refusal else Right)
-by_body true = refl
-by_body false = refl
-
 by_reading : (became : Became) (reading : Reading) → became ≡ became_in (turn_by became reading)
-by_reading Obeyed (Answered body) = by_body (bytes_eq body refusal)
-by_reading Kept (Answered body) = refl
-by_reading (Anew became) (Answered body) = refl
-by_reading became reading = refl
+by_reading became reading = search rules
 
 by_answered : {E R : Type 0} (becames : List Became) (go_on : Reading → Tape → Played E R)
     (more : Reading → Tape → List Turn) (o : Option (Reading × Tape))
     → ((reading : Reading) (left : Tape)
     → ByTurns (length (frames_in (go_on reading left).events)) (other_becames becames) (more reading left))
     → ByTurns (suc (length (frames_in (by_answer go_on o).events))) becames (turns_from (first_became becames) more o)
-by_answered becames go_on more None each = (refl, tt)
-by_answered becames go_on more (Some (reading, left)) each =
-    (by_reading (first_became becames) reading, each reading left)
+by_answered becames go_on more o each = search (rules, by_reading)
 
 pub by_tape : {E R : Type 0} (d : Dialog E R) (n : ℕ) (tape : Tape) (becames : List Became)
     → ByTurns (length (frames_in (played d n tape).events)) becames (turns_heard d n tape becames)
@@ -83,8 +74,7 @@ module _ {P : Type 0} (m : Device P) where
       let inner : AlwaysTrue T (go_on reading) q =
       λ k turns. subst (λ r. TellsTrue m T k (go_on reading) r turns) t.1
       (subst (λ x. TellsTrue m T k (go_on x) (after_turn (turn_by became reading) (m.after bytes p) p m.reset) turns)
-      t.0 (tells (suc k) (turn_by became reading ∷ turns))) in
-      search (rules, obeyed_frame)
+      t.0 (tells (suc k) (turn_by became reading ∷ turns))) in search (rules, cond-true, frame_is_good, body_of_frame)
 
   pub told_any : {E R : Type 0} (T : P → E → Type 0) (d : Dialog E R) (n : ℕ) (tape : Tape) (p : P)
       (becames : List Became) (turns : List Turn) → AsksBodies d → AlwaysTrue T d p

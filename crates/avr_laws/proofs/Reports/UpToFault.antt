@@ -1,5 +1,5 @@
 -- The output of a session is that of its expected run, up to the first action that doesn't complete.
-use Rattle.std.proofs.Common.{◌≡◌, ℕ, List, [], ◌∷◌, ◌++◌, append_assoc, refl, sym, ap, ◌∙◌, inl, inr, All, Option, Some, None, rules}
+use Rattle.std.proofs.Common.{◌≡◌, ℕ, List, [], ◌∷◌, ◌++◌, append_assoc, refl, sym, ap, ◌∙◌, All, Option, Some, None, rules}
 use Rattle.avr_cli.specs.declared.settings.Switches.{Switches}
 use Rattle.avr_desk.specs.Said.{OutputEvent}
 use Rattle.avr_part.specs.Part.{Part, IsPart}
@@ -32,10 +32,7 @@ module _ (plan : Plan) (sound : IsPart plan.part) (fitted : All (IsFitted plan.p
   pub foretold_end : (k status : ℕ) (p : Programmer) (turns : List Turn) → Idle plan.part m p
       → (along device k (session plan) p turns).dialog ≡ Done status
       → EndsAsForetold plan m (said_along device k (session plan) p turns) status
-  foretold_end k status p turns idle e = elim ((session_along plan sound m f fitted k p turns idle).after status e).1 [
-    | inl own ↦ inl (own.said, own.status_is)
-    | inr broke ↦ inr broke.1
-  ]
+  foretold_end k status p turns idle e = search (rules, session_along plan sound m f fitted k p turns idle)
 
   -- and in a play over any tape that is honest
   pub foretold_on_tape : (p : Programmer) (tape : Tape) (becames : List Became) → Idle plan.part m p
@@ -63,9 +60,7 @@ then_at first next at e = ap (λ x. then_from first x next) e
 
 was_fine : (first : Expected) (next : Memories → Expected) (at : Standing) → first.standing ≡ at
     → (first then next).standing ≡ Fine → first.standing ≡ Fine
-was_fine first next Fine stands fine = stands
-was_fine first next at stands fine =
-    let same : at ≡ Fine = sym (ap (λ x. x.standing) (then_at first next at stands) ∙ stands) ∙ fine in absurd (cc)
+was_fine first next at stands fine = search (rules, then_at)
 
 actions_prefix : (part : Part) (s : Switches) (done more : List Action) (m : Memories)
     → (actions_expected part s done m).standing ≡ Fine
@@ -76,13 +71,8 @@ actions_prefix part s (action ∷ done) more m fine =
     let c = action_expected part s action m in
     let stands = was_fine c (actions_expected part s done) c.standing refl fine in
     let on = then_at c (actions_expected part s done) Fine stands in
-    let rest = actions_prefix part s done more c.memories (sym (ap (λ x. x.standing) on) ∙ fine) in (
-      rest.0,
-      ap (λ x. x.says) (then_at c (actions_expected part s (done ++ more)) Fine stands)
-          ∙ (ap (λ xs. c.says ++ xs) rest.1
-          ∙ (sym (append_assoc c.says (actions_expected part s done c.memories).says rest.0)
-          ∙ ap (λ xs. xs ++ rest.0) (sym (ap (λ x. x.says) on)))),
-    )
+    let rest = actions_prefix part s done more c.memories (sym (ap (λ x. x.standing) on) ∙ fine) in
+    search (rules, then_at, append_assoc)
 
 pub first_prefix : (plan : Plan) (m : Memories) (says : List OutputEvent)
     → SaysFirst plan.part plan.switches (actions plan) m says

@@ -1,19 +1,17 @@
 -- The page writes of a plan that erases: an erase and writes, which keep EEPROM if the plan's do.
-use Rattle.std.proofs.Common.{◌≡◌, ℕ, zero, suc, ◌+◌, refl, sym, ◌∙◌, subst, List, [], ◌∷◌, ◌++◌, Bool, true, false, cond, Option, Some, None, unwrap_or, rules}
+use Rattle.std.proofs.lemmas.Grind.{common_steps}
+use Rattle.std.proofs.Common.{◌≡◌, ℕ, zero, suc, ◌+◌, refl, sym, ◌∙◌, subst, List, [], ◌∷◌, ◌++◌, Bool, true, false, cond, Option, Some, rules, arith}
 use Rattle.std.proofs.lemmas.Bool.{true≢false}
-use Rattle.std.specs.Prelude.{◌==◌, if◌then◌else◌, take, ⊤, All}
-use Rattle.std.specs.Int.{bit_at}
+use Rattle.std.specs.Prelude.{take, ⊤, All}
 use Rattle.avr_image.specs.Image.{byte_at}
 use Rattle.avr_part.specs.Part.{Part, IsPart}
 use Rattle.avr_part.specs.declared.part.Mem.{Mem}
-use Rattle.avr_part.specs.declared.part.Mem.TheVariants.{Flash, Eeprom, Lfuse, Hfuse, Efuse, Lock}
+use Rattle.avr_part.specs.declared.part.Mem.TheVariants.{Hfuse}
 use Rattle.avr_plan.specs.Plan.{Plan, IsFitted}
 use Rattle.stk_frame.specs.declared.command.Command.{Command}
-use Rattle.stk_frame.specs.declared.host_command.Fuse.TheVariants.{Low, Extended}
-use Rattle.stk_frame.specs.HostCommands.{program_fuse, program_lock}
 use Rattle.stk_host.specs.Places.{each_from}
 use Rattle.stk_host.specs.WriteSteps.{byte_steps, write_steps}
-use Rattle.stk_emu.specs.Effect.{Image, Memories, Item, Erase, Write, are_locked, erase_keeps_eeprom, effect, effects}
+use Rattle.stk_emu.specs.Effect.{Image, Memories, Item, Erase, Write, erase_keeps_eeprom, effect, effects}
 use Rattle.stk_emu.specs.Settled.{FitsPart}
 use Rattle.stk_emu.specs.PageWrites.{page_writes_of, all_steps, AllFitItems}
 use Rattle.avr_laws.proofs.PageWrites.Items.{items_do, effect_sizes}
@@ -47,31 +45,18 @@ mild_writes part want [] f = refl
 mild_writes part want (Erase ∷ xs) f = absurd f.0
 mild_writes part want (Write mem image ∷ xs) f = mild_writes part want xs f.1
 
-mild_item : (part : Part) (want : Type 0) (mem : Mem) (image : Image) → (want → AreKeeping part (Write mem image ∷ []))
-    → Mild part want (Write mem image)
-mild_item part want Hfuse image k = λ w. (k w).0
-mild_item part want mem image k = tt
-
 all_mild : (part : Part) (want : Type 0) (xs : List Item) → has_erase xs ≡ false → (want → AreKeeping part xs)
     → AllMild part want xs
 all_mild part want [] f k = tt
 all_mild part want (Erase ∷ xs) f k = absurd (true≢false f)
-all_mild part want (Write mem image ∷ xs) f k =
-    (mild_item part want mem image (λ w. ((k w).0, tt)), all_mild part want xs f (λ w. (k w).1))
+all_mild part want (Write mem image ∷ xs) f k = search (rules, all_mild part want xs f (λ w. (k w).1))
 
 -- ---- EEPROM stays kept
 
 module _ (part : Part) where
-  fuse_keeps : (is_locked : Bool) (o : Option ℕ) (fuse : ℕ) → (bit_at fuse part.eesave_bit == 0) ≡ true
-      → is_keeping part o ≡ true
-      → (bit_at (if is_locked then fuse else unwrap_or o fuse) part.eesave_bit == 0) ≡ true
-  fuse_keeps true o fuse e k = e
-  fuse_keeps false None fuse e k = e
-  fuse_keeps false (Some byte) fuse e k = k
-
   item_keeps : (want : Type 0) → want → (item : Item) (m : Memories) → Mild part want item
       → erase_keeps_eeprom part m ≡ true → erase_keeps_eeprom part (effect part item m) ≡ true
-  item_keeps want w (Write Hfuse image) m f e = fuse_keeps (are_locked m) (byte_at image 0) m.hfuse e (f w)
+  item_keeps want w (Write Hfuse image) m f e = search rules
   item_keeps want w item m f e = e
 
   items_keep : (want : Type 0) → want → (xs : List Item) (m : Memories) → AllMild part want xs
@@ -98,27 +83,17 @@ module _ (part : Part) where
     each_mild : (steps_at : ℕ → List (List Command)) (place count : ℕ) → ((i : ℕ) → MildSteps (steps_at i))
         → MildSteps (each_from steps_at place count)
     each_mild steps_at place zero each = tt
-    each_mild steps_at place (suc count) each =
-        search (rules, steps_join, each_mild steps_at (place + 1) count each)
+    each_mild steps_at place (suc count) each = search (rules, steps_join, each_mild steps_at (place + 1) count each)
 
     either_mild : (b : Bool) (x : List (List Command)) → MildSteps x → MildSteps (cond b x [])
-    either_mild true x f = f
-    either_mild false x f = tt
+    either_mild b x f = search rules
 
     byte_mild : (program : ℕ → Command) (o : Option ℕ) → ((v : ℕ) → o ≡ Some v → MildSteps ((program v ∷ []) ∷ []))
         → MildSteps (byte_steps program o)
-    byte_mild program None each = tt
-    byte_mild program (Some v) each = each v refl
+    byte_mild program o each = search rules
 
     write_mild : (mem : Mem) (image : Image) → Mild part want (Write mem image) → MildSteps (write_steps part mem image)
-    write_mild Flash image f =
-        search (rules, each_mild, either_mild)
-    write_mild Eeprom image f = search (rules, each_mild, either_mild)
-    write_mild Lfuse image f = byte_mild (program_fuse Low) (byte_at image 0) (λ v e. (tt, tt))
-    write_mild Hfuse image f = search (rules, byte_mild)
-    write_mild Efuse image f = byte_mild (program_fuse Extended) (byte_at image 0) (λ v e. (tt, tt))
-    write_mild Lock image f = byte_mild program_lock (byte_at image 0) (λ v e. (tt, tt))
-    write_mild mem image f = tt
+    write_mild mem image f = search (rules, each_mild, either_mild, byte_mild)
 
     page_writes_mild : (xs : List Item) → AllMild part want xs → MildSteps (all_steps part xs)
     page_writes_mild [] f = tt
@@ -134,7 +109,6 @@ some_page_writes_again : (part : Part) (sound : IsPart part) (xs : List Item) (k
     → effects part (Erase ∷ xs) (effects part (take k (page_writes_of (all_steps part (Erase ∷ xs)))) m)
     ≡ effects part (Erase ∷ xs) m
 some_page_writes_again part sound xs k m fits f writes kept =
-    let want : Type 0 = erase_keeps_eeprom part m ≡ true in
     let ys = page_writes_of (all_steps part xs) in
     let mild : AllMild part (erase_keeps_eeprom part m ≡ true) ys =
     search (rules, page_writes_mild, all_mild, writes) in
@@ -159,9 +133,8 @@ items_again : (part : Part) (sound : IsPart part) (due : Bool) (xs : List Item) 
     → (due ≡ true → erase_keeps_eeprom part m ≡ true → AreKeeping part (erase_if due ++ xs))
     → effects part (erase_if due ++ xs) (effects part (take k (page_writes_of (all_steps part (erase_if due ++ xs)))) m)
     ≡ effects part (erase_if due ++ xs) m
-items_again part sound true xs k m fits f writes kept =
-    some_page_writes_again part sound xs k m fits.1 f writes (λ e. (kept refl e).1)
-items_again part sound false xs k m fits f writes kept = some_writes_again part sound xs k m fits f writes
+items_again part sound due xs k m fits f writes kept =
+    grind (arith, common_steps, some_page_writes_again, some_writes_again)
 
 pub plan_again : (plan : Plan) (k : ℕ) (m : Memories) → IsPart plan.part → All (IsFitted plan.part) plan.tasks
     → FitsPart plan.part m

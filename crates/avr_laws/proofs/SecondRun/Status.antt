@@ -1,7 +1,7 @@
 -- A second run over what the first one left: its status, and its memories.
-use Rattle.std.proofs.Common.{◌≡◌, ℕ, subst, sym, ◌∙◌, take, true, rules}
+use Rattle.std.proofs.lemmas.Grind.{common_steps}
+use Rattle.std.proofs.Common.{◌≡◌, ℕ, subst, sym, take, true, rules, arith}
 use Rattle.std.proofs.lemmas.List.{length-replicate}
-use Rattle.std.proofs.lemmas.List.Elements.{All-replicate}
 use Rattle.std.specs.Prelude.{◌<◌, All}
 use Rattle.avr_part.specs.Part.{Part, IsPart}
 use Rattle.avr_plan.specs.Plan.{Plan, IsFitted}
@@ -18,11 +18,7 @@ use Rattle.avr_laws.proofs.Memories.ExpectedAgrees.{expected_status, expected_me
 use Rattle.avr_laws.proofs.AnyLine.FirstSteps.{effects_sizes}
 
 chip_fits : (part : Part) (byte : ℕ) → byte < 256 → FitsPart part (chip_of part byte)
-chip_fits part byte l = record {
-  flash = length-replicate {A = ℕ} part.flash_size byte;
-  eeprom = length-replicate {A = ℕ} part.eeprom_size byte;
-  bytes = All-replicate (λ (b : ℕ). b < 256) part.flash_size byte l;
-}
+chip_fits part byte l = grind (arith, common_steps, length-replicate)
 
 -- a plan that agrees on every chip agrees on the two
 pub two_of_all : (plan : Plan) → ((m : Memories) → FitsPart plan.part m → Agrees plan m) → AgreesAnyway plan
@@ -49,12 +45,10 @@ pub done_again : (plan : Plan) (before left after : Memories) → IsPart plan.pa
     → FitsPart plan.part before
     → (has_erase (items plan) ≡ true → erase_keeps_eeprom plan.part before ≡ true → AreKeeping plan.part (items plan))
     → IsTouched plan before left → IsDone plan left after → after ≡ effects plan.part (items plan) before
-done_again plan before left after sound fitted f kept touched all =
-    search (rules, plan_again)
+done_again plan before left after sound fitted f kept touched all = search (rules, plan_again)
 
 -- an expected run that succeeds, whatever the chip was
 pub succeeds : (plan : Plan) (before : Memories) (status : ℕ) → FitsPart plan.part before
     → has_erase (items plan) ≡ true → AgreesAnyway plan
     → status ≡ (expected_run plan before).status → status ≡ 0
-succeeds plan before status f erases both status_is =
-    status_is ∙ (expected_status plan before).1 (agrees_anyway plan before f erases both)
+succeeds plan before status f erases both status_is = search (rules, expected_status, agrees_anyway)

@@ -5,7 +5,6 @@ use Rattle.avr_desk.specs.Said.{OutputEvent, after_all}
 use Rattle.avr_part.specs.Part.{IsPart}
 use Rattle.avr_plan.specs.Plan.{Plan, IsFitted}
 use Rattle.avr_session.specs.Stopping.{IsSound, LacksMemory, keeping}
-use Rattle.avr_session.proofs.Runs.SoundDevices.{broke_lacks}
 use Rattle.stk_host.specs.Dialog.{Event, outputs}
 use Rattle.stk_emu.specs.Wire.{turns_of}
 use Rattle.stk_emu.specs.Effect.{Memories, erase_keeps_eeprom, memories_of}
@@ -31,20 +30,17 @@ module _ (plan : Plan) (w v : WiredState) (d e : Record) (a b : ℕ × ℕ) (sta
   abbrev now : DeskState
   now = keeping e b
 
-  goes_on : Stopped plan w v old now → ⊥
-  goes_on broke = search (rules, broke_lacks)
-
   pub sound_expected : OverAnyLine plan w v old now status
       → IsExpectedRun plan (memories w) (memories v) (outputs (events_over plan v)) status
       × Passes (after_all (outputs (events_over plan v))) old now
-  sound_expected is_over = search (rules, goes_on)
+  sound_expected is_over = search rules
 
   pub sound_images : plan.switches.no_verify ≡ false → has_erase (items plan) ≡ true → AgreesAnyway plan
       → OverAnyLine plan w v old now status → (status ≡ 0)
       × IsWritten plan.part (asked_items plan) (memories w) (memories v)
   sound_images verified erases both is_over = elim is_over.end [
     | inl came ↦ let zero = came.0.again few erases both in (zero, came.0.images zero verified)
-    | inr broke ↦ absurd (goes_on broke.0)
+    | inr broke ↦ absurd (search rules)
   ]
 
 -- the same plan over what any first page writes of it left

@@ -17,8 +17,7 @@ use Rattle.stk_host.specs.Transcript.{LinkState}
 judged_tried : (settings : Settings) (file : Bytes) (old new : DeskState) (part : Part)
     → JudgesPart settings file old new (Ok part) → tried_at new ≡ tried_at old
 judged_tried settings file old new part with =
-    ap tried_at with.then_is.1.released_is ∙ tried_loaded _ _ _ _ _ with.then_is.1.loaded
-    ∙ tried_went _ _ _ _ with.found
+    search (rules, tried_loaded, tried_went, with.then_is.1.released_is, with.then_is.1.loaded)
 
 refused_tried : (settings : Settings) (file : Bytes) (old new : DeskState) (status : ℕ)
     → JudgesPart settings file old new (Err status) → tried_at new ≡ tried_at old
@@ -46,5 +45,4 @@ pub service_killed : {S F I H O E : Type 0} (system : Ghosts S F I H) (reads : R
     (chip_of_service unused over settings port file (shown_state old) (shown_state new) status s)
 service_killed system reads writes input old new fresh tells unused over settings port file status s =
     left_old_or_new system reads writes input old new fresh tells file _
-    (service_tries unused over settings port file (shown_state old) (shown_state new) status s
-    (search rules))
+    (search (rules, service_tries))

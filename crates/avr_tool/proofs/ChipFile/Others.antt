@@ -1,29 +1,26 @@
 -- A run over the emulator creates no file but its chip file and those that its plan reads into.
 use Rattle.std.proofs.lemmas.List.Elements.{All-append, All-cons, All-head, All-nil, All-tail}
-use Rattle.std.proofs.lemmas.Slice.Eq.{bytes_eq-Decides}
-use Rattle.std.proofs.Common.{◌≡◌, ◌∙◌, ap, subst, sym, refl, ℕ, Bool, true, false, List, [], ◌∷◌, ◌++◌, append-nil, inl, inr, Option, Some, None, if◌then◌else◌, rules}
+use Rattle.std.proofs.Common.{◌≡◌, ◌∙◌, sym, refl, ℕ, List, [], ◌∷◌, ◌++◌, inl, inr, Option, rules}
 use Rattle.std.specs.Prelude.{All, Contains}
 use Rattle.avr_cli.specs.declared.settings.Switches.{Switches}
 use Rattle.avr_cli.specs.declared.update.Format.{Format}
 use Rattle.avr_desk.proofs.FileUses.Names.{newest_append}
 use Rattle.avr_desk.proofs.FileUses.Uses.{files_absent, files_opened, files_replaced}
-use Rattle.avr_desk.specs.Memory.{Stock, stood_for, file_named}
-use Rattle.avr_desk.specs.Named.{is_dash, newest, or_older}
-use Rattle.avr_desk.specs.Record.{Bytes, DeskState, Record, all_files, files_among, file_of, written_on}
-use Rattle.avr_desk.specs.Said.{OutputEvent, Opens, Line, Creates, Writes, Outs, after, after_all}
+use Rattle.avr_desk.specs.Memory.{Stock, stood_for}
+use Rattle.avr_desk.specs.Named.{newest, or_older}
+use Rattle.avr_desk.specs.Record.{Bytes, DeskState, Record, all_files, file_of, written_on}
+use Rattle.avr_desk.specs.Said.{OutputEvent, Creates, after, after_all}
 use Rattle.avr_desk.specs.declared.record.Open.{Open}
 use Rattle.avr_desk.specs.declared.record.Open.TheVariants.{Closed, ToRead, ToWrite}
-use Rattle.avr_desk.specs.declared.record.Opening.TheVariants.{Absent, Found}
 use Rattle.avr_desk.specs.declared.record.Writing.{Writing}
 use Rattle.avr_emulator.specs.Emulated.{IsSaved}
 use Rattle.avr_laws.specs.Told.{IsTrue, SaidTrue, SignatureRead, ChipErased, EraseLeftOut, BytesWritten, WriteLeftOut, BytesVerified, Differed, BytesSaved, BytesRead, StepFailed, SessionDone}
 use Rattle.avr_part.specs.declared.part.Mem.{Mem}
 use Rattle.avr_plan.specs.Plan.{Plan}
 use Rattle.avr_plan.specs.declared.planned.Task.{Task}
-use Rattle.avr_plan.specs.declared.planned.Task.TheVariants as task
-use Rattle.avr_session.specs.Actions.{Action, OpenSession, EraseChip, WriteImage, CompareImage, SaveMemory, LeaveOut, TheErase, TheWrite, actions, erase_actions, is_erase_due, read_back_actions, task_actions, tasks_actions}
+use Rattle.avr_session.specs.Actions.{Action, SaveMemory, actions, task_actions, tasks_actions}
 use Rattle.stk_emu.specs.Device.{device}
-use Rattle.stk_emu.specs.Effect.{Image, Memories, memories_of}
+use Rattle.stk_emu.specs.Effect.{Memories, memories_of}
 use Rattle.stk_emu.specs.Programmer.{Programmer}
 use Rattle.stk_emu.specs.Turn.{Turn, other_turns}
 use Rattle.stk_host.specs.Dialog.{Event, Frame, Said, outputs}
@@ -49,7 +46,7 @@ module _ (name : Bytes) where
   lack_written (f ∷ fs) bytes o lack = (lack.0, lack_written fs bytes o lack.1)
 
   other : (f : Writing) (older : Option Bytes) → (f.name ≡ name → ⊥) → or_older name older f ≡ older
-  other f older differs = search (rules, bytes_eq-Decides, differs)
+  other f older differs = search rules
 
   lack_newest : (fs : List Writing) (older : Option Bytes) → Lack fs → newest name older fs ≡ older
   lack_newest [] older lack = refl
@@ -57,26 +54,13 @@ module _ (name : Bytes) where
 
   pub lack_held : (stock : Stock) (files : List Writing) → Lack files
       → stood_for stock files name ≡ stood_for stock [] name
-  lack_held stock files lack =
-      let same : file_named name stock files ≡ file_named name stock [] =
-      newest_append name None stock.files files
-      ∙ (lack_newest files (newest name None stock.files) lack
-      ∙ ap (newest name None) (sym (append-nil stock.files))) in
-      ap (λ (held : Option Bytes). if is_dash name then Some stock.input else held) same
+  lack_held stock files lack = search (rules, newest_append, lack_newest)
 
   -- ---- what is done at a desk
 
   lack_on : (output : OutputEvent) (r : Record) → (output ≡ Creates name → ⊥) → Lack (all_files r)
       → Lack (all_files (after output r))
-  lack_on (Opens (Absent file)) r differs lack = subst Lack (sym (files_absent file r)) lack
-  lack_on (Opens (Found x)) r differs lack =
-      subst Lack (sym (files_opened (ToRead x) r)) (lack_append (all_files r) [] lack tt)
-  lack_on (Line bytes) r differs lack = lack
-  lack_on (Creates file) r differs lack =
-      subst Lack (sym (files_opened (ToWrite (record { name = file; bytes = [] })) r))
-      (lack_append (all_files r) (record { name = file; bytes = [] } ∷ []) lack ((λ is. differs (ap Creates is)), tt))
-  lack_on (Writes bytes) r differs lack = lack_written (files_among r.uses) bytes r.current lack
-  lack_on (Outs bytes) r differs lack = lack
+  lack_on output r differs lack = search (rules, files_absent, files_opened, lack_append, lack_written)
 
   -- ---- the actions of a plan
 
@@ -93,28 +77,8 @@ module _ (name : Bytes) where
   none : Free []
   none = All-nil (λ action. IsSaving action → ⊥)
 
-  erase_free : (dry asked due : Bool)
-      → Free (if dry then (if asked then LeaveOut TheErase ∷ [] else []) else if due then EraseChip ∷ [] else [])
-  erase_free true true due = one (LeaveOut TheErase) [] (λ is. is) none
-  erase_free true false due = none
-  erase_free false asked true = one EraseChip [] (λ is. is) none
-  erase_free false asked false = none
-
-  read_back_free : (mem : Mem) (image : Image) (off : Bool) → Free (if off then [] else CompareImage mem image ∷ [])
-  read_back_free mem image true = none
-  read_back_free mem image false = one (CompareImage mem image) [] (λ is. is) none
-
-  write_free : (s : Switches) (mem : Mem) (image : Image) (dry : Bool) → Free (if dry
-      then LeaveOut (TheWrite mem image) ∷ []
-      else WriteImage mem image ∷ read_back_actions s mem image)
-  write_free s mem image true = one (LeaveOut (TheWrite mem image)) [] (λ is. is) none
-  write_free s mem image false =
-      one (WriteImage mem image) (read_back_actions s mem image) (λ is. is) (read_back_free mem image s.no_verify)
-
   task_free : (s : Switches) (t : Task) → (IsReadInto name t → ⊥) → Free (task_actions s t)
-  task_free s (task.Write mem image) differs = write_free s mem image s.dry
-  task_free s (task.Verify mem image) differs = one (CompareImage mem image) [] (λ is. is) none
-  task_free s (task.Read mem format file) differs = one (SaveMemory mem format file) [] differs none
+  task_free s t differs = search rules
 
   tasks_free : (s : Switches) (tasks : List Task) → All (λ t. IsReadInto name t → ⊥) tasks
       → Free (tasks_actions s tasks)
@@ -128,15 +92,11 @@ module _ (name : Bytes) where
 
   module _ (plan : Plan) (unread : All (λ t. IsReadInto name t → ⊥) plan.tasks) (before : Memories) where
     free : Free (actions plan)
-    free = one OpenSession _ (λ is. is) (All-append (λ action. IsSaving action → ⊥)
-        (erase_actions plan.switches plan.tasks) (tasks_actions plan.switches plan.tasks)
-        (erase_free plan.switches.dry plan.switches.erase (is_erase_due plan.switches plan.tasks))
-        (tasks_free plan.switches plan.tasks unread))
+    free = search (rules, tasks_free)
 
     not_saved : (mem : Mem) (format : Format) (file : Bytes) → Contains (actions plan) (SaveMemory mem format file)
         → file ≡ name → ⊥
-    not_saved mem format file (k, below, is) =
-        subst (λ action. IsSaving action → ⊥) is (free k (SaveMemory mem format file) below)
+    not_saved mem format file (k, below, is) = search (rules, free)
 
     not_created : (now : Memories) (output : OutputEvent) → IsTrue plan before now output
         → output ≡ Creates name → ⊥
@@ -166,10 +126,4 @@ module _ (name : Bytes) where
 
   pub lack_saved : (out : List ℕ) (old new : DeskState) (file bytes : Bytes) (ran : ℕ) → (name ≡ file → ⊥)
       → IsSaved out old new file bytes ran 0 → Lack (all_files old.kept) → Lack (all_files new.kept)
-  lack_saved [] old new file bytes ran differs saved lack =
-      subst (λ (v : DeskState). Lack (all_files v.kept)) (sym saved.0) lack
-  lack_saved (b ∷ out) old new file bytes ran differs (inl (saves, is)) lack =
-      subst (λ r. Lack (all_files r)) (sym saves.0) (subst Lack (sym (files_replaced file bytes old.kept))
-      (lack_append (all_files old.kept) (record { name = file; bytes = bytes } ∷ []) lack
-      ((λ is. differs (sym is)), tt)))
-  lack_saved (b ∷ out) old new file bytes ran differs (inr (fault, saves, is)) lack = absurd (cc)
+  lack_saved out old new file bytes ran differs saved lack = search (rules, files_replaced, lack_append)

@@ -1,14 +1,14 @@
 -- A run over the emulator with status 0 leaves the images that the settings and files ask for in the chip file.
-use Rattle.std.proofs.Common.{◌≡◌, ◌∙◌, ap, subst, sym, refl, ℕ, List, [], ◌∷◌, ◌++◌, inl, inr, false, arith}
+use Rattle.std.proofs.Common.{◌≡◌, ◌∙◌, ap, subst, sym, refl, [], ◌++◌, false, rules}
 use Rattle.std.specs.Prelude.{All}
 use Rattle.avr_cli.specs.declared.settings.Settings.{Settings}
 use Rattle.avr_desk.specs.Memory.{MemDeskState, Stock, memory_state, stood_for}
 use Rattle.avr_desk.specs.Named.{is_dash}
-use Rattle.avr_desk.specs.Record.{Bytes, DeskState, Passes, Record, all_files, nothing_kept}
+use Rattle.avr_desk.specs.Record.{Bytes, Passes, Record, all_files, nothing_kept}
 use Rattle.avr_desk.specs.Said.{after_all}
 use Rattle.avr_desk.specs.Stage.{Made, Unread, StageAnswer, StageResult}
 use Rattle.avr_desk.specs.Truth.{HoldsTrue}
-use Rattle.avr_emulator.specs.Emulated.{IsSaved, RunsOverEmulator}
+use Rattle.avr_emulator.specs.Emulated.{RunsOverEmulator}
 use Rattle.avr_laws.proofs.Plans.Items.{items_by_tasks}
 use Rattle.avr_laws.specs.AnyLine.{ComesOverTurns, events_over}
 use Rattle.avr_part.specs.ChipFile.{chip_file}
@@ -16,7 +16,7 @@ use Rattle.avr_plan.proofs.Stages.AskedPlan.{plan_asked}
 use Rattle.avr_plan.specs.AskedPlan.{IsAsked}
 use Rattle.avr_plan.specs.FilesRead.{AreSeen}
 use Rattle.avr_plan.specs.Plan.{Plan}
-use Rattle.stk_emu.specs.Effect.{effects, memories_of}
+use Rattle.stk_emu.specs.Effect.{memories_of}
 use Rattle.stk_emu.specs.Programmer.{fresh_programmer}
 use Rattle.stk_emu.specs.Wire.{turns_of}
 use Rattle.stk_host.specs.Dialog.{outputs}
@@ -27,12 +27,6 @@ use Rattle.avr_tool.proofs.ChipFile.SecondRun.{chip_left}
 use Rattle.avr_tool.proofs.KnownFiles.RunsInMemory.{seen}
 use Rattle.avr_tool.specs.ChipFound.{IsChipOf, file_held}
 use Rattle.avr_tool.specs.Promise.{IsReadInto, Promised}
-
-ran_zero : (out : List ℕ) (old new : DeskState) (file bytes : Bytes) (ran : ℕ) → IsSaved out old new file bytes ran 0
-    → ran ≡ 0
-ran_zero [] old new file bytes ran saved = sym saved.1
-ran_zero (b ∷ out) old new file bytes ran (inl (saves, is)) = sym is
-ran_zero (b ∷ out) old new file bytes ran (inr (fault, saves, is)) = absurd (cc)
 
 module _ (settings : Settings) (file : Bytes) (stock : Stock) (old new : MemDeskState) (no_dash : is_dash file ≡ false)
     (unused : old.kept ≡ nothing_kept) (holds : HoldsTrue stock new)
@@ -48,17 +42,12 @@ module _ (settings : Settings) (file : Bytes) (stock : Stock) (old new : MemDesk
       (ap (λ (p : StageResult Plan). p.answer) (r.made.comes []))
 
   zero : r.ran ≡ 0
-  zero = ran_zero (sent r.after.transcript) r.played_desk (memory_state new) file
-      (chip_file r.after.wire.programmer.chip) r.ran r.saved
+  zero = search rules
 
   came : ComesOverTurns r.plan (memories_of r.chip) (memories_of r.after.wire.programmer.chip) (turns_of [])
       (outputs (events_over r.plan r.after)) r.ran
       × Passes (after_all (outputs (events_over r.plan r.after))) r.loaded_desk r.played_desk
-  came =
-      elim r.line.end [
-        | inl whole ↦ whole
-        | inr broke ↦ let one : 1 ≡ 0 = sym broke.1 ∙ zero in absurd (omega (arith, one))
-      ]
+  came = search rules
 
   kept : (name : Bytes) → (name ≡ file → ⊥) → All (λ task. IsReadInto name task → ⊥) r.plan.tasks
       → file_held stock new.kept name ≡ stood_for stock [] name
@@ -82,8 +71,7 @@ module _ (settings : Settings) (file : Bytes) (stock : Stock) (old new : MemDesk
     was = subst (λ (kept : Record). IsChipOf r.plan.part (file_held stock kept file) r.chip) unused
         (chip_found settings file stock old new 0 holds r);
     is = chip_left settings file stock old new 0 no_dash refl r;
-    made = (came.0.done zero).memories
-        ∙ ap (λ xs. effects r.plan.part xs (memories_of r.chip)) (items_by_tasks r.plan);
+    made = search (rules, items_by_tasks);
     images = came.0.images zero;
     others = kept;
   }

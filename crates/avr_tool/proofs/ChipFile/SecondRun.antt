@@ -1,21 +1,18 @@
 -- The same run again, over the chip file that the first one left.
-use Rattle.std.proofs.Common.{◌≡◌, ◌∙◌, ◌⊎◌, ap, subst, sym, refl, inl, inr, arith, ℕ, ◌+◌, Bool, true, false, length, List, [], ◌∷◌, ◌++◌, take, Option, Some, None, if◌then◌else◌, rules}
-use Rattle.std.proofs.lemmas.Slice.Eq.{bytes_eq-Decides}
+use Rattle.std.proofs.Common.{◌≡◌, ◌∙◌, ◌⊎◌, subst, sym, refl, inl, inr, arith, ℕ, ◌+◌, true, false, length, List, [], ◌∷◌, ◌++◌, take, Some, rules}
 use Rattle.ghosts.specs.Stays.{Stays}
 use Rattle.avr_cli.specs.declared.settings.Settings.{Settings}
 use Rattle.avr_desk.proofs.FileUses.Names.{newest_append}
 use Rattle.avr_desk.proofs.FileUses.Uses.{files_replaced}
-use Rattle.avr_desk.specs.Memory.{MemDeskState, Stock, file_named, memory_state, stood_for}
+use Rattle.avr_desk.specs.Memory.{MemDeskState, Stock, memory_state}
 use Rattle.avr_desk.specs.Named.{is_dash}
-use Rattle.avr_desk.specs.Record.{Bytes, DeskState, Record, released, with_replaced}
+use Rattle.avr_desk.specs.Record.{Bytes, DeskState}
 use Rattle.avr_desk.specs.Truth.{HoldsTrue}
-use Rattle.avr_desk.specs.declared.record.Writing.{Writing}
 use Rattle.avr_laws.proofs.SecondRun.EveryChip.{agrees_anyway}
 use Rattle.avr_laws.proofs.SecondRun.Status.{done_again}
 use Rattle.avr_laws.specs.Again.{AgreesAnyway, AreKeeping}
 use Rattle.avr_laws.specs.AnyLine.{OverAnyLine, Stopped, memories}
 use Rattle.avr_emulator.specs.Emulated.{IsSaved, RunsOverEmulator, new_wire}
-use Rattle.avr_emulator.specs.Saving.{MaybeReplaced, SavingTrouble, tried_by}
 use Rattle.avr_laws.specs.Items.{items, has_erase}
 use Rattle.avr_laws.specs.Outcome.{IsDone, IsTouched, page_writes}
 use Rattle.avr_laws.proofs.AnyLine.FirstSteps.{effects_sizes}
@@ -52,43 +49,23 @@ same_memories part s fits =
     let lfuse = fuse_part s.flash s.eeprom fuses at 0 (omega arith) in
     let hfuse = fuse_part s.flash s.eeprom fuses (at + 1) 1 (omega arith) in
     let efuse = fuse_part s.flash s.eeprom fuses (at + 2) 2 (omega arith) in
-    let lock = fuse_part s.flash s.eeprom fuses (at + 3) 3 (omega arith) in
-    rw (flash, eeprom, lfuse, hfuse, efuse, lock) refl
+    let lock = fuse_part s.flash s.eeprom fuses (at + 3) 3 (omega arith) in search rules
 
 -- ---- the bytes in the file after a run
 
 -- a name other than that of standard input
 module _ (file : Bytes) (stock : Stock) (no_dash : is_dash file ≡ false) where
-  stands : (made : List Writing) → stood_for stock made file ≡ file_named file stock made
-  stands made = ap (λ (b : Bool). if b then Some stock.input else file_named file stock made) no_dash
-
-  replaced : (bytes : Bytes) (r : Record) → file_held stock (with_replaced file bytes r) file ≡ Some bytes
-  replaced bytes r =
-      search (rules, stands, files_replaced, newest_append, bytes_eq-Decides)
-
-  tried_held : (bytes : Bytes) (trouble : SavingTrouble) (r : Record)
-      → file_held stock (tried_by file bytes trouble r) file ≡ file_held stock r file
-  tried_held bytes MaybeReplaced r = refl
-  tried_held bytes trouble r = refl
-
   -- the chip's bytes, or the earlier ones
   saved_held : (out : List ℕ) (old new : DeskState) (bytes : Bytes) (ran status : ℕ)
       → IsSaved out old new file bytes ran status
       → (file_held stock new.kept file ≡ Some bytes) ⊎ (file_held stock new.kept file ≡ file_held stock old.kept file)
-  saved_held [] old new bytes ran status saved = inr (ap (λ (v : DeskState). file_held stock v.kept file) saved.0)
-  saved_held (b ∷ out) old new bytes ran status (inl (saves, is)) =
-      inl (ap (λ r. file_held stock r file) saves.0 ∙ replaced bytes old.kept)
-  saved_held (b ∷ out) old new bytes ran status (inr (fault, saves, is)) =
-      inr (ap (λ r. file_held stock r file) saves.1.kept ∙ tried_held bytes saves.1.trouble (released old).kept)
+  saved_held out old new bytes ran status saved = search (rules, files_replaced, newest_append)
 
   -- with status 0 the chip's, because a session of status 0 has sent something
   zero_held : (out : List ℕ) (old new : DeskState) (bytes : Bytes) (ran : ℕ) → (out ≡ [] → ran ≡ 0 → ⊥)
       → IsSaved out old new file bytes ran 0
       → file_held stock new.kept file ≡ Some bytes
-  zero_held [] old new bytes ran some saved = absurd (some refl (sym saved.1))
-  zero_held (b ∷ out) old new bytes ran some (inl (saves, is)) =
-      ap (λ r. file_held stock r file) saves.0 ∙ replaced bytes old.kept
-  zero_held (b ∷ out) old new bytes ran some (inr (fault, saves, is)) = absurd (cc)
+  zero_held out old new bytes ran some saved = search (rules, files_replaced, newest_append)
 
 -- a session that ran begins with a frame
 first_frame : (plan : Plan) (tape : Tape)
@@ -100,8 +77,7 @@ no_silence : (plan : Plan) (chip : Chip) (after : WiredState) (d e : DeskState) 
     → RunsSession plan (devices (wired_link (new_wire chip [])) d) (devices (wired_link after) e) ran
     → sent after.transcript ≡ [] → ran ≡ 0 → ⊥
 no_silence plan chip after d e ran (inl (place, whole)) none zero =
-    let first = first_frame plan (heard whole.during ++ []) in
-    search rules
+    search (rules, first_frame plan (heard whole.during ++ []))
 no_silence plan chip after d e ran (inr (broke, one)) none zero = let e : 1 ≡ 0 = sym one ∙ zero in omega (arith, e)
 
 -- so the chip is in its file after a run of status 0
@@ -116,11 +92,6 @@ chip_left settings file stock old new status no_dash zero r =
     (search rules)
 
 -- ---- two runs
-
--- one file has one chip
-same_chip : (part : Part) (held : Option Bytes) (a b : Chip) → IsChipOf part held a → IsChipOf part held b → a ≡ b
-same_chip part None a b is other = is ∙ sym other
-same_chip part (Some bytes) a b is other = is.1 ∙ sym other.1
 
 module _ (settings : Settings) (file : Bytes) (stock : Stock) (old mid new : MemDeskState) (status further : ℕ)
     (no_dash : is_dash file ≡ false)
@@ -165,7 +136,7 @@ module _ (settings : Settings) (file : Bytes) (stock : Stock) (old mid new : Mem
         | inr same ↦
             record {
               count = 0;
-              memories = search (rules, same_chip, second_chip, first_chip);
+              memories = search (rules, second_chip, first_chip);
             }
       ]
 

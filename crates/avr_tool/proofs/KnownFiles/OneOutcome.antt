@@ -1,22 +1,18 @@
 -- What a run leaves over known files and a known tape.
-use Rattle.std.proofs.Common.{◌≡◌, ◌∙◌, ℕ, sym, ap, refl, List, [], ◌∷◌, ◌++◌, append_assoc, map, append-nil, replicate, Option, Some, None, rules}
+use Rattle.std.proofs.Common.{◌≡◌, ◌∙◌, ℕ, ap, refl, List, [], ◌∷◌, ◌++◌, append_assoc, replicate, Option, Some, None, rules}
 use Rattle.std.proofs.lemmas.List.{replicate-append-replicate}
 use Rattle.avr_cli.specs.declared.settings.Settings.{Settings}
 use Rattle.avr_desk.specs.Memory.{Stock}
 use Rattle.avr_desk.specs.Record.{nothing_kept}
 use Rattle.avr_desk.specs.Said.{OutputEvent, after_all}
-use Rattle.avr_desk.specs.Stage.{StageAnswer, Made, Refused, Unread}
 use Rattle.avr_desk.specs.declared.record.Opening.{Opening}
-use Rattle.avr_plan.specs.Plan.{Plan}
-use Rattle.avr_plan.specs.Planning.{planned}
-use Rattle.avr_session.specs.Session.{session}
 use Rattle.avr_laws.proofs.Given.LaterAnswers.{answer_extends}
 use Rattle.stk_frame.specs.Frame.{frame}
 use Rattle.stk_host.specs.Dialog.{Dialog, Done, Say, Ask, Event, Frame, Said, played, behind, by_answer, next, bytes_sent, outputs}
 use Rattle.stk_host.specs.Tape.{Tape, Reading, answer}
 use Rattle.stk_host.specs.declared.link.Item.TheVariants.{End}
 use Rattle.avr_tool.proofs.Runs.Refused.{answered_due, sent_due, said_due}
-use Rattle.avr_tool.specs.Headline.{after_answer, run}
+use Rattle.avr_tool.specs.Headline.{run}
 use Rattle.avr_tool.proofs.KnownFiles.RunsInMemory.{left_by}
 use Rattle.avr_tool.specs.InMemory.{RunOutcome, run_outcome, run_of, Leaves}
 use Rattle.avr_tool.specs.Worked.{absent_outcome, absent_settings, frames_due, lines_due, no_stock, worked_answers, worked_outcome, worked_settings}
@@ -27,27 +23,18 @@ some_is a b e = cc
 -- as many ends as either requests, in any order
 ends_either : (tape : Tape) (a b : ℕ) → (tape ++ replicate a End) ++ replicate b End
     ≡ (tape ++ replicate b End) ++ replicate a End
-ends_either tape a b =
-    search (rules, append_assoc, replicate-append-replicate)
+ends_either tape a b = search (rules, append_assoc, replicate-append-replicate)
 
 pub one_outcome : (s : Settings) (stock : Stock) (tape : Tape) (a b : RunOutcome) → Leaves s stock tape a
     → Leaves s stock tape b → a ≡ b
-one_outcome s stock tape a b first second =
-    some_is a b (sym (first.is (replicate second.ends End))
-    ∙ ap (λ t. run_outcome (run_of s stock t)) (ends_either tape first.ends second.ends)
-    ∙ second.is (replicate first.ends End))
+one_outcome s stock tape a b first second = search (rules, ends_either tape first.ends second.ends)
 
 -- ---- more of a tape doesn't change a run that came to its end
-
-some_end : {R : Type 0} (a b : R) (m n : ℕ) (t u : Tape)
-    → ◌≡◌ {A = Option (R × ℕ × Tape)} (Some (a, m, t)) (Some (b, n, u)) → (a ≡ b) × (m ≡ n) × (t ≡ u)
-some_end {R} a b m n t u e =
-    let is : ◌≡◌ {A = R × ℕ × Tape} (a, m, t) (b, n, u) = cc in (ap (λ z. z.0) is, ap (λ z. z.1) is, ap (λ z. z.2) is)
 
 ended_more : {E R : Type 0} (d : Dialog E R) (seq : ℕ) (t u : Tape) (r : R) (n : ℕ) (left : Tape)
     → (played d seq t).outcome ≡ Some (r, n, left)
     → played d seq (t ++ u) ≡ record { events = (played d seq t).events; outcome = Some (r, n, left ++ u) }
-ended_more (Done a) seq t u r n left is = let e = some_end a r seq n t left is in rw (e.0, e.1, e.2) refl
+ended_more (Done a) seq t u r n left is = search rules
 ended_more (Say said d) seq t u r n left is = ap (behind (Said said ∷ [])) (ended_more d seq t u r n left is)
 ended_more {E = E} {R = R} (Ask body answered) seq t u r n left is =
     by_reading (answer seq t) (λ reading rest ended. ended_more (answered reading) (next seq) rest u r n left ended)
@@ -70,23 +57,10 @@ ended_more {E = E} {R = R} (Ask body answered) seq t u r n left is =
     by_reading (Some (reading, rest)) behind_it found ended =
         search (rules, answer_extends)
 
-answered_more : (answer : StageAnswer Plan) (t u : Tape) (status n : ℕ) (left : Tape)
-    → (after_answer answer t).outcome ≡ Some (status, n, left)
-    → after_answer answer (t ++ u) ≡ record {
-      events = (after_answer answer t).events;
-      outcome =
-          Some (status, n, left ++ u);
-    }
-answered_more (Made plan) t u status n left is = ended_more (session plan) 1 t u status n left is
-answered_more (Refused line) t u status n left is = search (rules, some_end)
-answered_more Unread t u status n left is =
-    absurd (let e : ◌≡◌ {A = Option (ℕ × ℕ × Tape)} None (Some (status, n, left)) = is in cc)
-
 run_more : (s : Settings) (openings : List Opening) (t u : Tape) (status n : ℕ) (left : Tape)
     → (run s openings t).outcome ≡ Some (status, n, left)
     → run s openings (t ++ u) ≡ record { events = (run s openings t).events; outcome = Some (status, n, left ++ u) }
-run_more s openings t u status n left is =
-    ap (behind (map Said (planned s openings).says)) (answered_more (planned s openings).answer t u status n left is)
+run_more s openings t u status n left is = search (rules, ended_more)
 
 -- ---- worked runs
 
@@ -106,11 +80,8 @@ worked_over stock more =
 pub worked_leaves : (stock : Stock) → Leaves worked_settings stock worked_answers worked_outcome
 worked_leaves stock = record {
   ends = 0;
-  is = search (rules, append-nil, worked_over);
+  is = search (rules, worked_over);
 }
 
-absent_over : (tape : Tape) → run_outcome (run_of absent_settings no_stock tape) ≡ Some absent_outcome
-absent_over tape = refl
-
 pub absent_leaves : (tape : Tape) → Leaves absent_settings no_stock tape absent_outcome
-absent_leaves tape = record { ends = 0; is = λ more. absent_over ((tape ++ []) ++ more) }
+absent_leaves tape = record { ends = 0; is = λ more. refl }

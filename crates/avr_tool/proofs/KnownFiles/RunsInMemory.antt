@@ -16,9 +16,7 @@ use Rattle.avr_desk.specs.Truth.{AreTrue, HoldsTrue, IsTrueOpening}
 use Rattle.avr_desk.specs.declared.record.FileUse.{FileUse}
 use Rattle.avr_desk.specs.declared.record.FileUse.TheVariants.{Opened, Created}
 use Rattle.avr_desk.specs.declared.record.Open.{Open}
-use Rattle.avr_desk.specs.declared.record.Open.TheVariants.{Closed, ToRead, ToWrite}
 use Rattle.avr_desk.specs.declared.record.Opening.{Opening}
-use Rattle.avr_desk.specs.declared.record.Opening.TheVariants.{Absent, Found}
 use Rattle.avr_desk.specs.declared.record.Writing.{Writing}
 use Rattle.avr_plan.proofs.Stages.FilesRead.{seen_first, seen_is_planned}
 use Rattle.avr_plan.proofs.Stages.OnlyReading.{only_reads}
@@ -86,21 +84,8 @@ abbrev left_after_all : List OutputEvent → Left → Left
 left_after_all [] v = v
 left_after_all (output ∷ says) v = left_after_all says (left_after output v)
 
-written_file : (bytes : Bytes) (o : Open) → file_of (written_on bytes o) ≡ map (with_bytes bytes) (file_of o)
-written_file bytes Closed = refl
-written_file bytes (ToRead x) = refl
-written_file bytes (ToWrite x) = refl
-
 left_on : (output : OutputEvent) (r : Record) → left_in (after output r) ≡ left_after output (left_in r)
-left_on (Opens (Absent name)) r =
-    ap (λ (fs : List Writing). record (left_in r) { files = fs; file = [] }) (absent_used name r)
-left_on (Opens (Found x)) r =
-    ap (λ (fs : List Writing). record (left_in r) { files = fs; file = [] }) (files_used r)
-left_on (Line bytes) r = refl
-left_on (Creates name) r = search (rules, files_used)
-left_on (Writes bytes) r =
-    ap (λ (fs : List Writing). record (left_in r) { file = fs }) (written_file bytes r.current)
-left_on (Outs bytes) r = refl
+left_on output r = search (rules, absent_used, files_used)
 
 left_all : (says : List OutputEvent) (r : Record) → left_in (after_all says r) ≡ left_after_all says (left_in r)
 left_all [] r = refl
@@ -133,9 +118,7 @@ planning_left says reads = left_all says nothing_kept ∙ only_told says [] [] r
 seen_before : (stock : Stock) (says : List OutputEvent) (answer : StageAnswer Plan)
     → AreSeen stock (all_told says answer)
     → AreSeen stock says
-seen_before stock says (Made plan) seen = seen
-seen_before stock says (Refused line) seen = seen_first stock says (Line line ∷ []) seen
-seen_before stock says Unread seen = seen
+seen_before stock says answer seen = search (rules, seen_first)
 
 module _ (settings : Settings) (stock : Stock) (old m : DeskState) (answer : StageAnswer Plan)
     (unused : old.kept ≡ nothing_kept) (are : AreTrue stock [] (all_uses m.kept))
@@ -147,8 +130,7 @@ module _ (settings : Settings) (stock : Stock) (old m : DeskState) (answer : Sta
   told = all_told went.says answer
 
   only_read : OnlyReads told
-  only_read = subst OnlyReads (ap (λ (p : StageResult Plan). told_in p) planned_is)
-      (only_reads settings (went.passed ++ []))
+  only_read = search (rules, only_reads settings (went.passed ++ []))
 
   kept_is : m.kept ≡ after_all told nothing_kept
   kept_is = went.kept ∙ ap (after_all told) unused
@@ -165,7 +147,7 @@ module _ (settings : Settings) (stock : Stock) (old m : DeskState) (answer : Sta
 
   both : ((planned_of settings stock).answer ≡ (planned settings (went.passed ++ [])).answer)
       × (lines_in (told_in (planned_of settings stock)) ≡ lines_in (told_in (planned settings (went.passed ++ []))))
-  both = search (rules, seen_is_planned, planned_is, seen_before, seen)
+  both = search (rules, seen_is_planned, seen_before, seen)
 
   same_answer : (planned_of settings stock).answer ≡ answer
   same_answer = both.0 ∙ ap (λ (p : StageResult Plan). p.answer) planned_is
@@ -173,7 +155,7 @@ module _ (settings : Settings) (stock : Stock) (old m : DeskState) (answer : Sta
   same_left : left_in (after_all (all_told (planned_of settings stock).says answer) nothing_kept) ≡ left_in m.kept
   same_left =
       let whole = told_in (planned_of settings stock) in
-      search (rules, whole, both, planned_is, same_answer, planning_left, only_reads, only_read, kept_is)
+      search (rules, both, same_answer, planning_left, only_reads, only_read, kept_is)
 
 -- ---- the run
 
@@ -220,8 +202,7 @@ module _ (settings : Settings) (old new : MemDeskState) (before after : LinkStat
       ran.grows ∙ ap (λ transcript. transcript ++ ran.during) silent_before in
       let left : left_by (map Said p.says ++ ran.events) status ≡ shown_by status (sent after.transcript) new.kept =
       left_is status p.says ran.events between.kept new.kept after.transcript alike ran.kept
-      (ran.plays.all_sent ∙ ap sent (sym during)) in
-      search rules
+      (ran.plays.all_sent ∙ ap sent (sym during)) in search rules
 
   -- it was refused
   refused : HoldsTrue stock new → after.transcript ≡ before.transcript
@@ -240,8 +221,7 @@ module _ (settings : Settings) (old new : MemDeskState) (before after : LinkStat
       let left : left_by (map Said p.says ++ Said (Line line) ∷ []) 1 ≡ shown_by 1 (sent after.transcript) new.kept =
       ap (λ (es : List (Event OutputEvent)). left_by es 1) (sym events)
       ∙ left_is 1 (p.says ++ Line line ∷ []) [] new.kept new.kept after.transcript alike refl
-      (ap sent (sym (silent ∙ silent_before))) in
-      search rules
+      (ap sent (sym (silent ∙ silent_before))) in search rules
 
   -- over what was received it leaves what is shown, and the link has not failed
   pub record LeavesShown : Type 0 where
@@ -262,12 +242,7 @@ module _ (settings : Settings) (old new : MemDeskState) (before after : LinkStat
     )
   ]
   run_is between first all (inr (lacks, same)) = elim lacks.goes.1 [
-    | inl went ↦ inl (record {
-      is = subst (λ s. IsLeft settings stock (heard after.transcript) (shown_by s (sent after.transcript) new.kept))
-          (sym lacks.goes.0)
-          (refused (all stock (begins_true old unused.desk_is)) (ap (λ (l : LinkState). l.transcript) same) went);
-      sound = ap (λ (l : LinkState). l.failures) (same ∙ unused.link_is);
-    })
+    | inl went ↦ inl (search (rules, refused))
     | inr broke ↦ inr (inr (record { broke = broke; bare = lacks.bare; same = same }), lacks.goes.0)
   ]
 
@@ -277,8 +252,7 @@ module _ (settings : Settings) (old new : MemDeskState) (status : ℕ) where
   over_tape : (before after : TapeState) → before.transcript ≡ [] → IsOfTape before after
       → IsLeft settings (stock_of old) (heard after.transcript) (shown_by status (sent after.transcript) new.kept)
       → Leaves settings (stock_of old) before.left (shown_by status (sent after.transcript) new.kept)
-  over_tape before after silent of_tape left =
-      search (rules, append_assoc)
+  over_tape before after silent of_tape left = search (rules, append_assoc)
 
   pub run_is_over_tape : (before after : TapeState) (between : MemDeskState)
       (unused : AreUnused old (tape_state before))
@@ -307,8 +281,6 @@ module _ (settings : Settings) (old new : MemDeskState) (status : ℕ) where
       ⊎ IsStopped settings (devices (stream_state before) (memory_state old))
       (devices (stream_state after) (memory_state new)) status
   run_is_over_streams remaining contents before after between unused true_since first all runs =
-      let transcript_is : after.transcript ≡ true_since.during =
-      search rules in
       elim (run_is settings old new (stream_state before) (stream_state after) status unused between first all runs) [
         | inl left ↦ inl (search rules)
         | inr stopped ↦ inr stopped

@@ -1,5 +1,5 @@
 -- Planning and session as one run.
-use Rattle.std.proofs.Common.{◌≡◌, ℕ, ◌⊎◌, inl, inr, List, [], ◌∷◌, ◌++◌, map, Some, refl, sym, ap, ◌∙◌, subst, arith, append_assoc, rules}
+use Rattle.std.proofs.Common.{◌≡◌, ℕ, ◌⊎◌, inl, inr, List, [], ◌∷◌, ◌++◌, map, refl, sym, ap, ◌∙◌, subst, arith, append_assoc, rules}
 use Rattle.avr_cli.specs.declared.settings.Settings.{Settings}
 use Rattle.avr_desk.specs.Fault.{Follows}
 use Rattle.avr_desk.specs.Record.{DeskState}
@@ -9,7 +9,7 @@ use Rattle.avr_desk.proofs.Lines.Told.{follows_on, follows_same, same_on}
 use Rattle.avr_plan.specs.Plan.{Plan}
 use Rattle.avr_plan.specs.Planning.{planned}
 use Rattle.avr_desk.specs.Playing.{Went, WentRefused}
-use Rattle.avr_desk.specs.Stage.{Made, Refused, Unread, StageAnswer, StageResult}
+use Rattle.avr_desk.specs.Stage.{Made, StageResult}
 use Rattle.stk_host.specs.Dialog.{Event, Played, Said, behind, bytes_sent, outputs}
 use Rattle.stk_host.specs.Transcript.{LinkState, heard, Grows}
 use Rattle.stk_host.specs.Tape.{Tape}
@@ -51,7 +51,7 @@ ran_whole settings plan x y between status went whole =
       next = whole.0.next;
       left = whole.0.unread;
       is = search rules;
-      in_turn = search (rules, answered);
+      in_turn = search rules;
       all_sent = said_bytes went.says ran.events ∙ ran.plays.all_sent;
       grows = ran.grows;
       kept = search (rules, kept_append, said_outputs);
@@ -84,9 +84,7 @@ refused_whole settings x y same (line, went) = record {
 }
 
 session_follows : (plan : Plan) (x y : Devices) (status : ℕ) → RunsSession plan x y status → Follows x.desk y.desk
-session_follows plan x y status (inl whole) = follows_same x.desk y.desk whole.1.sound.1
-session_follows plan x y status (inr broke) =
-    follows_on x.desk broke.0.stops.between y.desk broke.0.stops.since broke.0.stops.until
+session_follows plan x y status runs = search (rules, follows_same, follows_on)
 
 pub session_is_run : (settings : Settings) (plan : Plan) (x : Devices) (between : DeskState) (y : Devices) (status : ℕ)
     (made : Went (planned settings) x.desk between (Made plan)) → RunsSession plan (devices x.link between) y status
@@ -114,22 +112,13 @@ is_run settings x between y status (inl runs) = elim runs.runs [
     broke.1,
   )
 ]
-is_run settings x between y status (inr (lacks, same)) = elim lacks.goes.1 [
-  | inl went ↦ inl (subst (IsRun settings x y) (sym lacks.goes.0) (refused_whole settings x y same went))
-  | inr broke ↦ inr (inr (record { broke = broke; bare = lacks.bare; same = same }), lacks.goes.0)
-]
+is_run settings x between y status (inr (lacks, same)) = search (rules, refused_whole)
 
 behind_prefix : (says : List OutputEvent) {shown events : List (Event OutputEvent)}
     → IsPrefixOfEvents SaidPart shown events
     → IsPrefixOfEvents SaidPart (map Said says ++ shown) (map Said says ++ events)
-behind_prefix says f = record {
-  whole = map Said says ++ f.whole;
-  begun = f.begun;
-  later = f.later;
-  shown_is = ap (λ es. map Said says ++ es) f.shown_is ∙ sym (append_assoc (map Said says) f.whole f.begun);
-  events_are = ap (λ es. map Said says ++ es) f.events_are ∙ sym (append_assoc (map Said says) f.whole f.later);
-  part = f.part;
-}
+behind_prefix says f =
+    search (rules, append_assoc (map Said says) f.whole f.begun, append_assoc (map Said says) f.whole f.later)
 
 -- a stop in the session
 stopped_prefix : (settings : Settings) (x y : Devices) → StoppedPlaying settings x y → IsPrefixOfRun settings x y
@@ -137,10 +126,7 @@ stopped_prefix settings x y stopped = record {
   openings = stopped.made.passed;
   during = stopped.then_is.during;
   shown = map Said stopped.made.says ++ stopped.then_is.shown;
-  prefix = λ later. subst
-      (λ q. IsPrefixOfEvents SaidPart (map Said stopped.made.says ++ stopped.then_is.shown) q.events)
-      (sym (ap (λ q. after_planning q (heard stopped.then_is.during)) (stopped.made.comes later)))
-      (behind_prefix stopped.made.says stopped.then_is.breaks.prefix);
+  prefix = search (rules, behind_prefix);
   in_turn = λ later. subst (λ answer. IsInTurn answer stopped.then_is.during)
       (sym (answered (stopped.made.comes later))) stopped.then_is.breaks.in_turn;
   all_sent = said_bytes stopped.made.says stopped.then_is.shown ∙ stopped.then_is.breaks.all_sent;
@@ -152,29 +138,14 @@ said_append : (whole later : List OutputEvent) (events : List (Event OutputEvent
 said_append [] later events = refl
 said_append (output ∷ whole) later events = ap (λ rest. Said output ∷ rest) (said_append whole later events)
 
-silent_turn : (answer : StageAnswer Plan) → IsInTurn answer []
-silent_turn (Made plan) = tt
-silent_turn (Refused line) = refl
-silent_turn Unread = refl
-
 -- a stop in planning
 planned_prefix : (settings : Settings) (x y : Devices) → StoppedPlanning settings x y → IsPrefixOfRun settings x y
 planned_prefix settings x y stopped = record {
   openings = stopped.broke.passed;
   during = [];
   shown = map Said stopped.broke.whole ++ [];
-  prefix = λ later.
-      let rest = stopped.broke.rest later in
-      let events = (after_answer (planned settings (stopped.broke.passed ++ later)).answer []).events in record {
-        whole = map Said stopped.broke.whole;
-        begun = [];
-        later = map Said rest.later ++ events;
-        shown_is = refl;
-        events_are = ap (λ says. map Said says ++ events) rest.says_are
-            ∙ said_append stopped.broke.whole rest.later events;
-        part = tt;
-      };
-  in_turn = λ later. silent_turn (planned settings (stopped.broke.passed ++ later)).answer;
+  prefix = search (rules, said_append);
+  in_turn = λ later. search rules;
   all_sent = said_bytes stopped.broke.whole [];
   grows = subst (λ (l : LinkState). Grows x.link.transcript [] l.transcript) (sym stopped.same)
       (grows_none x.link.transcript);
@@ -182,11 +153,7 @@ planned_prefix settings x y stopped = record {
 
 pub stop_prefix : (settings : Settings) (x y : Devices) (status : ℕ) → IsStopped settings x y status
     → IsPrefixOfRun settings x y
-stop_prefix settings x y status (inl playing, one) = stopped_prefix settings x y playing
-stop_prefix settings x y status (inr planning, one) = planned_prefix settings x y planning
-
-some_is : {A : Type 0} (a b : A) → Some a ≡ Some b → a ≡ b
-some_is a b e = cc
+stop_prefix settings x y status e' = search (rules, stopped_prefix, planned_prefix)
 
 -- the same openings and the same items received lead to one status
 pub one_status : (settings : Settings) (h i j k : Devices) (m n : ℕ) (x : IsRun settings h i m)
@@ -194,5 +161,4 @@ pub one_status : (settings : Settings) (h i j k : Devices) (m n : ℕ) (x : IsRu
 one_status settings h i j k m n x y same alike =
     let both : run settings (x.openings ++ []) (heard x.during ++ [])
     ≡ run settings (y.openings ++ []) (heard y.during ++ []) =
-    search rules in
-    search (rules, some_is)
+    search rules in search rules

@@ -1,9 +1,9 @@
 -- Status 0 means the images, over any link that forges no frame.
-use Rattle.std.proofs.Common.{◌≡◌, ℕ, Bool, false, List, [], ◌++◌, map, Some, refl, sym, ap, ◌∙◌, subst, arith, Option, None}
+use Rattle.std.proofs.Common.{◌≡◌, ℕ, Bool, false, List, [], ◌++◌, map, Some, sym, ap, ◌∙◌, subst, Option, None, rules}
 use Rattle.std.proofs.lemmas.List.{append-nil}
 use Rattle.avr_cli.specs.declared.settings.Settings.{Settings}
 use Rattle.avr_desk.specs.Said.{OutputEvent}
-use Rattle.avr_desk.specs.Stage.{Made, Refused, Unread, StageAnswer}
+use Rattle.avr_desk.specs.Stage.{Made, StageAnswer}
 use Rattle.avr_part.specs.Sound.{IsSoundChip}
 use Rattle.avr_plan.specs.Plan.{Plan}
 use Rattle.avr_plan.specs.Planning.{planned}
@@ -23,19 +23,8 @@ use Rattle.stk_frame.specs.Cut.{frames}
 use Rattle.stk_host.specs.Dialog.{Event, Played, Said, behind, bytes_sent, played}
 use Rattle.stk_host.specs.Tape.{Tape, on_tape}
 use Rattle.stk_host.specs.Transcript.{Transcript, heard, sent}
-use Rattle.avr_tool.specs.Headline.{run, after_answer, IsRun}
+use Rattle.avr_tool.specs.Headline.{after_answer, IsRun}
 use Rattle.avr_tool.proofs.Runs.Joined.{said_bytes}
-
--- a refusal has status 1, and a file that was not read to its end has none
-abbrev status_in : Option (ℕ × ℕ × Tape) → ℕ
-status_in None = 2
-status_in (Some end) = end.0
-
-by_answer : (answer : StageAnswer Plan) (tape : Tape) {next : ℕ} {left : Tape}
-    → (after_answer answer tape).outcome ≡ Some (0, next, left) → (plan : Plan) × (answer ≡ Made plan)
-by_answer (Made plan) tape is = (plan, refl)
-by_answer (Refused line) tape is = let one : 1 ≡ 0 = ap status_in is in absurd (omega (arith, one))
-by_answer Unread tape is = let none : 2 ≡ 0 = ap status_in is in absurd (omega (arith, none))
 
 module _ (s : Settings) (x y : Devices) (r : IsRun s x y 0) where
   abbrev tape : Tape
@@ -50,11 +39,10 @@ module _ (s : Settings) (x y : Devices) (r : IsRun s x y 0) where
   -- the run over exactly what was opened and received
   over : behind before (after_answer (planned s r.openings).answer tape)
       ≡ record { events = r.events; outcome = Some (0, r.next, left_over) }
-  over = sym (ap (λ openings. run s openings tape) (append-nil r.openings))
-      ∙ (sym (ap (run s (r.openings ++ [])) (append-nil tape)) ∙ r.is [] [])
+  over = search (rules, append-nil r.openings, append-nil tape)
 
   pub made : (plan : Plan) × ((planned s r.openings).answer ≡ Made plan)
-  made = by_answer (planned s r.openings).answer tape (ap (λ (p : Played OutputEvent ℕ). p.outcome) over)
+  made = search (rules, over)
 
   module _ (plan : Plan) (made_is : (planned s r.openings).answer ≡ Made plan) (silent : x.link.transcript ≡ []) where
     same : y.link.transcript ≡ r.during
@@ -71,8 +59,7 @@ module _ (s : Settings) (x y : Devices) (r : IsRun s x y 0) where
     played_is = ap (λ (p : Played OutputEvent ℕ). record { events = done; outcome = p.outcome }) over_plan
 
     sent_is : bytes_sent done ≡ sent r.during
-    sent_is = sym (said_bytes (planned s r.openings).says done)
-        ∙ (ap (λ (p : Played OutputEvent ℕ). bytes_sent p.events) over_plan ∙ r.all_sent)
+    sent_is = search (rules, said_bytes, over_plan)
 
     pub promise : (p : Programmer) (got : List ℕ) (through : List Bool) → IsSoundChip p.chip → p.chip.part ≡ plan.part
         → CameThrough got (frames (sent y.link.transcript)) through
@@ -86,5 +73,4 @@ module _ (s : Settings) (x y : Devices) (r : IsRun s x y 0) where
         over_bytes plan p sound part_is (plan_fitted s r.openings plan made_is) got (sent r.during) through tape
         (subst (λ (t : Transcript). CameThrough got (frames (sent t)) through) same came)
         (subst (λ (t : Transcript). MakesNoFrame device (session plan) 1 (heard t) p (became_by through) []) same none)
-        left_over done 0 r.next played_is sent_is in
-        ((whole.1.done refl).memories, whole.1.images refl)
+        left_over done 0 r.next played_is sent_is in search rules

@@ -37,8 +37,7 @@ not_all_written plan w v d e other over = other ((came_to plan w v d e 0 over re
 
 pub said_otherwise : (plan : Plan) (w v : WiredState) (d e : DeskState)
     → (Passes (after_all (expected_run plan (memories w)).says) d e → ⊥) → OverAnyLine plan w v d e 0 → ⊥
-said_otherwise plan w v d e other over =
-    search (rules, came_to)
+said_otherwise plan w v d e other over = search rules
 
 pub touched_in_silence : (plan : Plan) (w v : WiredState) (d e : DeskState) (status : ℕ)
     → frames (sent v.transcript) ≡ []
@@ -99,5 +98,4 @@ pub another_line : (transcript : Transcript) (a b : ℕ) (d e : DeskState) (stat
     → heard transcript ≡ worked_answers
     → (Passes (after_all lines_due) d e → ⊥)
     → IsRun worked_settings (devices (link_state [] a) d) (devices (link_state transcript b) e) status → ⊥
-another_line transcript a b d e status all other x =
-    other (x.kept ∙ ap (λ said. after_all said d.kept) (worked_said transcript a b d e status all x))
+another_line transcript a b d e status all other x = search (rules, worked_said, x.kept)

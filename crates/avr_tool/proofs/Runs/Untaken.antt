@@ -1,9 +1,6 @@
 -- Arguments that request no run, and the error that is left of them.
-use Rattle.std.proofs.Common.{◌≡◌, refl, sym, ◌∙◌, subst, ℕ, List, Result, Ok, Err, rules}
-use Rattle.clap.specs.Words.{fault_of, kind_of, HasKind}
+use Rattle.std.proofs.Common.{ℕ, List, Result, Ok, Err, rules}
 use Rattle.clap.specs.declared.error.Error.{Error}
-use Rattle.clap.specs.declared.error.kind.ErrorKind.TheVariants.{OutOfMemory}
-use Rattle.avr_cli.specs.Command.{avrstk}
 use Rattle.avr_desk.specs.Record.{DeskState, Bytes}
 use Rattle.avr_tool.specs.Sockets.{Peers}
 use Rattle.avr_session.specs.Runs.{devices}
@@ -17,13 +14,4 @@ pub untaken : (peers : Peers) (words : List Bytes)
     → peers.unused → Asks words old mid (Err (Words error)) → LeavesWords error mid new result
     → ActsOnWords peers words (devices link old) (devices link new) result
 untaken peers words link old mid new error (Ok status) unused asks leaves = search rules
-untaken peers words link old mid new error (Err left) unused asks leaves = (
-  record {
-    kind = subst (λ (e : Error). HasKind (fault_of avrstk words) e) (sym leaves.1) asks.0;
-    not_memory = subst (λ (e : Error). kind_of e ≡ OutOfMemory → ⊥) (sym leaves.1) leaves.0;
-    not_taken = λ taken. leaves.0 (asks.1 taken);
-  },
-  leaves.2 ∙ asks.2,
-  refl,
-  unused,
-)
+untaken peers words link old mid new error (Err left) unused asks leaves = search rules

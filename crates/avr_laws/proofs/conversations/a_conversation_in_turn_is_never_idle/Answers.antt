@@ -1,5 +1,6 @@
+use Rattle.std.proofs.Common.{rules}
 use Rattle.avr_laws.proofs.Lines.InTurn.{never_idle}
 use Rattle.avr_laws.proofs.conversations.a_conversation_in_turn_is_never_idle.Goals as goal
 
 pub returns : goal.returns
-returns g c = λ d n p fates transcript asks lawful turns. never_idle d n p fates transcript asks lawful turns
+returns g c = search (rules, never_idle)

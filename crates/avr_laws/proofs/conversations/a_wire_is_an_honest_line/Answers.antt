@@ -1,3 +1,4 @@
+use Rattle.std.proofs.Common.{rules}
 use Rattle.std.proofs.Common.{length, arith}
 use Rattle.stk_emu.specs.Device.{device}
 use Rattle.stk_emu.proofs.Answers.BodySizes.{answers_bodies}
@@ -10,4 +11,4 @@ returns-clause-wire g c = λ d n w sent more asks clear lawful e.
     (over_wire device answers_bodies d n w sent more asks clear lawful e).honest (length sent) (omega arith)
 
 pub returns-clause-prefix : goal.returns-clause-prefix
-returns-clause-prefix g c = λ got sent others is good. prefix_came got sent others is good
+returns-clause-prefix g c = search (rules, prefix_came)

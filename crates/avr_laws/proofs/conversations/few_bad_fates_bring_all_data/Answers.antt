@@ -1,17 +1,15 @@
+use Rattle.std.proofs.Common.{rules}
 use Rattle.avr_laws.proofs.Given.FewBadTurns.{good_few, four_too_many, second_too_many, three_of_six, few_left, step_comes, play_few}
-use Rattle.stk_host.specs.Steps.{step}
 use Rattle.avr_laws.proofs.conversations.few_bad_fates_bring_all_data.Goals as goal
 
 pub returns-clause-step : goal.returns-clause-step
-returns-clause-step c = λ part commands m k p fates sound is f s few le. step_comes part sound commands m k p fates is f
-    s few le
+returns-clause-step c = search (rules, step_comes)
 
 pub returns-clause-rest : goal.returns-clause-rest
-returns-clause-rest c = λ k commands p fates few. few_left k (step commands) p fates few
+returns-clause-rest c = search (rules, few_left)
 
 pub returns-clause-play : goal.returns-clause-play
-returns-clause-play c = λ part steps m k before p fates o sound are f s few e. play_few part sound steps m k before p
-    fates o are f s few e
+returns-clause-play c = search (rules, play_few)
 
 pub returns-clause-good : goal.returns-clause-good
 returns-clause-good c = good_few

@@ -1,9 +1,9 @@
+use Rattle.std.proofs.Common.{rules}
 use Rattle.avr_laws.proofs.Lines.InTurn.{plays_prefix, stands_along, whole_said, whole_done}
 use Rattle.avr_laws.proofs.conversations.over_a_wire_a_conversation_goes_along_turns.Goals as goal
 
 pub returns-clause-programmer : goal.returns-clause-programmer
-returns-clause-programmer g c = λ d n p fates w asks lawful keeps turns prefix. stands_along d n p fates w asks lawful
-    keeps turns prefix
+returns-clause-programmer g c = search (rules, stands_along)
 
 pub returns-clause-whole : goal.returns-clause-whole
 returns-clause-whole g c = λ d n p fates w events r after asks lawful keeps plays.

@@ -1,11 +1,11 @@
+use Rattle.std.proofs.Common.{rules}
 use Rattle.avr_laws.specs.Items.{asked_items}
 use Rattle.avr_laws.specs.Written.{written_to}
 use Rattle.avr_laws.proofs.Memories.VerifiedRuns.{run_written, shown_succeeds}
 use Rattle.avr_laws.proofs.written.a_verified_run_leaves_its_images.Goals as goal
 
 pub returns-clause-images : goal.returns-clause-images
-returns-clause-images c = λ plan before after sound all fits verified run. run_written plan before after all verified
-    run sound fits
+returns-clause-images c = search (rules, run_written)
 
 pub returns-clause-again : goal.returns-clause-again
 returns-clause-again c = λ plan before after s mems sound all fits verified run kept.
