@@ -1,7 +1,7 @@
 -- The limits of files. Then when allocation may fail with no file open. Then wrong ends, which the contract refuses.
 -- One plan writes the file `x.hex` to flash, at a desk that shows no opened file. The other is for a part that doesn't
 -- exist.
-use Rattle.std.proofs.Common.{◌≡◌, ◌∙◌, ap, arith, ℕ, ◌+◌, ◌<◌, ◌≤◌, ◌-◌, ◌^◌, ◌⊎◌, inl, inr, List, [], ◌∷◌, ◌++◌, take, get_or, append-nil, refl, true, false, Option, Some, None, Ok, Err, rules}
+use Rattle.std.proofs.Common.{◌≡◌, ◌∙◌, ap, arith, ℕ, ◌+◌, ◌<◌, ◌-◌, ◌^◌, ◌⊎◌, inl, inr, List, [], ◌∷◌, ◌++◌, take, get_or, append-nil, refl, true, false, Option, Some, None, Ok, Err, rules}
 use Rattle.std.specs.Prelude.{codes}
 use Rattle.avr_cli.specs.Settings.{no_switches}
 use Rattle.avr_cli.specs.declared.settings.Port.TheVariants.{Stdio}
@@ -9,13 +9,12 @@ use Rattle.avr_cli.specs.declared.settings.Settings.{Settings}
 use Rattle.avr_cli.specs.declared.update.Format.TheVariants.{Ihex, Immediate}
 use Rattle.avr_cli.specs.declared.update.Op.TheVariants as op
 use Rattle.avr_cli.specs.declared.update.Update.{Update}
-use Rattle.ghosts.specs.Failures.{HasRisen, HasStood}
+use Rattle.ghosts.specs.Failures.{HasStood}
 use Rattle.avr_desk.specs.Record.{DeskState, Record, after_err, showing, Bytes}
 use Rattle.avr_desk.specs.declared.record.Opening.{Opening}
 use Rattle.avr_desk.specs.declared.record.Opening.TheVariants.{Found}
 use Rattle.avr_desk.specs.Lines.{memory_line, not_opened_line}
 use Rattle.avr_desk.specs.Said.{OutputEvent, Opens, Line, TellsLine, TellsFailure, after_all}
-use Rattle.ghosts.proofs.Failures.{stood_has_not_risen}
 use Rattle.avr_part.specs.BuiltIn.{m328p}
 use Rattle.avr_part.specs.declared.part.Mem.TheVariants.{Eeprom, Flash}
 use Rattle.avr_records.specs.declared.kind.Ending.{Ending}
@@ -26,10 +25,9 @@ use Rattle.avr_plan.specs.Plan.{Plan}
 use Rattle.avr_plan.specs.Planning.{planned, file_image_stage, judged_image}
 use Rattle.avr_plan.specs.Taking.{AtUpdate, op_takes_memory}
 use Rattle.avr_desk.specs.Playing.{AtStart, Goes}
-use Rattle.avr_desk.specs.Stage.{Stage, StageResult, Made, Refused, verdict_stage, file_stage, ◌>>=◌}
+use Rattle.avr_desk.specs.Stage.{Stage, Made, Refused, verdict_stage, file_stage, ◌>>=◌}
 use Rattle.avr_plan.specs.declared.planned.Task.{Task}
 use Rattle.avr_plan.specs.declared.planned.Task.TheVariants.{Write}
-use Rattle.avr_plan.proofs.Stages.Plans.{behind_parts}
 use Rattle.avr_desk.proofs.Stages.Breaks.{Begins, begins_then, begins_file, unopened, opened_is_told, TellsOne, refused_once}
 
 limits : (LARGEST_IMAGE_FILE ≡ 4194304) × (LARGEST_PART_FILE ≡ 65536)
@@ -61,15 +59,8 @@ wanted = record {
 
 -- it begins by opening that file
 
-begins_image : Begins file (file_image_stage no_switches file Ihex 32768)
-begins_image =
-    search (rules, begins_then, begins_file)
-
 abbrev task : Stage Task
 task = file_image_stage no_switches file Ihex 32768 >>= λ image. verdict_stage (Ok (Write Flash image))
-
-begins_task : Begins file task
-begins_task = search (rules, begins_then, begins_image)
 
 abbrev tasks : Stage (List Task)
 tasks = task >>= λ first. verdict_stage (Ok (first ∷ []))
@@ -77,15 +68,14 @@ tasks = task >>= λ first. verdict_stage (Ok (first ∷ []))
 begins : Begins file (planned wanted)
 begins =
     begins_then file tasks (λ all. verdict_stage (Ok (record { part = m328p; tasks = all; switches = no_switches })))
-    (begins_then file task (λ first. verdict_stage (Ok (first ∷ []))) begins_task)
+    (begins_then file task (λ first. verdict_stage (Ok (first ∷ []))) (search (rules, begins_then, begins_file)))
 
 -- a line and a text that differ at this place
 differs : (place : ℕ) (line told : Bytes) (old new : DeskState)
     → ((back : Bytes) → get_or (told ++ back) place 0 ≡ get_or line place 0 → ⊥) → TellsLine line told old new → ⊥
 differs place line told old new apart (inl whole) =
     apart [] (ap (λ (bytes : Bytes). get_or bytes place 0) (append-nil told ∙ whole.0))
-differs place line told old new apart (inr part) =
-    apart part.0.0 (ap (λ (bytes : Bytes). get_or bytes place 0) part.0.1)
+differs place line told old new apart (inr part) = search rules
 
 -- ---- when it allocates with no file open
 
@@ -94,18 +84,9 @@ only_due u due [] more is = cc
 only_due u due (x ∷ []) more is = let none : [] ≡ due ∷ more = cc in absurd (cc)
 only_due u due (x ∷ y ∷ done) more is = let none : [] ≡ y ∷ (done ++ due ∷ more) = cc in absurd (cc)
 
--- never
-takes_none : (passed : List Opening) (said : List OutputEvent) → AtUpdate wanted passed said → ⊥
-takes_none passed said at =
-    search (rules, only_due)
-
 -- the same settings, with values for EEPROM before the file: before anything, but not after the file
 abbrev mixed : Settings
 mixed = record wanted { updates = of_values ∷ of_file ∷ [] }
-
-planned_none : (passed : List Opening) → planned (record mixed { updates = [] }) passed
-    ≡ record { says = []; answer = Made (record { part = m328p; tasks = []; switches = no_switches }); left = passed }
-planned_none passed = refl
 
 begins_mixed : (passed : List Opening) (said : List OutputEvent) (done : List Update) (due : Update)
     (more : List Update)
@@ -113,9 +94,8 @@ begins_mixed : (passed : List Opening) (said : List OutputEvent) (done : List Up
     → of_values ∷ of_file ∷ [] ≡ done ++ due ∷ more → op_takes_memory due due.op ≡ true
     → planned (record mixed { updates = done }) passed ≡ record { says = said; answer = Made made; left = [] }
     → (passed ≡ []) × (said ≡ [])
-begins_mixed passed said [] due more made is takes planned_so = search (rules, planned_none)
-begins_mixed passed said (x ∷ done) due more made is takes planned_so =
-    search (rules, only_due)
+begins_mixed passed said [] due more made is takes planned_so = search rules
+begins_mixed passed said (x ∷ done) due more made is takes planned_so = search (rules, only_due)
 
 takes_first : (passed : List Opening) (said : List OutputEvent) → AtUpdate mixed passed said → (passed ≡ [])
     × (said ≡ [])
@@ -127,8 +107,7 @@ abbrev parted : Settings
 parted = record wanted { parts = Some other; updates = of_values ∷ [] }
 
 takes_behind_parts : (passed : List Opening) → AtUpdate parted passed [] → ⊥
-takes_behind_parts passed at =
-    search (rules, begins_then, behind_parts, begins_file)
+takes_behind_parts passed at = search rules
 
 module _ (r : Record) (k l m n status : ℕ) where
   -- the messages grew by this, and the status is that of a refusal
@@ -145,59 +124,36 @@ module _ (r : Record) (k l m n status : ℕ) where
           × ((passed : List Opening) × AtUpdate wanted passed []))
           → Told told
       of_file_alone (inl failure) = failure
-      of_file_alone (inr memory) = absurd (takes_none memory.1.0 [] memory.1.1)
+      of_file_alone (inr memory) = absurd (search (rules, only_due))
 
   -- a failed allocation, before the file was opened
   memory_first : Ends memory_line → ⊥
-  memory_first ends =
-      search (rules, told_by, differs)
+  memory_first ends = search (rules, told_by)
 
   -- the line of another file, whatever failed
   another_file : Ends (not_opened_line other) → ⊥
-  another_file ends =
-      search (rules, told_by, differs)
+  another_file ends = search (rules, told_by)
 
   -- a second line after its own
   second_line : Ends (not_opened_line file ++ memory_line) → ⊥
-  second_line ends =
-      search (rules, told_by, differs)
-
-  -- half of its line, though the desk failed once, and so at the file
-  half_told : (count unsaid : ℕ) → l ≡ k + 1 → l < 2 ^ 64 - 1 → k ≤ count → count ≤ l → HasRisen k count
-      → TellsLine (not_opened_line file) half (showing r count unsaid) (showing r l n)
-      → ⊥
-  half_told count unsaid one few since until failed (inl whole) = search rules
-  half_told count unsaid one few since until rose (inr (part, (again, quiet))) =
-      omega (arith, one, few, until, rose, again)
+  second_line ends = search (rules, told_by)
 
   half_a_line : l ≡ k + 1 → l < 2 ^ 64 - 1 → Ends half → ⊥
-  half_a_line one few ends =
-      search (rules, told_by, half_told)
+  half_a_line one few ends = search (rules, told_by)
 
   -- no message, if the desk has not failed
   told_silence : Goes (AtUpdate wanted) (planned wanted) (showing r k m) (showing r l n) (Err status) → Told []
-  told_silence ends = search (rules, told_by, append-nil)
+  told_silence ends = search (rules, told_by)
 
   silence : HasStood k l → Goes (AtUpdate wanted) (planned wanted) (showing r k m) (showing r l n) (Err status) → ⊥
-  silence sound ends =
-      search (rules, told_silence, stood_has_not_risen)
-
-  -- no message, or half of its line, if no write to the messages has failed, however often files have
-  told_whole : (told : Bytes) → HasStood m n → Told told → told ≡ not_opened_line file
-  told_whole told sound failure = search (rules, stood_has_not_risen)
-
-  nothing_of_it : [] ≡ not_opened_line file → ⊥
-  nothing_of_it whole = let e : ◌≡◌ {A = ℕ} 0 97 = ap (λ (bytes : Bytes). get_or bytes 0 0) whole in omega (arith, e)
+  silence sound ends = search (rules, told_silence)
 
   silence_behind_a_file : HasStood m n → Goes (AtUpdate wanted) (planned wanted) (showing r k m) (showing r l n)
       (Err status) → ⊥
-  silence_behind_a_file sound ends = nothing_of_it (told_whole [] sound (told_silence ends))
-
-  half_is_not_whole : half ≡ not_opened_line file → ⊥
-  half_is_not_whole whole = search rules
+  silence_behind_a_file sound ends = search (rules, told_silence)
 
   half_behind_a_file : HasStood m n → Ends half → ⊥
-  half_behind_a_file sound ends = half_is_not_whole (told_whole half sound (told_by half ends))
+  half_behind_a_file sound ends = search (rules, told_by)
 
   -- the line of a file that was opened, read to its end and good
   opened_well : (bytes : Bytes) (good : List (Option ℕ) × Ending) → judged_image file Ihex 32768 bytes ≡ Ok good
@@ -223,18 +179,11 @@ lacks : (openings : List Opening) → planned lacking openings
     ≡ record { says = []; answer = Refused refusal; left = openings }
 lacks openings = refl
 
--- without a part nothing is allocated
-lacks_memory : (passed : List Opening) (said : List OutputEvent) → AtUpdate lacking passed said → ⊥
-lacks_memory passed said at =
-    let clash : Refused refusal ≡ Made at.plan = ap (λ (p : StageResult Plan). p.answer) at.is_planned in cc
-
 module _ (r : Record) (k l m n status : ℕ) where
   -- a failed allocation, after the line of the refusal
   refused_twice : TellsOne refusal (refusal ++ memory_line) (planned lacking) lacks (AtUpdate lacking) r k l m n → ⊥
-  refused_twice (inl one) =
-      search (rules, differs)
-  refused_twice (inr memory) = lacks_memory memory.1.0 [] memory.1.1
+  refused_twice x0 = search rules
 
   two_faults : Goes (AtUpdate lacking) (planned lacking) (showing r k m)
       (showing (after_err (refusal ++ memory_line) r) l n) (Err status) → ⊥
-  two_faults ends = refused_twice (search (rules, refused_once, lacks))
+  two_faults ends = refused_twice (search (rules, refused_once))

@@ -1,12 +1,12 @@
 -- How many commands the steps of a plan have.
-use Rattle.std.proofs.Common.{◌≡◌, ◌∙◌, refl, ap, sym, arith, ℕ, zero, suc, ◌+◌, ◌*◌, ◌-◌, ◌<◌, ◌≤◌, true, false, Option, List, [], ◌∷◌, ◌++◌, drop, min, ◌^◌, rules}
+use Rattle.std.proofs.Common.{◌≡◌, refl, arith, ℕ, zero, suc, ◌+◌, ◌*◌, ◌-◌, ◌<◌, ◌≤◌, true, false, Option, List, [], ◌∷◌, ◌++◌, drop, min, ◌^◌, rules}
 use Rattle.avr_image.specs.Image.{holds_any}
 use Rattle.avr_part.specs.Part.{Part}
 use Rattle.avr_part.specs.declared.part.Mem.{Mem}
 use Rattle.avr_plan.specs.Plan.{Plan}
 use Rattle.avr_plan.specs.declared.planned.Task.{Task}
 use Rattle.avr_session.specs.Actions.{Action, WriteImage, CompareImage, erase_actions, task_actions, tasks_actions}
-use Rattle.avr_session.specs.PlanSteps.{action_steps, actions_steps, run_steps}
+use Rattle.avr_session.specs.PlanSteps.{actions_steps, run_steps}
 use Rattle.stk_frame.specs.declared.command.Command.{Command}
 use Rattle.stk_host.specs.Bound.{commands_in}
 use Rattle.stk_host.specs.Places.{each_from}
@@ -22,24 +22,12 @@ pub actions_append : (part : Part) (first second : List Action)
     → commands_in (actions_steps part (first ++ second))
     ≡ commands_in (actions_steps part first) + commands_in (actions_steps part second)
 actions_append part [] second = omega arith
-actions_append part (action ∷ first) second =
-    let here = commands_append (action_steps part action) (actions_steps part (first ++ second)) in
-    let there = commands_append (action_steps part action) (actions_steps part first) in
-    let more = actions_append part first second in
-    omega (arith, here, there, more)
+actions_append part (action ∷ first) second = search (rules, commands_append, actions_append part first second)
 
 pub write_and_read : (part : Part) (mem : Mem) (image : List (Option ℕ))
     → commands_in (actions_steps part (WriteImage mem image ∷ CompareImage mem image ∷ []))
     ≡ commands_in (write_steps part mem image) + commands_in (read_steps part mem)
-write_and_read part mem image =
-    search (rules, commands_append)
-
--- the opening has five commands, and the closing one
-pub plan_commands : (plan : Plan) → commands_in (run_steps plan)
-    ≡ 6 + commands_in (actions_steps plan.part (erase_actions plan.switches plan.tasks))
-    + commands_in (actions_steps plan.part (tasks_actions plan.switches plan.tasks))
-plan_commands plan =
-    search (rules, commands_append)
+write_and_read part mem image = search (rules, commands_append)
 
 pub two_used : (part : Part) (image : List (Option ℕ)) (page : ℕ)
     → holds_any image (page * part.flash_page) part.flash_page ≡ true → 2 ≡ commands_in (page_steps part image page)
@@ -54,21 +42,16 @@ module _ (steps_at : ℕ → List (List Command)) where
   pub next_place : (place count : ℕ) → place < count
       → commands_in (each_from steps_at place (count - place))
       ≡ commands_in (steps_at place) + commands_in (each_from steps_at (place + 1) (count - (place + 1)))
-  next_place place count before =
-      search (rules, commands_append)
+  next_place place count before = search (rules, commands_append)
 
   pub no_place : (place count : ℕ) → count ≤ place → commands_in (each_from steps_at place (count - place)) ≡ 0
-  no_place place count past =
-      search rules
+  no_place place count past = search rules
 
   -- if each place has `each` commands
   pub all_places : (each place count : ℕ) → ((k : ℕ) → commands_in (steps_at k) ≡ each)
       → commands_in (each_from steps_at place count) ≡ count * each
   all_places each place zero all = omega arith
-  all_places each place (suc count) all =
-      let here = all place in
-      let more = all_places each (place + 1) count all in
-      search (rules, commands_append)
+  all_places each place (suc count) all = search (rules, commands_append, all_places each (place + 1) count all)
 
 -- ---- the tasks of a plan, one after another
 
@@ -85,18 +68,15 @@ all plan = commands_in (run_steps plan)
 pub counts_first : (plan : Plan) (erase : ℕ)
     → erase ≡ commands_in (actions_steps plan.part (erase_actions plan.switches plan.tasks))
     → min most (6 + erase + left plan 0) ≡ min most (all plan)
-counts_first plan erase is =
-    ap (min most) (ap (λ (n : ℕ). 6 + n + left plan 0) is ∙ sym (plan_commands plan))
+counts_first plan erase is = search (rules, min, commands_append)
 
 pub counts_on : (plan : Plan) (i count more next : ℕ) (task : Task)
     → drop i plan.tasks ≡ task ∷ drop (i + 1) plan.tasks
     → more ≡ commands_in (actions_steps plan.part (task_actions plan.switches task))
     → next ≡ min (count + more) most → min most (count + left plan i) ≡ min most (all plan)
     → min most (next + left plan (i + 1)) ≡ min most (all plan)
-counts_on plan i count more next task cut more_is next_is counted =
-    search (rules, actions_append)
+counts_on plan i count more next task cut more_is next_is counted = search (rules, actions_append)
 
 pub counts_all : (plan : Plan) (i count : ℕ) → drop i plan.tasks ≡ [] → count ≤ most
     → min most (count + left plan i) ≡ min most (all plan) → count ≡ min most (all plan)
-counts_all plan i count none few counted =
-    search rules
+counts_all plan i count none few counted = search rules

@@ -43,13 +43,11 @@ pub closed_fault-more : (kind : Kind) (text more : List ℕ) (size : ℕ) (fault
     → closed_fault kind text size ≡ Some fault
     → closed_fault kind (text ++ more) size ≡ Some fault
 closed_fault-more kind text more size fault is =
-    let l = lengthened kind text more in
-    search (rules, closed-prefix, map-append, among-stands)
+    let l = lengthened kind text more in search (rules, closed-prefix, map-append, among-stands)
 
 -- and it is the fault of the whole file
 pub closed_fault-whole : (kind : Kind) (text more : List ℕ) (size : ℕ) (fault : RecordFault)
     → closed_fault kind text size ≡ Some fault
     → image_in_text kind (text ++ more) size ≡ Err fault
 closed_fault-whole kind text more size fault is =
-    let l = lengthened kind text more in
-    search (rules, map-append, among-stands)
+    let l = lengthened kind text more in search (rules, map-append, among-stands)

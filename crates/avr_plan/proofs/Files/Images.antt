@@ -1,41 +1,23 @@
 -- An image file that is read in pieces.
-use Rattle.std.proofs.Common.{◌≡◌, ◌∙◌, sym, ap, refl, arith, ℕ, ◌+◌, ◌≤◌, ◌<◌, ◌++◌, length, take, true, false, nat_le, Ok, Err, append_assoc, append-nil, length-append, rules}
+use Rattle.std.proofs.Common.{◌≡◌, ◌∙◌, sym, ap, arith, ℕ, ◌+◌, ◌≤◌, ◌<◌, ◌++◌, length, take, false, nat_le, Ok, Err, append_assoc, length-append, rules}
 use Rattle.std.proofs.Math.Seq.{take-append-add}
 use Rattle.std.proofs.lemmas.Bool.Decides.{nat_tests}
-use Rattle.std.proofs.lemmas.List.{take-take, length-take-le, take-append-le}
-use Rattle.avr_desk.proofs.FileUses.Pieces.{read_next, read_piece, opened_read}
+use Rattle.std.proofs.lemmas.List.{take-take, take-append-le}
+use Rattle.avr_desk.proofs.FileUses.Pieces.{read_next, read_piece}
 use Rattle.avr_cli.specs.declared.update.Format.{Format}
-use Rattle.avr_cli.specs.declared.update.Format.TheVariants as letter
 use Rattle.avr_desk.specs.Files.{after_reading}
-use Rattle.avr_desk.specs.Record.{DeskState, Record, Passes, after_open, after_read, Bytes}
-use Rattle.avr_desk.specs.declared.files.FileFault.TheVariants.{NotRead, Memory}
+use Rattle.avr_desk.specs.Record.{DeskState, Passes, after_open, after_read, Bytes}
+use Rattle.avr_desk.specs.declared.files.FileFault.TheVariants.{NotRead}
 use Rattle.avr_records.specs.Detect.{kind_of_file}
 use Rattle.avr_records.specs.declared.kind.Found.{Found}
-use Rattle.avr_plan.specs.ImageFile.{Given, whole_file, long_file, file_within, kind_of}
-use Rattle.avr_plan.specs.ImageReading.{Going, ImageOrFault, ReadsRest, RestIsRead, ReadsOpenImage, OpenIsRead, ReadsImage, ImageIsRead, IsGiven}
+use Rattle.avr_plan.specs.ImageFile.{Given, whole_file, long_file, kind_of}
+use Rattle.avr_plan.specs.ImageReading.{Going, ImageOrFault, ReadsRest, RestIsRead, ReadsOpenImage, OpenIsRead, ImageIsRead, IsGiven}
 use Rattle.avr_plan.specs.Intake.{Takes}
 use Rattle.avr_plan.specs.declared.intake.BadFile.{BadFile}
 use Rattle.avr_plan.specs.declared.image_file.ReadFault.TheVariants.{File, Image}
 use Rattle.avr_plan.specs.declared.intake.Intake.{Intake}
 
--- ---- a call of `read`
-
-pub read_end : (old now new : Record) (a buf : Bytes) (n : ℕ) → now ≡ after_reading a false old
-    → new ≡ after_read buf (Ok n) now
-    → n ≡ 0 → 0 < length buf → new ≡ after_reading a true old
-read_end old now new a buf n first then zero some =
-    search (rules, append-nil, read_next)
-
 -- ---- the rest of a file
-
-within : (limit : ℕ) (found : Found) (bytes : Bytes) (size : ℕ) → length bytes ≤ limit
-    → whole_file found bytes size ≡ file_within limit found bytes size
-within limit found bytes size len = search rules
-
-take-prefix : (all buf : Bytes) (limit left n : ℕ) → length all + left ≡ limit → left ≤ n
-    → take limit (all ++ take n buf) ≡ all ++ take left buf
-take-prefix all buf limit left n count less =
-    search (rules, take-append-add, take-take)
 
 -- the read came this far, and then gave n bytes: a turn of the loop of `read_rest`
 module _ (old now new : DeskState) (first last : Intake) (room left n : ℕ) (buf : Bytes)
@@ -58,8 +40,7 @@ module _ (old now new : DeskState) (first last : Intake) (room left n : ℕ) (bu
         → ((found : Found) (size : ℕ) (text : Bytes) → Takes found size last text
         → IsGiven (whole_file found text size) result)
         → RestIsRead limit found size before old new result
-    rest_ends result zero some gives =
-        search (rules, length-append, read_end, within)
+    rest_ends result zero some gives = search (rules, length-append, read_next)
 
     -- more bytes came than the limit allows
     pub rest_long : (bad : BadFile) → left < n → n ≤ length buf → length buf ≤ 4096
@@ -70,14 +51,13 @@ module _ (old now new : DeskState) (first last : Intake) (room left n : ℕ) (bu
         let bytes = going.bytes ++ take n buf in
         let all = before ++ going.bytes in
         let whole : before ++ bytes ≡ all ++ take n buf = sym (append_assoc before going.bytes (take n buf)) in
-        let piece : length (take n buf) ≡ n = length-take-le n buf within' in
         let len : length (before ++ bytes) ≡ length before + length going.bytes + n = search (rules, length-append) in
         let sum : length (before ++ bytes) + left ≡ limit + n = omega (arith, len, going.count, count) in
-        let past : nat_le (length (before ++ bytes)) limit ≡ false = grind (arith, nat_tests, sum, more) in
+        let past : nat_le (length (before ++ bytes)) limit ≡ false = grind (arith, nat_tests) in
         let together : length all + left ≡ limit =
         omega (arith, going.count, count, length-append before going.bytes) in
         let prefix : take limit (before ++ bytes) ≡ all ++ take left buf =
-        ap (take limit) whole ∙ take-prefix all buf limit left n together (omega (arith, more)) in
+        ap (take limit) whole ∙ (search (rules, take-append-add, take-take)) in
         record {
           bytes = bytes;
           ended = false;
@@ -89,15 +69,11 @@ module _ (old now new : DeskState) (first last : Intake) (room left n : ℕ) (bu
 -- ---- a whole file
 
 detected-prefix : (prefix more : Bytes) → length prefix ≡ 1024 → kind_of_file (prefix ++ more) ≡ kind_of_file prefix
-detected-prefix prefix more len =
-    rw (take-append-le 4 prefix more (omega (arith, len)), take-append-le 1024 prefix more (omega (arith, len))) refl
+detected-prefix prefix more len = search (rules, take-append-le, more, len)
 
 pub kind-prefix : (format : Format) (prefix more : Bytes) → length prefix ≡ 1024
     → kind_of format (prefix ++ more) ≡ kind_of format prefix
-kind-prefix letter.Ihex prefix more len = refl
-kind-prefix letter.Srec prefix more len = refl
-kind-prefix letter.Raw prefix more len = refl
-kind-prefix format prefix more len = detected-prefix prefix more len
+kind-prefix format prefix more len = search (rules, detected-prefix)
 
 -- the prefix, then the rest
 open_rest : (limit : ℕ) (format : Format) (size : ℕ) (prefix : Bytes) (old now new : DeskState) (given : Given)
@@ -118,24 +94,13 @@ pub open_is_rest : (limit : ℕ) (format : Format) (size : ℕ) (prefix : Bytes)
     → length prefix ≡ 1024 → RestIsRead limit (kind_of format prefix) size prefix now new result
     → OpenIsRead limit format size old new result
 open_is_rest limit format size prefix old now new (Ok good) first len rest = search (rules, open_rest)
-open_is_rest limit format size prefix old now new (Err (Image bad)) first len rest =
-    search (rules, open_rest)
+open_is_rest limit format size prefix old now new (Err (Image bad)) first len rest = search (rules, open_rest)
 open_is_rest limit format size prefix old now new (Err (File NotRead)) first len rest =
     (prefix ++ rest.1.0, read_next old.kept now.kept new.kept prefix rest.1.0 false first rest.1.1)
 open_is_rest limit format size prefix old now new (Err (File fault)) first len rest = cc rest.0
-
-opened_image : (limit : ℕ) (format : Format) (size : ℕ) (name : Bytes) (old now new : DeskState) (given : Given)
-    → Passes (after_open name (Ok tt)) old now
-    → ReadsOpenImage limit format size now new given → ReadsImage limit format size name old new given
-opened_image limit format size name old now new given opened reads = search (rules, opened_read)
 
 pub image_is_open : (limit : ℕ) (format : Format) (size : ℕ) (name : Bytes) (old now new : DeskState)
     (result : ImageOrFault)
     → Passes (after_open name (Ok tt)) old now
     → OpenIsRead limit format size now new result → ImageIsRead limit format size name old new result
-image_is_open limit format size name old now new (Ok good) opened reads = search (rules, opened_image)
-image_is_open limit format size name old now new (Err (Image bad)) opened reads =
-    search (rules, opened_image)
-image_is_open limit format size name old now new (Err (File NotRead)) opened reads = search (rules, opened_read)
-image_is_open limit format size name old now new (Err (File Memory)) opened reads = search (rules, opened_read)
-image_is_open limit format size name old now new (Err (File fault)) opened reads = absurd reads
+image_is_open limit format size name old now new result opened reads = search rules

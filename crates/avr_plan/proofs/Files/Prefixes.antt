@@ -1,5 +1,5 @@
 -- What the first bytes of a file decide about the whole.
-use Rattle.std.proofs.Common.{◌≡◌, ◌∙◌, sym, ap, refl, ℕ, [], ◌++◌, Some, None, Err, append-nil, subst}
+use Rattle.std.proofs.Common.{◌≡◌, ◌∙◌, sym, ap, refl, ℕ, [], ◌++◌, Some, None, Err, append-nil, subst, rules}
 use Rattle.avr_image.specs.Raw as raw_file
 use Rattle.avr_desk.specs.Record.{Bytes}
 use Rattle.avr_records.proofs.Readers.Fed.{reads-sound}
@@ -7,11 +7,10 @@ use Rattle.avr_records.specs.Closed.{closed_fault, ok_unless}
 use Rattle.avr_records.specs.Reader.{ReaderState, memory_size}
 use Rattle.avr_records.specs.declared.kind.Found.{Found}
 use Rattle.avr_records.specs.declared.kind.Kind.{Kind}
-use Rattle.avr_records.specs.declared.kind.Kind.TheVariants as records
 use Rattle.avr_records.specs.declared.fault.RecordFault.{RecordFault}
 use Rattle.avr_records.proofs.Readers.WholeFiles.{none-or}
 use Rattle.avr_plan.proofs.Files.FirstFaults.{closed_fault-more, closed_fault-whole}
-use Rattle.avr_plan.specs.ImageFile.{whole_file, long_file, of_records, or_too_long}
+use Rattle.avr_plan.specs.ImageFile.{whole_file, long_file}
 use Rattle.avr_plan.specs.Intake.{Decides, TakesRecords, TakesRaw, found_as, in_long_file}
 use Rattle.avr_plan.specs.declared.intake.BadFile.{BadFile}
 use Rattle.avr_plan.specs.declared.intake.BadFile.TheVariants.{Record, TooLong}
@@ -19,14 +18,7 @@ use Rattle.avr_plan.specs.declared.intake.BadFile.TheVariants.{Record, TooLong}
 decides-record : (kind : Kind) (size : ℕ) (fault : RecordFault) (text : Bytes)
     → closed_fault kind text size ≡ Some fault
     → Decides (found_as kind) size (Record fault) text
-decides-record records.Ihex size fault text is = record {
-  whole = λ more. ap of_records (closed_fault-whole records.Ihex text more size fault is);
-  long = λ more. ap or_too_long (closed_fault-more records.Ihex text more size fault is);
-}
-decides-record records.Srec size fault text is = record {
-  whole = λ more. ap of_records (closed_fault-whole records.Srec text more size fault is);
-  long = λ more. ap or_too_long (closed_fault-more records.Srec text more size fault is);
-}
+decides-record kind size fault text is = search (rules, closed_fault-whole, closed_fault-more)
 
 -- a line has a fault
 pub record-decides : (found : Found) (size : ℕ) (reader : ReaderState) (fault : RecordFault) (text piece : Bytes)
@@ -51,8 +43,7 @@ decided-long found size fault text d = sym (ap (λ t. long_file found t size) (s
 
 sound-long : (kind : Kind) (size : ℕ) (text : Bytes) → closed_fault kind text size ≡ None
     → TooLong ≡ long_file (found_as kind) text size
-sound-long records.Ihex size text none = ap or_too_long (sym none)
-sound-long records.Srec size text none = ap or_too_long (sym none)
+sound-long kind size text none = search rules
 
 -- no line has a fault
 pub records-long : (found : Found) (size : ℕ) (reader : ReaderState) (text : Bytes)

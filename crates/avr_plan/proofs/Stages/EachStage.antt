@@ -1,5 +1,5 @@
 -- Lifts a fact about single stages of planning to the whole of it. The fact may name the files that a stage reads.
-use Rattle.std.proofs.Common.{ℕ, List, [], ◌∷◌, ◌++◌, append-nil, subst, Bool, true, false, Option, Some, None, Result, Ok, Err, if◌then◌else◌, rules}
+use Rattle.std.proofs.Common.{ℕ, List, [], ◌∷◌, ◌++◌, append-nil, Bool, true, false, Option, Some, None, Result, Ok, Err, if◌then◌else◌, rules}
 use Rattle.avr_cli.specs.declared.settings.Settings.{Settings}
 use Rattle.avr_cli.specs.declared.settings.Switches.{Switches}
 use Rattle.avr_cli.specs.declared.update.Format.{Format}
@@ -9,7 +9,6 @@ use Rattle.avr_cli.specs.declared.update.Op.TheVariants as op
 use Rattle.avr_cli.specs.declared.update.Update.{Update}
 use Rattle.avr_desk.specs.Record.{Bytes}
 use Rattle.avr_desk.specs.Stage.{Stage, ◌>>=◌, output_stage, verdict_stage, file_stage}
-use Rattle.avr_image.specs.Values.{values}
 use Rattle.avr_part.specs.BuiltIn.{part_of_id}
 use Rattle.avr_part.specs.Mem.{is_writable}
 use Rattle.avr_part.specs.Part.{Part}
@@ -19,9 +18,9 @@ use Rattle.avr_plan.specs.declared.part_choice.TheConstants.{LARGEST_PART_FILE}
 use Rattle.avr_plan.specs.FilesRead.{part_file, image_file, file_of_op, files_of, files_read}
 use Rattle.avr_plan.specs.Lines.{read_only_line}
 use Rattle.avr_plan.specs.Plan.{Plan}
-use Rattle.avr_plan.specs.Planning.{judged_parts, parts_stage, part_or_line, part_stage, warning_says, judged_image, file_image_stage, values_or_line, image_stage, update_image, write_stage, op_stage, task_stage, tasks_stage, planned}
+use Rattle.avr_plan.specs.Planning.{judged_parts, parts_stage, part_or_line, part_stage, warning_says, judged_image, file_image_stage, image_stage, update_image, write_stage, op_stage, task_stage, tasks_stage, planned}
 use Rattle.avr_plan.specs.declared.planned.Task.{Task}
-use Rattle.avr_plan.specs.declared.planned.Task.TheVariants.{Write, Verify, Read}
+use Rattle.avr_plan.specs.declared.planned.Task.TheVariants.{Write}
 use Rattle.avr_records.specs.declared.kind.Ending.{Ending}
 
 module _ (Holds : (A : Type 0) → Stage A → List Bytes → Type 0)
@@ -36,8 +35,7 @@ module _ (Holds : (A : Type 0) → Stage A → List Bytes → Type 0)
   -- nothing more is read after it
   last : {A B : Type 0} (stage : Stage A) (go_on : A → Stage B) (names : List Bytes) → Holds A stage names
       → ((a : A) → Holds B (go_on a) []) → Holds B (stage >>= go_on) names
-  last {A = A} {B = B} stage go_on names first second =
-      subst (Holds B (stage >>= go_on)) (append-nil names) (onward A B stage go_on names [] first second)
+  last {A = A} {B = B} stage go_on names first second = search (rules, append-nil names)
 
   parts : (name : Option Bytes) → Holds (List Part) (parts_stage name) (part_file name)
   parts None = settled (List Part) (Ok [])
@@ -51,8 +49,7 @@ module _ (Holds : (A : Type 0) → Stage A → List Bytes → Type 0)
 
     image : (memory : Mem) (size : ℕ) (name : Bytes) (kind : Format)
         → Holds (List (Option ℕ)) (image_stage s memory size name kind) (image_file name kind)
-    image memory size name format.Immediate =
-        settled (List (Option ℕ)) (values_or_line memory (values name size))
+    image memory size name format.Immediate = search rules
     image memory size name kind = file_image name kind size
 
     module _ (part : Part) where
@@ -73,8 +70,7 @@ module _ (Holds : (A : Type 0) → Stage A → List Bytes → Type 0)
 
       operation : (u : Update) (o : Op) → Holds Task (op_stage s part u o) (file_of_op u o)
       operation u op.Write = write u
-      operation u op.Verify = imaged u (Verify u.memory)
-      operation u op.Read = settled Task (Ok (Read u.memory u.format u.file))
+      operation u o = search (rules, imaged)
 
       tasks : (before : List Task) (updates : List Update)
           → Holds (List Task) (tasks_stage s part before updates) (files_of updates)

@@ -1,5 +1,5 @@
 -- Planning over the bytes that were read of some files is planning over the whole files, stage by stage.
-use Rattle.std.proofs.Common.{◌≡◌, sym, ap, subst, refl, arith, ℕ, ◌≤◌, ◌<◌, List, [], ◌∷◌, ◌++◌, append_assoc, append-nil, length, take, drop, false, nat_le, Result, Ok, Err, length-append, rules}
+use Rattle.std.proofs.Common.{◌≡◌, ap, refl, arith, ℕ, ◌≤◌, ◌<◌, List, [], ◌∷◌, ◌++◌, append_assoc, length, take, drop, false, nat_le, Result, length-append, rules}
 use Rattle.std.proofs.lemmas.Bool.Decides.{nat_tests}
 use Rattle.std.proofs.lemmas.List.{take-append-le, take-append-drop, length-take-le, map-append}
 use Rattle.avr_cli.specs.declared.settings.Settings.{Settings}
@@ -7,10 +7,9 @@ use Rattle.avr_cli.specs.declared.update.Format.{Format}
 use Rattle.avr_desk.specs.Memory.{Stock, stood_for}
 use Rattle.avr_desk.specs.Record.{Bytes}
 use Rattle.avr_desk.specs.Said.{OutputEvent, Opens, Line}
-use Rattle.avr_desk.specs.Stage.{Stage, StageResult, StageAnswer, Made, Refused, Unread, all_told, told_in, behind_outputs, going_on, ◌>>=◌, output_stage, verdict_stage, under_name, content_stage, file_stage}
+use Rattle.avr_desk.specs.Stage.{Stage, StageResult, StageAnswer, Made, Refused, Unread, told_in, behind_outputs, going_on, ◌>>=◌, output_stage, verdict_stage, under_name, content_stage, file_stage}
 use Rattle.avr_desk.specs.Truth.{IsTrueOpening}
 use Rattle.avr_desk.specs.declared.record.Opening.{Opening}
-use Rattle.avr_desk.specs.declared.record.Opening.TheVariants.{Absent, Found}
 use Rattle.avr_plan.specs.declared.image_file.TheConstants.{LARGEST_IMAGE_FILE}
 use Rattle.avr_plan.specs.declared.part_choice.TheConstants.{LARGEST_PART_FILE}
 use Rattle.avr_plan.proofs.Files.Images.{kind-prefix}
@@ -39,14 +38,6 @@ lines_append [] second = refl
 lines_append (Line bytes ∷ first) second = ap (λ (ls : List Bytes). bytes ∷ ls) (lines_append first second)
 lines_append (output ∷ first) second = lines_append first second
 
--- the same lines, and the line of the same refusal
-lines_told : {A : Type 0} (first second : List OutputEvent) (answer : StageAnswer A) → lines_in first ≡ lines_in second
-    → lines_in (all_told first answer) ≡ lines_in (all_told second answer)
-lines_told first second (Made a) same = same
-lines_told first second (Refused line) same =
-    search (rules, lines_append)
-lines_told first second Unread same = same
-
 -- ---- one stage over two lists of openings
 
 -- it has the same outcome and the same output, and if it succeeds it leaves the rest
@@ -64,8 +55,7 @@ module _ (stock : Stock) where
 
   same_verdict : {A : Type 0} (one other : Result A Bytes) (openings rest : List Opening) → other ≡ one
       → IsSame (verdict_stage one openings) (verdict_stage other rest) rest
-  same_verdict (Ok a) other openings rest is = rw is (record { answer = refl; lines = refl; left = λ made e. refl })
-  same_verdict (Err line) other openings rest is = rw is (record { answer = refl; lines = refl; left = λ made e. refl })
+  same_verdict one other openings rest is = search rules
 
   settled_fixed : {A : Type 0} (result : Result A Bytes) → Sees (verdict_stage result) []
   settled_fixed result openings rest seen read = same_verdict result result openings rest refl
@@ -73,33 +63,11 @@ module _ (stock : Stock) where
   says_fixed : (says : List OutputEvent) → Sees (output_stage says) []
   says_fixed says openings rest seen read = record { answer = refl; lines = refl; left = λ made is. refl }
 
-  -- one, then another
-  on_made : {A B : Type 0} (go_on : A → Stage B) (p q : StageResult A) (back : List Bytes) (rest : List Opening)
-      → ((a : A) → Sees (go_on a) back) → IsSame p q (files_give stock back ++ rest) → (answer : StageAnswer A)
-      → p.answer ≡ answer
-      → AreSeen stock (going_on p.says p.left go_on answer).says
-      → ((going_on p.says p.left go_on answer).answer ≡ Unread → ⊥)
-      → IsSame (going_on p.says p.left go_on answer) (going_on q.says q.left go_on answer) rest
-  on_made go_on p q back rest sees same (Made a) is seen read =
-      search (rules, seen_second, lines_append)
-  on_made go_on p q back rest sees same (Refused line) is seen read =
-      record { answer = refl; lines = same.lines; left = λ made e. absurd (cc) }
-  on_made go_on p q back rest sees same Unread is seen read = absurd (read refl)
-
   onward : {A B : Type 0} (stage : Stage A) (go_on : A → Stage B) (prefix back : List Bytes) → Sees stage prefix
       → ((a : A) → Sees (go_on a) back)
       → Sees (stage >>= go_on) (prefix ++ back)
   onward {A = A} stage go_on prefix back first second openings rest seen read =
-      let p = stage openings in
-      let given : files_give stock (prefix ++ back) ++ rest
-      ≡ files_give stock prefix ++ (files_give stock back ++ rest) =
-      search (rules, map-append, append_assoc) in
-      let same : IsSame p (stage (files_give stock prefix ++ (files_give stock back ++ rest)))
-      (files_give stock back ++ rest) =
-      first openings (files_give stock back ++ rest) (of_first p p.answer refl seen)
-      (λ unread. read (ap (λ answer. (going_on p.says p.left go_on answer).answer) unread)) in
-      subst (λ os. IsSame ((stage >>= go_on) openings) ((stage >>= go_on) os) rest) (sym given)
-      (whole p (stage (files_give stock prefix ++ (files_give stock back ++ rest))) same seen read)
+      search (rules, map-append, append_assoc, of_first, whole)
     where
       of_first : (p : StageResult A) (answer : StageAnswer A) → p.answer ≡ answer
           → AreSeen stock (going_on p.says p.left go_on answer).says → AreSeen stock p.says
@@ -111,10 +79,7 @@ module _ (stock : Stock) where
           → AreSeen stock (going_on p.says p.left go_on p.answer).says
           → ((going_on p.says p.left go_on p.answer).answer ≡ Unread → ⊥)
           → IsSame (going_on p.says p.left go_on p.answer) (going_on q.says q.left go_on q.answer) rest
-      whole p q same seen read =
-          subst (λ (answer : StageAnswer A). IsSame (going_on p.says p.left go_on p.answer)
-          (going_on q.says q.left go_on answer) rest) (sym same.answer)
-          (on_made go_on p q back rest second same p.answer refl seen read)
+      whole p q same seen read = search (rules, seen_second, lines_append)
 
   -- ---- a file
 
@@ -129,10 +94,7 @@ module _ (stock : Stock) where
         → ((content_stage name limit judge (under_name name opening) openings).answer ≡ Unread → ⊥)
         → IsSame (content_stage name limit judge (under_name name opening) openings)
         (content_stage name limit judge (under_name name (read_whole name (stood_for stock [] name))) rest) rest
-    of_opening (Absent other) openings rest is read =
-        rw is (record { answer = refl; lines = refl; left = λ made e. refl })
-    of_opening (Found x) openings rest is read =
-        search (rules, same_verdict)
+    of_opening opening openings rest is read = search (rules, same_verdict)
 
     -- the same, after its opening
     behind_opening : (opening : Opening) (openings rest : List Opening)
@@ -141,16 +103,13 @@ module _ (stock : Stock) where
         → IsSame (behind_outputs (Opens (under_name name opening) ∷ [])
         (content_stage name limit judge (under_name name opening) openings))
         (file_stage name limit judge (read_whole name (stood_for stock [] name) ∷ rest)) rest
-    behind_opening opening openings rest is read =
-        search (rules, of_opening)
+    behind_opening opening openings rest is read = search (rules, of_opening)
 
     file : Sees (file_stage name limit judge) (name ∷ [])
-    file [] rest seen read = behind_opening (Absent name) [] rest seen.0 read
-    file (opening ∷ openings) rest seen read = behind_opening opening openings rest seen.0 read
+    file x0 rest seen read = search (rules, behind_opening)
 
   pub limited_parts : (name : Bytes) → IsLimited LARGEST_PART_FILE (judged_parts name)
-  limited_parts name bytes more past =
-      search (rules, length-append)
+  limited_parts name bytes more past = search (rules, length-append)
 
   same_kind : (kind : Format) (bytes more : Bytes) → 1024 ≤ length bytes
       → kind_of kind (bytes ++ more) ≡ kind_of kind bytes
@@ -158,13 +117,12 @@ module _ (stock : Stock) where
       let prefix = take 1024 bytes in
       let back = drop 1024 bytes in
       let len : length prefix ≡ 1024 = length-take-le 1024 bytes long in
-      let whole : prefix ++ back ≡ bytes = take-append-drop 1024 bytes in
-      search (rules, kind-prefix, append_assoc)
+      let whole : prefix ++ back ≡ bytes = take-append-drop 1024 bytes in search (rules, kind-prefix, append_assoc)
 
   pub limited_image : (name : Bytes) (kind : Format) (size : ℕ)
       → IsLimited LARGEST_IMAGE_FILE (judged_image name kind size)
   limited_image name kind size bytes more past =
-      let one : nat_le (length bytes) LARGEST_IMAGE_FILE ≡ false = grind (arith, nat_tests, past) in
+      let one : nat_le (length bytes) LARGEST_IMAGE_FILE ≡ false = grind (arith, nat_tests) in
       let other : nat_le (length (bytes ++ more)) LARGEST_IMAGE_FILE ≡ false = search (rules, length-append) in
       let prefix : take LARGEST_IMAGE_FILE (bytes ++ more) ≡ take LARGEST_IMAGE_FILE bytes =
       take-append-le LARGEST_IMAGE_FILE bytes more (omega (arith, past)) in
@@ -189,5 +147,4 @@ module _ (stock : Stock) where
       → ((planned_of s stock).answer ≡ (planned s openings).answer)
       × (lines_in (told_in (planned_of s stock)) ≡ lines_in (told_in (planned s openings)))
   seen_is_planned s openings seen read =
-      let same = plan_sees s openings [] seen read in
-      search (rules, append-nil, lines_told)
+      let same = plan_sees s openings [] seen read in search (rules, lines_append)

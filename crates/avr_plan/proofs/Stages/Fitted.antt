@@ -1,5 +1,5 @@
 -- A plan that was made fits its part.
-use Rattle.std.proofs.Common.{◌≡◌, ◌∙◌, sym, ap, subst, arith, ℕ, ◌+◌, ◌≤◌, ◌<◌, ◌⊎◌, inl, inr, All, List, [], ◌∷◌, ◌++◌, length, map, refl, Option, Some, None, Result, Ok, Err, rules}
+use Rattle.std.proofs.Common.{◌≡◌, ◌∙◌, sym, ap, subst, ℕ, ◌+◌, ◌≤◌, ◌⊎◌, inl, inr, All, List, [], ◌∷◌, ◌++◌, length, map, Option, Result, Ok, rules}
 use Rattle.std.specs.List.{enumerate_from}
 use Rattle.std.proofs.lemmas.Bool.{cases_Bool}
 use Rattle.std.proofs.lemmas.List.{length-replicate}
@@ -7,27 +7,23 @@ use Rattle.std.proofs.lemmas.List.Elements.{All-append}
 use Rattle.avr_cli.specs.declared.settings.Settings.{Settings}
 use Rattle.avr_cli.specs.declared.settings.Switches.{Switches}
 use Rattle.avr_cli.specs.declared.update.Format.{Format}
-use Rattle.avr_cli.specs.declared.update.Format.TheVariants as format
 use Rattle.avr_cli.specs.declared.update.Op.{Op}
 use Rattle.avr_cli.specs.declared.update.Op.TheVariants as op
 use Rattle.avr_cli.specs.declared.update.Update.{Update}
 use Rattle.avr_image.specs.declared.fault.ImageFault.{ImageFault}
-use Rattle.avr_image.specs.Values.{values, all_ok, onto_ok, fitting, fitting_value, image_of_bytes, value_of}
+use Rattle.avr_image.specs.Values.{values, all_ok, onto_ok, fitting, fitting_value, value_of}
 use Rattle.avr_image.proofs.Lemmas.{laid_size, from_zero_is_a_span}
 use Rattle.avr_desk.specs.Record.{Bytes}
-use Rattle.avr_desk.specs.Said.{OutputEvent}
-use Rattle.avr_desk.specs.Stage.{Stage, StageAnswer, Made, Refused, Unread, going_on, ◌>>=◌, verdict_stage, open_stage, file_stage, content_stage, output_stage}
+use Rattle.avr_desk.specs.Stage.{Stage, Made, ◌>>=◌, verdict_stage, open_stage, file_stage, content_stage, output_stage}
 use Rattle.avr_desk.specs.declared.record.Opening.{Opening}
-use Rattle.avr_desk.specs.declared.record.Opening.TheVariants.{Absent, Found}
 use Rattle.avr_part.specs.Mem.{is_writable}
 use Rattle.avr_part.specs.Part.{Part, size_of}
-use Rattle.avr_part.specs.declared.part.Mem.{Mem}
 use Rattle.avr_records.specs.declared.kind.Ending.{Ending}
 use Rattle.avr_plan.proofs.Files.Sizes.{image-size}
 use Rattle.avr_plan.proofs.Stages.Tasks.{all_one}
 use Rattle.avr_plan.specs.ImageFile.{Given, image_within}
 use Rattle.avr_plan.specs.Plan.{Plan, IsFitted}
-use Rattle.avr_plan.specs.Planning.{planned, parts_stage, part_stage, tasks_stage, task_stage, op_stage, write_stage, update_image, image_stage, file_image_stage, judged_image, image_or_line, values_or_line, warning_says}
+use Rattle.avr_plan.specs.Planning.{planned, parts_stage, part_stage, tasks_stage, task_stage, op_stage, write_stage, update_image, file_image_stage, judged_image, image_or_line, warning_says}
 use Rattle.avr_plan.specs.declared.image_file.TheConstants.{LARGEST_IMAGE_FILE}
 use Rattle.avr_plan.specs.declared.planned.Task.{Task}
 use Rattle.avr_plan.specs.declared.planned.Task.TheVariants.{Write, Verify, Read}
@@ -41,33 +37,23 @@ abbrev Earlier : {A B : Type 0} → Stage A → (A → Stage B) → List Opening
 Earlier {A} stage go_on openings b =
     (a : A) × (((stage openings).answer ≡ Made a) × ((go_on a (stage openings).left).answer ≡ Made b))
 
-going_made : {A B : Type 0} (says : List OutputEvent) (left : List Opening) (go_on : A → Stage B)
-    (answer : StageAnswer A) (b : B) → (going_on says left go_on answer).answer ≡ Made b
-    → (a : A) × ((answer ≡ Made a) × ((go_on a left).answer ≡ Made b))
-going_made says left go_on (Made a) b is = (a, (refl, is))
-going_made says left go_on (Refused line) b is = cc
-going_made says left go_on Unread b is = cc
-
 earlier : {A B : Type 0} (stage : Stage A) (go_on : A → Stage B) (openings : List Opening) (b : B)
     → ((stage >>= go_on) openings).answer ≡ Made b → Earlier stage go_on openings b
-earlier stage go_on openings b is = search (rules, going_made)
+earlier stage go_on openings b is = search rules
 
 pub settled : {A : Type 0} (r : Result A Bytes) (openings : List Opening) (a : A)
     → (verdict_stage r openings).answer ≡ Made a → r ≡ Ok a
-settled (Ok a) openings b is = cc
-settled (Err line) openings b is = cc
+settled r openings b is = search rules
 
 -- ---- the image of a file
 
 content : {A : Type 0} (name : Bytes) (limit : ℕ) (judge : Bytes → Result A Bytes) (opening : Opening)
     (openings : List Opening) (a : A) → (content_stage name limit judge opening openings).answer ≡ Made a
     → (bytes : Bytes) × (judge bytes ≡ Ok a)
-content name limit judge (Absent other) openings a is = cc
-content name limit judge (Found reading) openings a is = search (rules, settled)
+content name limit judge opening openings a is = search rules
 
 pub given : (file : Bytes) (r : Given) (p : Image × Ending) → image_or_line file r ≡ Ok p → r ≡ Ok p
-given file (Ok good) p is = cc
-given file (Err bad) p is = cc
+given file r p is = search rules
 
 file_size : (switches : Switches) (file : Bytes) (kind : Format) (size : ℕ) (openings : List Opening) (image : Image)
     → (file_image_stage switches file kind size openings).answer ≡ Made image → length image ≡ size
@@ -86,13 +72,7 @@ file_size switches file kind size openings image is =
 
 onto : (r : Result ℕ ImageFault) (rs : Result (List ℕ) ImageFault) (bytes : List ℕ) → onto_ok r rs ≡ Ok bytes
     → (byte : ℕ) × (more : List ℕ) × ((r ≡ Ok byte) × ((rs ≡ Ok more) × (bytes ≡ byte ∷ more)))
-onto (Ok byte) (Ok more) bytes is = (byte, more, (refl, (refl, cc)))
-onto (Ok byte) (Err fault) bytes is = cc
-onto (Err fault) rs bytes is = cc
-
-below : (size addr : ℕ) (v : Option ℕ) (byte : ℕ) → fitting size addr v ≡ Ok byte → addr < size
-below size addr None byte is = cc
-below size addr (Some value) byte is = search (rules, cases_Bool)
+onto r rs bytes is = search rules
 
 inside : (size k : ℕ) (texts : List (List ℕ)) (bytes : List ℕ)
     → all_ok (map (fitting_value size) (enumerate_from k texts)) ≡ Ok bytes
@@ -101,31 +81,12 @@ inside size k [] bytes is = inl cc
 inside size k (text ∷ texts) bytes is =
     let rest = all_ok (map (fitting_value size) (enumerate_from (k + 1) texts)) in
     let one = onto (fitting size k (value_of text)) rest bytes is in
-    let more = inside size (k + 1) texts one.1 one.2.1.0 in
-    inr (elim more [
-      | inl none ↦ omega (arith, below size k (value_of text) one.0 one.2.0, ap length one.2.1.1, ap length none)
-      | inr fits ↦ omega (arith, fits, ap length one.2.1.1)
-    ])
-
-sized : (size : ℕ) (r : Result (List ℕ) ImageFault) (image : Image)
-    → ((bytes : List ℕ) → r ≡ Ok bytes → length bytes ≤ size) → image_of_bytes size r ≡ Ok image → length image ≡ size
-sized size (Ok bytes) image few is = search (rules, from_zero_is_a_span, laid_size, length-replicate)
-sized size (Err fault) image few is = cc
+    let more = inside size (k + 1) texts one.1 one.2.1.0 in search rules
 
 value_size : (text : Bytes) (size : ℕ) (image : Image) → values text size ≡ Ok image → length image ≡ size
-value_size text size image is = search (rules, cases_Bool, sized, inside)
-
-pub line_or : (memory : Mem) (r : Result Image ImageFault) (image : Image) → values_or_line memory r ≡ Ok image
-    → r ≡ Ok image
-line_or memory (Ok good) image is = cc
-line_or memory (Err fault) image is = cc
+value_size text size image is = search (rules, from_zero_is_a_span, laid_size, length-replicate, inside)
 
 -- ---- the tasks
-
-image_size : (switches : Switches) (memory : Mem) (size : ℕ) (file : Bytes) (kind : Format) (openings : List Opening)
-    (image : Image) → (image_stage switches memory size file kind openings).answer ≡ Made image → length image ≡ size
-image_size switches memory size file format.Immediate openings image is = search (rules, value_size, line_or, settled)
-image_size switches memory size file kind openings image is = file_size switches file kind size openings image is
 
 module _ (switches : Switches) (part : Part) where
   imaged : (u : Update) (make : Image → Task) (openings : List Opening) (task : Task)
@@ -133,10 +94,7 @@ module _ (switches : Switches) (part : Part) where
       → (image : Image) × ((length image ≡ size_of u.memory part) × (task ≡ make image))
   imaged u make openings task is =
       let first = earlier (update_image switches part u) (λ image. verdict_stage (Ok (make image))) openings task
-      is in (
-        first.0,
-        (image_size switches u.memory (size_of u.memory part) u.file u.format openings first.0 first.1.0, cc),
-      )
+      is in search (rules, value_size, file_size)
 
   write : (u : Update) (openings : List Opening) (task : Task)
       → (write_stage switches part u openings).answer ≡ Made task → IsFitted part task
@@ -150,9 +108,7 @@ module _ (switches : Switches) (part : Part) where
   operation : (u : Update) (o : Op) (openings : List Opening) (task : Task)
       → (op_stage switches part u o openings).answer ≡ Made task → IsFitted part task
   operation u op.Write openings task is = write u openings task is
-  operation u op.Verify openings task is =
-      let made = imaged u (Verify u.memory) openings task is in
-      subst (IsFitted part) (sym made.1.1) made.1.0
+  operation u op.Verify openings task is = search (rules, imaged u (Verify u.memory) openings task is)
   operation u op.Read openings task is =
       let same : Read u.memory u.format u.file ≡ task = cc in subst (IsFitted part) same tt
 
@@ -164,12 +120,7 @@ module _ (switches : Switches) (part : Part) where
   tasks before (u ∷ updates) openings made fitted is =
       let first = earlier (task_stage switches part u) (λ task. tasks_stage switches part (before ++ task ∷ []) updates)
       openings made is in
-      tasks (before ++ first.0 ∷ []) updates (task_stage switches part u openings).left made
-      (All-append (IsFitted part) before (first.0 ∷ []) fitted
-      (all_one (IsFitted part) first.0 (operation u u.op openings first.0 first.1.0))) first.1.1
-
-none_fitted : (part : Part) → All (IsFitted part) []
-none_fitted part = search rules
+      search (rules, all_one, operation, tasks (before ++ first.0 ∷ []) updates (task_stage switches part u openings).left made (All-append (IsFitted part) before (first.0 ∷ []) fitted (all_one (IsFitted part) first.0 (operation u u.op openings first.0 first.1.0))) first.1.1)
 
 pub plan_fitted : (s : Settings) (openings : List Opening) (plan : Plan)
     → (planned s openings).answer ≡ Made plan → All (IsFitted plan.part) plan.tasks
@@ -182,4 +133,4 @@ plan_fitted s openings plan is =
     (λ ts. verdict_stage (Ok (record { part = part.0; tasks = ts; switches = s.switches }))) _ plan part.1.1 in
     let same : record { part = part.0; tasks = done.0; switches = s.switches } ≡ plan = cc in
     subst (λ (p : Plan). All (IsFitted p.part) p.tasks) same
-    (tasks s.switches part.0 [] s.updates _ done.0 (none_fitted part.0) done.1.0)
+    (tasks s.switches part.0 [] s.updates _ done.0 (search rules) done.1.0)

@@ -10,7 +10,7 @@ use Rattle.avr_desk.specs.Said.{Tells}
 use Rattle.avr_records.specs.declared.kind.Ending.{Ending}
 use Rattle.avr_desk.proofs.Lines.Told.{follows_same}
 use Rattle.avr_desk.proofs.Stages.Files.{goes_whole, went_whole, goes_file_fault, taken_never}
-use Rattle.avr_desk.proofs.Stages.Played.{goes_on, goes_no_further, goes_unsettled, went_went, went_nowhere, went_settled}
+use Rattle.avr_desk.proofs.Stages.Played.{goes_on, goes_no_further, goes_unsettled, went_went, went_settled}
 use Rattle.avr_plan.specs.declared.image_file.TheConstants.{LARGEST_IMAGE_FILE}
 use Rattle.avr_plan.specs.ImageReading.{ReadsImage, ImageIsRead, IsCountedRead}
 use Rattle.avr_plan.specs.Lines.{bad_file_line, image_line}
@@ -47,7 +47,7 @@ module _ (switches : Switches) (file : Bytes) (format : Format) (size : ℕ) whe
       went_went (file_stage file LARGEST_IMAGE_FILE (judged_image file format size)) (behind_file switches file) old mid
       new (image, ending) (Made image)
       (went_file file format size old mid image ending reads same)
-      (search (rules, went_went, went_nowhere))
+      (search rules)
 
   -- its warning broke off
   pub goes_unwarned : (old mid new : DeskState) (image : Image) (ending : Ending) (status : ℕ)
@@ -75,8 +75,7 @@ module _ (switches : Switches) (file : Bytes) (format : Format) (size : ℕ) whe
   goes_unread : (old new : DeskState) (status : ℕ)
       → Goes (AtStart false) (file_stage file LARGEST_IMAGE_FILE (judged_image file format size)) old new (Err status)
       → Goes (AtStart false) (file_image_stage switches file format size) old new (Err status)
-  goes_unread old new status goes =
-      search (rules, goes_no_further)
+  goes_unread old new status goes = search (rules, goes_no_further)
 
   -- an image, but no room for its task
   pub goes_without_room : (old mid new : DeskState) (image : Image) (ending : Ending) (status : ℕ)
@@ -97,5 +96,4 @@ module _ (switches : Switches) (file : Bytes) (format : Format) (size : ℕ) whe
       → Goes (AtStart false) (file_image_stage switches file format size) old new (Err status)
   goes_without_image old mid new (fault_of.File fault) status reads rose counted one told =
       search (rules, goes_unread, goes_file_fault)
-  goes_without_image old mid new (fault_of.Image bad) status reads rose counted one told =
-      goes_bad old mid new bad status reads counted one told
+  goes_without_image old mid new (fault_of.Image bad) status reads rose counted one told = search (rules, goes_bad)

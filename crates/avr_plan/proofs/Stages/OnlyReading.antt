@@ -1,17 +1,15 @@
 -- Planning only reads and reports, stage by stage.
-use Rattle.std.proofs.Common.{ℕ, List, [], ◌∷◌, ◌++◌, Bool, true, false, Ok, Err, Result, rules}
-use Rattle.std.specs.Prelude.{if◌then◌else◌}
+use Rattle.std.proofs.Common.{ℕ, List, [], ◌∷◌, ◌++◌, Result, rules}
 use Rattle.avr_cli.specs.declared.settings.Settings.{Settings}
 use Rattle.avr_desk.specs.declared.record.Opening.{Opening}
 use Rattle.avr_desk.specs.Record.{Bytes}
 use Rattle.avr_desk.specs.Said.{OutputEvent, Opens, Line}
 use Rattle.avr_plan.specs.declared.image_file.TheConstants.{LARGEST_IMAGE_FILE}
 use Rattle.avr_plan.specs.declared.part_choice.TheConstants.{LARGEST_PART_FILE}
-use Rattle.avr_plan.specs.Lines.{no_end_line}
 use Rattle.avr_plan.proofs.Stages.EachStage.{whole_plan}
 use Rattle.avr_plan.specs.OnlyReading.{OnlyReads}
-use Rattle.avr_plan.specs.Planning.{judged_parts, is_warned, judged_image, planned}
-use Rattle.avr_desk.specs.Stage.{Stage, StageAnswer, Made, Refused, all_told, told_in, going_on, ◌>>=◌, verdict_stage, file_stage}
+use Rattle.avr_plan.specs.Planning.{judged_parts, judged_image, planned}
+use Rattle.avr_desk.specs.Stage.{Stage, StageAnswer, Made, Refused, all_told, told_in, going_on, ◌>>=◌, file_stage}
 
 -- a stage that only reads and reports
 abbrev Reads : {A : Type 0} → Stage A → Type 0
@@ -32,20 +30,12 @@ onward : {A B : Type 0} (stage : Stage A) (go_on : A → Stage B) → Reads stag
     → Reads (stage >>= go_on)
 onward stage go_on f g openings = search (rules, going)
 
-is_settled : {A : Type 0} (result : Result A Bytes) → Reads (verdict_stage result)
-is_settled (Ok a) openings = tt
-is_settled (Err line) openings = tt
-
 file : {A : Type 0} (name : Bytes) (limit : ℕ) (judge : Bytes → Result A Bytes) → Reads (file_stage name limit judge)
-file name limit judge = search (rules, onward)
-
-warns : (b : Bool) (name : Bytes) → OnlyReads (if b then Line (no_end_line name) ∷ [] else [])
-warns true name = tt
-warns false name = tt
+file name limit judge = search rules
 
 reads_plan : (s : Settings) → Reads (planned s)
-reads_plan = whole_plan (λ A stage names. Reads {A = A} stage) (λ A result. is_settled result)
-    (λ s name ending openings. warns (is_warned s ending) name)
+reads_plan = whole_plan (λ A stage names. Reads {A = A} stage) (λ A result. (search rules))
+    (λ s name ending openings. (search rules))
     (λ name. file name LARGEST_PART_FILE (judged_parts name))
     (λ name kind size. file name LARGEST_IMAGE_FILE (judged_image name kind size))
     (λ A B stage go_on first back f g. onward stage go_on f g)

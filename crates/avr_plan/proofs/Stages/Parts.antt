@@ -19,11 +19,6 @@ use Rattle.avr_plan.specs.Planning.{judged_parts, parts_or_line}
 use Rattle.avr_desk.specs.Playing.{AtStart, Goes, Went}
 use Rattle.avr_desk.specs.Stage.{Made, file_stage}
 
--- the judgment of a file within the limit
-judged-within : (file bytes : Bytes) → IsWhole LARGEST_PART_FILE (record { bytes = bytes; ended = true })
-    → judged_parts file bytes ≡ parts_or_line file (parts_of bytes)
-judged-within file bytes whole = search rules
-
 pub goes_long_parts : (file bytes : Bytes) (ended : Bool) (old mid new : DeskState) (status : ℕ)
     → Passes (with_read file bytes ended) old mid
     → IsWhole LARGEST_PART_FILE (record { bytes = bytes; ended = ended }) → ended ≡ false → HasSameCounts old mid
@@ -32,7 +27,7 @@ pub goes_long_parts : (file bytes : Bytes) (ended : Bool) (old mid new : DeskSta
     → Goes (AtStart false) (file_stage file LARGEST_PART_FILE (judged_parts file)) old new (Err status)
 goes_long_parts file bytes true old mid new status kept whole is same one told = cc
 goes_long_parts file bytes false old mid new status kept whole is same one told =
-    let past : nat_le (length bytes) LARGEST_PART_FILE ≡ false = let more = whole.0 in grind (arith, nat_tests, more) in
+    let past : nat_le (length bytes) LARGEST_PART_FILE ≡ false = let more = whole.0 in grind (arith, nat_tests) in
     let given : judged_parts file bytes ≡ Err (too_long_line file LARGEST_PART_FILE) = rw past refl in
     search (rules, goes_whole, goes_unsettled)
 
@@ -44,7 +39,7 @@ pub went_parts : (file bytes : Bytes) (ended : Bool) (old mid : DeskState) (part
 went_parts file bytes false old mid parts kept whole is same gives = cc
 went_parts file bytes true old mid parts kept whole is same (inl gives) =
     let given : judged_parts file bytes ≡ Ok parts =
-    judged-within file bytes whole ∙ ap (parts_or_line file) (sym gives) in
+    (search rules) ∙ ap (parts_or_line file) (sym gives) in
     went_whole (AtStart false) file LARGEST_PART_FILE (judged_parts file) bytes true old mid parts kept whole same
     (went_settled (judged_parts file bytes) parts mid given)
 went_parts file bytes true old mid parts kept whole is same (inr memory) = cc
@@ -57,8 +52,7 @@ pub goes_bad_parts : (file bytes : Bytes) (ended : Bool) (old mid new : DeskStat
 goes_bad_parts file bytes false old mid new status refused kept whole is same gives one told = cc
 goes_bad_parts file bytes true old mid new status refused kept whole is same (inl gives) one told =
     let given : judged_parts file bytes ≡ Err (part_file_line file refused.fault) =
-    judged-within file bytes whole ∙ ap (parts_or_line file) (sym gives) in
-    search (rules, goes_whole, goes_unsettled)
+    (search rules) ∙ ap (parts_or_line file) (sym gives) in search (rules, goes_whole, goes_unsettled)
 goes_bad_parts file bytes true old mid new status refused kept whole is same (inr memory) one told =
     let memory_is : refused ≡ of_file Memory = cc in
     let told_so = subst (λ r. Tells mid new (part_file_line file r.fault)) memory_is told in

@@ -6,7 +6,7 @@ use Rattle.avr_part.specs.Part.{Part}
 use Rattle.avr_desk.specs.Said.{OutputEvent}
 use Rattle.avr_desk.specs.declared.record.Opening.{Opening}
 use Rattle.avr_desk.proofs.Stages.Files.{taken_never}
-use Rattle.avr_desk.proofs.Stages.Played.{goes_on, goes_no_further, went_went, went_into}
+use Rattle.avr_desk.proofs.Stages.Played.{goes_on, goes_no_further, went_went}
 use Rattle.avr_plan.specs.Plan.{Plan}
 use Rattle.avr_plan.specs.Planning.{LacksPart, parts_stage, part_stage, tasks_stage, planned}
 use Rattle.avr_desk.specs.Playing.{AtStart, Goes, Taking, Went}
@@ -28,7 +28,7 @@ pub goes_without_parts : (s : Settings) (old new : DeskState) (status : ℕ)
     → Goes (AtUpdate s) (planned s) old new (Err status)
 goes_without_parts s old new status goes =
     goes_no_further (AtUpdate s) (parts_stage s.parts) (behind_parts s) old new status
-    (search (rules, taken_never))
+    (search rules)
 
 pub goes_without_part : (s : Settings) (old mid new : DeskState) (status : ℕ) (parts : List Part)
     → Went (parts_stage s.parts) old mid (Made parts)
@@ -45,15 +45,7 @@ at_due : (s : Settings) (old first mid : DeskState) (parts : List Part) (part : 
     (found : Went (part_stage s.part parts) first mid (Made part)) (passed : List Opening) (said : List OutputEvent)
     → AtTask s.switches part [] s.updates passed said
     → AtUpdate s (went.passed ++ (found.passed ++ passed)) (went.says ++ (found.says ++ said))
-at_due s old first mid parts part went found passed said due = record {
-  done = due.done;
-  due = due.due;
-  more = due.more;
-  updates_are = due.updates_are;
-  takes = due.takes;
-  plan = plan_of s part due.made;
-  is_planned = planned_so;
-}
+at_due s old first mid parts part went found passed said due = search (rules, planned_so, before)
   where
     before : Settings
     before = record s { updates = due.done }
@@ -89,12 +81,10 @@ pub went_whole_plan : (s : Settings) (old first mid new : DeskState) (parts : Li
     → Went (parts_stage s.parts) old first (Made parts) → Went (part_stage s.part parts) first mid (Made part)
     → Went (tasks_stage s.switches part [] s.updates) mid new (Made tasks)
     → Went (planned s) old new (Made (plan_of s part tasks))
-went_whole_plan s old first mid new parts part tasks went found made =
-    search (rules, went_went, went_into)
+went_whole_plan s old first mid new parts part tasks went found made = search (rules, went_went)
 
 -- no part has the id, whatever it is called here
 pub lacks_part : {E : Type 0} (id own : Bytes) (parts : List Part) (old mid new : DeskState) → id ≡ own
     → ◌≡◌ {A = Result (List Part) E} (Ok parts) (Ok []) → mid ≡ old → LacksPart id parts mid new
     → LacksPart own [] old new
-lacks_part id own parts old mid new same given view lacks =
-    search rules
+lacks_part id own parts old mid new same given view lacks = search rules

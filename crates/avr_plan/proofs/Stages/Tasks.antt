@@ -1,5 +1,5 @@
 -- The tasks of updates.
-use Rattle.std.proofs.Common.{◌≡◌, sym, ap, subst, arith, ℕ, zero, suc, ◌+◌, All, drop, List, [], ◌∷◌, ◌++◌, refl, Bool, true, false, if◌then◌else◌, Option, Result, Ok, Err, rules}
+use Rattle.std.proofs.Common.{◌≡◌, sym, ap, subst, ℕ, ◌+◌, All, drop, List, [], ◌∷◌, ◌++◌, refl, Bool, true, false, if◌then◌else◌, Option, Result, Ok, Err, rules}
 use Rattle.avr_cli.specs.declared.settings.Switches.{Switches}
 use Rattle.avr_cli.specs.declared.update.Format.{Format}
 use Rattle.avr_cli.specs.declared.update.Format.TheVariants.{Immediate}
@@ -24,26 +24,20 @@ use Rattle.avr_plan.specs.declared.planned.Task.TheVariants.{Write}
 file_stage-is : (switches : Switches) (memory : Mem) (size : ℕ) (file : Bytes) (format : Format)
     → (format ≡ Immediate → ⊥)
     → file_image_stage switches file format size ≡ image_stage switches memory size file format
-file_stage-is switches memory size file Immediate other = absurd (other refl)
-file_stage-is switches memory size file format other = refl
-
-no_values : (format : Format) → (format ≡ Immediate → ⊥) → has_values format ≡ false
-no_values Immediate other = absurd (other refl)
-no_values format other = refl
+file_stage-is switches memory size file format other = search rules
 
 module _ (switches : Switches) (memory : Mem) (size size' : ℕ) (file file' : Bytes) (format : Format)
     (old new : DeskState) (result : Result (List (Option ℕ)) ℕ) (sizes : size ≡ size') (files : file ≡ file') where
   goes_of_same : (takes : Bool) → has_values format ≡ takes
       → Goes (AtStart takes) (image_stage switches memory size file format) old new result
       → Goes (AtStart (has_values format)) (image_stage switches memory size' file' format) old new result
-  goes_of_same takes values goes =
-      search rules
+  goes_of_same takes values goes = search rules
 
   pub goes_of_file : (format ≡ Immediate → ⊥)
       → Goes (AtStart false) (file_image_stage switches file format size) old new result
       → Goes (AtStart (has_values format)) (image_stage switches memory size' file' format) old new result
   goes_of_file other goes =
-      goes_of_same false (no_values format other) (search (rules, file_stage-is))
+      goes_of_same false (search rules) (search (rules, file_stage-is))
 
   pub goes_of_values : format ≡ Immediate
       → Goes (AtStart true) (image_stage switches memory size file Immediate) old new result
@@ -59,8 +53,7 @@ pub goes_writable : (switches : Switches) (part : Part) (u : Update) (old new : 
     → true ≡ is_writable u.memory
     → Goes (AtStart (has_values u.format)) (writes switches part u) old new result
     → Goes (AtStart (op_takes_memory u op.Write)) (write_stage switches part u) old new result
-goes_writable switches part u old new result is goes =
-    search rules
+goes_writable switches part u old new result is goes = search rules
 
 pub goes_read_only : (switches : Switches) (part : Part) (u : Update) (old new : DeskState) (status : ℕ)
     → false ≡ is_writable u.memory
@@ -110,24 +103,16 @@ module _ (switches : Switches) (part : Part) (tasks : List Task) (updates : List
       (tasks_stage switches part (tasks ++ task ∷ []) (drop (i + 1) updates)) mid new result
       → Goes (AtTask switches part tasks (drop i updates)) (tasks_stage switches part tasks (drop i updates)) old new
       result
-  goes_with_next old mid new task result is went goes =
-      subst (λ (us : List Update). Goes (AtTask switches part tasks us) (tasks_stage switches part tasks us) old new
-      result) (sym is)
-      (goes_on (AtTask switches part (tasks ++ task ∷ []) (drop (i + 1) updates))
-      (AtTask switches part tasks (u ∷ drop (i + 1) updates)) (task_stage switches part u)
-      (λ t. tasks_stage switches part (tasks ++ t ∷ []) (drop (i + 1) updates)) old mid new task result went
-      (at_later switches part tasks u (drop (i + 1) updates) old mid task went) goes)
+  goes_with_next old mid new task result is went goes = search (rules, goes_on, at_later, result, is, went, goes)
 
   pub goes_without_next : (old new : DeskState) (status : ℕ) → drop i updates ≡ u ∷ drop (i + 1) updates
       → Goes (AtStart (op_takes_memory u u.op)) (task_stage switches part u) old new (Err status)
       → Goes (AtTask switches part tasks (drop i updates)) (tasks_stage switches part tasks (drop i updates)) old new
       (Err status)
   goes_without_next old new status is goes =
-      let rest = drop (i + 1) updates in
       subst (λ (us : List Update). Goes (AtTask switches part tasks us) (tasks_stage switches part tasks us) old new
       (Err status)) (sym is)
       (search (rules, goes_within, at_first, goes_no_further))
 
 pub all_one : (P : Task → Type 0) (task : Task) → P task → All P (task ∷ [])
-all_one P task p zero d l = p
-all_one P task p (suc k) d l = absurd (omega (arith, l))
+all_one P task p x3 d l = search rules

@@ -20,8 +20,7 @@ Image = List (Option ℕ)
 
 pub given_values : (text : Bytes) (size : ℕ) (image : Image) → OrMemory (Ok image) (values text size)
     → Ok image ≡ values text size
-given_values text size image (inl is) = is
-given_values text size image (inr memory) = cc
+given_values text size image x3 = search rules
 
 pub went_values : (switches : Switches) (memory : Mem) (size : ℕ) (text : Bytes) (d : DeskState) (image : Image)
     → OrMemory (Ok image) (values text size)
@@ -45,5 +44,4 @@ pub goes_without_room : (switches : Switches) (memory : Mem) (size : ℕ) (text 
     (status : ℕ)
     → status ≡ 1 → Tells old new memory_line
     → Goes (AtStart true) (image_stage switches memory size text Immediate) old new (Err status)
-goes_without_room switches memory size text old new status one told =
-    search (rules, goes_without_memory)
+goes_without_room switches memory size text old new status one told = search (rules, goes_without_memory)

@@ -1,5 +1,5 @@
 -- Actions of a session, one after another.
-use Rattle.std.proofs.Common.{◌≡◌, List, [], ◌∷◌, ◌++◌, refl, ◌∙◌, rules}
+use Rattle.std.proofs.Common.{◌≡◌, List, [], ◌∷◌, ◌++◌, refl, rules}
 use Rattle.avr_cli.specs.declared.settings.Switches.{Switches}
 use Rattle.avr_desk.specs.Said.{OutputEvent}
 use Rattle.avr_part.specs.Part.{Part}
@@ -9,20 +9,14 @@ use Rattle.avr_session.specs.Standing.{Standing, Fine}
 use Rattle.avr_session.specs.Actions.{Action}
 use Rattle.avr_session.specs.Session.{unless_fault, action_dialog, actions_dialog}
 
-unless_done : (standing : Standing) → unless_fault (Done Fine) standing ≡ Done standing
-unless_done Fine = refl
-unless_done standing = refl
-
 unless_both : (first more : Dialog OutputEvent Standing) (standing : Standing)
     → unless_fault (first >>= unless_fault more) standing ≡ unless_fault first standing >>= unless_fault more
-unless_both first more Fine = refl
-unless_both first more standing = refl
+unless_both first more standing = search rules
 
 -- a list of one action has that action's dialog
 pub actions_dialog-one : (part : Part) (s : Switches) (action : Action) → actions_dialog part s (action ∷ [])
     ≡ action_dialog part s action
-actions_dialog-one part s action = bind_same (action_dialog part s action) (unless_fault (Done Fine)) Done unless_done
-    ∙ bind_done (action_dialog part s action)
+actions_dialog-one part s action = search (rules, bind_done (action_dialog part s action))
 
 -- after a fault in the first of two lists the second is skipped
 pub actions_dialog-append : (part : Part) (s : Switches) (xs ys : List Action)

@@ -1,29 +1,25 @@
 -- The state of a session after an action gives whether a fault was reported in it: laws of dialogs alone.
-use Rattle.std.proofs.Common.{◌≡◌, ℕ, Bool, true, false, ◌||◌, List, [], ◌∷◌, ◌++◌, map, refl, sym, ap, ◌∙◌, subst, append-nil, nat_lt, codes, if◌then◌else◌, Option, Some, None, Result, Ok, Err, inl, inr, rules}
+use Rattle.std.proofs.Common.{◌≡◌, ℕ, true, false, List, [], ◌∷◌, ◌++◌, map, refl, ap, ◌∙◌, subst, append-nil, Option, Some, None, Result, rules}
 use Rattle.std.proofs.lemmas.Bool.{or_parts}
 use Rattle.std.proofs.lemmas.List.Folds.{list_any-append}
 use Rattle.avr_desk.specs.Record.{DeskState, Bytes}
 use Rattle.avr_cli.specs.declared.settings.Switches.{Switches}
 use Rattle.avr_cli.specs.declared.update.Format.{Format}
-use Rattle.avr_image.specs.Image.{byte_count}
 use Rattle.avr_part.specs.Part.{Part}
 use Rattle.avr_part.specs.declared.part.Mem.{Mem}
-use Rattle.avr_part.specs.declared.part.Mem.TheVariants.{Flash}
 use Rattle.stk_host.specs.declared.fault.HostFault.{HostFault}
-use Rattle.stk_host.specs.declared.fault.HostFault.TheVariants.{NoAnswer, WrongSignature}
 use Rattle.stk_host.specs.Tape.{Tape, Reading, on_tape, answer}
 use Rattle.stk_host.specs.Play.{Progress}
 use Rattle.stk_host.specs.Transcript.{heard}
-use Rattle.stk_host.specs.Dialog.{Dialog, Done, Say, Ask, ◌>>=◌, lifted, Event, Frame, Said, Played, played, by_answer, next, outputs}
-use Rattle.avr_desk.specs.Lines.{warning}
-use Rattle.avr_desk.specs.Said.{OutputEvent, Line, Writes, Outs}
+use Rattle.stk_host.specs.Dialog.{Dialog, Done, Say, Ask, ◌>>=◌, lifted, Event, Said, Played, played, by_answer, next, outputs}
+use Rattle.avr_desk.specs.Said.{OutputEvent, Line}
 use Rattle.avr_session.specs.Standing.{Standing, Fine}
-use Rattle.avr_session.specs.Actions.{LeftOut, TheErase, TheWrite, Action, OpenSession, EraseChip, WriteImage, CompareImage, SaveMemory, LeaveOut}
-use Rattle.avr_session.specs.Lines.{warns, fault_line}
+use Rattle.avr_session.specs.Actions.{LeftOut, Action, OpenSession}
+use Rattle.avr_session.specs.Lines.{fault_line}
 use Rattle.avr_session.specs.Performing.{is_told}
-use Rattle.avr_session.specs.Runs.{Devices, Cause, OfSending, OfListening, OfFile, OfPrinting, OfMemory, NotCreated, NotWritten, is_error, tells_fault, Ran, AtFrame, StopsAt}
+use Rattle.avr_session.specs.Runs.{Devices, Cause, OfSending, tells_fault, Ran, StopsAt}
 use Rattle.avr_session.specs.Reporting.{SaysPrefix}
-use Rattle.avr_session.specs.Session.{says, standing, reported, unless_fault, fault_or, opening_says, bytes_say, read_says, left_out_says, action_dialog, actions_dialog}
+use Rattle.avr_session.specs.Session.{says, standing, reported, unless_fault, opening_says, bytes_say, read_says, left_out_says, action_dialog, actions_dialog}
 use Rattle.avr_session.proofs.Runs.Stops.{outputs_by}
 
 -- ---- along every path of a dialog
@@ -63,14 +59,12 @@ Ends P said (Some x) = P said x.0
 ends_behind : {R : Type 0} (P : List OutputEvent → R
     → Type 0) (e : OutputEvent) (said : List OutputEvent) (o : Option (R × ℕ × Tape))
     → Ends (λ said r. P (e ∷ said) r) said o → Ends P (e ∷ said) o
-ends_behind P e said None g = tt
-ends_behind P e said (Some x) g = g
+ends_behind P e said o g = search rules
 
 along_play : {R : Type 0} (P : List OutputEvent → R → Type 0) (dialog : Dialog OutputEvent R) (seq : ℕ) (tape : Tape)
     → Along P dialog → Ends P (outputs (played dialog seq tape).events) (played dialog seq tape).outcome
 along_play P (Done r) seq tape f = f
-along_play P (Say e dialog) seq tape f =
-    search (rules, ends_behind, along_play (λ said r. P (e ∷ said) r) dialog seq tape f)
+along_play P (Say e dialog) seq tape f = search (rules, along_play (λ said r. P (e ∷ said) r) dialog seq tape f)
 along_play {R = R} P (Ask body answered) seq tape f =
     elim (answer seq tape) as (λ o. Ends P (outputs (by_answer (λ r. played (answered r) (next seq)) o).events)
     (by_answer (λ r. played (answered r) (next seq)) o).outcome) [
@@ -114,60 +108,30 @@ foretells_says outputs f = along_says Foretold outputs (Done Fine) (ap tells_fau
 
 -- ---- lines that report no fault, and those that do
 
-fault_is_told : (A : Type 0) (fault : HostFault) → is_told (standing {A = A} (Err fault)) ≡ true
-fault_is_told A NoAnswer = refl
-fault_is_told A fault = refl
-
 fault_tells : (part : Part) (fault : HostFault) → tells_fault (Line (fault_line part fault) ∷ []) ≡ true
 unfolding fault_line
 fault_tells part fault = refl
 
-unless_quiet : (b : Bool) (line : Bytes) → is_error (Line line) ≡ false
-    → tells_fault (if b then [] else Line line ∷ []) ≡ false
-unless_quiet true line none = refl
-unless_quiet false line none = ap (λ x. x || false) none
-
-warns_none : (quiet : ℕ) (pieces : List Bytes) → tells_fault (warns quiet pieces) ≡ false
-warns_none quiet pieces = unless_quiet (nat_lt 1 quiet) (warning pieces) refl
-
 bytes_none : (quiet : ℕ) (mem : Mem) (count : ℕ) (done : Bytes) → tells_fault (bytes_say quiet mem count done) ≡ false
-bytes_none quiet Flash count done = search rules
 bytes_none quiet mem count done = search rules
 
 pub read_none : (s : Switches) (mem : Mem) (format : Format) (file bytes : Bytes)
     → tells_fault (read_says s mem format file bytes) ≡ false
-read_none s mem format file bytes =
-    search rules
-
-or_tells : {A : Type 0} (part : Part) (good : A → List OutputEvent) → ((a : A) → tells_fault (good a) ≡ false)
-    → (outcome : Result A HostFault) → tells_fault (fault_or part good outcome) ≡ is_told (standing outcome)
-or_tells part good f (Ok a) = f a
-or_tells {A = A} part good f (Err fault) = fault_tells part fault ∙ sym (fault_is_told A fault)
+read_none s mem format file bytes = search rules
 
 opening_tells : (quiet : ℕ) (part : Part) (outcome : Result Bytes HostFault)
     → tells_fault (opening_says quiet part outcome) ≡ is_told (standing outcome)
-opening_tells quiet part (Ok found) = search rules
-opening_tells quiet part (Err (WrongSignature found)) =
-    search (rules, list_any-append, fault_tells)
-opening_tells quiet part (Err fault) = fault_tells part fault
+opening_tells quiet part outcome = search (rules, list_any-append, fault_tells)
 
 left_out_none : (quiet : ℕ) (what : LeftOut) → tells_fault (left_out_says quiet what) ≡ false
-left_out_none quiet TheErase = warns_none quiet (codes "chip not erased because of -n" ∷ [])
-left_out_none quiet (TheWrite mem image) = bytes_none quiet mem (byte_count image) (codes " bytes not written")
+left_out_none quiet what = search (rules, bytes_none)
 
 -- ---- the actions of a session
 
 pub action_foretells : (part : Part) (s : Switches) (action : Action) → Foretells (action_dialog part s action)
 action_foretells part s OpenSession = search (rules, foretells_reported, opening_tells)
-action_foretells part s EraseChip =
-    search (rules, foretells_reported, or_tells, unless_quiet)
-action_foretells part s (WriteImage mem image) =
-    search (rules, foretells_reported, or_tells, bytes_none)
-action_foretells part s (CompareImage mem image) =
-    search (rules, foretells_reported, or_tells, bytes_none)
-action_foretells part s (SaveMemory mem format file) =
-    search (rules, foretells_reported, or_tells, read_none)
-action_foretells part s (LeaveOut what) = foretells_says (left_out_says s.quiet what) (left_out_none s.quiet what)
+action_foretells part s action =
+    search (rules, foretells_reported, fault_tells, bytes_none, read_none, foretells_says, left_out_none)
 
 pub actions_foretells : (part : Part) (s : Switches) (actions : List Action) → Foretells (actions_dialog part s actions)
 actions_foretells part s [] = refl
@@ -180,25 +144,13 @@ quiet_by : (begun : List OutputEvent) (events : List (Event OutputEvent)) → ma
     → tells_fault (outputs events) ≡ false → tells_fault begun ≡ false
 quiet_by begun events is none = ap tells_fault (outputs_by begun events is) ∙ none
 
-of_frame : (begun later : List OutputEvent) → AtFrame [] (map Said begun) (map Said later) → tells_fault begun ≡ false
-of_frame begun later x = quiet_by begun (Frame x.done ∷ []) x.part refl
-
 begun_none : (cause : Cause) (whole begun later : List OutputEvent)
     → StopsAt cause [] (map Said whole) (map Said begun) (map Said later) → tells_fault later ≡ false
     → tells_fault begun ≡ false
-begun_none OfSending whole begun later x none = of_frame begun later x
-begun_none OfListening whole begun later x none = quiet_by begun [] x.1 refl
-begun_none (OfFile file NotCreated) whole begun later x none = quiet_by begun [] x.none refl
-begun_none (OfFile file NotWritten) whole begun later (inl x) none =
-    quiet_by begun (Said (Writes x.1.done) ∷ []) x.1.part refl
-begun_none (OfFile file NotWritten) whole begun later (inr x) none =
-    quiet_by begun (Said (Outs x.1.done) ∷ []) x.1.part refl
-begun_none OfPrinting whole begun later x none =
-    search (rules, outputs_by, or_parts, quiet_by)
-begun_none OfMemory whole begun later x none = quiet_by begun [] x refl
+begun_none OfSending whole begun later x none = search (rules, quiet_by)
+begun_none cause whole begun later x none = search (rules, quiet_by, outputs_by, or_parts)
 
 pub prefix_tells_none : {cause : Cause} {old new : DeskState} {outputs : List OutputEvent}
     (prefix : SaysPrefix cause old new outputs) → tells_fault outputs ≡ false
     → tells_fault (prefix.whole ++ prefix.begun) ≡ false
-prefix_tells_none {cause = cause} prefix none =
-    search (rules, or_parts, list_any-append, begun_none)
+prefix_tells_none {cause = cause} prefix none = search (rules, or_parts, list_any-append, begun_none)

@@ -1,5 +1,5 @@
 -- An operation of the host and its report, as an action of a session.
-use Rattle.std.proofs.Common.{◌≡◌, ℕ, ◌≤◌, Bool, true, List, [], length, refl, ap, ◌∷◌, subst, Result, Ok, Err, inl, inr, ◌⊎◌, rules}
+use Rattle.std.proofs.Common.{◌≡◌, ℕ, ◌≤◌, Bool, true, List, [], length, ◌∷◌, Result, Ok, Err, inl, inr, ◌⊎◌, rules}
 use Rattle.avr_desk.specs.Record.{DeskState}
 use Rattle.avr_desk.specs.declared.desk.DeskFault.{DeskFault}
 use Rattle.avr_part.specs.Part.{Part}
@@ -7,16 +7,15 @@ use Rattle.stk_host.specs.declared.fault.HostFault.{HostFault}
 use Rattle.stk_host.specs.declared.fault.HostFault.TheVariants.{SendFailed, Memory, RecvFailed}
 use Rattle.stk_host.specs.Operations.{operation}
 use Rattle.stk_host.specs.Transcript.{LinkState}
-use Rattle.stk_host.specs.Dialog.{Dialog, Done, ◌>>=◌, lifted, played}
+use Rattle.stk_host.specs.Dialog.{Dialog, Done, played}
 use Rattle.stk_host.specs.Play.{Progress, PlaysOver, FailsOver}
-use Rattle.stk_host.specs.Calls.{EndsCall}
 use Rattle.stk_host.proofs.Dialogs.Lifted.{outputs_raised}
 use Rattle.avr_desk.specs.Said.{OutputEvent, Line, Tells}
 use Rattle.avr_session.specs.Concluding.{after_outcome, conclusion, stands}
 use Rattle.avr_session.specs.Lines.{fault_line}
 use Rattle.avr_session.specs.Session.{says, standing, reported, opening_says}
 use Rattle.avr_session.specs.Taking.{AtOnce}
-use Rattle.avr_session.specs.Runs.{Cause, OfMemory, Devices, devices, BrokeOff, Terms, cause_line, HasCome}
+use Rattle.avr_session.specs.Runs.{Cause, OfMemory, devices, Terms, cause_line, HasCome}
 use Rattle.avr_session.specs.Performing.{Runs}
 use Rattle.avr_session.specs.Reporting.{PrintStops, SaysOrStops, Reports}
 use Rattle.avr_desk.proofs.Lines.Told.{same_here}
@@ -53,55 +52,26 @@ Ended takes dialog m o p outcome n =
     (PlaysOver dialog m o p outcome n × (stands (after_outcome outcome) ≡ Ok (standing outcome)))
     ⊎ ((stop : Stop) × StopsAs outcome stop × StopsOver takes dialog m o p stop)
 
-pub call_ended : {A : Type 0} (takes : Bool) (dialog : Dialog ⊥ (Result A HostFault)) (m n : Progress) (o p : LinkState)
-    (outcome : Result A HostFault) → EndsCall takes dialog m o p outcome n → Ended takes dialog m o p outcome n
-call_ended takes dialog m n o p (Err SendFailed) ends = inr (Unsent, refl, ends)
-call_ended takes dialog m n o p (Err RecvFailed) ends = inr (Unheard, refl, ends)
-call_ended takes dialog m n o p (Err Memory) ends = inr (Lacks, refl, (ends.0, ends.1))
-call_ended takes dialog m n o p outcome ends = inl (ends, refl)
-
--- what stops a run ends it, however the report went
-stop_goes : {A : Type 0} {outcome : Result A HostFault} (stop : Stop) (said : Result (Unit {0}) DeskFault)
-    → StopsAs outcome stop → stands (conclusion outcome said) ≡ Err tt
-stop_goes stop (Err _) is = refl
-stop_goes Unsent (Ok ok) is = ap (λ x. stands (after_outcome x)) is
-stop_goes Unheard (Ok ok) is = ap (λ x. stands (after_outcome x)) is
-stop_goes Lacks (Ok ok) is = ap (λ x. stands (after_outcome x)) is
-
 -- its line is that of its cause
 line_at : (part : Part) (stop : Stop) → fault_line part (fault_at stop) ≡ cause_line (cause_at stop)
 unfolding cause_line fault_line
-line_at part Unsent = refl
-line_at part Unheard = refl
-line_at part Lacks = refl
+line_at part stop = search rules
 
 -- and it is reported, if the line of such a fault is the whole output for it
 pub told_of : {A : Type 0} (part : Part) (tells : Result A HostFault → List OutputEvent)
     → ((stop : Stop) → tells (Err (fault_at stop)) ≡ Line (fault_line part (fault_at stop)) ∷ []) → {d e : DeskState}
     {outcome : Result A HostFault} {said : Result (Unit {0}) DeskFault} → Reports PrintStops d e (tells outcome) said
     → (stop : Stop) → StopsAs outcome stop → Tells d e (cause_line (cause_at stop))
-told_of part tells line {d = d} {e = e} {said = said} reports stop is =
-    subst (Tells d e) (line_at part stop) (search (rules, told_some))
+told_of part tells line {d = d} {e = e} {said = said} reports stop is = search (rules, line_at, told_some)
 
 pub opening_line : (quiet : ℕ) (part : Part) (stop : Stop)
     → opening_says quiet part (Err (fault_at stop)) ≡ Line (fault_line part (fault_at stop)) ∷ []
-opening_line quiet part Unsent = refl
-opening_line quiet part Unheard = refl
-opening_line quiet part Lacks = refl
+opening_line quiet part stop = search rules
 
 -- what stops a run is counted, or is a failed allocation
 pub stop_come : {R : Type 0} (takes : Bool) (dialog : Dialog ⊥ R) (m : Progress) (o p : LinkState) (d : DeskState)
     (stop : Stop) → StopsOver takes dialog m o p stop → HasCome takes (devices o d) (devices p d) (cause_at stop)
-stop_come takes dialog m o p d Unsent over = (over.failed, same_here d)
-stop_come takes dialog m o p d Unheard over = (over.failed, same_here d)
-stop_come takes dialog m o p d Lacks over = (over.0, (ap (λ (v : LinkState). v.failures) over.1, same_here d))
-
-stopped_runs : {A R : Type 0} (go_on : A → Dialog OutputEvent R) (dialog : Dialog ⊥ A) {m : Progress} {o p : Devices}
-    {terms : Terms} (stop : Stop) → StopsOver terms.takes dialog m o.link p.link stop → ToldBy terms (cause_at stop) o p
-    → BrokeOff (lifted dialog >>= go_on) m o p terms (AtOnce terms.takes)
-stopped_runs go_on dialog {m = m} Lacks over told =
-    broke_lacking (lifted dialog >>= go_on) m over.1 told (over.0, refl)
-stopped_runs go_on dialog stop over told = broke_operation go_on (fault_at stop) over told
+stop_come takes dialog m o p d stop over = search (rules, same_here)
 
 -- An operation and its report are an action of a session.
 pub operation_runs : {A : Type 0} (operation : Dialog ⊥ (Result A HostFault))
@@ -126,6 +96,4 @@ operation_runs operation outcome_says m n {p = p} {d = d} outcome (Err _) terms 
     (outputs_raised played.0.events)
     (broke_output (outcome_says outcome) (Done (standing outcome)) n p why reports)
 operation_runs operation outcome_says m n outcome said terms By why (inr stops) few reports told =
-    rw (stop_goes stops.0 said stops.1)
-    (stopped_runs (λ outcome. says (outcome_says outcome) (Done (standing outcome))) operation stops.0 stops.2
-    (told stops.0 stops.1 stops.2))
+    search (rules, broke_lacking, broke_operation)

@@ -1,12 +1,13 @@
 -- Files that are created and written.
-use Rattle.std.proofs.Common.{◌≡◌, ℕ, true, List, [], ◌∷◌, map, bytes_eq, codes, Result, Ok, Err, OnOk, OnErr, ◌∙◌, ap, sym, subst, refl, rules, arith, length, append-nil}
+use Rattle.std.proofs.lemmas.Grind.{common_steps}
+use Rattle.std.proofs.Common.{◌≡◌, ℕ, true, List, [], ◌∷◌, map, bytes_eq, codes, Result, Ok, Err, OnOk, OnErr, ◌∙◌, refl, rules, arith, append-nil}
 use Rattle.std.proofs.Math.Seq.{take-length}
 use Rattle.std.proofs.lemmas.Slice.Eq.{bytes_eq-Decides}
-use Rattle.avr_desk.specs.Record.{DeskState, Record, Passes, after_create, showing}
+use Rattle.avr_desk.specs.Record.{DeskState, Record, Passes, after_create}
 use Rattle.avr_desk.specs.Fault.{Counts, Follows, HasFailedAt, HasSameCounts}
 use Rattle.avr_desk.specs.Stream.{SendsPart, after_sent}
 use Rattle.avr_desk.specs.declared.stream.Stream.{Stream}
-use Rattle.avr_desk.specs.declared.stream.Stream.TheVariants.{File, Messages, Output}
+use Rattle.avr_desk.specs.declared.stream.Stream.TheVariants.{File, Output}
 use Rattle.avr_desk.specs.declared.desk.DeskFault.{DeskFault}
 use Rattle.stk_host.specs.Dialog.{Said}
 use Rattle.avr_desk.specs.Said.{OutputEvent, Creates, Writes, Outs, Tells, after_all}
@@ -18,7 +19,6 @@ use Rattle.avr_session.specs.Reporting.{SaysPrefix, SaysOrStops, Reports, DeskSt
 use Rattle.avr_session.specs.Session.{saving_says}
 use Rattle.avr_session.specs.Saving.{IsForData, SaveStops, WritesSome, WritesAll}
 use Rattle.avr_session.proofs.Runs.Stops.{file_part, output_part}
-use Rattle.avr_session.proofs.ActionByAction.Reports.{file_stops_in}
 
 pub not_created : (old new : DeskState) (file : List ℕ) (result : Result (Unit {0}) DeskFault) (fault : DeskFault)
     (more : List OutputEvent) → result ≡ Err fault → Passes (after_create file result) old new
@@ -37,86 +37,52 @@ not_created old new file (Err other) fault more is kept = record {
 -- if a file can't be saved, the desk has failed
 pub save_is_desk : (file : List ℕ) (before now : DeskState) (cause : Cause) (told : List ℕ)
     → SaveStops file before now cause told → DeskStops before now cause told
-save_is_desk file before now (OfFile named NotCreated) told stops = stops.1
-save_is_desk file before now (OfFile named NotWritten) told stops = stops.1
-save_is_desk file before now cause told stops = absurd stops
-
--- a whole text was sent, and then nothing
-sent_on_to_disk : (s : Stream) (old now new : Record) (text : List ℕ) → now ≡ after_sent s text old
-    → new ≡ after_sent s [] now → new ≡ after_sent s text old
-sent_on_to_disk s old now new text first then =
-    sent_next s old now new text [] first then ∙ ap (λ (xs : List ℕ). after_sent s xs old) (append-nil text)
+save_is_desk file before now cause told stops = search rules
 
 pub sent_whole : (s : Stream) (old now new : Record) (text : List ℕ) (r : Result (Unit {0}) DeskFault)
     → now ≡ after_sent s text old → new ≡ after_sent s [] now → OnOk r (new ≡ after_sent s text old)
-sent_whole s old now new text (Ok done) first then = sent_on_to_disk s old now new text first then
-sent_whole s old now new text (Err fault) first then = tt
+sent_whole s old now new text r first then = search (rules, sent_next, append-nil)
 
 pub sent_whole_part : (s : Stream) (old now new : DeskState) (text : List ℕ) (r : Result (Unit {0}) DeskFault)
     → Passes (after_sent s text) old now → Passes (after_sent s []) now new → OnErr r (SendsPart s old new text)
-sent_whole_part s old now new text (Ok done) first then = tt
-sent_whole_part s old now new text (Err fault) first then = (
-  length text,
-  omega (arith),
-  sent_on_to_disk s old.kept now.kept new.kept text first then
-      ∙ ap (λ (xs : List ℕ). after_sent s xs old.kept) (sym (take-length text)),
-)
+sent_whole_part s old now new text r first then = grind (arith, common_steps, sent_next, append-nil, take-length)
 
 -- calls before that failed not
 pub counted_on : (s : Stream) (old now new : DeskState) (r : Result (Unit {0}) DeskFault) → HasSameCounts old now
     → Counts s now new r → Counts s old new r
-counted_on s old now new r same counts =
-    subst (λ n. Counts s (showing old.kept old.failures n) new r) same.1
-    (subst (λ n. Counts s (showing old.kept n now.unsaid) new r) same.0 counts)
+counted_on s old now new r same counts = search rules
 
 -- a file was created, and its bytes were written, or a prefix of them
 text_then : (old mid new : DeskState) (file text : List ℕ) (result : Result (Unit {0}) DeskFault)
     → Passes (after_all (Creates file ∷ [])) old mid → HasSameCounts old mid → WritesAll File file mid new text result
     → SaysOrStops (SaveStops file) old new (Creates file ∷ Writes text ∷ []) result
 text_then old mid new file text (Ok done) kept same writes = search rules
-text_then old mid new file text (Err _) kept same writes = record {
-  between = writes.between;
-  cause = OfFile file NotWritten;
-  prefix = file_part old mid writes.between file text kept writes.part;
-  told = writes.told;
-  stops = (refl, file_stops_in old mid new file NotWritten writes.told same writes.stops);
-  kept = writes.kept;
-}
+text_then old mid new file text (Err _) kept same writes =
+    search (rules, file_part old mid writes.between file text kept writes.part)
 
 pub created_then : (old mid new : DeskState) (file text : List ℕ) (created : Result (Unit {0}) DeskFault)
     (result : Result (Unit {0}) DeskFault) {done : Unit {0}} → created ≡ Ok done
     → Passes (after_create file created) old mid → Counts File old mid created → Follows mid new
     → WritesAll File file mid new text result
     → Reports (SaveStops file) old new (Creates file ∷ Writes text ∷ []) result
-created_then old mid new file text (Err fault) result is kept first last writes = cc
-created_then old mid new file text (Ok ok) result is kept first last writes =
-    search (rules, text_then, follows_on)
+created_then old mid new file text created result is kept first last writes = search (rules, text_then, follows_on)
 
 -- bytes were written to standard output, or a prefix of them
 put_out : (old new : DeskState) (file text : List ℕ) (result : Result (Unit {0}) DeskFault) → file ≡ codes "-"
     → WritesAll Output file old new text result → SaysOrStops (SaveStops file) old new (Outs text ∷ []) result
 put_out old new file text (Ok done) named writes = writes
-put_out old new file text (Err _) named writes = record {
-  between = writes.between;
-  cause = OfFile file NotWritten;
-  prefix = output_part old writes.between file text named writes.part;
-  told = writes.told;
-  stops = (refl, writes.stops);
-  kept = writes.kept;
-}
+put_out old new file text (Err _) named writes =
+    search (rules, output_part old writes.between file text named writes.part)
 
 pub saved_out : (old new : DeskState) (file text : List ℕ) (result : Result (Unit {0}) DeskFault)
     → bytes_eq file (codes "-") ≡ true → WritesAll Output file old new text result → Follows old new
     → Reports (SaveStops file) old new (saving_says file text) result
-saved_out old new file text result same writes follows =
-    search (rules, put_out, bytes_eq-Decides)
+saved_out old new file text result same writes follows = search (rules, put_out, bytes_eq-Decides)
 
 -- a stream that fails during writing fails as a file
 pub failed_at_file : (stream : Stream) (old new : DeskState) → IsForData stream → HasFailedAt stream old new
     → HasFailedAt File old new
-failed_at_file File old new written failed = failed
-failed_at_file Output old new written failed = failed
-failed_at_file Messages old new written failed = absurd written
+failed_at_file stream old new written failed = search rules
 
 -- the report about a file after a prefix of its bytes
 pub writes_some : (stream : Stream) (file text : List ℕ) (old mid new : DeskState) → SendsPart stream old mid text

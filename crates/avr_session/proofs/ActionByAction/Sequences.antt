@@ -1,5 +1,5 @@
 -- Actions of a session, one after another.
-use Rattle.std.proofs.Common.{◌≡◌, ℕ, Bool, true, false, ◌||◌, ◌++◌, ◌≤◌, arith, List, [], ◌∷◌, length, refl, ap, ◌∙◌, subst, append_assoc, None, Result, Ok, Err, inl, get_or, take, drop, ◌<◌, ◌-◌, rules}
+use Rattle.std.proofs.Common.{◌≡◌, ℕ, Bool, true, false, ◌||◌, ◌++◌, ◌≤◌, arith, List, [], ◌∷◌, length, refl, ap, ◌∙◌, append_assoc, None, Result, Ok, Err, get_or, take, drop, ◌<◌, ◌-◌, rules}
 use Rattle.std.proofs.Math.Bool.{or-false}
 use Rattle.std.specs.List.{list_any}
 use Rattle.std.proofs.lemmas.Grind.{common_steps}
@@ -28,54 +28,42 @@ use Rattle.avr_session.specs.declared.ending.End.TheVariants as ends
 use Rattle.avr_session.specs.Actions.{Action, action_takes_memory, actions, takes_memory}
 use Rattle.avr_session.specs.Concluding.{HostServes, conclusion, stands}
 use Rattle.avr_session.specs.Session.{says, standing, reported, unless_fault, fault_or, action_dialog, actions_dialog, ending, playing, session, status_of}
-use Rattle.avr_session.specs.Runs.{Cause, OfFile, OfPrinting, cause_line, tells_fault, Devices, devices, start, Terms, untold, TellsCause, StopsBehind, Lacking, Ran}
+use Rattle.avr_session.specs.Runs.{Cause, OfPrinting, cause_line, tells_fault, Devices, devices, start, Terms, untold, TellsCause, StopsBehind, Lacking, Ran}
 use Rattle.avr_session.specs.Reporting.{DeskStops, PrintStops, ReadStops, Reports}
 use Rattle.avr_session.specs.Run.{StopsSession}
 use Rattle.avr_session.specs.Stopping.{IsPlayed}
 use Rattle.avr_session.specs.Taking.{AtOnce, AtTaking}
 use Rattle.avr_session.specs.Performing.{is_told, PerformsBehind, Performs, Does, LeavesOut, Runs}
-use Rattle.avr_session.proofs.ActionByAction.Reports.{kept_nothing}
 use Rattle.avr_desk.proofs.Stages.Outputs.{kept_none}
 use Rattle.avr_desk.proofs.Lines.Told.{follows_here, same_here}
 use Rattle.avr_session.proofs.Runs.Calls.{none_failed_here, came_here, came_said, came_part, ran_from, ran_on, stops_in, broke_on, broke_part, broke_output, LacksLater, StopsReport, ToldBy}
 use Rattle.avr_session.proofs.ActionByAction.FaultsTold.{Foretells, foretold, prefix_tells_none, actions_foretells}
 use Rattle.avr_session.proofs.ActionByAction.Actions.{actions_dialog-one, actions_dialog-append}
-use Rattle.avr_session.proofs.ActionByAction.Operations.{call_ended, Stop, Unsent, Unheard, Lacks, cause_at, StopsAs, StopsOver, operation_runs, stop_come, told_of}
+use Rattle.avr_session.proofs.ActionByAction.Operations.{Stop, cause_at, StopsAs, StopsOver, operation_runs, stop_come, told_of}
 
 -- a desk that failed in printing stops the run, whatever was reported
 printing_tells : (flag : Bool) (told : List ℕ) (d : DeskState) → told ≡ [] → TellsCause flag OfPrinting told d d
 unfolding cause_line
-printing_tells false told d none = inl (none, same_here d)
-printing_tells true told d none = none
+printing_tells flag told d none = search (rules, same_here)
 
 pub print_stops_run : (terms : Terms) (o : LinkState) (d e : DeskState) → Follows d e
     → (said : List OutputEvent) (cause : Cause) (told : List ℕ) → PrintStops d e cause told
     → StopsBehind terms (devices o d) (devices o e) said cause told
-print_stops_run terms o d e le said OfPrinting told stops =
-    search (rules, printing_tells, follows_here)
+print_stops_run terms o d e le said OfPrinting told stops = search (rules, printing_tells, follows_here)
 print_stops_run terms o d e le said cause told stops = absurd stops
 
 -- so does a desk that failed at a file, if no fault was reported
 desk_stops_run : (takes : Bool) (o : LinkState) (d e : DeskState) → Follows d e → (said : List OutputEvent)
     → tells_fault said ≡ false → (cause : Cause) (told : List ℕ) → DeskStops d e cause told
     → StopsBehind (untold takes) (devices o d) (devices o e) said cause told
-desk_stops_run takes o d e le said none (OfFile file trouble) told stops = search rules
-desk_stops_run takes o d e le said none OfPrinting told stops =
-    print_stops_run (untold takes) o d e le said OfPrinting told stops
-desk_stops_run takes o d e le said none cause told stops = absurd stops
+desk_stops_run takes o d e le said none cause told stops = search (rules, print_stops_run)
 
 -- the cause that stops a report, after a prefix of its output
 
 pub print_stops_report : (terms : Terms) (o : LinkState) {d e : DeskState} {outputs : List OutputEvent}
     {told : Result (Unit {0}) DeskFault} → Reports PrintStops d e outputs told
     → StopsReport terms o d e outputs PrintStops
-print_stops_report terms o {d = d} {e = e} reports mid cause prefix told stops =
-    print_stops_run terms o d e reports.follows (prefix.whole ++ prefix.begun) cause told stops
-
-desk_stops_report : (takes : Bool) (o : LinkState) (d e : DeskState) (outputs : List OutputEvent) → Follows d e
-    → tells_fault outputs ≡ false → StopsReport (untold takes) o d e outputs DeskStops
-desk_stops_report takes o d e outputs le none mid cause prefix told stops =
-    desk_stops_run takes o d e le (prefix.whole ++ prefix.begun) (prefix_tells_none prefix none) cause told stops
+print_stops_report terms o {d = d} {e = e} reports mid cause prefix told stops = search (rules, print_stops_run)
 
 -- a cause that was reported
 told_by : {R : Type 0} (takes : Bool) (dialog : Dialog ⊥ R) (m : Progress) (o p : LinkState) {d e : DeskState}
@@ -86,8 +74,7 @@ told_by takes dialog m o p {d = d} stop over some = search (rules, stop_come)
 -- a call of an equal operation
 pub calls_of : {A : Type 0} {takes : Bool} {a b : Dialog ⊥ (Result A HostFault)} {old new : HostState} {o p : LinkState}
     {outcome : Result A HostFault} → a ≡ b → Calls takes a old new o p outcome → Calls takes b old new o p outcome
-calls_of {takes = takes} {old = old} {new = new} {o = o} {p = p} {outcome = outcome} is =
-    subst (λ operation. Calls takes operation old new o p outcome) is
+calls_of {takes = takes} {old = old} {new = new} {o = o} {p = p} {outcome = outcome} is = search rules
 
 -- An operation of the host and the output about its outcome, for a call that ended and was reported like this.
 module _ {A : Type 0} (operation : Dialog ⊥ (Result A HostFault)) (outcome_says : Result A HostFault → List OutputEvent)
@@ -100,23 +87,20 @@ module _ {A : Type 0} (operation : Dialog ⊥ (Result A HostFault)) (outcome_say
       → Calls terms.takes operation old new o p outcome → result ≡ conclusion outcome told
       → PerformsBehind terms (AtOnce terms.takes) (reported operation outcome_says) old new (devices o d) (devices p e)
       (stands result)
-  action_performs terms why tells sound calls is = search (rules, operation_runs, call_ended)
+  action_performs terms why tells sound calls is = search (rules, operation_runs)
 
   pub operation_performs : (takes : Bool) → StopsReport (untold takes) p d e (outcome_says outcome) By
       → ((stop : Stop) → StopsAs outcome stop → Tells d e (cause_line (cause_at stop)))
       → old.broken ≡ None → Calls takes operation old new o p outcome → result ≡ conclusion outcome told
       → Performs takes (reported operation outcome_says) old new (devices o d) (devices p e) (stands result)
-  operation_performs takes why some sound calls = action_performs (untold takes) why
-      (λ stop at over. told_by takes operation old.progress o p stop over (some stop at)) sound
-      calls
+  operation_performs takes why some sound calls = search (rules, action_performs, told_by)
 
 left_out_runs : (takes : Bool) (outputs : List OutputEvent) (m : Progress) (o : LinkState) (d e : DeskState)
     (told : Result (Unit {0}) DeskFault) → Reports PrintStops d e outputs told
     → Runs (says outputs (Done Fine)) m (devices o d) (devices o e) (untold takes) (AtOnce takes)
     (stands (conclusion {A = Unit {0}} (Ok tt) told)) m
 left_out_runs takes outputs m o d e (Ok done) reports = ran_from (came_said outputs (Done Fine) m o reports.says)
-left_out_runs takes outputs m o d e (Err _) reports =
-    broke_output outputs (Done Fine) m o (print_stops_report (untold takes) o reports) reports.says
+left_out_runs takes outputs m o d e (Err _) reports = search (rules, broke_output, print_stops_report)
 
 -- output in place of an action
 pub left_out_performs : (takes : Bool) (outputs : List OutputEvent) {host : HostState} {o : LinkState} {d e : DeskState}
@@ -160,10 +144,6 @@ performs_as done runs serves =
 
 -- memory is allocated in the one or in the other
 
-or_then : (b c : Bool) → c ≡ true → (b || c) ≡ true
-or_then true c is = refl
-or_then false c is = is
-
 module _ (takes more_takes : Bool) where
   -- an action at which a session ends
   performs_last : {first : Dialog OutputEvent Standing} {L M : Lacking} (more : Dialog OutputEvent Standing)
@@ -171,8 +151,7 @@ module _ (takes more_takes : Bool) where
       {o p : Devices} (end : End) → LacksLater L x.progress [] [] M x.progress
       → PerformsBehind (untold takes) M first x y o p (stands (Err end))
       → PerformsBehind (untold (takes || more_takes)) L (first >>= unless_fault more) x y o p (stands (Err end))
-  performs_last more {o = o} {p = p} ends.Stopped lack done =
-      search (rules, broke_part, none_failed_here)
+  performs_last more {o = o} {p = p} ends.Stopped lack done = search (rules, broke_part, none_failed_here)
   performs_last more end lack done =
       performs_as done (ran_from (came_part (unless_fault more) done.runs)) done.serves
 
@@ -202,7 +181,6 @@ taking_then : (part : Part) (s : Switches) (xs ys : List Action) {m n : Progress
     (ran : Ran (actions_dialog part s xs) m o p Fine n)
     → LacksLater (AtTaking part s (xs ++ ys)) m ran.during ran.events (AtTaking part s ys) n
 taking_then part s xs ys {m = m} {n = n} ran during shown at =
-    let go_on : Standing → Dialog OutputEvent Standing = unless_fault (actions_dialog part s at.done) in
     let tape : Tape = on_tape m.unread ++ heard (ran.during ++ during) in
     let first = ap (λ (t : Tape). played (actions_dialog part s xs) m.next (on_tape m.unread ++ t))
     (heard_append ran.during during) ∙ ran.plays.plays (heard during) in
@@ -246,8 +224,7 @@ does_one plan action {x = x} {y = y} {o = o} {p = p} {result = result} done =
 pub does_same : (plan : Plan) (xs ys : List Action) {x y : HostState} {o p : Devices}
     {result : Result Standing (Unit {0})}
     → xs ≡ ys → Does plan xs x y o p result → Does plan ys x y o p result
-does_same plan xs ys {x = x} {y = y} {o = o} {p = p} {result = result} same done =
-    subst (λ (every : List Action). Does plan every x y o p result) same done
+does_same plan xs ys {x = x} {y = y} {o = o} {p = p} {result = result} same done = search rules
 
 -- these, and others after them
 module _ (plan : Plan) (xs ys : List Action) where
@@ -268,22 +245,19 @@ module _ (plan : Plan) (xs ys : List Action) where
       (list_any action_takes_memory xs || list_any action_takes_memory ys) Fine
       (performs_as done done.runs done.serves)
       (list_any action_takes_memory ys) (unless_fault (actions_dialog plan.part plan.switches ys)) result
-      (or_then (list_any action_takes_memory xs) (list_any action_takes_memory ys))
+      (search rules)
       (actions_foretells plan.part plan.switches xs) (taking_then plan.part plan.switches xs ys done.runs) rest)
 
   -- the others are skipped
   pub does_last : {x y : HostState} {o p : Devices} (end : End) → Does plan xs x y o p (stands (Err end))
       → Does plan (xs ++ ys) x y o p (stands (Err end))
-  does_last {x = x} end done =
-      does_both (search (rules, performs_last, taking_prefix))
+  does_last {x = x} end done = search (rules, does_both, performs_last, taking_prefix)
 
 -- a read, whose data are in a vector
 
 pub given_concluded : {A : Type 0} (a : A) (outcome : Result (Unit {0}) HostFault)
     (told : Result (Unit {0}) DeskFault) → conclusion (given_or_fault a outcome) told ≡ conclusion outcome told
-given_concluded a (Ok ok) (Ok done) = refl
-given_concluded a (Err fault) (Ok done) = refl
-given_concluded a outcome (Err _) = refl
+given_concluded a outcome told = search rules
 
 -- why a run stops depends on the fault alone
 pub given_told : {A : Type 0} (a : A) (good : A → List OutputEvent) {d e : DeskState} (part : Part)
@@ -301,18 +275,16 @@ pub read_stops_report : (part : Part) (good : List ℕ → List OutputEvent) (it
     → Reports (ReadStops outcome) d e (fault_or part good (given_or_fault items outcome)) told
     → StopsReport (untold takes) o d e (fault_or part good (given_or_fault items outcome)) (ReadStops outcome)
 read_stops_report part good items none (Ok done) takes o {d = d} {e = e} reports =
-    desk_stops_report takes o d e (good items) reports.follows none
+    search (rules, desk_stops_run, prefix_tells_none)
 read_stops_report part good items none (Err fault) takes o reports = print_stops_report (untold takes) o reports
 
 -- the tasks are the first and those after it
 pub first_task : (tasks : List Task) (task : Task) → 1 ≤ length tasks → task ≡ get_or tasks 0 task
     → task ∷ drop 1 tasks ≡ tasks
-first_task [] task some is = absurd (omega (arith, some))
-first_task (t ∷ tasks) task some is = ap (λ x. x ∷ tasks) is
+first_task tasks task some is = search rules
 
 pub no_task : (tasks : List Task) → length tasks < 1 → [] ≡ tasks
-no_task [] few = refl
-no_task (t ∷ tasks) few = absurd (omega (arith, few))
+no_task tasks few = grind (arith, common_steps)
 
 pub tasks_behind : (tasks : List Task) → take (length tasks - 1) (drop 1 tasks) ≡ drop 1 tasks
 tasks_behind tasks = grind (arith, common_steps)
@@ -323,8 +295,7 @@ pub performs_until : {terms : Terms} {L : Lacking} {first : Dialog OutputEvent S
     (go_on : Standing → Dialog OutputEvent Standing) {x y : HostState} {o p : Devices} (stopped : Unit {0})
     → PerformsBehind terms L first x y o p (Err stopped)
     → PerformsBehind terms L (first >>= go_on) x y o p (Err stopped)
-performs_until go_on stopped done =
-    performs_as done (broke_part go_on (λ said cause told s. s) (λ during shown lack. lack) done.runs) tt
+performs_until go_on stopped done = search (rules, broke_part)
 
 -- after a fault that was reported
 abbrev told_before : Terms
@@ -333,24 +304,13 @@ told_before = record { takes = false; was_told = true }
 -- a failed link isn't reported there, and nothing is allocated
 silent_at : {R : Type 0} (dialog : Dialog ⊥ R) (m : Progress) (o p : LinkState) (d : DeskState) (stop : Stop)
     → StopsOver false dialog m o p stop → TellsCause true (cause_at stop) [] d d
-silent_at dialog m o p d Unsent over = refl
-silent_at dialog m o p d Unheard over = refl
-silent_at dialog m o p d Lacks over = let e = over.0 in absurd (cc)
+silent_at dialog m o p d stop over = search rules
 
 told_nothing : {A R : Type 0} (dialog : Dialog ⊥ R) (m : Progress) (o p : LinkState) {outcome : Result A HostFault}
     (d : DeskState) (stop : Stop) → StopsAs outcome stop
     → StopsOver false dialog m o p stop → ToldBy told_before (cause_at stop) (devices o d) (devices p d)
-told_nothing dialog m o p d stop is over = (
-  [],
-  record {
-    between = d;
-    has_come = stop_come false dialog m o p d stop over;
-    tells = silent_at dialog m o p d stop over;
-    since = follows_here d;
-    until = follows_here d;
-  },
-  kept_nothing d.kept,
-)
+told_nothing dialog m o p d stop is over =
+    search (rules, stop_come false dialog m o p d stop over, silent_at dialog m o p d stop over, follows_here d)
 
 -- programming mode is left without a report
 pub quietly_performs : {old new : HostState} {o p : LinkState} (d : DeskState) {outcome : Result (Unit {0}) HostFault}
@@ -361,8 +321,7 @@ pub quietly_performs : {old new : HostState} {o p : LinkState} (d : DeskState) {
 quietly_performs {old = old} {o = o} {p = p} d sound calls is =
     let reports : Reports PrintStops d d [] (Ok tt) =
     record { says = (kept_none d.kept, same_here d); follows = follows_here d } in
-    action_performs closing (λ _. []) reports told_before (print_stops_report told_before p reports)
-    (told_nothing closing old.progress o p d) sound calls is
+    search (rules, action_performs, print_stops_report, told_nothing)
 
 -- after it nothing more goes over the link
 pub quietly_over : {first : Dialog OutputEvent Standing} {L : Lacking} {x y : HostState} {o p : Devices}
@@ -399,5 +358,4 @@ pub session_stopped : (plan : Plan) {x y : HostState} {o p : Devices} (stopped :
     p (Err stopped)
     → StopsSession plan o p
 unfolding session
-session_stopped plan {o = o} {p = p} stopped first done =
-    search (rules, broke_part)
+session_stopped plan {o = o} {p = p} stopped first done = search (rules, broke_part)

@@ -1,5 +1,5 @@
 -- Bytes up to the last that isn't FF.
-use Rattle.std.proofs.Common.{◌≡◌, ap, refl, arith, ℕ, ◌+◌, ◌-◌, ◌<◌, ◌≤◌, ◌==◌, ◌&&◌, List, [], ◌∷◌, ◌++◌, length, take, slice_index, false, if◌then◌else◌, get_or, rules}
+use Rattle.std.proofs.Common.{◌≡◌, ap, refl, ℕ, ◌+◌, ◌-◌, ◌<◌, ◌≤◌, ◌==◌, ◌&&◌, List, [], ◌∷◌, ◌++◌, length, take, slice_index, if◌then◌else◌, get_or, rules}
 use Rattle.std.proofs.lemmas.List.{take_more, length-take-le}
 use Rattle.std.proofs.lemmas.Bool.Decides.{nat_tests}
 use Rattle.avr_session.specs.FileText.{used_length}
@@ -8,27 +8,18 @@ used_blank : (xs : List ℕ) → used_length (xs ++ 255 ∷ []) ≡ used_length 
 used_blank [] = refl
 used_blank (x ∷ xs) = ap (λ n. if n == 0 && x == 255 then 0 else 1 + n) (used_blank xs)
 
-positive : (n : ℕ) → (n + 1 == 0) ≡ false
-positive n = grind (arith, nat_tests)
-
-differs : (n : ℕ) → (n ≡ 255 → ⊥) → (n == 255) ≡ false
-differs n not = grind (arith, nat_tests)
-
 used_last : (xs : List ℕ) (b : ℕ) → (b ≡ 255 → ⊥) → used_length (xs ++ b ∷ []) ≡ length xs + 1
-used_last [] b not = rw (differs b not) refl
-used_last (x ∷ xs) b not = rw (used_last xs b not, positive (length xs)) (omega arith)
+used_last [] b not = search (rules, nat_tests)
+used_last (x ∷ xs) b not = search (rules, nat_tests, used_last xs b not)
 
 prefix_and_last : (bytes : List ℕ) (count : ℕ) → 0 < count → count ≤ length bytes
     → take count bytes ≡ take (count - 1) bytes ++ get_or bytes (count - 1) 0 ∷ []
-prefix_and_last bytes count some within =
-    search (rules, take_more)
+prefix_and_last bytes count some within = search (rules, take_more)
 
 pub blank_dropped : (bytes : List ℕ) (count : ℕ) → 0 < count → count ≤ length bytes
     → slice_index bytes (count - 1) ≡ 255 → used_length (take (count - 1) bytes) ≡ used_length (take count bytes)
-blank_dropped bytes count some within is =
-    search (rules, prefix_and_last, used_blank)
+blank_dropped bytes count some within is = search (rules, prefix_and_last, used_blank)
 
 pub last_used : (bytes : List ℕ) (count : ℕ) → 0 < count → count ≤ length bytes
     → (slice_index bytes (count - 1) ≡ 255 → ⊥) → used_length (take count bytes) ≡ count
-last_used bytes count some within not =
-    search (rules, prefix_and_last, used_last, length-take-le)
+last_used bytes count some within not = search (rules, prefix_and_last, used_last, length-take-le)

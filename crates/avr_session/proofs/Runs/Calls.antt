@@ -1,5 +1,5 @@
 -- How a call over a link and a desk goes on in its dialog.
-use Rattle.std.proofs.Common.{◌≡◌, ℕ, ◌≤◌, true, ◌||◌, List, [], ◌∷◌, ◌++◌, append_assoc, append-nil, length, map, refl, sym, ap, ◌∙◌, subst, Option, rules}
+use Rattle.std.proofs.Common.{◌≡◌, ℕ, ◌≤◌, true, ◌||◌, List, [], ◌∷◌, ◌++◌, append_assoc, append-nil, length, map, refl, sym, ap, ◌∙◌, subst, rules}
 use Rattle.std.proofs.Math.Bool.{or_assoc}
 use Rattle.std.proofs.lemmas.List.Folds.{list_any-append}
 use Rattle.avr_desk.specs.Fault.{HasSameCounts}
@@ -21,7 +21,7 @@ use Rattle.avr_desk.proofs.Lines.Told.{follows_on, follows_same, same_here, same
 use Rattle.avr_session.specs.Session.{says}
 use Rattle.avr_session.specs.Runs.{Devices, devices, NoneFailed, Cause, OfSending, OfListening, OfMemory, tells_fault, StopsAt, Listens, Lacking, Terms, StopsBehind, Ran, BrokeOff}
 use Rattle.avr_session.specs.Reporting.{IsOfDesk, SaysPrefix, SaidSome}
-use Rattle.avr_session.proofs.Runs.Stops.{place_behind, desk_says, desk_listens, outputs_said, map_append}
+use Rattle.avr_session.proofs.Runs.Stops.{place_behind, outputs_said, map_append}
 
 -- a point of a call: the rest of its dialog, the progress of its conversation, and the devices' states
 pub record Point (R : Type 0) : Type 0 where
@@ -164,8 +164,7 @@ ToldBy terms cause o p = (told : List ℕ) × StopsBehind terms o p [] cause tol
 
 module _ {R : Type 0} {dialog : Dialog OutputEvent R} {m : Progress} {o p : Devices} {terms : Terms} {L : Lacking} where
   placed_of : (f : BrokeOff dialog m o p terms L) → Placed f.cause f.during f.shown (played_over dialog m f.during).events
-  placed_of f =
-      search rules
+  placed_of f = search rules
 
   broke_off : (during : Transcript) (shown : List (Event OutputEvent)) (cause : Cause) (told : List ℕ)
       → Grows o.link.transcript during p.link.transcript
@@ -232,13 +231,6 @@ broke_quietly {x = x} {y = y} {q = q} {terms = terms} came quiet broke =
     broke_on came (search rules)
     (λ during shown never. absurd never) broke
 
--- a dialog that listens has nothing after it yet
-none_behind : {A R : Type 0} (cause : Cause) (outcome : Option (A × ℕ × Tape)) (go_on : A → ℕ → Tape
-    → Played OutputEvent R)
-    → Listens cause outcome → cause ≡ OfListening → (continued outcome go_on).events ≡ []
-none_behind cause outcome go_on listens is =
-    search rules
-
 -- in an operation of the host; its report follows it
 
 abbrev pub broken_cause : HostFault → Cause
@@ -297,7 +289,7 @@ module _ {A R : Type 0} (go_on : A → Dialog OutputEvent R) where
       let bound = sym (played_bind a go_on m.next (on_tape m.unread ++ heard f.during)) in
       broke_off f.during f.shown f.cause f.told f.grows
       (subst (λ (play : Played OutputEvent R). Placed f.cause f.during f.shown play.events) bound (placed_more
-      (continued play.outcome next).events (none_behind f.cause play.outcome next f.listens) (placed_of f)))
+      (continued play.outcome next).events (search rules) (placed_of f)))
       f.breaks.all_sent (breaks_bind SaidPart go_on f.breaks).in_turn
       (search rules) (why (outputs f.shown) f.cause f.told f.stops) f.kept
       (λ is. lack f.during f.shown (f.lacks is))
@@ -337,15 +329,7 @@ StopsReport terms o d e outputs By = (mid : DeskState) (cause : Cause) (prefix :
 module _ {R : Type 0} (xs : List OutputEvent) (dialog : Dialog OutputEvent R) (m : Progress) (o : LinkState) where
   pub came_said : {d e : DeskState} → Passes (after_all xs) d e × HasSameCounts d e
       → Came (point (says xs dialog) m (devices o d)) (point dialog m (devices o e))
-  came_said {d = d} {e = e} said = record {
-    during = [];
-    events = map Said xs;
-    grows = grows_none o.transcript;
-    leads = leads_says xs dialog m;
-    few = λ f. f;
-    kept = subst (λ ss. Passes (after_all ss) d e) (sym (outputs_said xs)) said.0;
-    sound = (refl, said.1);
-  }
+  came_said {d = d} {e = e} said = search (rules, grows_none o.transcript, leads_says xs dialog m, outputs_said xs)
 
   pub broke_output : {By : DeskState → DeskState → Cause → List ℕ → Type 0} {terms : Terms} {L : Lacking}
       {d e : DeskState}
@@ -356,9 +340,8 @@ module _ {R : Type 0} (xs : List OutputEvent) (dialog : Dialog OutputEvent R) (m
       let shown : List OutputEvent = prefix.whole ++ prefix.begun in
       broke_off [] (map Said shown) f.cause f.told (grows_none o.transcript)
       (subst (Placed f.cause [] (map Said shown)) (sym (says_events xs dialog m.next m.unread))
-      (placed_more (played_over dialog m []).events (λ listens. absurd (desk_says f.cause prefix.by_desk listens))
-      (search (rules, map_append)))) (no_bytes shown) tt (desk_listens f.cause (played_over (says xs dialog) m
-      []).outcome prefix.by_desk)
+      (placed_more (played_over dialog m []).events (λ listens. absurd (search rules))
+      (search (rules, map_append)))) (no_bytes shown) tt (search rules)
       (subst (λ said. StopsBehind terms (devices o d) (devices o e) said f.cause f.told)
       (sym (outputs_said shown)) (why f.between f.cause f.prefix f.told f.stops))
       (search (rules, kept_on, outputs_said)) (λ is. absurd (subst IsOfDesk is prefix.by_desk))

@@ -1,18 +1,16 @@
 -- The outcome of a session: the line of its fault is the last one that was reported.
-use Rattle.std.proofs.Common.{◌≡◌, ◌++◌, List, [], ◌∷◌, Result, Ok, Err, inl, inr, refl}
+use Rattle.std.proofs.Common.{◌≡◌, ◌++◌, List, [], ◌∷◌, Result, Ok, Err, refl, rules}
 use Rattle.avr_desk.specs.Record.{Bytes, DeskState, Record}
 use Rattle.avr_desk.specs.Said.{OutputEvent, Line, after, after_all}
 use Rattle.avr_part.specs.Part.{Part}
 use Rattle.avr_plan.specs.Plan.{Plan}
 use Rattle.stk_host.specs.declared.fault.HostFault.{HostFault}
-use Rattle.stk_host.specs.declared.fault.HostFault.TheVariants.{SendFailed, Memory, RecvFailed}
 use Rattle.stk_host.specs.State.{HostState}
 use Rattle.avr_session.specs.Standing.{Fine, Faulty, Over}
 use Rattle.avr_session.specs.declared.ending.End.{End}
 use Rattle.avr_session.specs.declared.ending.End.TheVariants as ends
 use Rattle.avr_desk.specs.declared.desk.DeskFault.{DeskFault}
 use Rattle.avr_session.specs.declared.outcome.Outcome.{Outcome}
-use Rattle.avr_session.specs.declared.outcome.Outcome.TheVariants as outcome
 use Rattle.avr_session.specs.Actions.{actions, takes_memory}
 use Rattle.avr_session.specs.Concluding.{after_outcome, conclusion, stands}
 use Rattle.avr_session.specs.Lines.{fault_line}
@@ -34,10 +32,7 @@ last_line (output ∷ outputs) line r = last_line outputs line (after output r)
 -- a fault that doesn't stop the run was reported last
 after_fault : (A : Type 0) (part : Part) (fault : HostFault) (view : DeskState)
     → EndWith (fault_line part fault) view.kept.messages → EndsTold part view (after_outcome {A = A} (Err fault))
-after_fault A part SendFailed view last = tt
-after_fault A part Memory view last = tt
-after_fault A part RecvFailed view last = tt
-after_fault A part fault view last = last
+after_fault A part fault view last = search rules
 
 -- the output for the outcome of an operation
 module _ {A : Type 0} (part : Part) (tells : Result A HostFault → List OutputEvent) where
@@ -78,6 +73,4 @@ session_comes plan (Err ends.Stopped) first done last = session_stopped plan tt 
 -- its outcome has its status
 pub comes_runs : (plan : Plan) (old new : Devices) (outcome : Outcome) → ComesTo plan old new outcome
     → RunsSession plan old new (outcome_status outcome)
-comes_runs plan old new outcome.Done comes = inl comes
-comes_runs plan old new (outcome.Faulty fault) comes = inl comes.0
-comes_runs plan old new outcome.Stopped comes = inr (comes, refl)
+comes_runs plan old new outcome comes = search rules

@@ -1,5 +1,5 @@
 -- Where a run stops: what is before it and what follows it changes nothing.
-use Rattle.std.proofs.Common.{ℕ, ◌≡◌, ◌∙◌, List, [], ◌∷◌, ◌++◌, map, refl, sym, ap, subst, append_assoc, take, drop, Option, inl, inr, codes, rules}
+use Rattle.std.proofs.Common.{ℕ, ◌≡◌, ◌∙◌, List, [], ◌∷◌, ◌++◌, map, refl, sym, ap, subst, append_assoc, take, inl, inr, codes, rules}
 use Rattle.std.proofs.lemmas.List.{take-append-drop}
 use Rattle.avr_desk.specs.Record.{DeskState, Passes, Bytes}
 use Rattle.avr_desk.specs.Stream.{SendsPart}
@@ -9,8 +9,8 @@ use Rattle.stk_host.specs.Transcript.{Transcript, NoneTaken}
 use Rattle.stk_host.proofs.Transcripts.Laws.{none_append, none_behind}
 use Rattle.avr_desk.specs.Said.{OutputEvent, Line, Creates, Writes, Outs, after_all}
 use Rattle.avr_desk.proofs.Stages.Outputs.{kept_append}
-use Rattle.avr_session.specs.Runs.{Cause, OfSending, OfListening, OfFile, OfPrinting, NotWritten, AtPart, StopsAt, Listens}
-use Rattle.avr_session.specs.Reporting.{IsOfDesk, SaysPrefix}
+use Rattle.avr_session.specs.Runs.{Cause, OfSending, OfListening, OfFile, OfPrinting, NotWritten, AtPart, StopsAt}
+use Rattle.avr_session.specs.Reporting.{SaysPrefix}
 
 -- ---- events
 
@@ -18,14 +18,7 @@ use Rattle.avr_session.specs.Reporting.{IsOfDesk, SaysPrefix}
 pub place_behind : (cause : Cause) (first during : Transcript) (before whole begun later : List (Event OutputEvent))
     → NoneTaken first → StopsAt cause during whole begun later
     → StopsAt cause (first ++ during) (before ++ whole) begun later
-place_behind OfSending first during before whole begun later none x = record {
-  done = x.done;
-  unsent = x.unsent;
-  more = x.more;
-  due = x.due;
-  part = x.part;
-  not_whole = λ both. x.not_whole (none_behind first during both);
-}
+place_behind OfSending first during before whole begun later none x = search (rules, none_behind)
 place_behind OfListening first during before whole begun later none x = (none_append first during none x.0, x.1, x.2)
 place_behind (OfFile file NotWritten) first during before whole begun later none (inl x) =
     let again = ap (λ es. before ++ es) x.0.1 ∙ sym (append_assoc before x.0.0 (Said (Creates file) ∷ [])) in
@@ -34,14 +27,6 @@ place_behind (OfFile file NotWritten) first during before whole begun later none
 place_behind cause first during before whole begun later none x = x
 
 -- a desk doesn't listen
-
-pub desk_says : (cause : Cause) → IsOfDesk cause → cause ≡ OfListening → ⊥
-desk_says OfListening desk is = desk
-desk_says cause desk is = cc
-
-pub desk_listens : {A : Type 0} (cause : Cause) (outcome : Option A) → IsOfDesk cause → Listens cause outcome
-desk_listens OfListening outcome desk = absurd desk
-desk_listens cause outcome desk = tt
 
 -- ---- output events
 
@@ -75,19 +60,12 @@ prefix_behind {cause = cause} {d = d} {e = e} {f = f} done more kept x = record 
 -- a prefix of some output events is a prefix of more
 pub prefix_of : {cause : Cause} {d e : DeskState} (some more : List OutputEvent) → SaysPrefix cause d e some
     → SaysPrefix cause d e (some ++ more)
-prefix_of {cause = cause} some more x = search (rules, append_assoc, map_append, desk_says)
+prefix_of {cause = cause} some more x = search (rules, append_assoc, map_append)
 
 -- an event of which the first n bytes were done; for the three prefixes below: of a line, a file and the output
 part_due : (event : Bytes → OutputEvent) (n : ℕ) (bytes : Bytes)
     → AtPart event (Said (event (take n bytes)) ∷ []) (Said (event bytes) ∷ [])
-part_due event n bytes = record {
-  bytes = bytes;
-  done = take n bytes;
-  more = [];
-  due = refl;
-  part = refl;
-  prefix = (drop n bytes, take-append-drop n bytes);
-}
+part_due event n bytes = search (rules, take-append-drop n bytes)
 
 -- a line of which a prefix was printed
 pub line_part : (old new : DeskState) (bytes : Bytes) → SendsPart Messages old new bytes
