@@ -17,19 +17,10 @@ behind_is zero (b ∷ bs) = (refl, refl)
 behind_is (suc taken) (b ∷ bs) = behind_is taken bs
 
 start_only : (a : ℕ) (y : List ℕ) → (a == 27) ≡ false → piece_size (a ∷ y) ≡ 1
-start_only a [] e = rw e refl
-start_only a (b ∷ []) e = rw e refl
-start_only a (b ∷ c ∷ []) e = rw e refl
-start_only a (b ∷ c ∷ d ∷ []) e = rw e refl
-start_only a (b ∷ c ∷ d ∷ f ∷ y) e = rw e refl
+start_only a y e = search rules
 
 pub size_positive : (bytes : List ℕ) → 1 ≤ piece_size bytes
-size_positive [] = omega arith
-size_positive (a ∷ []) = grind (arith, nat_tests)
-size_positive (a ∷ b ∷ []) = grind (arith, nat_tests)
-size_positive (a ∷ b ∷ c ∷ []) = grind (arith, nat_tests)
-size_positive (a ∷ b ∷ c ∷ d ∷ []) = grind (arith, nat_tests)
-size_positive (a ∷ b ∷ c ∷ d ∷ e ∷ more) = grind (arith, nat_tests)
+size_positive bytes = search (rules, nat_tests)
 
 long_size : (a b c d e : ℕ) (more : List ℕ) → (a == 27) ≡ true → 5 ≤ piece_size (a ∷ b ∷ c ∷ d ∷ e ∷ more)
 long_size a b c d e more start = rw start (grind (arith, nat_tests))
@@ -40,23 +31,15 @@ short a n few whole = grind (arith, nat_tests)
 
 -- more bytes don't change the size of a piece that is whole
 pub size_stays : (x y : List ℕ) → piece_size x ≤ length x → piece_size (x ++ y) ≡ piece_size x
-size_stays [] y whole = absurd (omega arith)
-size_stays (a ∷ []) y whole = let e = short a 1 (omega arith) whole in rw (start_only a y e, e) refl
-size_stays (a ∷ b ∷ []) y whole = let e = short a 2 (omega arith) whole in rw (start_only a (b ∷ y) e, e) refl
-size_stays (a ∷ b ∷ c ∷ []) y whole = let e = short a 3 (omega arith) whole in rw (start_only a (b ∷ c ∷ y) e, e) refl
-size_stays (a ∷ b ∷ c ∷ d ∷ []) y whole = search (rules, short, start_only)
-size_stays (a ∷ b ∷ c ∷ d ∷ e ∷ more) y whole = refl
+size_stays x y whole = search (rules, start_only)
 
 drop_one : (n b : ℕ) (bs : List ℕ) → 1 ≤ n → drop (n - 1) bs ≡ drop n (b ∷ bs)
-drop_one zero b bs positive = absurd (omega arith)
-drop_one (suc n) b bs positive = ap (λ m. drop m bs) (omega arith)
+drop_one n b bs positive = search rules
 
 -- a whole piece in front
 pub cut_piece : (bytes : List ℕ) → has_piece bytes ≡ true
     → cut bytes ≡ take (piece_size bytes) bytes ∷ cut (drop (piece_size bytes) bytes)
-cut_piece [] whole = absurd (false≢true whole)
-cut_piece (b ∷ bs) whole =
-    search (rules, cond-true, behind_is, drop_one, size_positive)
+cut_piece bytes whole = search (rules, false≢true, cond-true, behind_is, drop_one, size_positive)
 
 pub rest_piece : (bytes : List ℕ) → has_piece bytes ≡ true → rest bytes ≡ rest (drop (piece_size bytes) bytes)
 rest_piece [] whole = absurd (false≢true whole)
@@ -67,16 +50,13 @@ rest_piece (b ∷ bs) whole =
 
 -- no piece in front
 pub cut_none : (bytes : List ℕ) → has_piece bytes ≡ false → cut bytes ≡ []
-cut_none [] part = refl
-cut_none (b ∷ bs) part = rw part refl
+cut_none bytes part = search rules
 
 pub rest_none : (bytes : List ℕ) → has_piece bytes ≡ false → rest bytes ≡ bytes
-rest_none [] part = refl
-rest_none (b ∷ bs) part = rw part refl
+rest_none bytes part = search rules
 
 stays_whole : (x y : List ℕ) → has_piece x ≡ true → has_piece (x ++ y) ≡ true
-stays_whole x y whole =
-    search (rules, leb-true, le-leb, size_stays, length-append)
+stays_whole x y whole = search (rules, leb-true, le-leb, size_stays, length-append)
 
 -- induction over the pieces: bytes with no whole piece in front, and the step over one
 module _ (P : List ℕ → Type 0) (none : (x : List ℕ) → has_piece x ≡ false → P x)
@@ -94,48 +74,40 @@ module _ (P : List ℕ → Type 0) (none : (x : List ℕ) → has_piece x ≡ fa
   by_pieces : (x : List ℕ) → P x
   by_pieces x = by_pieces_behind 0 x
 
-fits : (x : List ℕ) → has_piece x ≡ true → piece_size x ≤ length x
-fits x whole = leb-true (piece_size x) (length x) whole
-
 -- bytes are cut like their prefix, and then the rest of the prefix with the bytes after
 pub cut_append : (x y : List ℕ) → cut (x ++ y) ≡ cut x ++ cut (rest x ++ y)
 cut_append x y = by_pieces (λ x. cut (x ++ y) ≡ cut x ++ cut (rest x ++ y))
     (λ x part. rw (cut_none x part, rest_none x part) refl)
-    (search (rules, cut_piece, stays_whole, size_stays, fits, take-append-le, drop-append-le, rest_piece)) x
+    (search (rules, cut_piece, stays_whole, size_stays, leb-true, take-append-le, drop-append-le, rest_piece)) x
 
 pub rest_append : (x y : List ℕ) → rest (x ++ y) ≡ rest (rest x ++ y)
 rest_append x y = by_pieces (λ x. rest (x ++ y) ≡ rest (rest x ++ y)) (λ x part. rw (rest_none x part) refl)
-    (search (rules, rest_piece, stays_whole, size_stays, fits, drop-append-le)) x
+    (search (rules, rest_piece, stays_whole, size_stays, leb-true, drop-append-le)) x
 
 -- the pieces and what is left are the bytes
 pub cut_joined : (x : List ℕ) → concat (cut x) ++ rest x ≡ x
 cut_joined = by_pieces (λ x. concat (cut x) ++ rest x ≡ x) (λ x part. rw (cut_none x part, rest_none x part) refl)
     (λ x whole inner. search (rules, cut_piece, rest_piece, append_assoc, take-append-drop))
 
--- a piece taken off has its own size
-one_taken : (a : ℕ) (y : List ℕ) → (a == 27) ≡ false
-    → piece_size (take (piece_size (a ∷ y)) (a ∷ y)) ≡ piece_size (a ∷ y)
-one_taken a y e = search (rules, start_only)
-
 pub taken_size : (y : List ℕ) → piece_size y ≤ length y → piece_size (take (piece_size y) y) ≡ piece_size y
 taken_size [] whole = absurd (omega arith)
-taken_size (a ∷ []) whole = one_taken a [] (short a 1 (omega arith) whole)
-taken_size (a ∷ b ∷ []) whole = one_taken a (b ∷ []) (short a 2 (omega arith) whole)
-taken_size (a ∷ b ∷ c ∷ []) whole = one_taken a (b ∷ c ∷ []) (short a 3 (omega arith) whole)
-taken_size (a ∷ b ∷ c ∷ d ∷ []) whole = one_taken a (b ∷ c ∷ d ∷ []) (short a 4 (omega arith) whole)
+taken_size (a ∷ []) whole = search (rules, start_only)
+taken_size (a ∷ b ∷ []) whole = search (rules, start_only)
+taken_size (a ∷ b ∷ c ∷ []) whole = search (rules, start_only)
+taken_size (a ∷ b ∷ c ∷ d ∷ []) whole = search (rules, start_only)
 taken_size (a ∷ b ∷ c ∷ d ∷ e ∷ more) whole = elim (cases_Bool (a == 27)) [
   | inl start ↦
       let y : List ℕ = a ∷ b ∷ c ∷ d ∷ e ∷ more in
       let five : 5 ≤ piece_size y = long_size a b c d e more start in
       ap (λ n. piece_size (take n y)) (let is : piece_size y ≡ suc (suc (suc (suc (suc (piece_size y - 5))))) =
       omega arith in is)
-  | inr other ↦ one_taken a (b ∷ c ∷ d ∷ e ∷ more) other
+  | inr other ↦ (search (rules, start_only))
 ]
 
 -- the cutting finds pieces, and a part of one is left
 pieces_whole : (x : List ℕ) → All IsPiece (cut x)
 pieces_whole = by_pieces (λ x. All IsPiece (cut x)) (λ x part. rw (cut_none x part) (All-nil IsPiece))
-    (λ x whole inner. rw (cut_piece x whole) (search (rules, taken_size, fits, length-take-le)))
+    (λ x whole inner. rw (cut_piece x whole) (search (rules, taken_size, leb-true, length-take-le)))
 
 rest_is_part : (x : List ℕ) → length (rest x) < piece_size (rest x)
 rest_is_part = by_pieces (λ x. length (rest x) < piece_size (rest x))

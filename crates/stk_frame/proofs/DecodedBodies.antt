@@ -1,55 +1,18 @@
 -- A body is read back as its command, and nothing else is.
-use Rattle.std.proofs.Common.{◌≡◌, ℕ, suc, ◌<◌, ◌++◌, List, [], ◌∷◌, length, slice_index, refl, sym, ap, ◌∙◌, subst, arith, cond, Option, Some, None, rules}
+use Rattle.std.proofs.Common.{◌≡◌, ℕ, suc, ◌<◌, List, [], ◌∷◌, length, slice_index, refl, cond, Option, Some, rules}
 use Rattle.std.proofs.lemmas.Bool.{eqb-true, cases_Bool, cond-true, cond-false}
 use Rattle.std.specs.Prelude.{◌==◌, MatchOption, ◌↔◌, option_map}
 use Rattle.byteorder.specs.Endian.{big_bytes, big_number}
-use Rattle.byteorder.specs.Numbers.{big_number-reads_back}
 use Rattle.stk_frame.specs.declared.command.Command.{Command}
-use Rattle.stk_frame.specs.declared.command.Command.TheVariants.{SignOn, SetParameter, GetParameter, LoadAddress, EnterProgmode, LeaveProgmode, ChipErase, ProgramFlash, ReadFlash, ProgramEeprom, ReadEeprom, ProgramFuse, ReadFuse, ProgramLock, ReadLock, ReadSignature, ReadOsccal, SpiMulti}
+use Rattle.stk_frame.specs.declared.command.Command.TheVariants.{ProgramFlash, ReadFlash, ProgramEeprom, ReadEeprom}
 use Rattle.stk_frame.specs.Commands.{body, program_block_fields, read_block_fields, read_byte_fields}
-use Rattle.stk_frame.specs.Decoding.{FieldsFit, command_of, with_fields, sign_on_of, set_parameter_of, get_parameter_of, load_address_of, enter_progmode_of, leave_progmode_of, chip_erase_of, program_block_of, read_block_of, instruction, read_byte_of, spi_multi_of}
-
--- a list of four
-of_four : (P : List ℕ → Type 0) → ((a b c d : ℕ) → P (a ∷ b ∷ c ∷ d ∷ [])) → (xs : List ℕ) → length xs ≡ 4 → P xs
-of_four P four [] e = absurd (omega arith)
-of_four P four (a ∷ []) e = absurd (omega arith)
-of_four P four (a ∷ b ∷ []) e = absurd (omega arith)
-of_four P four (a ∷ b ∷ c ∷ []) e = absurd (omega arith)
-of_four P four (a ∷ b ∷ c ∷ d ∷ []) e = four a b c d
-of_four P four (a ∷ b ∷ c ∷ d ∷ f ∷ xs) e = absurd (omega arith)
+use Rattle.stk_frame.specs.Decoding.{FieldsFit, command_of, with_fields, set_parameter_of, get_parameter_of, load_address_of, enter_progmode_of, leave_progmode_of, chip_erase_of, program_block_of, read_block_of, instruction, read_byte_of, spi_multi_of}
 
 abbrev IsReadBack : Command → Type 0
 IsReadBack c = command_of (body c) ≡ Some c
 
 pub read_back : (c : Command) → FieldsFit c → IsReadBack c
-read_back SignOn fits = refl
-read_back (SetParameter number value) fits = refl
-read_back (GetParameter number) fits = refl
-read_back (LoadAddress address) fits = ap (λ n. Some (LoadAddress n)) (big_number-reads_back 4 address [] fits)
-read_back (EnterProgmode f) fits =
-    of_four (λ xs. IsReadBack (EnterProgmode (record f { instruction = xs }))) (λ a b c d. refl) f.instruction fits
-read_back (LeaveProgmode pre_delay post_delay) fits = refl
-read_back (ChipErase erase_delay poll_method xs) fits =
-    of_four (λ xs. IsReadBack (ChipErase erase_delay poll_method xs)) (λ a b c d. refl) xs fits
-read_back (ProgramFlash f) fits =
-    ap (λ n. Some (ProgramFlash (record f { count = n }))) (big_number-reads_back 2 f.count [] fits)
-read_back (ReadFlash f) fits =
-    ap (λ n. Some (ReadFlash (record f { count = n }))) (big_number-reads_back 2 f.count [] fits)
-read_back (ProgramEeprom f) fits =
-    ap (λ n. Some (ProgramEeprom (record f { count = n }))) (big_number-reads_back 2 f.count [] fits)
-read_back (ReadEeprom f) fits =
-    ap (λ n. Some (ReadEeprom (record f { count = n }))) (big_number-reads_back 2 f.count [] fits)
-read_back (ProgramFuse xs) fits = of_four (λ xs. IsReadBack (ProgramFuse xs)) (λ a b c d. refl) xs fits
-read_back (ReadFuse f) fits =
-    of_four (λ xs. IsReadBack (ReadFuse (record f { instruction = xs }))) (λ a b c d. refl) f.instruction fits
-read_back (ProgramLock xs) fits = of_four (λ xs. IsReadBack (ProgramLock xs)) (λ a b c d. refl) xs fits
-read_back (ReadLock f) fits =
-    of_four (λ xs. IsReadBack (ReadLock (record f { instruction = xs }))) (λ a b c d. refl) f.instruction fits
-read_back (ReadSignature f) fits =
-    of_four (λ xs. IsReadBack (ReadSignature (record f { instruction = xs }))) (λ a b c d. refl) f.instruction fits
-read_back (ReadOsccal f) fits =
-    of_four (λ xs. IsReadBack (ReadOsccal (record f { instruction = xs }))) (λ a b c d. refl) f.instruction fits
-read_back (SpiMulti send_count receive_count receive_start bytes) fits = refl
+read_back c fits = search rules
 
 -- What was read is a command of exactly this body.
 pub record Sound (code : ℕ) (fields : List ℕ) (read : Option Command) : Type 0 where
@@ -62,86 +25,56 @@ record Back {F : Type 0} (encoded : F → List ℕ) (Fit : F → Type 0) (fields
 made : {F : Type 0} {encoded : F → List ℕ} {Fit : F → Type 0} (code : ℕ) (fields : List ℕ) (make : F → Command)
     (read : Option F) → ((f : F) → Fit f → (body (make f) ≡ code ∷ encoded f) × FieldsFit (make f))
     → Back encoded Fit fields read → Sound code fields (option_map make read)
-made code fields make None each back = record { says = tt }
-made code fields make (Some f) each back =
-    record { says = ((each f back.says.1).0 ∙ ap (λ bytes. code ∷ bytes) back.says.0, (each f back.says.1).1) }
+made code fields make read each back = search rules
 
 abbrev pub Below : List ℕ → Type 0
 Below bytes = (i : ℕ) → slice_index bytes i < 256
 
 pair_back : (a b : ℕ) → a < 256 → b < 256 → big_bytes 2 (big_number 2 (a ∷ b ∷ [])) ≡ a ∷ b ∷ []
-pair_back a b e f =
-    search rules
+pair_back a b e f = search rules
 
 four_back : (a b c d : ℕ) → a < 256 → b < 256 → c < 256 → d < 256
     → big_bytes 4 (big_number 4 (a ∷ b ∷ c ∷ d ∷ [])) ≡ a ∷ b ∷ c ∷ d ∷ []
-four_back a b c d e f g h =
-    search rules
-
-sign_on_sound : (fields : List ℕ) → Sound 0x01 fields (sign_on_of fields)
-sign_on_sound [] = record { says = (refl, tt) }
-sign_on_sound _ = record { says = tt }
+four_back a b c d e f g h = search rules
 
 set_parameter_sound : (fields : List ℕ) → Sound 0x02 fields (set_parameter_of fields)
-set_parameter_sound (a ∷ b ∷ []) = record { says = (refl, tt) }
-set_parameter_sound _ = record { says = tt }
+set_parameter_sound fields = search rules
 
 get_parameter_sound : (fields : List ℕ) → Sound 0x03 fields (get_parameter_of fields)
-get_parameter_sound (a ∷ []) = record { says = (refl, tt) }
-get_parameter_sound _ = record { says = tt }
+get_parameter_sound fields = search rules
 
 load_address_sound : (fields : List ℕ) → Below fields → Sound 0x06 fields (load_address_of fields)
 load_address_sound (a ∷ b ∷ c ∷ d ∷ []) below =
-    record {
-      says = (
-        ap (λ bytes. 0x06 ∷ bytes) (four_back a b c d (below 0) (below 1) (below 2) (below 3)),
-        omega (arith, below 0, below 1, below 2, below 3),
-      );
-    }
+    search (rules, four_back a b c d (below 0) (below 1) (below 2) (below 3))
 load_address_sound _ below = record { says = tt }
 
 enter_progmode_sound : (fields : List ℕ) → Sound 0x10 fields (enter_progmode_of fields)
-enter_progmode_sound (t ∷ s ∷ m ∷ l ∷ y ∷ v ∷ i ∷ a ∷ b ∷ c ∷ d ∷ []) = record { says = (refl, refl) }
-enter_progmode_sound _ = record { says = tt }
+enter_progmode_sound fields = search rules
 
 leave_progmode_sound : (fields : List ℕ) → Sound 0x11 fields (leave_progmode_of fields)
-leave_progmode_sound (a ∷ b ∷ []) = record { says = (refl, tt) }
-leave_progmode_sound _ = record { says = tt }
+leave_progmode_sound fields = search rules
 
 chip_erase_sound : (fields : List ℕ) → Sound 0x12 fields (chip_erase_of fields)
-chip_erase_sound (e ∷ p ∷ a ∷ b ∷ c ∷ d ∷ []) = record { says = (refl, refl) }
-chip_erase_sound _ = record { says = tt }
+chip_erase_sound fields = search rules
 
 program_block_back : (fields : List ℕ) → Below fields
     → Back program_block_fields (λ f. f.count < 65536) fields (program_block_of fields)
-program_block_back (h ∷ l ∷ m ∷ d ∷ x ∷ y ∷ z ∷ p ∷ q ∷ bytes) below =
-    record {
-      says = (
-        ap (λ count. count ++ m ∷ d ∷ x ∷ y ∷ z ∷ p ∷ q ∷ bytes) (pair_back h l (below 0) (below 1)),
-        omega (arith, below 0, below 1),
-      );
-    }
+program_block_back (h ∷ l ∷ m ∷ d ∷ x ∷ y ∷ z ∷ p ∷ q ∷ bytes) below = search (rules, pair_back h l (below 0) (below 1))
 program_block_back _ below = record { says = tt }
 
 read_block_back : (fields : List ℕ) → Below fields
     → Back read_block_fields (λ f. f.count < 65536) fields (read_block_of fields)
-read_block_back (h ∷ l ∷ x ∷ []) below =
-    record {
-      says = (ap (λ count. count ++ x ∷ []) (pair_back h l (below 0) (below 1)), omega (arith, below 0, below 1));
-    }
+read_block_back (h ∷ l ∷ x ∷ []) below = search (rules, pair_back h l (below 0) (below 1))
 read_block_back _ below = record { says = tt }
 
 instruction_back : (fields : List ℕ) → Back (λ bytes. bytes) (λ bytes. length bytes ≡ 4) fields (instruction fields)
-instruction_back (a ∷ b ∷ c ∷ d ∷ []) = record { says = (refl, refl) }
-instruction_back _ = record { says = tt }
+instruction_back fields = search rules
 
 read_byte_back : (fields : List ℕ) → Back read_byte_fields (λ f. length f.instruction ≡ 4) fields (read_byte_of fields)
-read_byte_back (r ∷ a ∷ b ∷ c ∷ d ∷ []) = record { says = (refl, refl) }
-read_byte_back _ = record { says = tt }
+read_byte_back fields = search rules
 
 spi_multi_sound : (fields : List ℕ) → Sound 0x1D fields (spi_multi_of fields)
-spi_multi_sound (a ∷ b ∷ c ∷ bytes) = record { says = (refl, tt) }
-spi_multi_sound _ = record { says = tt }
+spi_multi_sound fields = search rules
 
 -- one row of the table
 row : (own code : ℕ) (fields : List ℕ) (read others : Option Command) → Sound own fields read → Sound code fields others
@@ -150,7 +83,7 @@ row own code fields read others is other = search (rules, cases_Bool, cond-true,
 
 with_fields_sound : (code : ℕ) (fields : List ℕ) → Below fields → Sound code fields (with_fields code fields)
 with_fields_sound code fields below =
-    row 0x01 code fields _ _ (sign_on_sound fields)
+    row 0x01 code fields _ _ (search rules)
     (row 0x02 code fields _ _ (set_parameter_sound fields)
     (row 0x03 code fields _ _ (get_parameter_sound fields)
     (row 0x06 code fields _ _ (load_address_sound fields below)
@@ -171,7 +104,4 @@ only_body (code ∷ fields) below = (with_fields_sound code fields (λ i. below 
 -- These bytes are read as exactly the command whose body they are.
 pub is_read : (bytes : List ℕ) → Below bytes → (c : Command) → FieldsFit c
     → (command_of bytes ≡ Some c) ↔ (body c ≡ bytes)
-is_read bytes below c fits = (
-  λ e. (subst (λ r. MatchOption r (Unit {0}) (λ c. (body c ≡ bytes) × FieldsFit c)) e (only_body bytes below)).0,
-  λ e. ap command_of (sym e) ∙ read_back c fits,
-)
+is_read bytes below c fits = search (rules, only_body bytes below, read_back c fits)

@@ -1,5 +1,6 @@
 -- What one more byte brings to a reader.
-use Rattle.std.proofs.Common.{◌≡◌, ℕ, zero, suc, ◌-◌, length-drop, take, slice_index, ◌+◌, ◌<◌, ◌≤◌, List, [], ◌∷◌, ◌++◌, length, drop, refl, sym, ap, ◌∙◌, append_assoc, arith, true, false, Bool, Option, Some, None, rules}
+use Rattle.std.proofs.lemmas.Grind.{common_steps}
+use Rattle.std.proofs.Common.{◌≡◌, ℕ, zero, suc, ◌-◌, length-drop, take, slice_index, ◌+◌, ◌<◌, ◌≤◌, List, [], ◌∷◌, ◌++◌, length, drop, refl, sym, ap, ◌∙◌, append_assoc, arith, false, Option, rules}
 use Rattle.std.proofs.lemmas.Bool.{le-leb, lt-leb, le-ltb, cond-false}
 use Rattle.std.proofs.lemmas.List.{append-nil, take_all, drop_all}
 use Rattle.std.proofs.Math.Seq.{take-add}
@@ -14,28 +15,17 @@ use Rattle.stk_frame.proofs.Cuts.{cut_append, rest_append, cut_piece, rest_piece
 part_is : (h : List ℕ) → length h < piece_size h → has_piece h ≡ false
 part_is h part = lt-leb (piece_size h) (length h) part
 
-whole_is : (h : List ℕ) → piece_size h ≤ length h → has_piece h ≡ true
-whole_is h whole = le-leb (piece_size h) (length h) whole
-
--- the rest of a part is all of it
-pub rest_part : (h : List ℕ) → length h < piece_size h → rest h ≡ h
-rest_part h part = rest_none h (part_is h part)
-
 -- the rest of a piece is empty
 pub rest_whole : (h : List ℕ) → IsPiece h → rest h ≡ []
-rest_whole h whole = rest_piece h (whole_is h (omega arith)) ∙ ap rest (drop_all (piece_size h) h (omega arith))
+rest_whole h whole = search (rules, rest_piece, drop_all, le-leb)
 
 pub cut_whole : (h : List ℕ) → IsPiece h → cut h ≡ h ∷ []
-cut_whole h whole =
-    search (rules, cut_piece, whole_is, take_all, drop_all)
+cut_whole h whole = search (rules, cut_piece, le-leb, take_all, drop_all)
 
 -- What a part that was held and the bytes give, every text gives.
 fed_from : (h u held new : List ℕ) (skipped found : List (List ℕ)) → length h < piece_size h → held ≡ h ++ u
     → filter is_frame skipped ≡ [] → cut held ≡ skipped ++ found → rest held ≡ rest new → Fed h u new found
-fed_from h u held new skipped found part is none p r = search (rules, cut_append, rest_part, rest_append)
-
-pub fed_none : (held : List ℕ) → Fed held [] held []
-fed_none held = search (rules, append-nil)
+fed_from h u held new skipped found part is none p r = search (rules, cut_append, rest_none, part_is, rest_append)
 
 pub fed_on : (a x b y c : List ℕ) (found : List (List ℕ)) → Fed a x b [] → Fed b y c found → Fed a (x ++ y) c found
 fed_on a x b y c found f g = record {
@@ -72,21 +62,16 @@ fed_noise_byte b other = fed_skip [] (b ∷ []) (b ∷ []) (omega arith) refl (r
 -- bytes without a start byte
 pub fed_noise : (n : ℕ) (bytes : List ℕ) → n ≤ length bytes → ((i : ℕ) → i < n → (slice_index bytes i == 27) ≡ false)
     → Fed [] (take n bytes) [] []
-fed_noise zero bytes within none = fed_none []
+fed_noise zero bytes within none = search (rules, append-nil)
 fed_noise (suc n) [] within none = absurd (omega arith)
 fed_noise (suc n) (b ∷ bytes) within none =
     fed_on [] (b ∷ []) [] (take n bytes) [] [] (fed_noise_byte b (none 0 (omega arith)))
     (fed_noise n bytes (omega arith) (λ i below. none (suc i) (omega arith)))
 
-not_true : (b : Bool) → ¬ (b ≡ true) → b ≡ false
-not_true true h = absurd (h refl)
-not_true false h = refl
-
 -- bytes up to the first start byte, or all of them
 pub fed_up_to : (bytes : List ℕ) (place : Option ℕ) → IsFirstByte (is_byte 27) bytes place
     → Fed [] (take (unwrap_or place (length bytes)) bytes) [] []
-fed_up_to bytes None none = search (rules, fed_noise, not_true)
-fed_up_to bytes (Some n) first = search (rules, fed_noise, not_true)
+fed_up_to bytes place none = search (rules, fed_noise)
 
 -- one more span of a piece
 rest_of : (piece : List ℕ) (used : ℕ) → take (length piece - used) (drop used piece) ≡ drop used piece
@@ -94,11 +79,9 @@ rest_of piece used = take_all (length piece - used) (drop used piece) (omega (ar
 
 pub within_span : (piece : List ℕ) (used taken : ℕ) → used ≤ length piece
     → taken ≤ length (take (length piece - used) (drop used piece)) → used + taken ≤ length piece
-within_span piece used taken within few =
-    search (rules, rest_of, length-drop)
+within_span piece used taken within few = search (rules, length-drop)
 
 pub fed_span : (a b c piece : List ℕ) (used taken : ℕ) (found : List (List ℕ)) → Fed a (take used piece) b []
     → Fed b (take taken (take (length piece - used) (drop used piece))) c found
     → Fed a (take (used + taken) piece) c found
-fed_span a b c piece used taken found first second =
-    rw take-add (search (rules, fed_on, rest_of))
+fed_span a b c piece used taken found first second = grind (arith, common_steps, take-add, fed_on)

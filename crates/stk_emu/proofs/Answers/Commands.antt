@@ -1,12 +1,11 @@
 -- The programmer's state after each command of a host.
-use Rattle.std.proofs.Common.{◌≡◌, ℕ, zero, suc, ◌<◌, ◌^◌, [], ◌∷◌, refl, sym, ap, subst, ◌⊎◌, inl, true, cond, rules}
+use Rattle.std.proofs.Common.{◌≡◌, ℕ, zero, suc, ◌<◌, ◌^◌, [], ◌∷◌, sym, ap, subst, ◌⊎◌, inl, true, cond, rules}
 use Rattle.std.proofs.lemmas.List.{length-replicate}
 use Rattle.std.proofs.lemmas.Bool.{cond-true}
 use Rattle.avr_part.specs.Part.{Part}
 use Rattle.stk_frame.specs.declared.command.Command.{Command}
 use Rattle.stk_frame.specs.declared.command.Command.TheVariants.{LoadAddress}
 use Rattle.stk_frame.specs.declared.host_command.Fuse.{Fuse}
-use Rattle.stk_frame.specs.declared.host_command.Fuse.TheVariants.{Low}
 use Rattle.stk_frame.specs.Commands.{body}
 use Rattle.stk_frame.specs.Decoding as decoding
 use Rattle.stk_frame.specs.HostCommands.{enter, leave, erase, program_fuse, program_lock, read_fuse, read_lock, read_calibration}
@@ -14,7 +13,7 @@ use Rattle.stk_frame.proofs.DecodedBodies.{read_back}
 use Rattle.stk_emu.specs.Programmer.{Programmer, Response, obey, obey_command, read_as}
 use Rattle.stk_emu.specs.Device.{Device, device}
 use Rattle.stk_emu.specs.Fits.{after_commands, Fits}
-use Rattle.stk_emu.specs.Effect.{Memories, memories_of}
+use Rattle.stk_emu.specs.Effect.{Memories}
 use Rattle.stk_emu.specs.PageWrites.{changed}
 use Rattle.stk_emu.specs.Settled.{Idle, Settled, Ready}
 
@@ -24,8 +23,7 @@ obeys c p fits = ap (λ o. read_as o (body c) p) (read_back c fits)
 
 module _ {P : Type 0} (m : Device P) where
   pub obeyed_none : (i : ℕ) (p : P) → after_commands m i [] p ≡ p
-  obeyed_none zero p = refl
-  obeyed_none (suc i) p = refl
+  obeyed_none i p = search rules
 
   -- a step of one command
   pub one_fits : (c : Command) (Before After : P → Type 0) → ((p : P) → Before p → After (m.after (body c) p))
@@ -41,13 +39,7 @@ module _ {P : Type 0} (m : Device P) where
       → ((p : P) → After p → After (m.after (body d) (m.after (body c) p)))
       → ((p : P) → Before p → Before (m.reset p)) → ((p : P) → After p → After (m.reset p))
       → Fits m (c ∷ d ∷ []) Before After
-  two_fits c d Before After first first_again does again anew anew_again = record {
-    prefix = λ p i b. prefixes p i b;
-    again = λ p i a. agains p i a;
-    whole = λ p bytes has b. does p b;
-    anew = anew;
-    anew_again = anew_again;
-  }
+  two_fits c d Before After first first_again does again anew anew_again = search (rules, prefixes, agains)
     where
       prefixes : (p : P) (i : ℕ) → Before p → Before (after_commands m i (c ∷ d ∷ []) p)
           ⊎ After (after_commands m i (c ∷ d ∷ []) p)
@@ -76,8 +68,7 @@ pub two_steady : (c d : Command) (Before After : Programmer → Type 0)
     → ((p : Programmer) → Before p → After (device.after (body d) (device.after (body c) p)))
     → ((p : Programmer) → After p → After (device.after (body d) (device.after (body c) p)))
     → Fits steady (c ∷ d ∷ []) Before After
-two_steady c d Before After first first_again does again =
-    two_fits steady c d Before After first first_again does again (λ p b. b) (λ p a. a)
+two_steady c d Before After first first_again does again = search (rules, two_fits)
 
 -- a command of programming mode, in that mode
 pub in_mode_is : (p : Programmer) (x y : Response) → p.mode ≡ true → (cond p.mode x y).1 ≡ x.1
@@ -103,8 +94,7 @@ module _ (part : Part) where
   anew_idle m p s = search (rules, length-replicate)
 
   pub anew_settled : (m : Memories) (p : Programmer) → Settled part m p → Settled part m (device.reset p)
-  anew_settled m p s =
-      search (rules, settled_idle)
+  anew_settled m p s = search (rules, settled_idle)
 
   -- ENTER puts the mode on, and empties the buffers
   pub enter_does : (m : Memories) (p : Programmer) → Idle part m p → Ready part m (device.after (body enter) p)
@@ -113,35 +103,27 @@ module _ (part : Part) where
   pub leave_keeps : (m : Memories) (p : Programmer) → Idle part m p → Idle part m (device.after (body leave) p)
   leave_keeps m p s = search rules
 
-  -- A programmer that is ready, and then has these memories, and all else unchanged.
-  ready_with : (m n : Memories) (p q : Programmer) → Ready part m p → memories_of q.chip ≡ n
-      → q.chip.part ≡ p.chip.part → q.mode ≡ p.mode → q.chip.flash_buffer ≡ p.chip.flash_buffer
-      → q.chip.eeprom_buffer ≡ p.chip.eeprom_buffer → q.chip.extended ≡ p.chip.extended → Ready part n q
-  ready_with m n p q s memories part_is mode flash eeprom extended = search rules
-
   pub load_keeps : (address : ℕ) (m : Memories) (p : Programmer) → address < 2 ^ 32 → Ready part m p
       → Ready part m (device.after (body (LoadAddress address)) p)
-  load_keeps address m p fits s = search (rules, obeys)
+  load_keeps address m p fits s = search rules
 
   -- the fuses
   pub fuse_does : (f : Fuse) (v : ℕ) (m : Memories) (p : Programmer) → Ready part m p
       → Ready part (changed part (program_fuse f v ∷ []) m) (device.after (body (program_fuse f v)) p)
-  fuse_does Low v m p s = search (rules, in_mode_is, ready_with)
-  fuse_does f v m p s = search (rules, in_mode_is, ready_with)
+  fuse_does f v m p s = search rules
 
   pub lock_does : (v : ℕ) (m : Memories) (p : Programmer) → Ready part m p
       → Ready part (changed part (program_lock v ∷ []) m) (device.after (body (program_lock v)) p)
-  lock_does v m p s = search (rules, in_mode_is)
+  lock_does v m p s = search rules
 
   -- the EESAVE bit is the part's
   pub erase_does : (m : Memories) (p : Programmer) → Ready part m p
       → Ready part (changed part (erase ∷ []) m) (device.after (body erase) p)
-  erase_does m p s = search (rules, in_mode_is)
+  erase_does m p s = search rules
 
 -- reading a byte changes nothing
 pub fuse_read_after : (f : Fuse) (p : Programmer) → p.mode ≡ true → device.after (body (read_fuse f)) p ≡ p
-fuse_read_after Low p e = in_mode_is p _ _ e
-fuse_read_after _ p e = in_mode_is p _ _ e
+fuse_read_after f p e = search rules
 
 pub lock_read_after : (p : Programmer) → p.mode ≡ true → device.after (body read_lock) p ≡ p
 lock_read_after p e = in_mode_is p _ _ e

@@ -1,23 +1,22 @@
 -- Answers to texts, piece by piece.
-use Rattle.std.proofs.Common.{◌≡◌, ℕ, ◌+◌, List, [], ◌∷◌, ◌++◌, ◌<◌, ◌≤◌, length, take, drop, refl, ap, sym, ◌∙◌, append_assoc, arith, length-drop, rules}
+use Rattle.std.proofs.lemmas.Grind.{common_steps}
+use Rattle.std.proofs.Common.{◌≡◌, ℕ, ◌+◌, List, [], ◌∷◌, ◌++◌, ◌<◌, ◌≤◌, length, take, drop, refl, sym, append_assoc, arith, length-drop, rules}
 use Rattle.std.specs.Prelude.{filter}
 use Rattle.std.proofs.lemmas.List.{append-nil, take-append-drop}
 use Rattle.std.proofs.lemmas.List.Elements.{filter-append}
 use Rattle.std.proofs.Math.Seq.{take-add}
-use Rattle.std.proofs.lemmas.Bool.{cond-true}
 use Rattle.stk_frame.specs.declared.reader.Event.{Event}
 use Rattle.stk_frame.specs.declared.reader.Event.TheVariants.{More}
 use Rattle.stk_frame.specs.Cut.{frames, is_frame}
 use Rattle.stk_frame.specs.Reader.{HoldsFrame, MayHold, Fed, TellsEvent, frames_of_event}
 use Rattle.stk_emu.specs.Programmer.{Programmer}
-use Rattle.stk_emu.specs.Device.{Device, device, answers, after_frames, answer_frame, after_frame}
+use Rattle.stk_emu.specs.Device.{Device, device, answers, after_frames, after_frame}
 use Rattle.stk_emu.specs.Emulator.{Machine, IsFed, Answers, AppendsAnswers, AnswersPrefix, emulate}
 
 pub answers_more : {P : Type 0} (m : Device P) (xs ys : List (List ℕ)) (p : P)
     → answers m (xs ++ ys) p ≡ answers m xs p ++ answers m ys (after_frames m xs p)
 answers_more m [] ys p = refl
-answers_more m (x ∷ xs) ys p =
-    rw (answers_more m xs ys (after_frame m x p)) (sym (append_assoc (answer_frame m x p) _ _))
+answers_more m (x ∷ xs) ys p = search (rules, append_assoc, answers_more m xs ys (after_frame m x p))
 
 pub after_more : {P : Type 0} (m : Device P) (xs ys : List (List ℕ)) (p : P)
     → after_frames m (xs ++ ys) p ≡ after_frames m ys (after_frames m xs p)
@@ -27,67 +26,46 @@ after_more m (x ∷ xs) ys p = after_more m xs ys (after_frame m x p)
 -- an event of the reader gives at most one frame
 pub found_frames : (event : Event) (held : List ℕ) → TellsEvent event held
     → filter is_frame (frames_of_event event held) ≡ frames_of_event event held
-found_frames More held tells = refl
-found_frames _ held tells = cond-true (is_frame held) _ _ tells.0.frame
+found_frames event held tells = search rules
 
 pub found_few : (event : Event) (held : List ℕ) → length (frames_of_event event held) ≤ 1
-found_few More held = omega arith
-found_few _ held = omega arith
+found_few event held = search rules
 
 -- an answer belongs to a frame that is held whole
 pub answer_ends : (event : Event) (held out : List ℕ) (p : Programmer) → TellsEvent event held
     → out ≡ answers device (frames_of_event event held) p → 0 < length out → HoldsFrame held
-answer_ends More held out p tells e some = absurd (let none : length out ≡ 0 = ap length e in omega (arith, none, some))
-answer_ends _ held out p tells e some = tells.0
+answer_ends event held out p tells e some = search rules
 
 -- the frames of a text with these bytes after it
 pub frames_fed : (old used new : List ℕ) (fs : List (List ℕ)) (text : List ℕ) → Fed old used new fs
     → filter is_frame fs ≡ fs → MayHold old text → frames (text ++ used) ≡ frames text ++ fs
-frames_fed old used new fs text fed are stands =
-    search (rules, filter-append)
+frames_fed old used new fs text fed are stands = search (rules, filter-append)
 
 -- without an answer no frame ended
 pub none_found : (event : Event) (held : List ℕ) (p : Programmer) → answers device (frames_of_event event held) p ≡ []
     → event ≡ More
-none_found More held p e = refl
-none_found _ held p e = absurd (cc)
+none_found event held p e = search rules
 
 -- no bytes bring no answers
 pub appends_none : (machine : Machine) (before : List ℕ) → AppendsAnswers machine [] machine before before
-appends_none machine before = search (rules, append-nil)
+appends_none machine before = search rules
 
 -- the answers of one call, appended
 pub appends_one : (old new : Machine) (used out before after : List ℕ) → Answers old used new out
     → after ≡ before ++ out → AppendsAnswers old used new before after
-appends_one old new used out before after a is = record {
-  found = a.found;
-  ends = λ text stands. frames_fed old.held used new.held a.found text a.fed a.are_frames stands;
-  stands = λ text stands. a.fed.stands text stands;
-  appended = is ∙ ap (λ o. before ++ o) a.answered;
-  obeyed = a.obeyed;
-}
-
-pub appends_both : (old mid new : Machine) (x y a b c : List ℕ) → AppendsAnswers old x mid a b
-    → AppendsAnswers mid y new b c → AppendsAnswers old (x ++ y) new a c
-appends_both old mid new x y a b c first then = search (rules, append_assoc, answers_more, after_more)
+appends_one old new used out before after a is = grind (arith, common_steps)
 
 -- after the first `n` bytes, `used` more
 pub appends_on : (bytes : List ℕ) (n used : ℕ) (old mid new : Machine) (a b c : List ℕ)
     → AppendsAnswers old (take n bytes) mid a b → AppendsAnswers mid (take used (drop n bytes)) new b c
     → AppendsAnswers old (take (n + used) bytes) new a c
-appends_on bytes n used old mid new a b c first then =
-    rw take-add (appends_both old mid new (take n bytes) (take used (drop n bytes)) a b c first then)
+appends_on bytes n used old mid new a b c first then = search (rules, take-add, append_assoc, answers_more, after_more)
 
 -- a prefix of the bytes, after which some are left
 pub appends_prefix : (bytes : List ℕ) (n : ℕ) (old new : Machine) (a b : List ℕ)
     → AppendsAnswers old (take n bytes) new a b → n < length bytes → AnswersPrefix old bytes new a b
-appends_prefix bytes n old new a b appends some = record {
-  used = take n bytes;
-  unused = drop n bytes;
-  bytes_are = sym (take-append-drop n bytes);
-  some_left = rw length-drop (omega (arith, some));
-  appends = appends;
-}
+appends_prefix bytes n old new a b appends some =
+    search (rules, length-drop, drop n bytes, sym (take-append-drop n bytes))
 
 -- it stays an emulator that was fed a text
 pub appends_fed : (old new : Machine) (bytes a b : List ℕ) (p : Programmer) (text : List ℕ)
@@ -98,8 +76,7 @@ appends_fed old new bytes a b p text appends f = search (rules, after_more)
 pub appends_all : (old new : Machine) (bytes a b : List ℕ) (p : Programmer) (text given : List ℕ)
     → AppendsAnswers old bytes new a b → IsFed p text old → given ++ a ≡ emulate p text
     → given ++ b ≡ emulate p (text ++ bytes)
-appends_all old new bytes a b p text given appends f all =
-    search (rules, append_assoc, answers_more)
+appends_all old new bytes a b p text given appends f all = search (rules, append_assoc, answers_more)
 
 -- the same of one call
 pub is_fed : (old new : Machine) (used out : List ℕ) (p : Programmer) (text : List ℕ) → Answers old used new out

@@ -1,8 +1,7 @@
 -- Blocks, byte by byte.
-use Rattle.std.proofs.Common.{true, if◌then◌else◌, ◌≡◌, ℕ, suc, ◌+◌, ◌<◌, Bool, List, [], ◌∷◌, ◌++◌, length, get_or, drop, refl, add-one, drop-cons, append_assoc, rules}
-use Rattle.std.proofs.lemmas.Bool.{cond-true}
+use Rattle.std.proofs.Common.{true, if◌then◌else◌, ◌≡◌, ℕ, suc, ◌+◌, ◌<◌, Bool, List, [], ◌∷◌, ◌++◌, length, get_or, drop, refl, drop-cons, append_assoc, rules}
 use Rattle.avr_part.specs.State.{ChipState, spi_of}
-use Rattle.stk_emu.specs.Programmer.{Programmer, in_mode, fail, with_address_moved, with_instructions, sent_to, flash_loads, flash_looks, eeprom_looks, extension, look, at_address, for_half, word_at, byte_address}
+use Rattle.stk_emu.specs.Programmer.{Programmer, in_mode, fail, with_address_moved, with_instructions, sent_to, flash_loads, flash_looks, eeprom_looks, extension, at_address, for_half, word_at, byte_address}
 
 pub sent-append : (xs ys : List (List ℕ)) (chip : ChipState) → sent_to (xs ++ ys) chip ≡ sent_to ys (sent_to xs chip)
 sent-append [] ys chip = refl
@@ -15,16 +14,14 @@ module _ (wide : Bool) (cmd address i : ℕ) where
       → (out, after) ≡ spi_of (at_address (for_half cmd i) (word_at address i) (get_or bytes i 0))
       (sent_to (extension wide (word_at address i)) chip)
       → sent_to (flash_loads wide cmd address (i + 1) (drop (i + 1) bytes)) after ≡ whole
-  flash_load bytes out chip after whole h so_far spi =
-      search (rules, drop-cons, add-one, sent-append)
+  flash_load bytes out chip after whole h so_far spi = search (rules, drop-cons, sent-append)
 
   -- the instruction as the code makes and sends it
   pub flash_sent : (word half byte : ℕ) (x : List ℕ) (chip extended : ChipState) → word ≡ word_at address i
       → half ≡ for_half cmd i → x ≡ at_address half word byte → extended ≡ sent_to (extension wide word) chip
       → spi_of x extended ≡ spi_of (at_address (for_half cmd i) (word_at address i) byte)
       (sent_to (extension wide (word_at address i)) chip)
-  flash_sent word half byte x chip extended w h is ext =
-      search rules
+  flash_sent word half byte x chip extended w h is ext = search rules
 
 pub record LooksOn (before : List ℕ) (whole : List ℕ × ChipState) (out : List ℕ) (more : List ℕ × ChipState) : Type
     0 where
@@ -37,13 +34,6 @@ pub record PutsLook (x : List ℕ) (chip after : ChipState) (out new : List ℕ)
   pub obeyed : (answer, after) ≡ spi_of x chip
   pub put : new ≡ out ++ get_or answer 3 0 ∷ []
 
-looked_on : (before : List ℕ) (whole : List ℕ × ChipState) (x : List ℕ) (chip after : ChipState) (out new : List ℕ)
-    (more : ChipState → List ℕ × ChipState) → LooksOn before whole out (look x chip more)
-    → PutsLook x chip after out new
-    → LooksOn before whole new (more after)
-looked_on before whole x chip after out new more on p =
-    search (rules, append_assoc)
-
 module _ (before : List ℕ) (whole : List ℕ × ChipState) (cmd address i : ℕ) where
   -- the byte i is read
   pub flash_look : (wide : Bool) (n m : ℕ) (chip after : ChipState) (out new : List ℕ) → n ≡ suc m
@@ -51,18 +41,13 @@ module _ (before : List ℕ) (whole : List ℕ × ChipState) (cmd address i : �
       → PutsLook (at_address (for_half cmd i) (word_at address i) 0)
       (sent_to (extension wide (word_at address i)) chip) after out new
       → LooksOn before whole new (flash_looks wide cmd address (i + 1) m after)
-  flash_look wide n m chip after out new e on p =
-      rw add-one (looked_on before whole (at_address (for_half cmd i) (word_at address i) 0)
-      (sent_to (extension wide (word_at address i)) chip) after out new (flash_looks wide cmd address (suc i) m)
-      (rw e at on) p)
+  flash_look wide n m chip after out new e on p = search (rules, append_assoc)
 
   pub eeprom_look : (n m : ℕ) (chip after : ChipState) (out new : List ℕ) → n ≡ suc m
       → LooksOn before whole out (eeprom_looks cmd address i n chip)
       → PutsLook (at_address cmd (byte_address address i) 0) chip after out new
       → LooksOn before whole new (eeprom_looks cmd address (i + 1) m after)
-  eeprom_look n m chip after out new e on p =
-      rw add-one (looked_on before whole (at_address cmd (byte_address address i) 0) chip after out new
-      (eeprom_looks cmd address (suc i) m) (rw e at on) p)
+  eeprom_look n m chip after out new e on p = search (rules, append_assoc)
 
 -- A block was loaded, and written if that was requested.
 pub block_done : (code moved : ℕ) (fits : Bool) (p new : Programmer) (loads writes : List (List ℕ))
@@ -72,4 +57,4 @@ pub block_done : (code moved : ℕ) (fits : Bool) (p new : Programmer) (loads wr
     → (out, new) ≡ in_mode code p
     (if fits then (code ∷ 0 ∷ [], with_address_moved moved (with_instructions (loads ++ writes) p)) else fail code p)
 block_done code moved fits p new loads writes loaded written out mode fit load write is answer =
-    search (rules, sent-append, cond-true)
+    search (rules, sent-append)

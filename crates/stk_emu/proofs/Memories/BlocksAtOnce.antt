@@ -1,14 +1,11 @@
 -- Blocks of flash at once are blocks instruction by instruction.
-use Rattle.std.proofs.Common.{◌≡◌, ℕ, zero, suc, ◌+◌, ◌-◌, ◌*◌, ◌/◌, ◌%◌, ◌≤◌, ◌<◌, List, [], ◌∷◌, length, refl, sym, ap, ◌∙◌, arith, Bool, true, false, cond, Some, None, rules}
-use Rattle.std.proofs.lemmas.Bool.{leb-true, and_parts}
+use Rattle.std.proofs.Common.{◌≡◌, ℕ, zero, suc, ◌+◌, ◌-◌, ◌*◌, ◌/◌, ◌%◌, ◌≤◌, ◌<◌, List, [], ◌∷◌, length, refl, sym, ap, ◌∙◌, arith, Bool, true, cond, Some, None, rules}
 use Rattle.avr_part.specs.State as chip
 use Rattle.avr_part.specs.State.{half_offset}
 use Rattle.avr_part.specs.declared.instruction.Instruction.TheVariants.{LoadFlash}
 use Rattle.avr_part.specs.Block.{half_at, loaded_in_turn, read_in_turn, load_block, flash_block, is_in_flash}
 use Rattle.avr_part.proofs.Blocks.{offset_at}
 use Rattle.stk_emu.specs.Programmer.{sent_to, extension, flash_loads, flash_looks, word_at, high, low}
-use Rattle.stk_emu.proofs.Memories.Blocks.{sent-append}
-use Rattle.stk_emu.proofs.Memories.Pages.{extended_is, load_byte}
 use Rattle.stk_emu.proofs.Memories.BlocksRead.{look_by, look_byte}
 
 -- a load and an extended address don't affect each other
@@ -31,20 +28,13 @@ one_load : (wide : Bool) (a i d : ℕ) (ds : List ℕ) (s : chip.ChipState)
     ≡ sent_to (flash_loads wide 0x40 a (suc i) ds)
     (record (chip.after_instruction (LoadFlash (half_at i) ((a % 256 + i / 2) % 256) d) s)
     { extended = cond wide (word_at a i / 65536 % 256) s.extended })
-one_load wide a i d ds s =
-    let x = cond wide (word_at a i / 65536 % 256) s.extended in
-    let s₁ : chip.ChipState = record s { extended = x } in
-    let place : low (word_at a i) % (s.part.flash_page / 2) * 2 + i % 2
-    ≡ (a % 256 + i / 2) % 256 % (s.part.flash_page / 2) * 2 + half_offset (half_at i) =
-    search (rules, offset_at) in
-    search (rules, sent-append, extended_is, load_byte)
+one_load wide a i d ds s = search rules
 
 all_loads : (wide : Bool) (a i d : ℕ) (ds : List ℕ) (s : chip.ChipState)
     → sent_to (flash_loads wide 0x40 a i (d ∷ ds)) s
     ≡ record (loaded_in_turn (a % 256) i (d ∷ ds) s)
     { extended = cond wide (word_at a (i + length ds) / 65536 % 256) s.extended }
-all_loads wide a i d [] s =
-    search (rules, one_load)
+all_loads wide a i d [] s = search rules
 all_loads wide a i d (b ∷ bs) s =
     let x = cond wide (word_at a i / 65536 % 256) s.extended in
     let s₁ : chip.ChipState = chip.after_instruction (LoadFlash (half_at i) ((a % 256 + i / 2) % 256) d) s in
@@ -64,7 +54,7 @@ pub block_is_loads : (wide : Bool) (cmd a last : ℕ) (bytes : List ℕ) (s load
     → new ≡ sent_to (flash_loads wide cmd a 0 bytes) s
 block_is_loads wide cmd a last [] s loaded new done c some l answer is ext = absurd (omega arith)
 block_is_loads wide cmd a last (d ∷ ds) s loaded new done c some l answer is ext =
-    search (rules, extended_is, keeps_extended, all_loads)
+    search (rules, keeps_extended, all_loads)
 
 -- if the extended address is right already, reading changes nothing
 all_looks : (wide : Bool) (a i n : ℕ) (s : chip.ChipState) → cond wide (a / 65536 % 256) s.extended ≡ s.extended
@@ -73,22 +63,18 @@ all_looks : (wide : Bool) (a i n : ℕ) (s : chip.ChipState) → cond wide (a / 
 all_looks wide a i zero s right few inside = refl
 all_looks wide a i (suc n) s right few inside =
     let w = word_at a i in
-    let whole : w ≡ a + i / 2 = let e : (a + i / 2) % 2147483648 ≡ a + i / 2 = omega arith in e in
     let page : w / 65536 % 256 ≡ a / 65536 % 256 = omega arith in
     let inner : high w * 256 + low w ≡ a % 65536 + i / 2 = search rules in
-    search (rules, extended_is, look_byte, offset_at, look_by, all_looks wide a (suc i) n s right few (omega arith))
+    search (rules, look_byte, offset_at, look_by, all_looks wide a (suc i) n s right few (omega arith))
 
 looks_again : (wide : Bool) (cmd a n : ℕ) (s new : chip.ChipState) → a < 2147483648 → 0 < n
     → new ≡ sent_to (extension wide a) s
     → flash_looks wide cmd a 0 n new ≡ flash_looks wide cmd a 0 n s
-looks_again wide cmd a zero s new few some ext = absurd (omega arith)
-looks_again wide cmd a (suc n) s new few some ext =
-    search rules
+looks_again wide cmd a n s new few some ext = search rules
 
 in_flash : (test : Bool) (bytes whole : List ℕ) → Some bytes ≡ cond test (Some whole) None
     → (test ≡ true) × (bytes ≡ whole)
-in_flash true bytes whole e = (refl, cc)
-in_flash false bytes whole e = absurd (cc)
+in_flash test bytes whole e = search rules
 
 pub block_is_looks : (wide : Bool) (cmd a word n : ℕ) (bytes : List ℕ) (s new : chip.ChipState) → cmd ≡ 0x20
     → a < 2147483648 → 0 < n → word ≡ a % 65536
@@ -96,9 +82,7 @@ pub block_is_looks : (wide : Bool) (cmd a word n : ℕ) (bytes : List ℕ) (s ne
     → flash_looks wide cmd a 0 n s ≡ (bytes, new)
 block_is_looks wide cmd a word n bytes s new c few some w ext given =
     let got = in_flash (is_in_flash word n new) bytes (read_in_turn word 0 n new) given in
-    let fits : word * 2 + n ≤ 131072 = search (rules, leb-true, and_parts) in
-    let extended : new.extended ≡ cond wide (a / 65536 % 256) s.extended =
-    ap (λ (t : chip.ChipState). t.extended) (ext ∙ extended_is wide a s) in
+    let fits : word * 2 + n ≤ 131072 = search rules in
     let right : cond wide (a / 65536 % 256) new.extended ≡ new.extended =
     search rules in
     ap (λ k. flash_looks wide k a 0 n s) c
@@ -111,5 +95,4 @@ reads_length word i (suc n) s = ap suc (reads_length word (suc i) n s)
 
 pub block_length : (word n : ℕ) (bytes : List ℕ) (s : chip.ChipState) → Some bytes ≡ flash_block word n s
     → length bytes ≡ n
-block_length word n bytes s given =
-    search (rules, in_flash, reads_length)
+block_length word n bytes s given = search (rules, reads_length)

@@ -1,11 +1,12 @@
 -- Blocks that are read: the bytes, and the chip after them.
+use Rattle.std.proofs.lemmas.Grind.{common_steps}
 use Rattle.std.proofs.Common.{◌≡◌, ℕ, zero, suc, ◌+◌, ◌*◌, ◌/◌, ◌%◌, ◌≤◌, ◌<◌, List, [], ◌∷◌, length, get_or, take, drop, refl, sym, ap, ◌∙◌, arith, Bool, false, cond, drop-cons, rules}
 use Rattle.std.proofs.Math.Nat.{mod-eq_of_lt}
 use Rattle.std.proofs.lemmas.Bool.{cond-false}
 use Rattle.std.specs.Prelude.{slice_index}
 use Rattle.avr_part.specs.State as chip
 use Rattle.stk_emu.specs.Programmer.{sent_to, extension, flash_looks, eeprom_looks, look, for_half, word_at, byte_address, at_address, high, low}
-use Rattle.stk_emu.proofs.Memories.Pages.{extended_is, word_whole}
+use Rattle.stk_emu.proofs.Memories.Pages.{extended_is}
 
 -- a memory from a place on, by its first byte
 one_more : (xs : List ℕ) (j n : ℕ) → j < length xs → get_or xs j 0 ∷ take n (drop (suc j) xs) ≡ take (suc n) (drop j xs)
@@ -24,8 +25,7 @@ pub look_byte : (i h lo : ℕ) (s : chip.ChipState) → chip.spi_of (for_half 0x
           ((s.extended * 65536 + (h * 256 + lo)) % (s.part.flash_size / 2) * 2 + i % 2) 0 ∷ [],
       s,
     )
-look_byte i h lo s =
-    search rules
+look_byte i h lo s = search rules
 
 -- the bytes of a block, and the chip with some extended address
 pub record Looked (wide : Bool) (j n : ℕ) (s : chip.ChipState) (looked : List ℕ × chip.ChipState) : Type 0 where
@@ -40,8 +40,7 @@ flash_place : (wide : Bool) (a i size : ℕ) (s : chip.ChipState) → s.part.fla
     → (wide ≡ false → (s.extended ≡ 0) × (a + i / 2 < 65536))
     → (cond wide (word_at a i / 65536 % 256) s.extended * 65536 + (high (word_at a i) * 256 + low (word_at a i))) %
     (s.part.flash_size / 2) * 2 + i % 2 ≡ a * 2 + i
-flash_place wide a i size s is few low_enough inside narrow =
-    rw (mod-eq_of_lt few, word_whole wide s (a + i / 2) low_enough narrow, is, mod-eq_of_lt inside) (omega arith)
+flash_place wide a i size s is few low_enough inside narrow = search (rules, mod-eq_of_lt)
 
 pub flash_looked : (wide : Bool) (a i n size : ℕ) (s : chip.ChipState) → s.part.flash_size ≡ size
     → length s.flash ≡ size → size ≤ 262144 → size % 2 ≡ 0 → a * 2 + i + n ≤ size
@@ -62,20 +61,11 @@ flash_looked wide a i (suc n) size s is long most even fits narrow =
     (λ e. (cond-false wide (word_at a i / 65536 % 256) s.extended e ∙ (narrow e).0, (narrow e).1)) in
     let looks : flash_looks wide 0x20 a i (suc n) s
     ≡ (byte ∷ (flash_looks wide 0x20 a (suc i) n s₁).0, (flash_looks wide 0x20 a (suc i) n s₁).1) =
-    search (rules, look_by) in
-    record {
-      bytes = ap (λ z. z.0) looks ∙ (ap (λ bs. byte ∷ bs)
-          (more.bytes ∙ ap (λ j. take n (drop j s.flash)) (let e : a * 2 + suc i ≡ suc (a * 2 + i) = omega arith in e))
-          ∙ one_more s.flash (a * 2 + i) n (omega arith));
-      value = more.value;
-      kept = λ e. more.kept e ∙ cond-false wide (word_at a i / 65536 % 256) s.extended e;
-      is = ap (λ z. z.1) looks ∙ more.is;
-    }
+    search (rules, look_by) in grind (arith, common_steps)
 
 eeprom_place : (a i size : ℕ) (s : chip.ChipState) → s.part.eeprom_size ≡ size → a + i < size → size ≤ 4096
     → (high (byte_address a i) * 256 + low (byte_address a i)) % s.part.eeprom_size ≡ a + i
-eeprom_place a i size s is inside most =
-    search (rules, mod-eq_of_lt)
+eeprom_place a i size s is inside most = search rules
 
 pub eeprom_looked : (a i n size : ℕ) (s : chip.ChipState) → s.part.eeprom_size ≡ size → length s.eeprom ≡ size
     → size ≤ 4096 → a + i + n ≤ size → eeprom_looks 0xA0 a i n s ≡ (take n (drop (a + i) s.eeprom), s)
@@ -87,9 +77,7 @@ eeprom_looked a i (suc n) size s is long most fits =
     ≡ (0 ∷ 0xA0 ∷ high (byte_address a i) ∷ byte ∷ [], s) =
     rw place refl in
     let more = eeprom_looked a (suc i) n size s is long most (omega arith) in
-    look_by (at_address 0xA0 (byte_address a i) 0) s (eeprom_looks 0xA0 a (suc i) n) spi ∙ rw more
-    (ap (λ bs. (bs, s)) (ap (λ j. byte ∷ take n (drop j s.eeprom)) (let e : a + suc i ≡ suc (a + i) = omega arith in e)
-    ∙ one_more s.eeprom (a + i) n (omega arith)))
+    grind (arith, common_steps)
 
 -- whatever is read, only the extended address changes
 pub record Left (wide : Bool) (s t : chip.ChipState) : Type 0 where
@@ -106,7 +94,7 @@ flash_left wide a i (suc n) s =
     (sent_to (extension wide (word_at a i)) s)).1 ≡ s₁ =
     rw (extended_is wide (word_at a i) s) (ap (λ z. z.1) (look_byte i (high (word_at a i)) (low (word_at a i)) s₁)) in
     let more : Left wide s₁ (flash_looks wide 0x20 a (suc i) n s₁).1 = flash_left wide a (suc i) n s₁ in
-    search (rules, cond-false)
+    search rules
 
 pub eeprom_left : (a i n : ℕ) (s : chip.ChipState) → (eeprom_looks 0xA0 a i n s).1 ≡ s
 eeprom_left a i zero s = refl

@@ -1,10 +1,10 @@
 -- Images laid over memories, and buffers that are loaded byte by byte.
-use Rattle.std.proofs.Common.{◌≡◌, ℕ, zero, suc, ◌+◌, ◌-◌, ◌≤◌, ◌<◌, List, [], ◌∷◌, ◌++◌, length, get_or, set, map, refl, sym, ap, ap₂, ◌∙◌, append_assoc, arith, replicate, Option, Some, None, unwrap_or, bit_and, length-append, rules}
-use Rattle.std.proofs.lemmas.List.{length-replicate, length-map, length-set, get_or-replicate, get_or_append_left, get_or-append_right, get_or_past, set_at, replicate-append-replicate}
+use Rattle.std.proofs.lemmas.Grind.{common_steps}
+use Rattle.std.proofs.Common.{◌≡◌, ℕ, zero, suc, ◌+◌, ◌-◌, ◌≤◌, ◌<◌, List, [], ◌∷◌, ◌++◌, length, get_or, set, map, refl, sym, ap, ap₂, ◌∙◌, append_assoc, arith, replicate, Option, Some, None, unwrap_or, length-append, rules}
+use Rattle.std.proofs.lemmas.List.{length-replicate, length-map, get_or-replicate, get_or_append_left, get_or-append_right, get_or_past, set_at, replicate-append-replicate}
 use Rattle.std.proofs.lemmas.Nat.{and_assoc}
-use Rattle.std.specs.Int.Bits.{and_self}
 use Rattle.avr_part.specs.Memory.{map_indexed, overlaid, byte_and_page}
-use Rattle.avr_part.proofs.Changes.{changed_is, overlaid_is, anded_is}
+use Rattle.avr_part.proofs.Changes.{changed_is}
 use Rattle.stk_emu.specs.Effect.{Image, with_image, and_in, and_with}
 use Rattle.stk_emu.specs.PageWrites.{image_at}
 
@@ -32,19 +32,13 @@ get_and_in [] (x ∷ xs) i l = refl
 get_and_in (b ∷ image) (x ∷ xs) zero l = refl
 get_and_in (b ∷ image) (x ∷ xs) (suc i) l = get_and_in image xs i (omega arith)
 
--- laid twice is laid once
-pub laid_byte : (b : Option ℕ) (x : ℕ) → unwrap_or b (unwrap_or b x) ≡ unwrap_or b x
-laid_byte None x = refl
-laid_byte (Some y) x = refl
-
 pub laid_twice : (image : Image) (xs : List ℕ) → with_image image (with_image image xs) ≡ with_image image xs
 laid_twice image [] = refl
 laid_twice [] (x ∷ xs) = refl
-laid_twice (b ∷ image) (x ∷ xs) = ap₂ (λ y ys. y ∷ ys) (laid_byte b x) (laid_twice image xs)
+laid_twice (b ∷ image) (x ∷ xs) = ap₂ (λ y ys. y ∷ ys) (search rules) (laid_twice image xs)
 
 pub and_byte : (b : Option ℕ) (x : ℕ) → and_with b (and_with b x) ≡ and_with b x
-and_byte None x = refl
-and_byte (Some y) x = and_assoc y x y ∙ ap (bit_and x) (and_self y)
+and_byte b x = grind (arith, common_steps, and_assoc)
 
 pub and_in_twice : (image : Image) (xs : List ℕ) → and_in image (and_in image xs) ≡ and_in image xs
 and_in_twice image [] = refl
@@ -64,20 +58,18 @@ laid_nothing (b ∷ image) k (x ∷ xs) = ap (λ ys. unwrap_or b x ∷ ys) (laid
 
 -- the bytes loaded for a page, laid over a memory
 pub before_part : (start : ℕ) (loads : Image) (i : ℕ) → i < start → get_or (replicate start None ++ loads) i None ≡ None
-before_part start loads i l =
-    search (rules, get_or_append_left, length-replicate, get_or-replicate)
+before_part start loads i l = search (rules, get_or_append_left, length-replicate, get_or-replicate)
 
 pub in_part : (start : ℕ) (loads : Image) (i : ℕ) → start ≤ i
     → get_or (replicate start None ++ loads) i None ≡ get_or loads (i - start) None
-in_part start loads i l = get_or-append_right (replicate start None) loads start i None
-    (length-replicate {A = Option ℕ} start None) l
+in_part start loads i l = search (rules, get_or-append_right, length-replicate)
 
 pub overlaid_laid : (start : ℕ) (loads : Image) (xs : List ℕ)
     → map_indexed (overlaid start loads) xs ≡ with_image (replicate start None ++ loads) xs
 overlaid_laid start loads xs =
     sym (changed_is (overlaid start loads) xs (with_image (replicate start None ++ loads) xs)
     (length-laid (replicate start None ++ loads) xs)
-    (λ i l. search (rules, overlaid_is, get_laid, before_part, in_part, get_or_past)))
+    (λ i l. search (rules, get_laid, before_part, in_part, get_or_past)))
 
 pub some_at : (page : List ℕ) (j : ℕ) → j < length page → get_or (map Some page) j None ≡ Some (get_or page j 0)
 some_at [] j l = absurd (omega arith)
@@ -89,7 +81,7 @@ pub anded_in : (start : ℕ) (page xs : List ℕ)
 anded_in start page xs =
     sym (changed_is (byte_and_page start page) xs (and_in (image_at start page) xs)
     (length-and_in (image_at start page) xs)
-    (λ i l. search (rules, anded_is, get_and_in, before_part, in_part, some_at, get_or_past, length-map)))
+    (λ i l. search (rules, get_and_in, before_part, in_part, some_at, get_or_past, length-map)))
 
 -- a buffer into which bytes are loaded from one place on
 abbrev pub put : {A : Type 0} → (ℕ → A) → ℕ → List ℕ → List A → List A
@@ -109,9 +101,7 @@ put_is f e (d ∷ ds) prefix place k at =
       rules,
       set_at,
       append_assoc,
-      at_end,
-      put_is f e ds (prefix ++ f d ∷ []) (suc place) k (at_end prefix (f d)
-          place at) ∙ append_assoc prefix (f d ∷ []) (map f ds ++ replicate k e),
+      put_is f e ds (prefix ++ f d ∷ []) (suc place) k (at_end prefix (f d) place at) ∙ append_assoc prefix (f d ∷ []) (map f ds ++ replicate k e),
     )
 
 -- the bytes loaded for a run within a page, laid over a memory
@@ -119,7 +109,6 @@ pub run_laid : (start off : ℕ) (run : List ℕ) (page : ℕ) (xs : List ℕ) �
     → map_indexed (overlaid start (put Some off run (replicate page None))) xs
     ≡ with_image (image_at (start + off) run) xs
 run_laid start off run page xs fits =
-    let split : page ≡ off + (length run + (page - (off + length run))) = omega arith in
     let buffer : put Some off run (replicate page None)
     ≡ replicate off None ++ (map Some run ++ replicate (page - (off + length run)) None) =
     ap (put Some off run) (search (rules, replicate-append-replicate))
@@ -133,5 +122,4 @@ run_laid start off run page xs fits =
 pub length_put : {A : Type 0} (f : ℕ → A) (place : ℕ) (ds : List ℕ) (buffer : List A)
     → length (put f place ds buffer) ≡ length buffer
 length_put f place [] buffer = refl
-length_put f place (d ∷ ds) buffer = length_put f (suc place) ds (set buffer place (f d))
-    ∙ length-set buffer place (f d)
+length_put f place (d ∷ ds) buffer = search (rules, length_put f (suc place) ds (set buffer place (f d)))

@@ -3,7 +3,7 @@ use Rattle.std.proofs.Common.{◌≡◌, ℕ, suc, ◌+◌, ◌*◌, ◌/◌, �
 use Rattle.std.proofs.lemmas.Nat.{mod-mul-add}
 use Rattle.std.proofs.lemmas.Nat.Gcd.{dvd_of_mod-eq-zero}
 use Rattle.std.proofs.Math.Nat.{mod-mod_of_dvd, mod-eq_of_lt, mul-div_cancel, mul_assoc, dvd-mul_right, dvd_trans}
-use Rattle.std.proofs.lemmas.Bool.{ne_eqb, eq-eqb, and_from, cases_Bool, ltb-false, le-ltb, cond-false}
+use Rattle.std.proofs.lemmas.Bool.{ltb-false, le-ltb}
 use Rattle.std.proofs.lemmas.List.{append-nil, map-id}
 use Rattle.std.specs.Prelude.{◌==◌, ◌&&◌, not, nat_lt}
 use Rattle.avr_part.specs.Part.{Part, IsPart}
@@ -21,7 +21,6 @@ use Rattle.stk_emu.specs.Settled.{Ready, IsNarrow}
 use Rattle.stk_emu.specs.PageWrites.{image_at, changed, IsPage}
 use Rattle.stk_emu.proofs.Memories.Blocks.{sent-append}
 use Rattle.stk_emu.proofs.Memories.LaidImages.{put, put_is, anded_in}
-use Rattle.stk_emu.proofs.Memories.Runs.{narrow_loaded}
 
 -- whether the part needs the extended address
 abbrev pub is_wide : Part → Bool
@@ -38,24 +37,22 @@ page_even part sound n = omega (arith, words_twice n part.flash_page sound.flash
 -- the address that is loaded for a place in flash
 pub flash_loaded_at : (part : Part) (start : ℕ) (p : Programmer) → start < 4294967296
     → device.after (body (load_flash part start)) p ≡ record p { address = start / 2; wide = is_wide part }
-flash_loaded_at part start p few = search (rules, cases_Bool, narrow_loaded)
+flash_loaded_at part start p few = search rules
 
 -- and the byte of that address
 pub flash_address_back : (part : Part) (start : ℕ) → start < 4294967296 → start % 2 ≡ 0
     → flash_address part start % 2147483648 * 2 ≡ start
-flash_address_back part start few even = search (rules, cases_Bool)
+flash_address_back part start few even = search rules
 
 pub extended_is : (wide : Bool) (a : ℕ) (s : chip.ChipState)
     → sent_to (extension wide a) s ≡ record s { extended = cond wide (a / 65536 % 256) s.extended }
-extended_is true a s = refl
-extended_is false a s = refl
+extended_is wide a s = search rules
 
 -- one byte is loaded
 pub load_byte : (i h lo d : ℕ) (s : chip.ChipState)
     → (chip.spi_of (for_half 0x40 i ∷ h ∷ lo ∷ d ∷ []) s).1
     ≡ record s { flash_buffer = set s.flash_buffer (lo % (s.part.flash_page / 2) * 2 + i % 2) d }
-load_byte i h lo d s =
-    search rules
+load_byte i h lo d s = search rules
 
 -- the buffer after the loads, and some extended address
 record Loaded (wide : Bool) (i : ℕ) (ds : List ℕ) (s t : chip.ChipState) : Type 0 where
@@ -80,12 +77,7 @@ flash_loaded wide a i half (d ∷ ds) s e each =
     let more : Loaded wide (suc i) ds s₂ (sent_to (flash_loads wide 0x40 a (suc i) ds) s₂) =
     flash_loaded wide a (suc i) half ds s₂ e
     (λ k l. ap (λ j. word_at a j % 256 % half * 2 + j % 2) (omega arith)
-    ∙ (each (suc k) (omega arith) ∙ omega arith)) in
-    record {
-      value = more.value;
-      kept = λ n. more.kept n ∙ cond-false wide (word_at a i / 65536 % 256) s.extended n;
-      is = one ∙ more.is;
-    }
+    ∙ (each (suc k) (omega arith) ∙ omega arith)) in search rules
 
 -- the place of byte j of a page
 word_place : (n half j : ℕ) → 256 % (half * 2) ≡ 0 → j < half * 2 → n * half + j / 2 < 2147483648
@@ -101,9 +93,7 @@ word_place n half j whole within few =
 pub word_whole : (wide : Bool) (s : chip.ChipState) (w : ℕ) → w < 16777216
     → (wide ≡ false → (s.extended ≡ 0) × (w < 65536))
     → cond wide (w / 65536 % 256) s.extended * 65536 + (high w * 256 + low w) ≡ w
-word_whole true s w few n = let e : w / 65536 % 256 * 65536 + (w / 256 % 256 * 256 + w % 256) ≡ w = omega arith in e
-word_whole false s w few n =
-    search rules
+word_whole wide s w few n = search rules
 
 -- the page is written at the address of its low word
 flash_written : (wide : Bool) (s : chip.ChipState) (a start size page : ℕ) → s.part.flash_page ≡ page
@@ -114,11 +104,7 @@ flash_written : (wide : Bool) (s : chip.ChipState) (a start size page : ℕ) →
       flash_buffer = blank s.flash_buffer;
       extended = cond wide (a / 65536 % 256) s.extended;
     }
-flash_written wide s a start size page pe se few inside narrow at =
-    search (rules, word_whole, mod-eq_of_lt, sent-append, extended_is)
-
-pub flash_test : (n : ℕ) → 0 < n → n % 2 ≡ 0 → (not (n == 0) && (n % 2 == 0) && (n == n) && true) ≡ true
-flash_test n some even = search (rules, and_from, ne_eqb, eq-eqb)
+flash_written wide s a start size page pe se few inside narrow at = search (rules, word_whole, mod-eq_of_lt)
 
 module _ (part : Part) (sound : IsPart part) where
   -- the chip after a page
@@ -151,18 +137,16 @@ module _ (part : Part) (sound : IsPart part) where
       let buffer : put (λ d. d) 0 page s.flash_buffer ≡ page =
       ap (put (λ d. d) 0 page) (search rules)
       ∙ (put_is (λ d. d) 255 page [] 0 0 refl ∙ (append-nil (map (λ d. d) page) ∙ map-id page)) in
-      search (rules, mul-div_cancel, flash_written, cond-false, sent-append, anded_in)
+      search (rules, mul-div_cancel, flash_written, sent-append, anded_in)
     where
       small : is_wide part ≡ false → n * (part.flash_page / 2) < 65536
-      small w =
-          search (rules, ltb-false, words_twice)
+      small w = search (rules, ltb-false, words_twice)
 
   -- what the step of a page writes
   page_changed : (n : ℕ) (page : List ℕ) (m : Memories) → IsPage part n page
       → changed part (load_flash part (n * part.flash_page) ∷ program_page page ∷ []) m
       ≡ effects part (Write Flash (image_at (n * part.flash_page) page) ∷ []) m
-  page_changed n page m is_page =
-      search (rules, page_even)
+  page_changed n page m is_page = search (rules, page_even)
 
   pub page_does : (n : ℕ) (page : List ℕ) (m : Memories) (p : Programmer) → IsPage part n page → Ready part m p
       → Ready part (changed part (load_flash part (n * part.flash_page) ∷ program_page page ∷ []) m)

@@ -1,21 +1,21 @@
 -- What a frame brings over the wire, as it is read.
-use Rattle.std.proofs.Common.{◌≡◌, ℕ, suc, ◌*◌, ◌≤◌, ◌<◌, ◌≢◌, List, [], ◌∷◌, ◌++◌, length, refl, sym, ap, ◌∙◌, append_assoc, arith, true, inl, inr, Some, None, length-append, rules}
-use Rattle.std.proofs.lemmas.Bool.{cases_Bool, eq-eqb, and_from, cond-true, cond-false}
+use Rattle.std.proofs.lemmas.Grind.{common_steps}
+use Rattle.std.proofs.Common.{◌≡◌, ℕ, ◌*◌, ◌≤◌, ◌<◌, ◌≢◌, List, [], ◌∷◌, ◌++◌, length, refl, sym, ap, ◌∙◌, append_assoc, arith, inl, inr, Some, None, length-append, rules}
+use Rattle.std.proofs.lemmas.Bool.{cases_Bool}
 use Rattle.std.specs.Prelude.{filter}
 use Rattle.stk_frame.specs.declared.protocol.TheConstants.{LARGEST_FRAME}
 use Rattle.stk_frame.specs.Frame.{frame}
 use Rattle.stk_frame.specs.Cut.{cut, is_good}
-use Rattle.stk_frame.proofs.FedReaders.{cut_whole}
-use Rattle.stk_frame.proofs.Laws.{cut_first, frame_is_piece, frame_is_good, length_frame, body_of_frame}
+use Rattle.stk_frame.proofs.Laws.{cut_first, frame_is_piece, frame_is_good, body_of_frame}
 use Rattle.stk_host.specs.declared.link.Item.TheVariants.{Silence}
-use Rattle.stk_host.specs.Tape.{Tape, Answered, Silent, answer, on_tape, first_answer, is_answer, further, limit}
+use Rattle.stk_host.specs.Tape.{Tape, Answered, Silent, answer, on_tape, first_answer, further, limit}
 use Rattle.stk_host.specs.Dialog.{next}
-use Rattle.stk_host.proofs.Tapes.Answers.{answer_found, answer_silent, on_tape_append, further_zero, further_further}
+use Rattle.stk_host.proofs.Tapes.Answers.{answer_found, answer_silent, on_tape_append, further_zero}
 use Rattle.stk_emu.specs.declared.fate.Fate.{Fate}
-use Rattle.stk_emu.specs.declared.fate.Fate.TheVariants.{Good, LateAnswer, HeldAnswer, CommandRefused, AnswerSpoiled}
-use Rattle.stk_emu.specs.Device.{Device, refusal, answer_body}
+use Rattle.stk_emu.specs.declared.fate.Fate.TheVariants.{Good, HeldAnswer, CommandRefused, AnswerSpoiled}
+use Rattle.stk_emu.specs.Device.{Device, refusal}
 use Rattle.stk_emu.specs.Wire.{IsLawfulFate, first_fate, turn_of, back, let_go, late_of, Wire, arrival, wire_behind}
-use Rattle.stk_emu.specs.Lawful.{IsLawful, IsBody, Late, none_late, behind_late, waiting, later, IsPast, IsClear}
+use Rattle.stk_emu.specs.Lawful.{IsLawful, IsBody, Late, none_late, waiting, later, IsPast, IsClear}
 use Rattle.stk_emu.specs.Turn.{after_turn, turn_reading}
 
 -- without a good frame there is no answer
@@ -29,9 +29,6 @@ none_good n (piece ∷ pieces) e = elim (cases_Bool (is_good piece)) [
 frame_cut : (n : ℕ) (bytes more : List ℕ) → IsBody bytes → cut (frame n bytes ++ more) ≡ frame n bytes ∷ cut more
 frame_cut n bytes more b = cut_first (frame n bytes) more (frame_is_piece n bytes b.some b.few)
 
-own_frame : (n : ℕ) (bytes : List ℕ) → IsBody bytes → is_answer n (frame n bytes) ≡ true
-own_frame n bytes b = and_from _ _ (frame_is_good n bytes b.some) (eq-eqb n n refl)
-
 -- Bytes that are skipped: those after them are judged as if alone.
 pub record Skipped (n : ℕ) (prefix : List ℕ) : Type 0 where
   pub first : (more : List ℕ) → first_answer n (cut (prefix ++ more))
@@ -41,13 +38,10 @@ pub none_skipped : (n : ℕ) → Skipped n []
 none_skipped n = record { first = λ more. further_zero (first_answer n (cut more)) }
 
 pub frame_skipped : (n seq : ℕ) (bytes : List ℕ) → seq ≢ n → IsBody bytes → Skipped n (frame seq bytes)
-frame_skipped n seq bytes other carried = search (rules, frame_cut, cond-false)
+frame_skipped n seq bytes other carried = search (rules, frame_cut)
 
 pub both_skipped : (n : ℕ) (x y : List ℕ) → Skipped n x → Skipped n y → Skipped n (x ++ y)
-both_skipped n x y f g = record {
-  first = λ more. rw (append_assoc x y more, f.first (y ++ more), g.first more, length-append x y)
-      (further_further (length x) (length y) (first_answer n (cut more)));
-}
+both_skipped n x y f g = search (rules, append_assoc, length-append)
 
 -- an answer to a frame before this one
 late_skipped : (k n : ℕ) (late : List ℕ) → ((seq : ℕ) → later k seq ≡ n → seq ≢ n) → IsPast k n late → Skipped n late
@@ -63,15 +57,12 @@ clear_skipped n late c =
     (late_skipped 1 n late.third (λ seq e. omega (arith, e)) c.third))
 
 clear_length : (n : ℕ) (late : Late) → IsClear n late → length (waiting late) ≤ 3 * LARGEST_FRAME
-clear_length n late c =
-    search (rules, length-append)
+clear_length n late c = search (rules, length-append)
 
 -- the answer itself
 pub found_frame : (n : ℕ) (bytes : List ℕ) → IsBody bytes
     → first_answer n (cut (frame n bytes)) ≡ Some (bytes, length (frame n bytes))
-found_frame n bytes b =
-    ap (first_answer n) (cut_whole (frame n bytes) (frame_is_piece n bytes b.some b.few))
-    ∙ (search (rules, cond-true, own_frame, body_of_frame))
+found_frame n bytes b = grind (arith, common_steps)
 
 reads_frame : (n : ℕ) (prefix bytes : List ℕ) (more : Tape) → Skipped n prefix → length prefix ≤ 3 * LARGEST_FRAME
     → IsBody bytes
@@ -80,7 +71,7 @@ reads_frame n prefix bytes more skipped short b =
     let found : first_answer n (cut (prefix ++ frame n bytes)) ≡ Some (bytes, length (prefix ++ frame n bytes)) =
     rw (skipped.first (frame n bytes), found_frame n bytes b, length-append prefix (frame n bytes)) refl in
     let few : length (prefix ++ frame n bytes) ≤ limit =
-    search (rules, length-append, length_frame) in
+    search (rules, length-append) in
     ap (λ t. answer n (t ++ more)) (sym (on_tape_append prefix (frame n bytes)))
     ∙ answer_found n (prefix ++ frame n bytes) more bytes found few
 
@@ -100,28 +91,18 @@ reads_silence n prefix noise more skipped short lawful =
 no_noise : IsLawful []
 no_noise = record { few = omega arith; no_frame = refl }
 
-refusal_is_body : IsBody refusal
-refusal_is_body = record { some = omega arith; few = omega arith }
-
 reads_back : (n : ℕ) (fate : Fate) (late : Late) (bytes : List ℕ) (more : Tape) → IsClear n late → IsLawfulFate fate
     → IsBody bytes
     → answer n ((on_tape (let_go fate late) ++ back fate (frame n bytes) (frame n refusal)) ++ more)
     ≡ Some (turn_reading (turn_of fate) bytes, more)
-reads_back n Good late bytes more clear lawful b =
-    reads_frame n (waiting late) bytes more (clear_skipped n late clear) (clear_length n late clear) b
+reads_back n Good late bytes more clear lawful b = search (rules, reads_frame, clear_skipped, clear_length)
 reads_back n HeldAnswer late bytes more clear lawful b =
     reads_silence n [] [] more (none_skipped n) (omega arith) no_noise
-reads_back n CommandRefused late bytes more clear lawful b =
-    reads_frame n (waiting late) refusal more (clear_skipped n late clear) (clear_length n late clear) refusal_is_body
+reads_back n CommandRefused late bytes more clear lawful b = search (rules, reads_frame, clear_skipped, clear_length)
 reads_back n (AnswerSpoiled noise) late bytes more clear lawful b =
     reads_silence n (waiting late) noise.items more (clear_skipped n late clear) (clear_length n late clear) lawful
 reads_back n _ late bytes more clear lawful b =
     reads_silence n (waiting late) [] more (clear_skipped n late clear) (clear_length n late clear) no_noise
-
--- a whole frame is answered as its body is
-answered_body : {P : Type 0} (m : Device P) (n : ℕ) (bytes : List ℕ) (p : P) → IsBody bytes
-    → answer_body m (frame n bytes) p ≡ m.answer bytes p
-answered_body m n bytes p b = rw (frame_is_good n bytes b.some, body_of_frame n bytes) refl
 
 -- The arrival of a frame of sequence n is read whole, and nothing else. The answer is the programmer's, the refusal, or
 -- a timeout.
@@ -129,40 +110,23 @@ pub arrival_read : {P : Type 0} (m : Device P) (n : ℕ) (bytes : List ℕ) (w :
     → IsBody (m.answer bytes w.programmer) → IsClear n w.late → IsLawfulFate (first_fate w.fates)
     → answer n (arrival m (frame n bytes) w ++ more)
     ≡ Some (turn_reading (turn_of (first_fate w.fates)) (m.answer bytes w.programmer), more)
-arrival_read m n bytes w more b a clear lawful =
-    ap (λ x. answer n ((on_tape (let_go (first_fate w.fates) w.late)
-    ++ back (first_fate w.fates) (frame n x) (frame n refusal)) ++ more)) (answered_body m n bytes w.programmer b)
-    ∙ reads_back n (first_fate w.fates) w.late (m.answer bytes w.programmer) more clear lawful a
+arrival_read m n bytes w more b a clear lawful = search (rules, reads_back, frame_is_good, body_of_frame)
 
 -- and the programmer behind it
 pub arrival_leaves : {P : Type 0} (m : Device P) (n : ℕ) (bytes : List ℕ) (w : Wire P) → IsBody bytes
     → (wire_behind m (frame n bytes) w).programmer
     ≡ after_turn (turn_of (first_fate w.fates)) (m.after bytes w.programmer) w.programmer m.reset
-arrival_leaves m n bytes w b =
-    rw (frame_is_good n bytes b.some, body_of_frame n bytes) refl
+arrival_leaves m n bytes w b = search (rules, frame_is_good, body_of_frame)
 
 -- nothing waits
 pub none_clear : (n : ℕ) → IsClear n none_late
 none_clear n = record { first = inl refl; second = inl refl; third = inl refl }
 
--- for the next frame an answer is one more back
-more_past : (k n : ℕ) (late : List ℕ) → IsPast k n late → IsPast (suc k) (next n) late
-more_past k n late (inl e) = inl e
-more_past k n late (inr l) = search rules
-
--- one more waits after them
-behind_clear : (n : ℕ) (late : Late) (bytes : List ℕ) → IsBody bytes → IsClear n late
-    → IsClear (next n) (behind_late late (frame n bytes))
-behind_clear n late bytes b c = search (rules, more_past)
-
 -- what comes late has the sequence of its frame
 late_is : (n : ℕ) (fate : Fate) (bytes : List ℕ) (late : Late) → IsBody bytes → IsClear n late
     → IsClear (next n) (late_of fate (frame n bytes) late)
-late_is n LateAnswer bytes late b c = behind_clear n none_late bytes b (none_clear n)
-late_is n HeldAnswer bytes late b c = behind_clear n late bytes b c
-late_is n _ bytes late b c = none_clear (next n)
+late_is n fate bytes late b c = search rules
 
 pub arrival_late : {P : Type 0} (m : Device P) (n : ℕ) (bytes : List ℕ) (w : Wire P) → IsBody bytes
     → IsBody (m.answer bytes w.programmer) → IsClear n w.late → IsClear (next n) (wire_behind m (frame n bytes) w).late
-arrival_late m n bytes w b a clear =
-    search (rules, answered_body, late_is)
+arrival_late m n bytes w b a clear = search (rules, frame_is_good, body_of_frame, late_is)

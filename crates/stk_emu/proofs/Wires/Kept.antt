@@ -1,5 +1,5 @@
 -- What a wire keeps, as frames pass and items are received.
-use Rattle.std.proofs.Common.{◌≡◌, ℕ, List, [], ◌∷◌, ◌++◌, length, drop, refl, ap, sym, ◌∙◌, append_assoc, rules}
+use Rattle.std.proofs.Common.{◌≡◌, ℕ, List, [], ◌∷◌, ◌++◌, length, drop, refl, ap, ◌∙◌, append_assoc, rules}
 use Rattle.std.proofs.lemmas.List.{append-nil, take-append-drop}
 use Rattle.stk_frame.specs.Cut.{frames}
 use Rattle.stk_host.specs.Tape.{Tape}
@@ -8,61 +8,39 @@ use Rattle.stk_host.proofs.Transcripts.Laws.{sent_append, heard_append}
 use Rattle.stk_emu.specs.declared.fate.Fate.{Fate}
 use Rattle.stk_emu.specs.Programmer.{Programmer}
 use Rattle.stk_emu.specs.Device.{Device}
-use Rattle.stk_emu.specs.Wire.{Wire, arrival, wire_behind, tape_of, wire_after}
-use Rattle.stk_emu.specs.Wired.{WiredState, FollowsFates, NeverIdle, PassesBytes, IsNext, after_hearing}
+use Rattle.stk_emu.specs.Wire.{Wire, wire_behind, tape_of, wire_after}
+use Rattle.stk_emu.specs.Wired.{WiredState, FollowsFates, PassesBytes, IsNext, after_hearing}
 use Rattle.stk_emu.proofs.Answers.Texts.{frames_fed}
 
 pub tape_more : {P : Type 0} (m : Device P) (xs ys : List (List ℕ)) (w : Wire P)
     → tape_of m (xs ++ ys) w ≡ tape_of m xs w ++ tape_of m ys (wire_after m xs w)
 tape_more m [] ys w = refl
-tape_more m (x ∷ xs) ys w =
-    rw (tape_more m xs ys (wire_behind m x w)) (sym (append_assoc (arrival m x w) _ _))
+tape_more m (x ∷ xs) ys w = search (rules, append_assoc, tape_more m xs ys (wire_behind m x w))
 
 pub wire_more : {P : Type 0} (m : Device P) (xs ys : List (List ℕ)) (w : Wire P)
     → wire_after m (xs ++ ys) w ≡ wire_after m ys (wire_after m xs w)
 wire_more m [] ys w = refl
 wire_more m (x ∷ xs) ys w = wire_more m xs ys (wire_behind m x w)
 
--- if nobody listened idly up to now, nobody did before
-never_before : (p : Programmer) (fates : List Fate) (transcript more : Transcript)
-    → NeverIdle p fates (transcript ++ more)
-    → NeverIdle p fates transcript
-never_before p fates transcript more never before after items split =
-    never before (after ++ more) items (ap (λ t. t ++ more) split ∙ append_assoc before (Got items ∷ after) more)
-
 pub keeps_passing : (old new : WiredState) (used : List ℕ) (p : Programmer) (fates : List Fate)
     → PassesBytes old new used → FollowsFates p fates old → FollowsFates p fates new
 keeps_passing old new used p fates passes keeps =
     let sent_is : sent new.transcript ≡ sent old.transcript ++ used =
-    search (rules, sent_append, append-nil) in
+    search (rules, sent_append) in
     let heard_is : heard new.transcript ≡ heard old.transcript =
     ap heard passes.transcript ∙ (heard_append old.transcript (Sent used ∷ []) ∙ append-nil (heard old.transcript)) in
     let frames_are : frames (sent new.transcript) ≡ frames (sent old.transcript) ++ passes.found =
     ap frames sent_is ∙ frames_fed old.held used new.held passes.found
     (sent old.transcript) passes.fed passes.are_frames
-    keeps.held in
-    search (rules, wire_more, never_before, tape_more, append_assoc)
-
--- the items received next were the first of those that waited, unless nothing waited
-heard_then : (p : Programmer) (fates : List Fate) (old : WiredState) (items : Tape) (waits : Tape) → old.waits ≡ waits
-    → IsNext items waits → FollowsFates p fates old
-    → NeverIdle p fates (old.transcript ++ Got items ∷ []) → items ++ drop (length items) waits ≡ waits
-heard_then p fates old items [] e next keeps never =
-    absurd (never old.transcript [] items refl
-    (keeps.brings (never_before p fates old.transcript (Got items ∷ []) never)
-    ∙ (ap (λ w. heard old.transcript ++ w) e ∙ append-nil (heard old.transcript))))
-heard_then p fates old items (item ∷ waits) e next keeps never =
-    ap (λ t. t ++ drop (length items) (item ∷ waits)) next.1 ∙ take-append-drop (length items) (item ∷ waits)
+    keeps.held in search (rules, wire_more, tape_more, append_assoc)
 
 pub keeps_hearing : (old : WiredState) (items : Tape) (p : Programmer) (fates : List Fate) → IsNext items old.waits
     → FollowsFates p fates old → FollowsFates p fates (after_hearing items old)
-keeps_hearing old items p fates next keeps =
-    search (rules, sent_append, append-nil, heard_append, never_before, append_assoc, heard_then)
+keeps_hearing old items p fates next keeps = search (rules, sent_append, heard_append, append_assoc, take-append-drop)
 
 -- a state with the items received, part by part
 pub heard_state : (w : WiredState) (transcript : Transcript) (waits items : Tape)
     → transcript ≡ w.transcript ++ Got items ∷ []
     → waits ≡ drop (length items) w.waits
     → record w { transcript = transcript; waits = waits } ≡ after_hearing items w
-heard_state w transcript waits items t a =
-    search rules
+heard_state w transcript waits items t a = search rules

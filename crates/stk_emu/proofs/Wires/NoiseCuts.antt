@@ -19,14 +19,12 @@ no_good (piece ∷ pieces) e = elim (cases_Bool (is_frame piece)) [
 
 good_fed : (old used new : List ℕ) (fs : List (List ℕ)) (text : List ℕ) → Fed old used new fs → MayHold old text
     → filter is_good (cut text) ≡ [] → filter is_good (cut (text ++ used)) ≡ filter is_good fs
-good_fed old used new fs text fed stands none =
-    search (rules, filter-append, no_good)
+good_fed old used new fs text fed stands none = search (rules, filter-append, no_good)
 
 -- the rest of the noise, as the code cuts it
 fed_rest : (old new noise : List ℕ) (at used : ℕ) (fs : List (List ℕ))
     → Fed old (take used (take (length noise - at) (drop at noise))) new fs → Fed old (take used (drop at noise)) new fs
-fed_rest old new noise at used fs fed =
-    search (rules, take_all, length-drop)
+fed_rest old new noise at used fs fed = search (rules, take_all, length-drop)
 
 -- no good frame was found
 pub noise_next : (old new noise : List ℕ) (at used : ℕ) (fs : List (List ℕ))

@@ -1,5 +1,5 @@
 -- Items that wait.
-use Rattle.std.proofs.Common.{◌≡◌, ℕ, zero, suc, ◌+◌, ◌<◌, ◌≤◌, List, [], ◌∷◌, ◌++◌, length, get_or, take, drop, refl, ap, sym, ◌∙◌, Option, Some, None, append_assoc}
+use Rattle.std.proofs.Common.{◌≡◌, ℕ, zero, suc, ◌+◌, ◌<◌, ◌≤◌, List, [], ◌∷◌, ◌++◌, length, get_or, take, drop, refl, ap, sym, ◌∙◌, Option, Some, None, append_assoc, rules}
 use Rattle.std.proofs.Math.ListN.{set}
 use Rattle.std.proofs.lemmas.List.{take_more, take_more_set, map_push, map-append, drop-map, drop-append-le, length-map}
 use Rattle.stk_host.specs.declared.link.Item.TheVariants.{Byte, Silence}
@@ -10,8 +10,7 @@ use Rattle.stk_emu.specs.Waiting.{item_of, tape_in}
 -- three pieces of bytes, put one after another
 pub three_put : (t x y z : Tape) (a b c : List ℕ) → t ≡ [] → x ≡ t ++ on_tape a → y ≡ x ++ on_tape b
     → z ≡ y ++ on_tape c → z ≡ on_tape (a ++ (b ++ c))
-three_put t x y z a b c e f g h =
-    rw (h, g, f, e, on_tape_append a (b ++ c), on_tape_append b c) (append_assoc (on_tape a) (on_tape b) (on_tape c))
+three_put t x y z a b c e f g h = search (rules, on_tape_append, append_assoc)
 
 item_at : (items : List (Option ℕ)) (i : ℕ) → get_or (tape_in items) i Silence ≡ item_of (get_or items i None)
 item_at [] i = refl
@@ -37,5 +36,4 @@ left_on items old at next count e = ap tape_in e ∙ sym (drop-map item_of count
 pub grown : (waits new brought : List (Option ℕ)) (at : ℕ) (tape : Tape) → at ≤ length waits → new ≡ waits ++ brought
     → tape_in brought ≡ tape
     → tape_in (drop at new) ≡ tape_in (drop at waits) ++ tape
-grown waits new brought at tape le is brings =
-    rw (is, drop-append-le at waits brought le, map-append item_of (drop at waits) brought, brings) refl
+grown waits new brought at tape le is brings = search (rules, drop-append-le, map-append)

@@ -2,11 +2,11 @@
 use Rattle.std.proofs.Common.{◌≡◌, ℕ, List, [], ◌∷◌, ◌++◌, refl, ap, ◌∙◌, Some, None, rules}
 use Rattle.stk_frame.specs.Frame.{frame}
 use Rattle.stk_host.specs.declared.fault.HostFault.{HostFault}
-use Rattle.stk_host.specs.declared.fault.HostFault.TheVariants.{SendFailed, RecvFailed}
+use Rattle.stk_host.specs.declared.fault.HostFault.TheVariants.{SendFailed}
 use Rattle.stk_host.specs.Tape.{Tape, answer}
 use Rattle.stk_host.specs.Transcript.{Transcript}
 use Rattle.stk_host.specs.Dialog.{Dialog, Done, Say, Ask, lifted, Event, Frame, Said, Played, played, behind, by_answer, next, bytes_sent, outputs}
-use Rattle.stk_host.specs.Play.{Progress, IsDue, InTurn, Plays, BreaksBy}
+use Rattle.stk_host.specs.Play.{Progress, InTurn, Plays, BreaksBy}
 use Rattle.stk_host.proofs.Transcripts.InDialogs.{turns_behind}
 
 -- events without output
@@ -45,15 +45,10 @@ raised_append [] y = refl
 raised_append (Frame bytes ∷ x) y = ap (λ es. Frame bytes ∷ es) (raised_append x y)
 raised_append (Said e ∷ x) y = absurd e
 
-due_lifted : {E R : Type 0} (dialog : Dialog ⊥ R) (seq : ℕ) (tape : Tape) (bytes : List ℕ) → IsDue dialog seq tape bytes
-    → IsDue {E = E} (lifted dialog) seq tape bytes
-due_lifted {E = E} dialog seq tape bytes due = search (rules, played_lifted, bytes_raised)
-
 turns_lifted : {R : Type 0} (E : Type 0) (dialog : Dialog ⊥ R) (m : Progress) (transcript : Transcript)
     → InTurn dialog m transcript
     → InTurn {E = E} (lifted dialog) m transcript
-turns_lifted E dialog m transcript f =
-    search (rules, turns_behind, due_lifted)
+turns_lifted E dialog m transcript f = search (rules, turns_behind, played_lifted, bytes_raised)
 
 pub plays_lifted : {E R : Type 0} {dialog : Dialog ⊥ R} {m n : Progress} {transcript : Transcript}
     {events : List (Event ⊥)}
@@ -76,5 +71,4 @@ by_lifted E SendFailed dialog m transcript shown f = record {
   all_sent = bytes_raised E shown ∙ f.all_sent;
   in_turn = turns_lifted E dialog m transcript f.in_turn;
 }
-by_lifted E RecvFailed dialog m transcript shown f = search (rules, played_lifted, bytes_raised, turns_lifted)
-by_lifted E _ dialog m transcript shown f = absurd f
+by_lifted E by dialog m transcript shown f = search (rules, played_lifted, bytes_raised, turns_lifted)

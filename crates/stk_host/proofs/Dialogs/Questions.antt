@@ -1,5 +1,5 @@
 -- How much dialogs ask: laws for the crates above, and the bounds of steps and of the operations.
-use Rattle.std.proofs.Common.{◌≡◌, ℕ, zero, suc, ◌+◌, ◌*◌, ◌≤◌, List, [], ◌∷◌, ◌++◌, length, length-append, refl, ap, arith, Bool, Result, Ok, Err, Option, Some, None, rules}
+use Rattle.std.proofs.Common.{◌≡◌, ℕ, zero, suc, ◌+◌, ◌*◌, ◌≤◌, List, [], ◌∷◌, ◌++◌, length, length-append, refl, ap, arith, Bool, Result, Option, rules}
 use Rattle.std.proofs.Math.Nat.{suc-mul}
 use Rattle.avr_part.specs.declared.part.Mem.{Mem}
 use Rattle.avr_part.specs.Part.{Part}
@@ -11,7 +11,7 @@ use Rattle.stk_host.specs.declared.fault.StepFault.TheVariants.{NoAnswer}
 use Rattle.stk_host.specs.Tape.{Tape, Reading, answer}
 use Rattle.stk_host.specs.Dialog.{Dialog, Done, Say, Ask, ◌>>=◌, Event, Frame, Said, Played, played, by_answer, next, frames_in}
 use Rattle.stk_host.specs.Play.{IsPrefixOfEvents, NoPart}
-use Rattle.stk_host.specs.Steps.{exchange, Reply, Data, Again, Stop, reading_reply, with_data, attempt, StepOutcome, end_or_again, tries, step, if_done, play}
+use Rattle.stk_host.specs.Steps.{exchange, Reply, reading_reply, with_data, attempt, StepOutcome, end_or_again, tries, step, if_done, play}
 use Rattle.stk_host.specs.WriteSteps.{write_steps}
 use Rattle.stk_host.specs.Operations.{handshake, opening, without_bytes, closing, judged_by, operation, writing}
 use Rattle.stk_host.specs.Bound.{AsksAtMost, SendsAtMost, commands_in, opening_steps, closing_steps, IsBoundedBy}
@@ -40,8 +40,7 @@ asks_bind (suc n) k (suc m) (Ask body answered) go_on le f g =
 heard_most : {E R : Type 0} (n : ℕ) (go_on : Reading → Tape → Played E R) (got : Option (Reading × Tape))
     → ((reading : Reading) (left : Tape) → length (frames_in (go_on reading left).events) ≤ n)
     → length (frames_in (by_answer go_on got).events) ≤ n
-heard_most n go_on None f = omega arith
-heard_most n go_on (Some (reading, left)) f = f reading left
+heard_most n go_on got f = search rules
 
 -- a dialog sends no more frames than it asks
 pub sends_most : {E R : Type 0} (n : ℕ) (d : Dialog E R) (seq : ℕ) (tape : Tape) → AsksAtMost n d
@@ -51,8 +50,7 @@ sends_most n (Say e d) seq tape f = sends_most n d seq tape f
 sends_most zero (Ask body answered) seq tape f = absurd f
 sends_most (suc n) (Ask body answered) seq tape f =
     let l = heard_most n (λ reading. played (answered reading) (next seq)) (answer seq tape)
-    (λ reading left. sends_most n (answered reading) (next seq) left (f reading)) in
-    omega arith
+    (λ reading left. sends_most n (answered reading) (next seq) left (f reading)) in search rules
 
 frames_append : {E : Type 0} (x y : List (Event E)) → frames_in (x ++ y) ≡ frames_in x ++ frames_in y
 frames_append [] y = refl
@@ -62,8 +60,7 @@ frames_append (Said e ∷ x) y = frames_append x y
 -- a prefix of events has no more frames
 pub prefix_most : {E : Type 0} {SaidPart : E → E → Type 0} {shown events : List (Event E)}
     → IsPrefixOfEvents SaidPart shown events → length (frames_in shown) ≤ length (frames_in events)
-prefix_most {SaidPart = SaidPart} {shown = shown} {events = events} f =
-    search (rules, frames_append, length-append)
+prefix_most {SaidPart = SaidPart} {shown = shown} {events = events} f = search (rules, frames_append, length-append)
 
 -- what a dialog asks bounds what it sends
 pub sends_asked : {E R : Type 0} (SaidPart : E → E → Type 0) (n : ℕ) (d : Dialog E R) → AsksAtMost n d
@@ -81,8 +78,7 @@ sends_asked SaidPart n d f = record {
 
 most_reply : (n : ℕ) (go_on : List ℕ → Dialog ⊥ Reply) (reply : Reply) → ((bytes : List ℕ) → AsksAtMost n (go_on bytes))
     → AsksAtMost n (with_data go_on reply)
-most_reply n go_on (Data bytes) f = f bytes
-most_reply n go_on _ f = tt
+most_reply n go_on reply f = search rules
 
 attempt_most : (commands : List Command) (before : List ℕ) → AsksAtMost (length commands) (attempt commands before)
 unfolding attempt exchange
@@ -93,9 +89,7 @@ attempt_most (command ∷ commands) before = λ reading.
 
 most_settled : (n : ℕ) (again : StepFault → Dialog ⊥ StepOutcome) (reply : Reply)
     → ((fault : StepFault) → AsksAtMost n (again fault)) → AsksAtMost n (end_or_again again reply)
-most_settled n again (Data bytes) f = tt
-most_settled n again (Again fault) f = f fault
-most_settled n again (Stop fault) f = tt
+most_settled n again reply f = search rules
 
 tries_most : (more : ℕ) (commands : List Command) (fault : StepFault)
     → AsksAtMost (more * length commands) (tries more commands fault)
@@ -109,18 +103,13 @@ tries_most (suc more) commands fault =
 pub step_most : (commands : List Command) → AsksAtMost (4 * length commands) (step commands)
 step_most commands = tries_most 4 commands NoAnswer
 
-pub done_most : (n : ℕ) (go_on : List ℕ → Dialog ⊥ StepOutcome) (outcome : StepOutcome)
-    → ((bytes : List ℕ) → AsksAtMost n (go_on bytes)) → AsksAtMost n (if_done go_on outcome)
-done_most n go_on (Ok bytes) f = f bytes
-done_most n go_on (Err fault) f = tt
-
 -- a step, then the dialog that its data choose
 pub then_most : (commands : List Command) (steps : List (List Command)) (go_on : List ℕ → Dialog ⊥ StepOutcome)
     → ((bytes : List ℕ) → AsksAtMost (4 * commands_in steps) (go_on bytes))
     → AsksAtMost (4 * commands_in (commands ∷ steps)) (step commands >>= if_done go_on)
 then_most commands steps go_on f =
     asks_bind (4 * length commands) (4 * commands_in steps) (4 * commands_in (commands ∷ steps)) (step commands)
-    (if_done go_on) (omega arith) (step_most commands) (λ outcome. done_most (4 * commands_in steps) go_on outcome f)
+    (if_done go_on) (omega arith) (step_most commands) (λ outcome. (search rules))
 
 pub play_most : (steps : List (List Command)) (before : List ℕ) → AsksAtMost (4 * commands_in steps) (play steps before)
 unfolding play
@@ -146,8 +135,7 @@ operation_most steps judge = judged_most (4 * commands_in steps) (play steps [])
 
 beginning_most : AsksAtMost (4 * commands_in opening_steps) handshake
 unfolding handshake
-beginning_most =
-    search (rules, then_most, play_most)
+beginning_most = search (rules, then_most, play_most)
 
 pub opening_most : (signature : List ℕ) (force : Bool)
     → AsksAtMost (4 * commands_in opening_steps) (opening signature force)

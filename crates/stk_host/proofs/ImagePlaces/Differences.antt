@@ -1,9 +1,9 @@
 -- Comparing from the lowest address up, run by run.
-use Rattle.std.proofs.Common.{◌≡◌, ◌≤◌, ◌∙◌, ap, refl, arith, ℕ, suc, ◌+◌, ◌-◌, ◌<◌, All, List, [], ◌∷◌, length, get_or, map, take, drop, drop-cons, add-one, Bool, true, false, Option, Some, None, inl, inr, rules}
+use Rattle.std.proofs.lemmas.Grind.{common_steps}
+use Rattle.std.proofs.Common.{◌≡◌, ◌≤◌, refl, arith, ℕ, suc, ◌+◌, ◌-◌, ◌<◌, All, List, [], ◌∷◌, length, get_or, map, take, drop, drop-cons, add-one, Bool, true, Option, Some, None, rules}
 use Rattle.std.specs.Prelude.{◌==◌, if◌then◌else◌}
-use Rattle.std.proofs.lemmas.Bool.{cases_eq}
 use Rattle.std.proofs.lemmas.Bool.Decides.{nat_tests}
-use Rattle.std.proofs.lemmas.List.{length-drop, length-take-le, take_all}
+use Rattle.std.proofs.lemmas.List.{length-drop, take_all}
 use Rattle.std.specs.Prelude.{⊤, Result, Ok, Err}
 use Rattle.avr_image.specs.Runs.{onto_runs, runs}
 use Rattle.avr_image.proofs.Lemmas.{runs_inside}
@@ -29,22 +29,13 @@ first_byte : (addr b : ℕ) (run bytes : List ℕ) (at : ℕ) → at < length by
     → difference_from addr (held_as (b ∷ run)) (drop at bytes)
     ≡ decided (get_or bytes at 0 == b) addr b (get_or bytes at 0)
     (difference_from (addr + 1) (held_as run) (drop (at + 1) bytes))
-first_byte addr b run bytes at there =
-    ap (λ (bs : List ℕ). difference_from addr (held_as (b ∷ run)) bs) (drop_at bytes at 0 there)
-
--- the byte i of a run
-pub run_byte : (addr i : ℕ) (run found : List ℕ) → i < length run → i < length found
-    → difference_from (addr + i) (held_as (drop i run)) (drop i found)
-    ≡ decided (get_or found i 0 == get_or run i 0) (addr + i) (get_or run i 0) (get_or found i 0)
-    (difference_from (addr + (i + 1)) (held_as (drop (i + 1) run)) (drop (i + 1) found))
-run_byte addr i run found within there =
-    search (rules, drop_at, first_byte)
+first_byte addr b run bytes at there = search (rules, drop_at)
 
 pub run_goes_on : (addr i : ℕ) (run found : List ℕ) → i < length run → i < length found
     → (get_or found i 0 == get_or run i 0) ≡ true
     → difference_from (addr + i) (held_as (drop i run)) (drop i found)
     ≡ difference_from (addr + (i + 1)) (held_as (drop (i + 1) run)) (drop (i + 1) found)
-run_goes_on addr i run found within there same = run_byte addr i run found within there ∙ rw same refl
+run_goes_on addr i run found within there same = search (rules, drop_at)
 
 -- ---- the runs of an image
 
@@ -57,27 +48,10 @@ abbrev pub among : List (ℕ × List ℕ) → List ℕ → Option Difference
 among [] bytes = None
 among ((addr, run) ∷ more) bytes = earlier (difference_from addr (held_as run) (drop addr bytes)) (among more bytes)
 
-earlier_decided : (same : Bool) (addr want found : ℕ) (x y : Option Difference)
-    → earlier (decided same addr want found x) y ≡ decided same addr want found (earlier x y)
-earlier_decided true addr want found x y = refl
-earlier_decided false addr want found x y = refl
-
 among-onto : (addr b : ℕ) (cut : List (ℕ × List ℕ)) (bytes : List ℕ) → addr < length bytes
     → among (onto_runs addr b cut) bytes ≡ decided (get_or bytes addr 0 == b) addr b (get_or bytes addr 0)
     (among cut bytes)
-among-onto addr b [] bytes there =
-    search (rules, first_byte, earlier_decided)
-among-onto addr b ((next, run) ∷ more) bytes there =
-    let found = get_or bytes addr 0 in
-    elim (cases_eq next (addr + 1)) [
-      | inl same ↦
-          let test : (next == addr + 1) ≡ true = grind (arith, nat_tests) in
-          rw (test, same, first_byte addr b run bytes addr there) (search rules)
-      | inr other ↦
-          let test : (next == addr + 1) ≡ false = grind (arith, nat_tests) in
-          rw (test, first_byte addr b [] bytes addr there)
-          (earlier_decided (found == b) addr b found None (among ((next, run) ∷ more) bytes))
-    ]
+among-onto addr b cut bytes there = grind (arith, common_steps, nat_tests)
 
 pub among-runs : (addr : ℕ) (image : List (Option ℕ)) (bytes : List ℕ) → addr + length image ≤ length bytes
     → among (runs addr image) bytes ≡ difference_from addr image (drop addr bytes)
@@ -85,8 +59,7 @@ among-runs addr [] bytes there = refl
 among-runs addr (None ∷ image) bytes there =
     rw (drop_at bytes addr 0 (omega (arith, there))) (among-runs (addr + 1) image bytes (omega (arith, there)))
 among-runs addr (Some b ∷ image) bytes there =
-    rw (among-onto addr b (runs (addr + 1) image) bytes (omega (arith, there)))
-    (rw (among-runs (addr + 1) image bytes (omega (arith, there)), drop_at bytes addr 0 (omega (arith, there))) refl)
+    search (rules, among-onto, drop_at, among-runs (addr + 1) image bytes (omega (arith, there)))
 
 -- bytes after the image aren't compared
 pub within_image : (addr : ℕ) (image : List (Option ℕ)) (bytes : List ℕ)
@@ -94,11 +67,7 @@ pub within_image : (addr : ℕ) (image : List (Option ℕ)) (bytes : List ℕ)
 within_image addr [] bytes = refl
 within_image addr (byte ∷ image) [] = refl
 within_image addr (None ∷ image) (found ∷ bytes) = within_image (addr + 1) image bytes
-within_image addr (Some want ∷ image) (found ∷ bytes) =
-    ap (decided (found == want) addr want found) (within_image (addr + 1) image bytes)
-
-earlier_none : (d later : Option Difference) → d ≡ None → earlier d later ≡ later
-earlier_none d later none = rw none refl
+within_image addr (Some want ∷ image) (found ∷ bytes) = search (rules, within_image (addr + 1) image bytes)
 
 -- ---- a walk over the runs
 
@@ -108,8 +77,7 @@ rest_is at bytes = take_all (length bytes - at) (drop at bytes) (omega (arith, l
 
 pub none_differs : (mem : Mem) (d : Option Difference) (r : Result ⊤ HostFault) (x : ⊤) → r ≡ differs mem d → r ≡ Ok x
     → d ≡ None
-none_differs mem None r x is ok = refl
-none_differs mem (Some d) r x is ok = absurd (cc (is, ok))
+none_differs mem d r x is ok = search rules
 
 -- each run ends inside a memory of this size
 abbrev pub EndBy : ℕ → List (ℕ × List ℕ) → Type 0
@@ -127,26 +95,18 @@ runs_end size image is = rw is (all_end (length image) (runs 0 image) (runs_insi
 pub passes_run : (left more : List (ℕ × List ℕ)) (addr : ℕ) (run bytes : List ℕ) → left ≡ (addr, run) ∷ more
     → difference_from addr (held_as run) (drop addr bytes) ≡ None
     → among left bytes ≡ among more bytes
-passes_run left more addr run bytes is none =
-    rw is (earlier_none (difference_from addr (held_as run) (drop addr bytes)) (among more bytes) none)
+passes_run left more addr run bytes is none = search rules
 
 pub ends_behind : (size : ℕ) (left more : List (ℕ × List ℕ)) (run : ℕ × List ℕ) → left ≡ run ∷ more → EndBy size left
     → EndBy size more
 ends_behind size left more run is ends = let all : EndBy size (run ∷ more) = rw is at ends in all.1
 
-error_first : (mem : Mem) (d later : Option Difference) (r : Result ⊤ HostFault) (e : HostFault) → r ≡ differs mem d
-    → r ≡ Err e → r ≡ differs mem (earlier d later)
-error_first mem None later r e is err = absurd (cc (is, err))
-error_first mem (Some d) later r e is err = is
-
 pub error_differs : (mem : Mem) (left more : List (ℕ × List ℕ)) (addr : ℕ) (run bytes : List ℕ) (r : Result ⊤ HostFault)
     (e : HostFault)
     → left ≡ (addr, run) ∷ more → r ≡ differs mem (difference_from addr (held_as run) (drop addr bytes)) → r ≡ Err e
     → r ≡ differs mem (among left bytes)
-error_differs mem left more addr run bytes r e left_is is err =
-    rw left_is (error_first mem (difference_from addr (held_as run) (drop addr bytes)) (among more bytes) r e is err)
+error_differs mem left more addr run bytes r e left_is is err = search rules
 
 pub whole_is : (image : List (Option ℕ)) (bytes : List ℕ) (size : ℕ) → size ≡ length image → length image ≤ length bytes
     → among (runs 0 image) (take size bytes) ≡ difference_from 0 image bytes
-whole_is image bytes size is there =
-    search (rules, among-runs, length-take-le, within_image)
+whole_is image bytes size is there = search (rules, among-runs, within_image)

@@ -1,4 +1,5 @@
 -- Which places have steps: the pages that are used, and the first byte of each run.
+use Rattle.std.proofs.lemmas.Grind.{common_steps}
 use Rattle.std.proofs.Common.{◌≡◌, ◌∙◌, ap, refl, arith, ℕ, suc, zero, ◌+◌, ◌-◌, ◌*◌, ◌/◌, ◌%◌, ◌<◌, ◌≤◌, List, [], ◌∷◌, ◌++◌, length, true, false, Option, None, is_some, inl, inr, ◌⊎◌, rules}
 use Rattle.std.proofs.lemmas.Bool.{cases_lt}
 use Rattle.std.proofs.Math.Nat.{mul-mod_left, zero-mod}
@@ -21,8 +22,7 @@ no_steps steps_at place (suc count) none =
 -- the next of the places
 pub next_place : (steps_at : ℕ → List (List Command)) (place end : ℕ) → place < end
     → each_from steps_at place (end - place) ≡ steps_at place ++ each_from steps_at (place + 1) (end - (place + 1))
-next_place steps_at place end before =
-    let left : end - place ≡ suc (end - (place + 1)) = omega (arith, before) in ap (each_from steps_at place) left
+next_place steps_at place end before = search rules
 
 -- a page of 256 bytes at most
 pub page_most : (page : ℕ) → 0 < page → 256 % page ≡ 0 → page ≤ 256
@@ -32,12 +32,7 @@ page_most page some fits = search rules
 
 begun : (page : ℕ) (image : List (Option ℕ)) (addr : ℕ) → is_some (byte_at image addr) ≡ true
     → (addr % page ≡ 0) ⊎ (byte_at image (addr - 1) ≡ None) → begins_run page image addr ≡ true
-begun page image addr held (inl first) = rw (held, first) refl
-begun page image addr held (inr alone) = search rules
-
-not_begun : (page : ℕ) (image : List (Option ℕ)) (addr : ℕ) → (addr % page ≡ 0 → ⊥)
-    → is_some (byte_at image (addr - 1)) ≡ true → begins_run page image addr ≡ false
-not_begun page image addr inside before = search rules
+begun page image addr held e' = search rules
 
 -- whether a place has a step
 
@@ -65,8 +60,7 @@ pub record IsNextRun (part : Part) (image : List (Option ℕ)) (next start end :
 skip_steps : (steps_at : ℕ → List (List Command)) (place count here : ℕ) → place ≤ here → here ≤ place + count
     → ((i : ℕ) → place ≤ i → i < here → steps_at i ≡ [])
     → each_from steps_at place count ≡ each_from steps_at here (place + count - here)
-skip_steps steps_at place zero here after within none =
-    search rules
+skip_steps steps_at place zero here after within none = search rules
 skip_steps steps_at place (suc count) here after within none = elim (cases_lt place here) [
   | inl before ↦
       let more : place + 1 + count ≡ place + suc count = omega arith in
@@ -82,22 +76,12 @@ skip_to : (steps_at : ℕ → List (List Command)) (place end here : ℕ) → pl
     → ((i : ℕ) → place ≤ i → i < here → steps_at i ≡ [])
     → each_from steps_at place (end - place) ≡ each_from steps_at here (end - here)
 skip_to steps_at place end here after within none =
-    let all : place + (end - place) ≡ end = omega arith in
-    search (rules, skip_steps)
+    let all : place + (end - place) ≡ end = omega arith in search (rules, skip_steps)
 
 -- an address inside a page doesn't begin one
 inside_page : (page number addr : ℕ) → 0 < page → number * page < addr → addr < number * page + page → addr % page ≡ 0
     → ⊥
-inside_page page number addr some from before first =
-    let here : page * (addr / page) + addr % page ≡ addr = omega arith in
-    let lower : number < addr / page = search rules in
-    let upper : addr / page < number + 1 = search rules in
-    omega (arith, lower, upper)
-
--- a run begins at the first byte that is held after a border
-starts_run : (page : ℕ) (image : List (Option ℕ)) (next start : ℕ) → (next % page ≡ 0) ⊎ (byte_at image next ≡ None)
-    → IsNextHeld image next start → begins_run page image start ≡ true
-starts_run page image next start border held = search rules
+inside_page page number addr some from before first = grind (arith, common_steps)
 
 pub next_run : (part : Part) (image : List (Option ℕ)) (next start end : ℕ) → 0 < part.eeprom_page
     → length image ≤ part.eeprom_size
@@ -106,7 +90,6 @@ pub next_run : (part : Part) (image : List (Option ℕ)) (next start end : ℕ) 
     → end ≡ run_end image start (page_end part.eeprom_page start) → IsNextRun part image next start end
 next_run part image next start end some fits border held run is =
     let here : part.eeprom_page * (start / part.eeprom_page) + start % part.eeprom_page ≡ start = omega arith in
-    let short : start % part.eeprom_page < part.eeprom_page = omega arith in
     let top : page_end part.eeprom_page start ≡ start / part.eeprom_page * part.eeprom_page + part.eeprom_page =
     omega (arith, here) in
     let longer : start < end = search rules in
@@ -121,9 +104,9 @@ next_run part image next start end some fits border held run is =
           ∙ next_place (run_steps_at part image) start part.eeprom_size (omega (arith, held.within, fits))
           ∙ ap (λ (ss : List (List Command)). ss ++ each_from (run_steps_at part image) (start + 1)
           (part.eeprom_size - (start + 1))) (one_run part image start
-          (starts_run part.eeprom_page image next start border held))
+          (search rules))
           ∙ ap (λ (ss : List (List Command)). run_step part image start ∷ ss)
-          (grind (arith, nat_tests, skip_to, no_run, not_begun, inside_page));
+          (grind (arith, nat_tests, skip_to, inside_page));
       border = elim (cases_lt end (page_end part.eeprom_page start)) [
         | inl before ↦ inr (run.stop before)
         | inr full ↦
@@ -134,7 +117,7 @@ next_run part image next start end some fits border held run is =
 
 pub last_run : (part : Part) (image : List (Option ℕ)) (next count : ℕ) → ((k : ℕ) → next ≤ k → byte_at image k ≡ None)
     → each_from (run_steps_at part image) next count ≡ []
-last_run part image next count none = search (rules, no_steps, no_run)
+last_run part image next count none = search (rules, no_steps)
 
 pub zero_border : (page : ℕ) → 0 % page ≡ 0
 zero_border page = zero-mod page
@@ -142,5 +125,4 @@ zero_border page = zero-mod page
 -- a run ends in its page
 pub short_run : (image : List (Option ℕ)) (page addr : ℕ) → 0 < page → page ≤ 256
     → run_end image addr (page_end page addr) - addr ≤ 256
-short_run image page addr some most =
-    search (rules, run_is_longest)
+short_run image page addr some most = search (rules, run_is_longest)

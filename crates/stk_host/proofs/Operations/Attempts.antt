@@ -89,8 +89,7 @@ gets_one last m o q (Ok reply) after f =
         → PlaysOver (attempt (last ∷ []) []) m o q (reply_of reply bytes) n
     by_reply replies.Data bytes e = played_from (attempt_on last [] [] (Data bytes) e)
     by_reply reply bytes e = played_from (attempt_on last [] [] (reply_of reply bytes) e)
-gets_one last m o q (Err fault) after f =
-    record { ok = tt; err = attempt_off last [] f.err; sized = f.sized; counted = f.counted; bound = f.bound }
+gets_one last m o q (Err fault) after f = search (rules, attempt_off)
 
 -- an attempt of two commands, whose first was answered and brought nothing
 pub gets_last : (first last : Command) (m n : Progress) (o p q : LinkState) (was : said.Reply) (none : List ℕ)
@@ -98,8 +97,7 @@ pub gets_last : (first last : Command) (m n : Progress) (o p q : LinkState) (was
     → PlaysOver (exchange first) m o p (reply_of was none) n → was ≡ replies.Data → none ≡ []
     → GetsReply (exchange last) last n p q result after
     → GetsReply (attempt (first ∷ last ∷ []) []) last m o q result after
-gets_last first last m n o p q was none result after f is nothing g =
-    by_result result (gets_one last n p q result after g)
+gets_last first last m n o p q was none result after f is nothing g = search (rules, by_result, gets_one)
   where
     begun : Reaches (attempt (first ∷ last ∷ []) []) m o (attempt (last ∷ []) []) n p
     begun = attempt_on first (last ∷ []) [] (Data [])
@@ -127,8 +125,7 @@ pub gets_short : (first last : Command) (was : said.Reply) (none bytes : List �
     → PlaysOver (exchange first) m o p (reply_of was none) n → (was ≡ replies.Data → ⊥)
     → PlaysOver (attempt (first ∷ last ∷ []) []) m o p (reply_of was bytes) n
 gets_short first last replies.Data none bytes f short = absurd (short refl)
-gets_short first last was none bytes f short =
-    played_from (attempt_on first (last ∷ []) [] (reply_of was none) f)
+gets_short first last was none bytes f short = search (rules, played_from, attempt_on, was, none, f)
 
 -- a turn of the loop over the attempts
 

@@ -1,8 +1,7 @@
 -- What the steps that read a memory bring.
-use Rattle.std.proofs.Common.{◌≡◌, ℕ, ◌+◌, ◌*◌, ◌<◌, ◌≤◌, lit≤, arith}
+use Rattle.std.proofs.Common.{◌≡◌, ℕ, ◌+◌, ◌*◌, ◌<◌, ◌≤◌, rules}
 use Rattle.std.specs.Prelude.{min}
 use Rattle.avr_part.specs.declared.part.Mem.{Mem}
-use Rattle.avr_part.specs.declared.part.Mem.TheVariants.{Flash, Eeprom}
 use Rattle.avr_part.specs.Part.{Part, IsPart, size_of}
 use Rattle.stk_host.specs.ReadSteps.{read_unit, read_count, read_at}
 use Rattle.stk_host.specs.Calls.{step_brings}
@@ -17,15 +16,11 @@ pub record BringsMore (part : Part) (mem : Mem) (number : ℕ) : Type 0 where
   pub within : read_before part mem (number + 1) ≤ size_of mem part
 
 pub brings_more : (part : Part) (mem : Mem) (number : ℕ) → number < read_count part mem → BringsMore part mem number
-brings_more part Flash number before = record { more = omega arith; within = omega arith }
-brings_more part mem number before = record { more = omega (arith, before); within = omega arith }
+brings_more part mem number before = search rules
 
 pub all_brought : (part : Part) (mem : Mem) (number : ℕ) → read_count part mem ≤ number
     → read_before part mem number ≡ size_of mem part
-all_brought part Flash number past = omega (arith, past)
-all_brought part mem number past = omega (arith, past)
+all_brought part mem number past = search rules
 
 pub few_reads : (part : Part) (mem : Mem) → IsPart part → read_count part mem ≤ 1024
-few_reads part Flash is = omega (arith, is.flash_most)
-few_reads part Eeprom is = omega (arith, is.eeprom_most)
-few_reads part mem is = lit≤ tt
+few_reads part mem is = search rules

@@ -1,10 +1,9 @@
 -- One step after another, by the clauses of each call.
-use Rattle.std.proofs.Common.{◌≡◌, refl, ℕ, Bool, false, if◌then◌else◌, List, [], ◌∷◌, ◌++◌, Ok, Err, Result, inl, inr}
+use Rattle.std.proofs.Common.{◌≡◌, refl, ℕ, Bool, false, if◌then◌else◌, List, [], ◌∷◌, ◌++◌, Ok, Err, Result, inl, inr, rules}
 use Rattle.std.specs.Str.{bytes_eq}
 use Rattle.stk_frame.specs.declared.command.Command.{Command}
 use Rattle.stk_frame.specs.HostCommands.{leave}
 use Rattle.stk_host.specs.declared.fault.StepFault.{StepFault}
-use Rattle.stk_host.specs.declared.fault.StepFault.TheVariants as of_step
 use Rattle.stk_host.specs.declared.fault.HostFault.{HostFault}
 use Rattle.stk_host.specs.declared.fault.HostFault.TheVariants.{SendFailed, RecvFailed, WrongSignature}
 use Rattle.stk_host.specs.Transcript.{LinkState}
@@ -48,8 +47,7 @@ pub play_stops : (commands : List Command) (steps : List (List Command)) (before
     (o p : LinkState) (fault : HostFault)
     → StopsSteps (step commands) m o p fault n → StopsSteps (play (commands ∷ steps) before) m o p fault n
 unfolding play
-play_stops commands steps before m n o p fault e =
-    stops_there (step commands) (λ bs. play steps (before ++ bs)) m n o p fault e
+play_stops commands steps before m n o p fault e = search (rules, stops_there)
 
 pub play_done : (bytes : List ℕ) {a : Dialog ⊥ StepOutcome} {m n : Progress} {o p : LinkState}
     → Reaches a m o (play [] bytes) n p → PlaysOver a m o p (Ok bytes) n
@@ -62,8 +60,7 @@ play_done bytes f = played_from f
 told_ends : {A : Type 0} (takes : Bool) (dialog : Dialog ⊥ (Result A HostFault)) (fault : StepFault) (m n : Progress)
     (o p : LinkState)
     → PlaysOver dialog m o p (Err (host_fault fault)) n → EndsCall takes dialog m o p (Err (host_fault fault)) n
-told_ends takes dialog of_step.NoAnswer m n o p e = e
-told_ends takes dialog _ m n o p e = e
+told_ends takes dialog fault m n o p e = search rules
 
 pub stop_ends : {A : Type 0} (takes : Bool) (first : Dialog ⊥ StepOutcome) (judge : StepOutcome → Result A HostFault)
     → ((fault : StepFault) → judge (Err fault) ≡ Err (host_fault fault)) → (fault : HostFault) (m n : Progress)
@@ -71,8 +68,7 @@ pub stop_ends : {A : Type 0} (takes : Bool) (first : Dialog ⊥ StepOutcome) (ju
     → StopsSteps first m o p fault n
     → EndsCall takes (first >>= λ outcome. Done (judge outcome)) m o p (Err fault) n
 stop_ends takes first judge told fault m n o p (inr (of, is, e)) =
-    rw is (told_ends takes (first >>= λ outcome. Done (judge outcome)) of m n o p
-    (rw (told of) at (played_from (then_reaches (λ outcome. Done (judge outcome)) e))))
+    search (rules, then_reaches (λ outcome. Done (judge outcome)) e)
 stop_ends takes first judge told SendFailed m n o p (inl e) = broken_bind (λ outcome. Done (judge outcome)) e
 stop_ends takes first judge told RecvFailed m n o p (inl e) = broken_bind (λ outcome. Done (judge outcome)) e
 stop_ends takes first judge told _ m n o p (inl e) = absurd e.breaks
@@ -82,8 +78,7 @@ judged_ends : {dialog : Dialog ⊥ (Result (List ℕ) HostFault)} {m n : Progres
     (force same : Bool)
     → PlaysOver dialog m o p (if force then Ok found else if same then Ok found else Err (WrongSignature found)) n
     → EndsCall false dialog m o p (if force then Ok found else if same then Ok found else Err (WrongSignature found)) n
-judged_ends wanted found false false e = e
-judged_ends wanted found _ _ e = e
+judged_ends wanted found force same e = search rules
 
 pub opening_ends : (wanted : List ℕ) (force : Bool) (begun : Result (List ℕ) HostFault) (m n : Progress)
     (o p : LinkState) → EndsSteps handshake (λ found. found) m o p begun n
@@ -92,8 +87,7 @@ unfolding opening
 opening_ends wanted force (Ok found) m n o p e =
     judged_ends wanted found force (bytes_eq found wanted)
     (played_from (then_reaches (λ outcome. Done (signature_judged wanted force outcome)) e))
-opening_ends wanted force (Err fault) m n o p e =
-    stop_ends false handshake (signature_judged wanted force) (λ fault. refl) fault m n o p e
+opening_ends wanted force (Err fault) m n o p e = search (rules, stop_ends)
 
 pub closing_ends : (result : Result (Unit {0}) HostFault) (m n : Progress) (o p : LinkState)
     → EndsSteps (step (leave ∷ [])) (λ done. []) m o p result n → EndsCall false closing m o p result n

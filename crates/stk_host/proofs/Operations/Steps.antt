@@ -1,14 +1,12 @@
 -- The steps of an operation, one after another.
-use Rattle.std.proofs.Common.{Bool, ◌≡◌, refl, ℕ, ◌+◌, ◌<◌, ◌≤◌, ◌^◌, lit≤, arith, List, [], ◌∷◌, ◌++◌, length, subst, ◌-◌, true, false, None, Some, ◌∙◌, Option, Ok, Err, Result, rules}
+use Rattle.std.proofs.Common.{Bool, ◌≡◌, ℕ, ◌+◌, ◌<◌, ◌≤◌, ◌^◌, List, [], ◌∷◌, ◌++◌, length, ◌-◌, true, false, ◌∙◌, Option, Ok, Err, Result, rules}
 use Rattle.std.proofs.lemmas.List.{nil_from_length}
 use Rattle.std.specs.Prelude.{OnOk}
 use Rattle.avr_part.specs.declared.part.Mem.{Mem}
 use Rattle.avr_part.specs.Mem.{is_writable}
-use Rattle.avr_part.specs.declared.part.Mem.TheVariants.{Flash, Eeprom}
 use Rattle.avr_part.specs.Part.{Part, IsPart, size_of}
 use Rattle.stk_frame.specs.declared.command.Command.{Command}
 use Rattle.stk_frame.specs.declared.answer.Shape.{Shape}
-use Rattle.stk_frame.specs.declared.answer.Shape.TheVariants.{Name}
 use Rattle.stk_frame.specs.Commands.{SizedBy}
 use Rattle.stk_host.specs.declared.fault.HostFault.{HostFault}
 use Rattle.stk_host.specs.declared.fault.HostFault.TheVariants.{ReadOnly}
@@ -27,8 +25,7 @@ use Rattle.stk_host.proofs.Operations.StepEnds.{stops_on, stop_ends, play_on, pl
 
 -- data of this size
 pub counted_data : (of : Shape) (bytes : List ℕ) → IsSizedShape of → SizedBy of bytes → length bytes ≡ data_count of
-counted_data Name bytes counted sized = absurd counted
-counted_data _ bytes counted sized = sized
+counted_data of bytes counted sized = search rules
 
 -- a step that was run goes on with those that follow
 pub goes_with : (commands : List Command) (before bytes : List ℕ) {m n : Progress} {o p : LinkState}
@@ -56,8 +53,7 @@ pub alone : (commands : List Command) (before after : List ℕ) (result : Result
     (o p : LinkState)
     → EndsInnerStep (with_step commands before) (without_step after) m o p result n
     → EndsSteps (play (commands ∷ []) before) (λ done. after) m o p result n
-alone commands before after (Ok done) m n o p e = play_done after (e [])
-alone commands before after (Err fault) m n o p e = e []
+alone commands before after result m n o p e = search (rules, play_done)
 
 -- no step at all
 pub none_played : (m : Progress) (o : LinkState) → PlaysOver (play [] []) m o o (Ok []) m
@@ -70,18 +66,15 @@ module _ {a : Dialog ⊥ StepOutcome} {k m : Progress} {r o : LinkState} (steps_
   abbrev rest : List (List Command)
   rest = each_from steps_at (place + 1) (end - (place + 1))
 
-  next_is : Reaches a k r (play (steps_at place ++ rest) before) m o
-  next_is = subst (λ ss. Reaches a k r (play ss before) m o) (next_place steps_at place end lt) come
-
   pub reaches_next : {n : Progress} {p : LinkState} (after : List ℕ)
       → EndsInnerStep (with_steps (steps_at place) before) (without_step after) m o p (Ok tt) n
       → Reaches a k r (play rest after) n p
-  reaches_next after e = reaches_on next_is (e rest)
+  reaches_next after e = search (rules, reaches_on, next_place)
 
   pub stops_next : (n : Progress) (p : LinkState) (fault : HostFault)
       → ((more : List (List Command)) → StopsSteps (with_steps (steps_at place) before more) m o p fault n)
       → StopsSteps a k r p fault n
-  stops_next n p fault e = stops_on n p fault next_is (e rest)
+  stops_next n p fault e = search (rules, stops_on, next_place)
 
 -- a place without steps
 pub passes : {these : List (List Command)} (m : Progress) (o : LinkState) → these ≡ []
@@ -93,8 +86,7 @@ pub plays_all : {a : Dialog ⊥ StepOutcome} {k m : Progress} {r o : LinkState} 
     (place end : ℕ) {before : List ℕ}
     → Reaches a k r (play (each_from steps_at place (end - place)) before) m o → end ≤ place
     → PlaysOver a k r o (Ok before) m
-plays_all steps_at place end {before = before} come past =
-    search (rules, play_done)
+plays_all steps_at place end {before = before} come past = search (rules, play_done)
 
 -- the outcome of an operation, from the outcome of its steps
 
@@ -104,8 +96,7 @@ told_ends : {A : Type 0} (takes : Bool) (steps : List (List Command)) (judge : L
     (m n : Progress) (o p : LinkState)
     → StopsSteps (play steps []) m o p fault n → EndsCall takes (operation steps judge) m o p (Err fault) n
 unfolding operation
-told_ends takes steps judge fault m n o p e =
-    stop_ends takes (play steps []) (judged_by judge) (λ fault. refl) fault m n o p e
+told_ends takes steps judge fault m n o p e = search (rules, stop_ends)
 
 judged_from : {A : Type 0} (steps : List (List Command)) (judge : List ℕ → Result A HostFault) (bytes : List ℕ)
     {m n : Progress} {o p : LinkState}
@@ -125,13 +116,11 @@ pub writing_ends : (part : Part) (mem : Mem) (image : List (Option ℕ)) (result
     (m n : Progress) (o p : LinkState) → is_writable mem ≡ true
     → EndsSteps (play (write_steps part mem image) []) (λ done. []) m o p result n
     → EndsCall false (writing part mem image) m o p result n
-writing_ends part mem image result m n o p can e =
-    rw can (done_ends (write_steps part mem image) result m n o p e)
+writing_ends part mem image result m n o p can e = search (rules, done_ends)
 
 pub writes_nothing : (part : Part) (mem : Mem) (image : List (Option ℕ)) (m : Progress) (o : LinkState)
     → is_writable mem ≡ false → EndsCall false (writing part mem image) m o o (Err (ReadOnly mem)) m
-writes_nothing part mem image m o cannot =
-    rw cannot (played_from (reaches_here (Done (Err (ReadOnly mem))) m o))
+writes_nothing part mem image m o cannot = search (rules, played_from, reaches_here)
 
 -- a read
 pub reading_ends : (steps : List (List Command)) (bytes : List ℕ) (result : Result (Unit {0}) HostFault)
@@ -146,8 +135,7 @@ reading_ends steps bytes (Err fault) m n o p e = told_ends true steps Ok fault m
 differs_ends : (dialog : Dialog ⊥ (Result (Unit {0}) HostFault)) (mem : Mem) (found : Option Difference)
     {m n : Progress} {o p : LinkState}
     → PlaysOver dialog m o p (differs mem found) n → EndsCall true dialog m o p (differs mem found) n
-differs_ends dialog mem None e = e
-differs_ends dialog mem (Some d) e = e
+differs_ends dialog mem found e = search rules
 
 pub verifying_ends : (steps : List (List Command)) (mem : Mem) (image : List (Option ℕ)) (bytes : List ℕ)
     (result : Result (Unit {0}) HostFault) (m n : Progress) (o p : LinkState)
@@ -156,28 +144,22 @@ pub verifying_ends : (steps : List (List Command)) (mem : Mem) (image : List (Op
 verifying_ends steps mem image bytes (Ok done) m n o p e =
     differs_ends (operation steps (comparison mem image)) mem (difference_from 0 image bytes)
     (judged_from steps (comparison mem image) bytes e)
-verifying_ends steps mem image bytes (Err fault) m n o p e =
-    told_ends true steps (comparison mem image) fault m n o p e
+verifying_ends steps mem image bytes (Err fault) m n o p e = search (rules, told_ends)
 
 -- a loop over places begins
 pub begins_at : (steps_at : ℕ → List (List Command)) (count : ℕ) (before : List ℕ) (m : Progress) (o : LinkState)
     → Reaches (play (each_from steps_at 0 count) before) m o (play (each_from steps_at 0 (count - 0)) before) m o
-begins_at steps_at count before m o =
-    search (rules, reaches_here)
+begins_at steps_at count before m o = search (rules, reaches_here)
 
 -- the number of bytes kept of a memory that was read
 
 pub read_sized : (taken : Result (Unit {0}) HostFault) (items : List ℕ) (n : ℕ) → OnOk taken (length items ≡ n)
     → OnOk taken (length (vector_after taken items) ≡ n)
-read_sized (Ok done) items n size = size
-read_sized (Err fault) items n size = tt
+read_sized taken items n size = search rules
 
 pub read_short : (taken : Result (Unit {0}) HostFault) (items : List ℕ) (n : ℕ) → n < 2 ^ 32
     → OnOk taken (length items ≡ n) → length (vector_after taken items) < 2 ^ 32
-read_short (Ok done) items n bound size = omega (arith, size)
-read_short (Err fault) items n bound size = lit≤ tt
+read_short taken items n bound size = search rules
 
 pub size_fits : (mem : Mem) (part : Part) → IsPart part → size_of mem part < 2 ^ 32
-size_fits Flash part is = omega (arith, is.flash_most)
-size_fits Eeprom part is = omega (arith, is.eeprom_most)
-size_fits mem part is = lit≤ tt
+size_fits mem part is = search rules

@@ -23,9 +23,7 @@ sent_less {dialog = dialog} {before = before} {transcript = transcript} f none =
 pub never_both : {E R : Type 0} {dialog : Dialog E R} {before : Progress} {transcript : Transcript}
     {some others : List (Event E)}
     → BreaksSending dialog before transcript some → BreaksListening dialog before transcript others → ⊥
-never_both f g =
-    let less = sent_less f g.none_taken in
-    search rules
+never_both f g = search (rules, sent_less f g.none_taken)
 
 -- a link with which nothing was done, and one that has failed after this transcript
 abbrev fresh : LinkState
@@ -85,31 +83,10 @@ pub not_unheard : (after : Progress) → EndsCall false closing sixth fresh (sho
     (Err RecvFailed) after → ⊥
 not_unheard after f = never_either closing sixth (Sent (0x1B ∷ 0x06 ∷ []) ∷ []) unsent f
 
--- the frame was taken whole, and its send failed
-pub taken_whole : EndsCall false closing sixth fresh (showing (Taken leaving ∷ [])) (Err SendFailed) sixth
-unfolding exchange attempt tries answer closing
-taken_whole = record {
-  during = Taken leaving ∷ [];
-  shown = Frame leaving ∷ [];
-  grows = refl;
-  breaks = record {
-    whole = [];
-    part = leaving;
-    unsent = [];
-    later = [];
-    shown_is = refl;
-    events_are = refl;
-    not_whole = λ none. absurd none;
-    all_sent = refl;
-    in_turn = refl;
-  };
-  failed = refl;
-}
-
 -- that is not a failure to receive its answer either
 pub not_unheard_whole : (after : Progress) → EndsCall false closing sixth fresh (showing (Taken leaving ∷ []))
     (Err RecvFailed) after → ⊥
-not_unheard_whole after f = never_either closing sixth (Taken leaving ∷ []) taken_whole f
+not_unheard_whole after f = search rules
 
 -- nothing was sent, and nothing received
 pub unsent_at_all : EndsCall false closing sixth fresh (showing []) (Err SendFailed) sixth

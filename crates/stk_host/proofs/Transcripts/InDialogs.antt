@@ -3,7 +3,7 @@ use Rattle.std.proofs.Common.{◌≡◌, ℕ, ◌<◌, List, [], ◌∷◌, ◌+
 use Rattle.std.proofs.lemmas.List.{append-nil}
 use Rattle.stk_frame.specs.Frame.{frame}
 use Rattle.stk_host.specs.declared.fault.HostFault.{HostFault}
-use Rattle.stk_host.specs.declared.fault.HostFault.TheVariants.{SendFailed, RecvFailed}
+use Rattle.stk_host.specs.declared.fault.HostFault.TheVariants.{SendFailed}
 use Rattle.stk_host.specs.Tape.{Tape, Reading, on_tape, answer}
 use Rattle.stk_host.specs.Transcript.{Transcript, Sent, Taken, Got, NoneTaken, sent, heard}
 use Rattle.stk_host.specs.Dialog.{Dialog, Done, Say, Ask, ◌>>=◌, Event, Frame, Said, Played, played, behind, by_answer, next, bytes_sent}
@@ -38,13 +38,6 @@ bytes_append [] y = refl
 bytes_append (Frame bytes ∷ x) y = search (rules, append_assoc, bytes_append x y)
 bytes_append (Said e ∷ x) y = bytes_append x y
 
-behind_behind : {E R : Type 0} (x y : List (Event E)) (p : Played E R) → behind x (behind y p) ≡ behind (x ++ y) p
-behind_behind x y p = ap (λ es. record { events = es; outcome = p.outcome }) (sym (append_assoc x y p.events))
-
-followed_behind : {E A B : Type 0} (events : List (Event E)) (p : Played E A) (go_on : A → ℕ → Tape → Played E B)
-    → followed (behind events p) go_on ≡ behind events (followed p go_on)
-followed_behind events p go_on = sym (behind_behind events p.events (continued p.outcome go_on))
-
 -- turns
 
 turns_quiet : {E R : Type 0} (dialog : Dialog E R) (seq : ℕ) (tape : Tape) (bytes : List ℕ) (transcript : Transcript)
@@ -53,15 +46,13 @@ turns_quiet : {E R : Type 0} (dialog : Dialog E R) (seq : ℕ) (tape : Tape) (by
 turns_quiet dialog seq tape bytes [] quiet = tt
 turns_quiet dialog seq tape bytes (Sent more ∷ transcript) quiet =
     turns_quiet dialog seq tape (bytes ++ more) transcript quiet
-turns_quiet dialog seq tape bytes (Taken more ∷ transcript) quiet = quiet
-turns_quiet dialog seq tape bytes (Got items ∷ transcript) quiet = absurd quiet
+turns_quiet dialog seq tape bytes transcript quiet = search rules
 
 -- one transcript after another
 pub turns_append : {E R : Type 0} (dialog : Dialog E R) (seq : ℕ) (tape : Tape) (bytes : List ℕ) (x y : Transcript)
     → NoneTaken x → TurnsFrom dialog seq tape bytes x → TurnsFrom dialog seq (tape ++ heard x) (bytes ++ sent x) y
     → TurnsFrom dialog seq tape bytes (x ++ y)
-turns_append dialog seq tape bytes [] y none f g =
-    rw (append-nil tape, append-nil bytes) at g
+turns_append dialog seq tape bytes [] y none f g = search rules
 turns_append dialog seq tape bytes (Sent more ∷ x) y none f g =
     turns_append dialog seq tape (bytes ++ more) x y none f (rw (← append_assoc bytes more (sent x)) at g)
 turns_append dialog seq tape bytes (Taken more ∷ x) y none f g = absurd none
@@ -97,27 +88,9 @@ module _ {E F A B : Type 0} (dialog : Dialog E A) (inner : Dialog F B) (m n : �
       (subst (λ s. TurnsFrom dialog m (tape ++ []) s transcript) (append-nil before)
       (turns_lift [] [] transcript (subst (λ t. TurnsFrom inner n t [] transcript) (sym (append-nil inner_tape)) f)))
 
--- a run that waits, whatever follows its dialog
-waits_bind : {E A B : Type 0} (dialog : Dialog E A) (go_on : A → Dialog E B) (seq : ℕ) (x : Tape)
-    → (played dialog seq x).outcome ≡ None
-    → played (dialog >>= go_on) seq x ≡ record { events = (played dialog seq x).events; outcome = None }
-waits_bind dialog go_on seq x waits =
-    rw (played_bind dialog go_on seq x, waits, append-nil (played dialog seq x).events) refl
-
-due_bind : {E A B : Type 0} (dialog : Dialog E A) (go_on : A → Dialog E B) (seq : ℕ) (x : Tape) (bytes : List ℕ)
-    → IsDue dialog seq x bytes → IsDue (dialog >>= go_on) seq x bytes
-due_bind dialog go_on seq x bytes due =
-    search (rules, waits_bind)
-
 turns_bind : {E A B : Type 0} (dialog : Dialog E A) (go_on : A → Dialog E B) (m : Progress) (transcript : Transcript)
     → InTurn dialog m transcript → InTurn (dialog >>= go_on) m transcript
-turns_bind dialog go_on m transcript f =
-    search (rules, turns_behind, due_bind)
-
--- while the answer is awaited it is in turn to listen
-due_asking : {E R : Type 0} (body : List ℕ) (answered : Reading → Dialog E R) (seq : ℕ) (tape : Tape)
-    → answer seq tape ≡ None → IsDue (Ask body answered) seq tape (frame seq body)
-due_asking body answered seq tape none = search rules
+turns_bind dialog go_on m transcript f = search (rules, turns_behind, played_bind)
 
 turns_waiting : {E R : Type 0} (body : List ℕ) (answered : Reading → Dialog E R) (seq : ℕ) (tape : Tape)
     (transcript : Transcript)
@@ -126,7 +99,7 @@ turns_waiting body answered seq tape [] waits = tt
 turns_waiting body answered seq tape (Sent bytes ∷ transcript) waits = absurd waits
 turns_waiting body answered seq tape (Taken bytes ∷ transcript) waits = absurd waits
 turns_waiting body answered seq tape (Got items ∷ transcript) waits =
-    (due_asking body answered seq tape waits.0, turns_waiting body answered seq (tape ++ items) transcript waits.1)
+    ((search rules), turns_waiting body answered seq (tape ++ items) transcript waits.1)
 
 -- a frame was sent whole, and its answer awaited
 turns_asking : {E R : Type 0} (body : List ℕ) (answered : Reading → Dialog E R) (seq : ℕ) (u : List ℕ)
@@ -134,26 +107,15 @@ turns_asking : {E R : Type 0} (body : List ℕ) (answered : Reading → Dialog E
     → IsQuiet x → NoneTaken x → sent x ≡ frame seq body → WaitsFrom seq (on_tape u) y
     → InTurn (Ask body answered) (progress_at seq u) (x ++ y)
 turns_asking body answered seq u x y quiet none is waits =
-    search (rules, turns_append, turns_quiet, append-nil, heard_quiet, turns_waiting)
+    search (rules, turns_append, turns_quiet, heard_quiet, turns_waiting)
 
 -- prefixes of events
-
--- a prefix of the events is a prefix if more follow
-pub prefix_more : {E : Type 0} (SaidPart : E → E → Type 0) {shown events : List (Event E)} (more : List (Event E))
-    → IsPrefixOfEvents SaidPart shown events → IsPrefixOfEvents SaidPart shown (events ++ more)
-prefix_more SaidPart more f = search (rules, append_assoc)
 
 -- and a prefix after events that happened whole
 pub prefix_behind : {E : Type 0} (SaidPart : E → E → Type 0) {shown events : List (Event E)} (before : List (Event E))
     → IsPrefixOfEvents SaidPart shown events → IsPrefixOfEvents SaidPart (before ++ shown) (before ++ events)
-prefix_behind SaidPart before f = record {
-  whole = before ++ f.whole;
-  begun = f.begun;
-  later = f.later;
-  shown_is = ap (λ es. before ++ es) f.shown_is ∙ sym (append_assoc before f.whole f.begun);
-  events_are = ap (λ es. before ++ es) f.events_are ∙ sym (append_assoc before f.whole f.later);
-  part = f.part;
-}
+prefix_behind SaidPart before f =
+    search (rules, append_assoc before f.whole f.begun, append_assoc before f.whole f.later)
 
 -- leading
 
@@ -163,12 +125,6 @@ leads_here dialog m = record { goes_on = λ more. refl; all_sent = refl; none_ta
 -- after a transcript that leads on
 module _ {E R : Type 0} {a b : Dialog E R} {m n : Progress} {x : Transcript} {events : List (Event E)}
     (f : TranscriptLeads a m x events b n) where
-  -- what is due there
-  due_behind : (tape : Tape) (bytes : List ℕ) → IsDue b n.next (on_tape n.unread ++ tape) bytes
-      → IsDue a m.next ((on_tape m.unread ++ heard x) ++ tape) (sent x ++ bytes)
-  due_behind tape bytes due =
-      search (rules, append_assoc, bytes_append)
-
   -- the run over both transcripts, what they send, and that both listen in turn
   led : (y : Transcript) → played_over a m (x ++ y) ≡ behind events (played_over b n y)
   led y = ap (λ t. played a m.next (on_tape m.unread ++ t)) (heard_append x y) ∙ f.goes_on (heard y)
@@ -178,12 +134,12 @@ module _ {E R : Type 0} {a b : Dialog E R} {m n : Progress} {x : Transcript} {ev
   led_bytes y later is = rw (bytes_append events later, f.all_sent, is, sent_append x y) refl
 
   led_turns : (y : Transcript) → InTurn b n y → InTurn a m (x ++ y)
-  led_turns y in_turn =
-      search (rules, turns_append, turns_behind, due_behind)
+  led_turns y in_turn = search (rules, turns_append, turns_behind, append_assoc, bytes_append)
 
   pub leads_on : {c : Dialog E R} {l : Progress} {y : Transcript} {ys : List (Event E)}
       → TranscriptLeads b n y ys c l → TranscriptLeads a m (x ++ y) (events ++ ys) c l
-  leads_on {c = c} {l = l} {y = y} {ys = ys} g = search (rules, heard_both, behind_behind, led_bytes, led_turns, none_append)
+  leads_on {c = c} {l = l} {y = y} {ys = ys} g =
+      search (rules, heard_both, append_assoc, led_bytes, led_turns, none_append)
 
   pub by_on : (by : HostFault) (y : Transcript) (shown : List (Event E)) → BreaksBy by b n y shown
       → BreaksBy by a m (x ++ y) (events ++ shown)
@@ -198,23 +154,18 @@ module _ {E R : Type 0} {a b : Dialog E R} {m n : Progress} {x : Transcript} {ev
     all_sent = led_bytes y shown g.all_sent;
     in_turn = led_turns y g.in_turn;
   }
-  by_on RecvFailed y shown g = search (rules, led, led_bytes, led_turns, none_append)
-  by_on _ y shown g = absurd g
+  by_on by y shown g = search (rules, led, led_bytes, led_turns, none_append)
 
 -- the same before what follows, and before a transcript that breaks off
 module _ {E R : Type 0} {a b : Dialog E R} {m n : Progress} {x : Transcript} {events : List (Event E)} where
   pub leads_bind : {B : Type 0} (go_on : R → Dialog E B) → TranscriptLeads a m x events b n
       → TranscriptLeads (a >>= go_on) m x events (b >>= go_on) n
-  leads_bind go_on f = search (rules, played_bind, followed_behind, turns_bind)
+  leads_bind go_on f = search (rules, played_bind, append_assoc, turns_bind)
 
   pub breaks_on : (SaidPart : E → E → Type 0) {y : Transcript} {shown : List (Event E)}
       → TranscriptLeads a m x events b n
       → Breaks SaidPart b n y shown → Breaks SaidPart a m (x ++ y) (events ++ shown)
-  breaks_on SaidPart {y = y} {shown = shown} f g = record {
-    prefix = rw (led f y) (prefix_behind SaidPart events g.prefix);
-    all_sent = led_bytes f y shown g.all_sent;
-    in_turn = led_turns f y g.in_turn;
-  }
+  breaks_on SaidPart {y = y} {shown = shown} f g = search (rules, led, prefix_behind, led_bytes, led_turns, f, g)
 
 -- an output event
 pub leads_say : {E R : Type 0} (e : E) (dialog : Dialog E R) (m : Progress)
@@ -238,7 +189,7 @@ pub breaks_bind : {E A B : Type 0} (SaidPart : E → E → Type 0) {a : Dialog E
     {shown : List (Event E)} (go_on : A → Dialog E B)
     → Breaks SaidPart a m transcript shown → Breaks SaidPart (a >>= go_on) m transcript shown
 breaks_bind SaidPart {a = a} {m = m} {transcript = transcript} go_on f =
-    search (rules, played_bind, prefix_more, turns_bind)
+    search (rules, played_bind, append_assoc, turns_bind)
 
 -- nothing of the dialog has happened
 pub breaks_here : {E R : Type 0} (SaidPart : E → E → Type 0) (dialog : Dialog E R) (m : Progress)
@@ -263,9 +214,7 @@ by_bind SendFailed a m transcript shown go_on f =
       all_sent = f.all_sent;
       in_turn = turns_bind a go_on m transcript f.in_turn;
     }
-by_bind RecvFailed a m transcript shown go_on f =
-    search (rules, waits_bind, turns_bind)
-by_bind _ a m transcript shown go_on f = absurd f
+by_bind by a m transcript shown go_on f = search (rules, played_bind, turns_bind)
 
 -- a question
 

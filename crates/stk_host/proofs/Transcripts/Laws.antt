@@ -31,19 +31,15 @@ grows_on a b c x y f g = g ∙ ap (λ (t : Transcript). t ++ y) f ∙ append_ass
 pub heard_quiet : (transcript : Transcript) → IsQuiet transcript → heard transcript ≡ []
 heard_quiet [] quiet = refl
 heard_quiet (Sent bytes ∷ transcript) quiet = heard_quiet transcript quiet
-heard_quiet (Taken bytes ∷ transcript) quiet = ap heard quiet
-heard_quiet (Got tape ∷ transcript) quiet = absurd quiet
+heard_quiet transcript quiet = search rules
 
 pub quiet_append : (x y : Transcript) → NoneTaken x → IsQuiet x → IsQuiet y → IsQuiet (x ++ y)
 quiet_append [] y none f g = g
 quiet_append (Sent bytes ∷ x) y none f g = quiet_append x y none f g
-quiet_append (Taken bytes ∷ x) y none f g = absurd none
-quiet_append (Got tape ∷ x) y none f g = absurd f
+quiet_append x y none f g = search rules
 
 pub taken_quiet : (last : Transcript) → IsTaken last → IsQuiet last
-taken_quiet [] taken = tt
-taken_quiet (Taken bytes ∷ []) taken = refl
-taken_quiet last taken = absurd taken
+taken_quiet last taken = search rules
 
 -- nothing is sent during the wait for an answer
 pub sent_waiting : (seq : ℕ) (tape : Tape) (transcript : Transcript) → WaitsFrom seq tape transcript

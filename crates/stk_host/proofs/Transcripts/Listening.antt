@@ -1,4 +1,5 @@
 -- Listening for an answer, as the code does it round by round.
+use Rattle.std.proofs.lemmas.Grind.{common_steps}
 use Rattle.std.proofs.Common.{◌≡◌, ℕ, ◌+◌, ◌<◌, ◌≤◌, List, [], ◌∷◌, ◌++◌, length, refl, sym, ap, ◌∙◌, subst, append_assoc, arith, length-append, Some, None, true, rules}
 use Rattle.std.proofs.lemmas.List.{append-nil, length-map, nil_from_length}
 use Rattle.stk_frame.specs.declared.reader.Event.{Event}
@@ -56,7 +57,7 @@ module _ {seq : ℕ} {u : List ℕ} {o : LinkState} where
       → length u + length (heard_in l.during) ≡ count + length left
   heard_count {left = left} l =
       let all : length (on_tape u ++ heard_in l.during) ≡ length (on_tape (l.text ++ left)) = ap length l.all_heard in
-      search (rules, length-append, l, length-map)
+      search (rules, length-append, length-map)
 
   -- if nothing is left unread, and a piece is received
   module _ {held : List ℕ} {count : ℕ} {left : List ℕ} {p : LinkState} (of_left : Listening seq u o held count left p)
@@ -77,7 +78,7 @@ module _ {seq : ℕ} {u : List ℕ} {o : LinkState} where
     pub heard_bytes : {q : LinkState} {what : Heard} {n : ℕ} {new : List ℕ} → count + length new ≤ limit
         → what ≡ heard.Bytes n → HearsPiece what new p q → Listening seq u o held count new q
     heard_bytes {q = q} {new = new} most is piece =
-        search (rules, l, grows_on, waits_more, heard_append, append-nil, append_assoc, text_heard, on_tape_append)
+        search (rules, waits_more, heard_append, append-nil, append_assoc, text_heard, on_tape_append)
 
     -- a timeout or an end
     stops : {q : LinkState} {new : List ℕ} (item : Item) (reading : Reading)
@@ -88,12 +89,7 @@ module _ {seq : ℕ} {u : List ℕ} {o : LinkState} where
       during = l.during ++ Got (item ∷ []) ∷ [];
       grows = grows_on o.transcript p.transcript q.transcript l.during (Got (item ∷ []) ∷ []) l.grows piece.1;
       waits = waits_more (item ∷ []);
-      few = omega (
-        arith,
-        heard_count l,
-        ap length (heard_append l.during (Got (item ∷ []) ∷ [])),
-        length-append (heard_in l.during) (item ∷ []),
-      );
+      few = grind (arith, common_steps, heard_append);
       answers = search (rules, heard_both, l, append_assoc, text_heard);
     })
 
@@ -111,26 +107,13 @@ module _ {seq : ℕ} {u : List ℕ} {o : LinkState} where
 
     -- nothing is received: the link failed
     pub hears_none : {q : LinkState} → Grows p.transcript [] q.transcript → HearsNone seq u o q
-    hears_none {q = q} g = record {
-      during = l.during;
-      grows = g ∙ append-nil p.transcript ∙ l.grows;
-      waits = l.waits;
-      few = omega (arith, heard_count l, l.few);
-      no_answer = not_yet;
-    }
-
-  -- bytes that bring no answer
-  reads : {held : List ℕ} {count : ℕ} {p : LinkState} (used left new : List ℕ) (found : List (List ℕ))
-      → Listening seq u o held count (used ++ left) p → Fed held used new found → first_answer seq found ≡ None
-      → Listening seq u o new (count + length used) left p
-  reads used left new found l fed other = search (rules, l, length-append, still_none, append_assoc)
+    hears_none {q = q} g = grind (arith, common_steps, not_yet)
 
   pub reads_on : {held : List ℕ} {count : ℕ} {left : List ℕ} {p : LinkState} (n : ℕ)
       (new_left new : List ℕ) (what : Event)
       → Listening seq u o held count left p → ReadOn left new_left n held new what
       → first_answer seq (frames_of_event what new) ≡ None → Listening seq u o new (count + n) new_left p
-  reads_on n new_left new what l read other =
-      rw (← read.1) (reads read.0 new_left new (frames_of_event what new) (rw read.2 at l) read.3 other)
+  reads_on n new_left new what l read other = search (rules, length-append, still_none, append_assoc)
 
   -- listening whose reading is known
   gives : {held : List ℕ} {count : ℕ} {left : List ℕ} {p : LinkState} (x rest_left : List ℕ) (reading : Reading)
@@ -141,7 +124,7 @@ module _ {seq : ℕ} {u : List ℕ} {o : LinkState} where
     grows = l.grows;
     waits = l.waits;
     few = omega (arith, heard_count l, l.few);
-    answers = search (rules, append_assoc, l, on_tape_append);
+    answers = search (rules, append_assoc, on_tape_append);
   }
 
   finds_in : {held : List ℕ} {count : ℕ} {p : LinkState} (used left new : List ℕ)
@@ -153,7 +136,7 @@ module _ {seq : ℕ} {u : List ℕ} {o : LinkState} where
       let size : length (l.text ++ used) ≤ limit = rw length-append (omega (arith, l.counted)) in
       gives (l.text ++ used) left (Answered (body_of new)) l
       (l.all_heard ∙ ap on_tape (sym (append_assoc l.text used left)))
-      (λ more. search (rules, answer_found, l, now_found))
+      (λ more. search (rules, answer_found, now_found))
 
   pub finds : {held : List ℕ} {count : ℕ} {left : List ℕ} {p : LinkState} (n : ℕ)
       (new_left new : List ℕ) (what : Event)
@@ -165,5 +148,4 @@ module _ {seq : ℕ} {u : List ℕ} {o : LinkState} where
 
   pub babbles : {held : List ℕ} {count : ℕ} {left : List ℕ} {p : LinkState}
       → Listening seq u o held count left p → count ≡ limit → Hears seq u o p Babbled left
-  babbles {left = left} l full =
-      gives l.text left Babbled l l.all_heard (λ more. answer_babbled seq l.text more l.no_answer (l.counted ∙ full))
+  babbles {left = left} l full = grind (arith, common_steps, answer_babbled)

@@ -1,6 +1,6 @@
 -- A log with one more mark.
 use Rattle.std.proofs.Common.{◌≡◌, ℕ, zero, suc, ◌+◌, ◌≤◌, List, [], ◌∷◌, ◌++◌, length, take, drop, refl, ap, arith, length-append, rules}
-use Rattle.std.proofs.lemmas.List.{take-append-le, take-append-drop, length-drop, length-take-le, take_all}
+use Rattle.std.proofs.lemmas.List.{take-append-le, take-append-drop, length-drop, take_all}
 use Rattle.stk_host.specs.declared.log.Mark.{Mark}
 use Rattle.stk_host.specs.declared.log.Mark.TheVariants as mark
 use Rattle.stk_host.specs.declared.link.Heard.{Heard}
@@ -29,9 +29,7 @@ log_more (mark.Sent n ∷ marks) out back more_out more_back m o b =
       rules,
       take-append-le,
       drop_prefix,
-      length-drop,
-      log_more marks (drop n out) back more_out more_back m (rw
-          length-drop (omega arith)) b,
+      log_more marks (drop n out) back more_out more_back m (search (rules, length-drop)) b,
     )
 log_more (mark.Heard (heard.Bytes n) ∷ marks) out back more_out more_back m o b =
     search (
@@ -80,16 +78,11 @@ heard_in (mark.Heard heard.End ∷ marks) out back b = heard_in marks out back (
 -- what was received is what is kept of the buffer
 pub items_received : (h : Heard) (buffer : List ℕ) → FitsBuffer h (length buffer)
     → items_of h (take (byte_count h) buffer) ≡ items_of h buffer
-items_received (heard.Bytes n) buffer fits =
-    ap on_tape (take_all n (take n buffer) (rw (length-take-le n buffer fits.1) (omega arith)))
-items_received heard.Silence buffer fits = refl
-items_received heard.End buffer fits = refl
+items_received h buffer fits = search (rules, take_all)
 
 pub count_received : (h : Heard) (buffer : List ℕ) → FitsBuffer h (length buffer)
     → back_count (mark.Heard h ∷ []) ≡ length (take (byte_count h) buffer)
-count_received (heard.Bytes n) buffer fits = rw (length-take-le n buffer fits.1) (omega arith)
-count_received heard.Silence buffer fits = refl
-count_received heard.End buffer fits = refl
+count_received h buffer fits = search rules
 
 -- the whole log, as the code goes on: this mark and these bytes are new
 module _ (marks new_marks : List Mark) (out new_out back new_back x y : List ℕ) (m : Mark)
@@ -97,8 +90,7 @@ module _ (marks new_marks : List Mark) (out new_out back new_back x y : List ℕ
     (out_is : new_out ≡ out ++ x) (back_is : new_back ≡ back ++ y) where
   pub log_adds : (old : Transcript) → transcript_of marks out back ≡ old
       → transcript_of new_marks new_out new_back ≡ old ++ transcript_of (m ∷ []) x y
-  log_adds old view =
-      search (rules, log_more)
+  log_adds old view = search (rules, log_more)
 
   pub counts_more : out_count (m ∷ []) ≡ length x → back_count (m ∷ []) ≡ length y
       → (out_count new_marks ≡ length new_out) × (back_count new_marks ≡ length new_back)

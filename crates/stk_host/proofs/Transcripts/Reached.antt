@@ -1,23 +1,17 @@
 -- How far a call has come over a link.
-use Rattle.std.proofs.Common.{[], ◌++◌, refl, ◌∙◌, subst, rules}
+use Rattle.std.proofs.Common.{◌++◌, ◌∙◌, subst, rules}
 use Rattle.stk_host.specs.declared.fault.HostFault.{HostFault}
 use Rattle.ghosts.specs.Failures.{HasRisen}
 use Rattle.stk_host.specs.Transcript.{LinkState}
 use Rattle.stk_host.specs.Dialog.{Dialog, Done, ◌>>=◌}
 use Rattle.stk_host.specs.Play.{Progress, PlaysOver, FailsOver}
 use Rattle.stk_host.specs.Reach.{Reaches}
-use Rattle.stk_host.proofs.Transcripts.Laws.{grows_none, grows_on}
-use Rattle.stk_host.proofs.Transcripts.InDialogs.{leads_here, leads_on, leads_bind, leads_from, plays_from, by_on, by_bind}
+use Rattle.stk_host.proofs.Transcripts.Laws.{grows_on}
+use Rattle.stk_host.proofs.Transcripts.InDialogs.{leads_here, leads_on, leads_bind, by_on, by_bind}
 
 pub reaches_here : {R : Type 0} (dialog : Dialog ⊥ R) (before : Progress) (o : LinkState)
     → Reaches dialog before o dialog before o
-reaches_here dialog before o = record {
-  during = [];
-  events = [];
-  grows = grows_none o.transcript;
-  leads = leads_here dialog before;
-  sound = refl;
-}
+reaches_here dialog before o = search (rules, leads_here dialog before)
 
 -- from where a call has come
 module _ {R : Type 0} {a b : Dialog ⊥ R} {m n : Progress} {o p : LinkState} (f : Reaches a m o b n p) where
@@ -41,28 +35,21 @@ module _ {R : Type 0} {a b : Dialog ⊥ R} {m n : Progress} {o p : LinkState} (f
 
 pub reaches_bind : {A B : Type 0} {a b : Dialog ⊥ A} {m n : Progress} {o p : LinkState} (go_on : A → Dialog ⊥ B)
     → Reaches a m o b n p → Reaches (a >>= go_on) m o (b >>= go_on) n p
-reaches_bind go_on f = record {
-  during = f.during;
-  events = f.events;
-  grows = f.grows;
-  leads = leads_bind go_on f.leads;
-  sound = f.sound;
-}
+reaches_bind go_on f = search (rules, leads_bind go_on f.leads)
 
 -- the clauses of a call that ran a dialog give how far its caller has come
 pub reaches_from : {R : Type 0} {a : Dialog ⊥ R} {m n : Progress} {o p : LinkState} {result : R}
     → PlaysOver a m o p result n → Reaches a m o (Done result) n p
-reaches_from f = search (rules, leads_from)
+reaches_from f = search rules
 
 pub played_from : {R : Type 0} {a : Dialog ⊥ R} {m n : Progress} {o p : LinkState} {result : R}
     → Reaches a m o (Done result) n p → PlaysOver a m o p result n
-played_from f = search (rules, plays_from)
+played_from f = search rules
 
 pub broken_bind : {A B : Type 0} {by : HostFault} {a : Dialog ⊥ A} {m : Progress} {o p : LinkState}
     (go_on : A → Dialog ⊥ B)
     → FailsOver by a m o p → FailsOver by (a >>= go_on) m o p
-broken_bind {by = by} {a = a} {m = m} go_on f =
-    search (rules, by_bind)
+broken_bind {by = by} {a = a} {m = m} go_on f = search (rules, by_bind)
 
 -- a dialog that was run, and what follows it
 pub then_reaches : {A B : Type 0} {a : Dialog ⊥ A} {m n : Progress} {o p : LinkState} {result : A}

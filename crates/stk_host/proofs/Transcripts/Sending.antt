@@ -1,34 +1,26 @@
 -- Bytes sent in parts, and the rest of a range.
-use Rattle.std.proofs.Common.{◌≡◌, ℕ, ◌+◌, ◌-◌, ◌<◌, ◌≤◌, List, [], ◌∷◌, ◌++◌, length, take, drop, refl, sym, ap, ◌∙◌, subst, append_assoc, arith, Err, rules}
-use Rattle.std.proofs.lemmas.List.{append-nil, drop-take, drop-drop, take-append-drop, length-take, length-drop, take_all}
+use Rattle.std.proofs.lemmas.Grind.{common_steps}
+use Rattle.std.proofs.Common.{◌≡◌, ℕ, ◌+◌, ◌-◌, ◌<◌, ◌≤◌, List, [], ◌∷◌, ◌++◌, length, take, drop, sym, ap, ◌∙◌, append_assoc, arith, Err, rules}
+use Rattle.std.proofs.lemmas.List.{drop-take, drop-drop, take-append-drop, length-take, length-drop, take_all}
 use Rattle.std.proofs.Math.Seq.{take-add}
 use Rattle.std.specs.Prelude.{slice_range}
 use Rattle.ghosts.specs.Failures.{HasRisen}
-use Rattle.stk_host.specs.Transcript.{Transcript, LinkState, Sent, Taken, NoneTaken, IsTaken, TakesPart, sent, Grows, LinkCounts}
+use Rattle.stk_host.specs.Transcript.{Transcript, LinkState, Sent, NoneTaken, IsTaken, TakesPart, sent, Grows, LinkCounts}
 use Rattle.stk_host.specs.Reach.{Says, SaysPart}
 use Rattle.stk_host.proofs.Transcripts.Laws.{sent_append, grows_on, quiet_append, taken_quiet, none_append, none_behind}
 
 pub says_more : (x y : List ℕ) (o p q : Transcript) → Says x o p → Grows p (Sent y ∷ []) q → Says (x ++ y) o q
-says_more x y o p q says g = record {
-  during = says.during ++ Sent y ∷ [];
-  grows = grows_on o p q says.during (Sent y ∷ []) says.grows g;
-  quiet = quiet_append says.during (Sent y ∷ []) says.none_taken says.quiet tt;
-  none_taken = none_append says.during (Sent y ∷ []) says.none_taken tt;
-  bytes_sent = rw (sent_append says.during (Sent y ∷ []), append-nil y, says.bytes_sent) refl;
-}
+says_more x y o p q says g = grind (arith, common_steps, quiet_append, none_append, sent_append)
 
 -- one more part
 pub says_part : (bytes : List ℕ) (n m : ℕ) (part : List ℕ) (o p q : Transcript) → Says (take n bytes) o p
     → part ≡ drop n bytes → Grows p (Sent (take m part) ∷ []) q → Says (take (n + m) bytes) o q
-says_part bytes n m part o p q says is g =
-    rw (take-add n m bytes, ← is) (says_more (take n bytes) (take m part) o p q says g)
+says_part bytes n m part o p q says is g = search (rules, take-add, says_more)
 
 -- what a failed send didn't take
 some_unsent : (last : Transcript) (bytes unsent : List ℕ) → IsTaken last → NoneTaken last
     → bytes ≡ sent last ++ unsent → 0 < length bytes → 0 < length unsent
-some_unsent [] bytes unsent taken none is some = subst (λ bs. 0 < length bs) is some
-some_unsent (Taken part ∷ []) bytes unsent taken none is some = absurd none
-some_unsent last bytes unsent taken none is some = absurd taken
+some_unsent last bytes unsent taken none is some = search rules
 
 -- the first `n` bytes were sent, and the send of the others failed
 pub part_of : (bytes : List ℕ) (n : ℕ) (part : List ℕ) (o p q : Transcript) → n < length bytes
@@ -50,25 +42,13 @@ part_of bytes n part o p q few says is t =
 
 -- nothing was taken
 pub takes_none : (bytes : List ℕ) (old new : Transcript) → new ≡ old → TakesPart bytes old new
-takes_none bytes old new is = record {
-  last = [];
-  is_taken = tt;
-  unsent = bytes;
-  bytes_are = refl;
-  grows = is ∙ sym (append-nil old);
-}
+takes_none bytes old new is = search rules
 
 -- a failed send of the first bytes alone
 pub takes_first : (bytes : List ℕ) (n : ℕ) (old new : Transcript) → TakesPart (take n bytes) old new
     → TakesPart bytes old new
-takes_first bytes n old new t = record {
-  last = t.last;
-  is_taken = t.is_taken;
-  unsent = t.unsent ++ drop n bytes;
-  bytes_are = sym (take-append-drop n bytes)
-      ∙ (ap (λ bs. bs ++ drop n bytes) t.bytes_are ∙ append_assoc (sent t.last) t.unsent (drop n bytes));
-  grows = t.grows;
-}
+takes_first bytes n old new t =
+    search (rules, take-append-drop n bytes, append_assoc (sent t.last) t.unsent (drop n bytes))
 
 -- a link that has failed since an earlier time with the same count
 pub fails_since : {A E : Type 0} (a c : LinkState) (count : ℕ) (error : E) → count ≡ a.failures → count ≤ c.failures
@@ -77,15 +57,11 @@ fails_since a c count error same counted failed = search rules
 
 -- the rest of a range after its first places
 pub range_later : (xs : List ℕ) (a b n : ℕ) → a + n ≤ b → slice_range xs (a + n) b ≡ drop n (slice_range xs a b)
-range_later xs a b n le =
-    ap (take (b - (a + n))) (sym (drop-drop n a xs))
-    ∙ (sym (drop-take n (b - (a + n)) (drop a xs))
-    ∙ ap (λ m. drop n (take m (drop a xs))) (omega arith))
+range_later xs a b n le = search (rules, drop-drop n a xs, drop-take n (b - (a + n)) (drop a xs))
 
 pub range_consumed : (xs : List ℕ) (a b n : ℕ) (all : List ℕ) → a ≤ b → slice_range xs a b ≡ all → n ≤ length all
     → slice_range xs (a + n) b ≡ drop n all
-range_consumed xs a b n all order is le =
-    search (rules, length-take, range_later)
+range_consumed xs a b n all order is le = search (rules, length-take, range_later)
 
 -- the bytes after the first n, in the form of a slice
 pub behind : (bytes : List ℕ) (n : ℕ) → take (length bytes - n) (drop n bytes) ≡ drop n bytes

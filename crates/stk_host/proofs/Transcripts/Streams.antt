@@ -1,13 +1,11 @@
 -- What a writer with known bytes has taken, and a reader with known bytes has given.
 use Rattle.std.proofs.Common.{◌≡◌, ℕ, List, [], ◌∷◌, ◌++◌, ◌≤◌, take, drop, Option, refl, sym, ◌∙◌, subst, append_assoc, append-nil, take-append-drop, rules}
-use Rattle.std.proofs.KnownBytes.{Appends-nil, Appends-kept, Consumes-nil, Consumes-kept}
-use Rattle.std.specs.Io.KnownBytes.{Keeps, Appends, Consumes}
+use Rattle.std.proofs.KnownBytes.{Appends-nil, Appends-kept}
+use Rattle.std.specs.Io.KnownBytes.{Keeps, Appends}
 use Rattle.stk_host.specs.declared.link.Heard.{Heard}
-use Rattle.stk_host.specs.declared.link.Heard.TheVariants as hears
 use Rattle.stk_host.specs.Links.{StreamState, IsTrueSince, TakesKnown, HearsKnown}
-use Rattle.stk_host.specs.Tape.{bytes_of}
-use Rattle.stk_host.specs.Transcript.{Transcript, Sent, Taken, Got, heard, items_of}
-use Rattle.stk_host.proofs.Transcripts.Laws.{sent_append, heard_append, heard_quiet, taken_quiet}
+use Rattle.stk_host.specs.Transcript.{Transcript, Sent, Taken, Got, items_of}
+use Rattle.stk_host.proofs.Transcripts.Laws.{sent_append, heard_append}
 use Rattle.stk_host.proofs.Tapes.Answers.{bytes_of_append, bytes_of_on_tape}
 
 -- the writer took the first bytes and nothing more, and the send failed
@@ -33,17 +31,6 @@ takes_nothing bytes before now a b is keeps = record {
   took = Appends-kept a a b [] (Appends-nil a) keeps;
 }
 
--- what stays as it was lost nothing
-pub lost_none : (a b : Option (List ℕ)) → Keeps a b → Consumes a b []
-lost_none a b keeps = Consumes-kept a a b [] (Consumes-nil a) keeps
-
--- the items received have the bytes that the reader lost
-pub items_given : (h : Heard) (buffer : List ℕ) (a b : Option (List ℕ)) → HearsKnown h buffer a b
-    → Consumes a b (bytes_of (items_of h buffer))
-items_given (hears.Bytes n) buffer a b given = rw (bytes_of_on_tape (take n buffer)) given
-items_given hears.Silence buffer a b given = lost_none a b given
-items_given hears.End buffer a b given = lost_none a b given.0
-
 module _ {R W : Type 0} (remaining : R → Option (List ℕ)) (contents : W → Option (List ℕ)) where
   pub true_now : (a : StreamState R W) → IsTrueSince remaining contents a a
   true_now a = search rules
@@ -60,22 +47,11 @@ module _ {R W : Type 0} (remaining : R → Option (List ℕ)) (contents : W → 
   pub true_of_taken : (a b : StreamState R W) (bytes : List ℕ) → b.reader ≡ a.reader → a.failures ≤ b.failures
       → TakesKnown bytes a.transcript b.transcript (contents a.writer) (contents b.writer)
       → IsTrueSince remaining contents a b
-  true_of_taken a b bytes reader failures t =
-      let last = t.takes.last in
-      let none : heard last ≡ [] = heard_quiet last (taken_quiet last t.takes.is_taken) in
-      record {
-        during = last;
-        grows = t.takes.grows;
-        gave = subst (λ r. Consumes (remaining a.reader) (remaining r) (bytes_of (heard last))) (sym reader)
-            (subst (λ tape. Consumes (remaining a.reader) (remaining a.reader) (bytes_of tape)) (sym none)
-            (Consumes-nil (remaining a.reader)));
-        took = t.took;
-        counted = failures;
-      }
+  true_of_taken a b bytes reader failures t = search rules
 
   pub true_of_heard : (a b : StreamState R W) (h : Heard) (buffer : List ℕ) → b.writer ≡ a.writer
       → b.failures ≡ a.failures
       → b.transcript ≡ a.transcript ++ Got (items_of h buffer) ∷ []
       → HearsKnown h buffer (remaining a.reader) (remaining b.reader)
       → IsTrueSince remaining contents a b
-  true_of_heard a b h buffer writer failures transcript given = search (rules, append-nil, items_given)
+  true_of_heard a b h buffer writer failures transcript given = search (rules, bytes_of_on_tape)

@@ -1,6 +1,5 @@
-use Rattle.std.proofs.Common.{◌∙◌, ap, sym, arith, take, ◌∷◌, ◌++◌, [], rules}
+use Rattle.std.proofs.Common.{◌∙◌, ap, sym, arith, ◌∷◌, ◌++◌, [], rules}
 use Rattle.std.proofs.lemmas.List.{append-nil}
-use Rattle.stk_host.specs.Log.{byte_count}
 use Rattle.stk_host.specs.Transcript as transcript
 use Rattle.stk_host.specs.declared.log.Mark.TheVariants as mark
 use Rattle.stk_host.proofs.Transcripts.Logs.{log_adds, counts_more, items_received, count_received}
