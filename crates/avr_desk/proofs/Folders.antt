@@ -1,5 +1,5 @@
 -- What stays under a name over several calls, and names that are apart.
-use Rattle.std.proofs.Common.{◌≡◌, ◌≤◌, ◌++◌, ◌∷◌, inl, inr, ℕ, Option, None, Result, Ok, Err, OnOk, codes, length, get_or, ap, append_assoc, arith, string_bytes, subst, sym, ◌∙◌}
+use Rattle.std.proofs.Common.{◌≡◌, ◌++◌, ◌∷◌, ℕ, Option, None, Result, OnOk, codes, append_assoc, string_bytes, subst, sym, ◌∙◌, rules}
 use Rattle.std.proofs.lemmas.List.{append_cancel_left, length-append}
 use Rattle.avr_desk.specs.Places.{IsApart, IsHolding, IsNewName, Lasts, StandsFor, Still, Whole}
 use Rattle.avr_desk.specs.Record.{Bytes}
@@ -13,52 +13,32 @@ module _ {S : Type 0} {locks : S → Bytes → Bytes → Type 0} {left_since : S
 
   pub still_on : {name by : Bytes} {a b c : S} → Still locks left_since moment name by a b
       → Still locks left_since moment name by b c → Still locks left_since moment name by a c
-  still_on p q = record {
-    locked = λ h. q.locked (p.locked h);
-    since = λ first found h. p.since first found (q.since first found h);
-    left = λ found h. p.left found (q.left found h);
-  }
+  still_on p q = search rules
 
   pub still_whole : {name by : Bytes} {a b : S} → Still locks left_since moment name by a b → (bytes : Bytes)
       (first : ℕ × Option Bytes) → Whole locks left_since name by bytes first a
       → Whole locks left_since name by bytes first b
-  still_whole s bytes first was = record {
-    locked = s.locked was.locked;
-    found = λ found h. was.found found (s.since first.0 found h);
-  }
+  still_whole s bytes first was = search rules
 
   pub still_lasts : {name by : Bytes} {a b : S} → Still locks left_since moment name by a b → (bytes : Bytes)
       → Lasts moment left_since name bytes a → Lasts moment left_since name bytes b
   still_lasts s bytes was = λ found h. was found (s.left found h)
 
 longer : (name more : Bytes) (first : ℕ) → name ≡ name ++ (first ∷ more) → ⊥
-longer name more first e = let n : length name ≡ length (name ++ (first ∷ more)) = ap length e in
-    omega (arith, n, length-append name (first ∷ more))
-
-not_new : (digit : ℕ) (more : Bytes) → digit ≤ 70 → codes ".avrstk-new" ≡ codes ".avrstk-" ++ (digit ∷ more) → ⊥
-not_new digit more small e = let n : 110 ≡ digit = ap (λ xs. get_or xs 8 0) e in omega (arith, n, small)
+longer name more first e = search (rules, length-append name (first ∷ more))
 
 pub new_apart : (name by new : Bytes) → IsNewName name new → StandsFor name by → IsApart new name by
-new_apart name by new (digit, more, small, is) stands = (
-  λ e. longer name _ _ (e ∙ is),
-  λ e. elim stands [
-    | inl at ↦ longer name _ _ (sym at ∙ e ∙ is)
-    | inr beside ↦ not_new digit more small (append_cancel_left name _ _ (sym beside ∙ e ∙ is))
-  ],
-)
+new_apart name by new (digit, more, small, is) stands = search (rules, longer, append_cancel_left)
 
 pub spare_apart : (name path ending : Bytes) → path ≡ name ++ (codes ".avrstk-" ++ ending) → IsApart path name name
 spare_apart name path ending is = (λ e. longer name _ _ (e ∙ is), λ e. longer name _ _ (e ∙ is))
 
 pub spare_is : (target shown path pushed text ending : Bytes) → shown ≡ target → path ≡ shown ++ codes ".avrstk-"
     → pushed ≡ path ++ ending → text ≡ pushed → text ≡ target ++ (codes ".avrstk-" ++ ending)
-spare_is target shown path pushed text ending e1 e2 e3 e4 =
-    e4 ∙ e3 ∙ ap (λ x. x ++ ending) (e2 ∙ ap (λ x. x ++ codes ".avrstk-") e1) ∙ append_assoc target
-    (codes ".avrstk-") ending
+spare_is target shown path pushed text ending e1 e2 e3 e4 = search (rules, append_assoc)
 
 pub on_ok : {A E P Q : Type 0} (r : Result A E) → OnOk r P → (P → Q) → OnOk r Q
-on_ok (Ok a) p f = f p
-on_ok (Err e) p f = tt
+on_ok r p f = search rules
 
 module _ {S : Type 0} {locks : S → Bytes → Bytes → Type 0} {left_since : S → ℕ → Bytes → Option Bytes → Type 0}
     {moment : S → ℕ} where
@@ -66,9 +46,7 @@ module _ {S : Type 0} {locks : S → Bytes → Bytes → Type 0} {left_since : S
   pub made_on : (target shown by : Bytes) {a b : S} → shown ≡ target → StandsFor target by
       → ((by : Bytes) → StandsFor shown by → Still locks left_since moment shown by a b)
       → Still locks left_since moment target by a b
-  made_on target shown by {a = a} {b = b} e stands made =
-      subst (λ name. Still locks left_since moment name by a b) e (made by (subst (λ name. StandsFor name by)
-      (sym e) stands))
+  made_on target shown by {a = a} {b = b} e stands made = search rules
 
   -- the new file's own name, which is still `new`, was removed
   pub gone_on : (target shown by new own : Bytes) {a b : S} → shown ≡ target → own ≡ new → IsNewName shown new
@@ -87,30 +65,16 @@ module _ {S : Type 0} {locks : S → Bytes → Bytes → Type 0} {left_since : S
   pub lasts_at : (moment : S → ℕ) (target shown by bytes : Bytes) (first : ℕ × Option Bytes) {a b : S} → shown ≡ target
       → (Whole locks left_since shown by bytes first a → Lasts moment left_since shown bytes b)
       → Whole locks left_since target by bytes first a → Lasts moment left_since target bytes b
-  lasts_at moment target shown by bytes first {a = a} {b = b} e lasts =
-      subst (λ name. Whole locks left_since name by bytes first a → Lasts moment left_since name bytes b) e lasts
+  lasts_at moment target shown by bytes first {a = a} {b = b} e lasts = search rules
 
 module _ {S L N : Type 0} {locks : S → Bytes → Bytes → Type 0} {was_at : L → Bytes → Type 0} where
   pub holding_on : {left_since : S → ℕ → Bytes → Option Bytes → Type 0} {moment : S → ℕ} {a b : S} (held : Held L N)
       (h : IsHolding locks was_at a held) → Still locks left_since moment (string_bytes held.target) h.by a b
       → IsHolding locks was_at b held
-  holding_on held h still = record {
-    by = h.by;
-    stands_for = h.stands_for;
-    locked = still.locked h.locked;
-    itself = h.itself;
-  }
+  holding_on held h still = search rules
 
   pub clear_on : {left_since : S → ℕ → Bytes → Option Bytes → Type 0} {moment : S → ℕ} {a b : S} (held : Held L N)
       → IsHolding locks was_at a held → held.beside ≡ None
       → Still locks left_since moment (string_bytes held.target) (string_bytes held.target) a b
       → IsHolding locks was_at b held
-  clear_on {a = a} {b = b} held h none still =
-      let same : h.by ≡ string_bytes held.target = (h.itself none).1 in
-      record {
-        by = h.by;
-        stands_for = h.stands_for;
-        locked = subst (λ by. locks b (string_bytes held.target) by) (sym same)
-            (still.locked (subst (λ by. locks a (string_bytes held.target) by) same h.locked));
-        itself = h.itself;
-      }
+  clear_on {a = a} {b = b} held h none still = search rules

@@ -1,6 +1,6 @@
 -- Worked calls with an outcome that the contracts refuse.
 use Rattle.std.proofs.lemmas.Bool.Decides.{nat_tests}
-use Rattle.std.proofs.Common.{◌≡◌, ap, ℕ, zero, suc, true, List, [], ◌∷◌, ◌++◌, inl, inr, take, Some, Result, Ok, Err, arith}
+use Rattle.std.proofs.Common.{◌≡◌, ap, ℕ, true, List, [], ◌∷◌, Some, Result, Ok, Err, arith, rules}
 use Rattle.avr_desk.specs.Failing.{Failing, FailsWhenDue}
 use Rattle.avr_desk.specs.Fault.{Counts}
 use Rattle.avr_desk.specs.Files.{FaultCounts}
@@ -77,21 +77,16 @@ end = 2 ∷ []
 abbrev whole : List ℕ
 whole = 1 ∷ 2 ∷ []
 
-prefix_or_end : (n : ℕ) → end ≡ take n whole → ⊥
-prefix_or_end zero e = absurd (cc)
-prefix_or_end (suc n) e = absurd (cc)
-
 abbrev output_of : Record → Bytes
 output_of r = r.output
 
 pub no_end_before_a_fault : SendsTaken Output whole (showing nothing_kept 0 0)
     (showing (after_out end nothing_kept) 1 0) (Err Failed) → ⊥
-no_end_before_a_fault sent = prefix_or_end sent.0 (ap output_of sent.2)
+no_end_before_a_fault sent = (search rules)
 
 -- a line cut short though only a file failed
 pub no_line_cut_by_a_file : TellsLine whole [] (silent 0) (silent 1) → ⊥
-no_line_cut_by_a_file (inl told) = let e : [] ≡ whole = told.0 in absurd (cc)
-no_line_cut_by_a_file (inr (part, (failures, unsaid))) = let e : 0 ≡ 1 = unsaid in omega (arith, e)
+no_line_cut_by_a_file a' = search rules
 
 -- a message in the output
 abbrev byte : List ℕ
@@ -101,13 +96,8 @@ pub no_message_in_the_output : SendsTaken Messages byte (showing nothing_kept 0 
     (showing (after_out byte nothing_kept) 0 0) (Ok 1) → ⊥
 no_message_in_the_output sent = let e : byte ≡ [] = ap output_of sent in absurd (cc)
 
--- a writer that took other bytes
-begins_otherwise : (prefix back : Bytes) → prefix ++ back ≡ whole → end ≡ prefix → ⊥
-begins_otherwise [] back is took = absurd (cc)
-begins_otherwise (x ∷ prefix) back is took = grind (arith, nat_tests)
-
 pub no_other_bytes : AppendsPrefix (Some []) (Some end) whole → ⊥
-no_other_bytes (prefix, (back, is), took) = begins_otherwise prefix back is took
+no_other_bytes (prefix, (back, is), took) = (search (rules, nat_tests))
 
 -- a planned failure at a call that isn't due
 abbrev sound : Failing ℕ

@@ -8,13 +8,12 @@ use Rattle.ghosts.specs.Stays.{Stays}
 use Rattle.avr_desk.specs.Files.{after_reading}
 use Rattle.avr_desk.specs.Memory.{MemDeskState, Stock, stock_of, stood_for, contents, unread_bytes}
 use Rattle.avr_desk.specs.Named.{bytes_given}
-use Rattle.avr_desk.specs.Record.{Bytes, Record, all_files, all_uses, files_among, use_of, noted, nothing_kept, with_absent, with_open, with_replaced, written_on}
+use Rattle.avr_desk.specs.Record.{Bytes, Record, all_files, all_uses, files_among, nothing_kept, with_absent, with_open, with_replaced, written_on}
 use Rattle.avr_desk.proofs.FileUses.Uses.{files_used}
 use Rattle.avr_desk.specs.Truth.{IsRead, AreTrue, IsOpenTrue, HoldsTrue}
 use Rattle.avr_desk.specs.declared.record.FileUse.{FileUse}
 use Rattle.avr_desk.specs.declared.record.FileUse.TheVariants.{Opened, Created}
-use Rattle.avr_desk.specs.declared.record.Open.{Open}
-use Rattle.avr_desk.specs.declared.record.Open.TheVariants.{Closed, ToRead, ToWrite}
+use Rattle.avr_desk.specs.declared.record.Open.TheVariants.{ToRead, ToWrite}
 use Rattle.avr_desk.specs.declared.record.Reading.{Reading}
 use Rattle.avr_desk.specs.declared.record.Writing.{Writing}
 
@@ -36,17 +35,11 @@ pub true_behind : (stock : Stock) (made : List Writing) (first last : List FileU
 true_behind stock made [] last are = subst (λ fs. AreTrue stock fs last) (sym (append-nil made)) are
 true_behind stock made (Opened opening ∷ first) last are = true_behind stock made first last are.1
 true_behind stock made (Created file ∷ first) last are =
-    grind (arith, nat_tests, true_behind stock (made ++ file ∷ []) first last are, subst, append_assoc)
-
--- what is open is a use too
-of_open : (stock : Stock) (m : MemDeskState) (o : Open) → IsOpenTrue stock m o
-    → AreTrue stock (files_among m.kept.uses) (use_of o)
-of_open stock m (ToRead x) is = (subst (λ stood. IsRead stood x.bytes x.ended) (sym is.0) is.1, tt)
-of_open stock m y is = tt
+    grind (arith, nat_tests, true_behind stock (made ++ file ∷ []) first last are, append_assoc)
 
 -- so all openings were true, by the files that had been made
 pub all_true : (stock : Stock) (m : MemDeskState) → HoldsTrue stock m → AreTrue stock [] (all_uses m.kept)
-all_true stock m holds = grind (arith, nat_tests, true_append, of_open)
+all_true stock m holds = grind (arith, nat_tests, true_append)
 
 -- a new desk has the files that it begins with
 pub begins_true : (m : MemDeskState) → m.kept ≡ nothing_kept → HoldsTrue (stock_of m) m
@@ -61,18 +54,7 @@ stock_same old new input stored = search rules
 -- the same uses and open file
 pub same_true : (old new : MemDeskState) → new.input ≡ old.input → new.stored ≡ old.stored → new.opened ≡ old.opened
     → new.kept.uses ≡ old.kept.uses → new.kept.current ≡ old.kept.current → Stays HoldsTrue old new
-same_true old new input stored opened uses current = search (rules, stock_same)
-
--- the open file is put by, perhaps with a finished use after it, and nothing is read
-pub put_by_true : (more : List FileUse) (old new : MemDeskState) → new.input ≡ old.input → new.stored ≡ old.stored
-    → new.kept.uses ≡ all_uses old.kept ++ more
-    → ((stock : Stock) → HoldsTrue stock old → AreTrue stock (all_files old.kept) more)
-    → ((stock : Stock) → IsOpenTrue stock new new.kept.current) → Stays HoldsTrue old new
-put_by_true more old new input stored uses behind current = λ stock holds. record {
-  began = stock_same old new input stored ∙ holds.began;
-  uses = search (rules, true_append, all_true, files_used);
-  current = current stock;
-}
+same_true old new input stored opened uses current = search rules
 
 -- a name has the same bytes as before, among all files
 stands : (stock : Stock) (m : MemDeskState) (name : Bytes) → HoldsTrue stock m
@@ -84,32 +66,28 @@ changed_true : (ok : Bool) (change : Record → Record) (old new : MemDeskState)
     → new.stored ≡ old.stored → new.opened ≡ old.opened
     → new.kept ≡ (if ok then change old.kept else old.kept) → (new.kept ≡ change old.kept → Stays HoldsTrue old new)
     → Stays HoldsTrue old new
-changed_true true change old new input stored opened kept done = done kept
-changed_true false change old new input stored opened kept done = grind (arith, nat_tests)
+changed_true ok change old new input stored opened kept done = search (rules, nat_tests)
 
 -- a file is created
 pub created_true : (ok : Bool) (file : Writing) (old new : MemDeskState) → new.input ≡ old.input
     → new.stored ≡ old.stored
     → new.opened ≡ old.opened
     → new.kept ≡ (if ok then with_open (ToWrite file) old.kept else old.kept) → Stays HoldsTrue old new
-created_true ok file old new input stored opened kept =
-    changed_true ok (with_open (ToWrite file)) old new input stored opened kept (λ is.
-    put_by_true [] old new input stored (ap (λ (r : Record). r.uses) is ∙ sym (append-nil (all_uses old.kept)))
-    (λ stock holds. tt) (λ stock. subst (λ (r : Record). IsOpenTrue stock new r.current) (sym is) tt))
+created_true ok file old new input stored opened kept = search (rules, true_append, all_true, files_used)
 
 -- or replaced whole
 pub replaced_true : (ok : Bool) (file : Writing) (old new : MemDeskState) → new.input ≡ old.input
     → new.stored ≡ old.stored
     → new.opened ≡ old.opened
     → new.kept ≡ (if ok then with_replaced file.name file.bytes old.kept else old.kept) → Stays HoldsTrue old new
-replaced_true ok file old new input stored opened kept = grind (arith, nat_tests, changed_true, put_by_true, subst)
+replaced_true ok file old new input stored opened kept = grind (arith, nat_tests, changed_true, stock_same, true_append)
 
 -- there is no file of this name
 pub absent_true : (ok : Bool) (name own : Bytes) (old new : MemDeskState) → own ≡ name → None ≡ contents name old
     → new.input ≡ old.input → new.stored ≡ old.stored → new.opened ≡ old.opened
     → new.kept ≡ (if ok then with_absent own old.kept else old.kept) → Stays HoldsTrue old new
 absent_true ok name own old new same none input stored opened kept =
-    grind (arith, nat_tests, changed_true, put_by_true, stands, subst)
+    grind (arith, nat_tests, stock_same, true_append, all_true, files_used, stands, subst)
 
 -- a file with these bytes is opened
 pub opened_true : (ok : Bool) (name own bytes first : Bytes) (old new : MemDeskState) → ok ≡ true → own ≡ name
@@ -147,45 +125,28 @@ module _ (old new : MemDeskState) (ends : Bool) (n room : ℕ) (whole gave next 
   given = grind (arith, nat_tests)
 
   nothing_left : (behind : Bytes) → length behind ≡ 0 → behind ≡ []
-  nothing_left [] none = refl
-  nothing_left (b ∷ behind) none = absurd (omega (arith, none))
-
-  drop_none : (m : ℕ) (behind : Bytes) → behind ≡ [] → drop m behind ≡ []
-  drop_none m behind none = grind (arith, common_steps, none)
+  nothing_left behind none = grind (arith, common_steps)
 
   at_end : (behind : Bytes) → unread_bytes old ≡ behind → (n == 0 && not (room == 0)) ≡ true → behind ≡ []
   at_end behind rest end = grind (arith, nat_tests)
 
-  ended_prefix : (was : Bool) (behind : Bytes) → unread_bytes old ≡ behind → (was ≡ true → behind ≡ [])
-      → (was || ends) ≡ true → drop room behind ≡ []
-  ended_prefix true behind rest before now = drop_none room behind (before refl)
-  ended_prefix false behind rest before now = drop_none room behind (at_end behind rest (sym ended ∙ now))
-
   prefix_on : (x : Reading) → bytes_given old.kept.current ≡ x.bytes → IsRead (Some old.opened) x.bytes x.ended
       → IsRead (Some old.opened) (x.bytes ++ piece) (x.ended || ends)
   prefix_on x given_is is =
-      let all : old.opened ≡ x.bytes ++ is.unread = let e = is.whole in cc in
       let rest : unread_bytes old ≡ is.unread =
       search (rules, drop-append_seam) in
-      let part : piece ≡ take room is.unread = took ∙ given ∙ ap (λ (b : Bytes). take room b) rest in
       record {
         unread = drop room is.unread;
         whole = search (rules, take-append-drop, append_assoc);
-        ends = ended_prefix x.ended is.unread rest is.ends;
+        ends = (search rules);
       }
-
-  open_on : (stock : Stock) (o : Open) → new.kept.uses ≡ old.kept.uses → old.kept.current ≡ o → IsOpenTrue stock old o
-      → IsOpenTrue stock new (noted piece ends o)
-  open_on stock Closed uses is held = tt
-  open_on stock (ToRead x) uses is held = search (rules, prefix_on)
-  open_on stock (ToWrite x) uses is held = tt
 
   pub read_true : (ok : Bool) → new.kept ≡ (if ok then after_reading piece ends old.kept else old.kept)
       → Stays HoldsTrue old new
-  read_true ok kept = search (rules, changed_true, stock_same, open_on)
+  read_true ok kept = search (rules, stock_same, prefix_on)
 
 -- bytes are written to the open file
 pub written_true : (bytes : Bytes) (old new : MemDeskState) → new.input ≡ old.input → new.stored ≡ old.stored
     → new.opened ≡ old.opened
     → new.kept.uses ≡ old.kept.uses → new.kept.current ≡ written_on bytes old.kept.current → Stays HoldsTrue old new
-written_true bytes old new input stored opened uses current = search (rules, stock_same, open_on)
+written_true bytes old new input stored opened uses current = search rules

@@ -1,23 +1,15 @@
 -- What a folder in memory may have had under its name.
-use Rattle.std.proofs.Common.{◌≡◌, ◌⊎◌, inl, inr, ℕ, List, [], ◌∷◌, ◌++◌, Option, Some, drop, zero, suc, sym, ◌∙◌, subst, arith}
+use Rattle.std.proofs.lemmas.Grind.{common_steps}
+use Rattle.std.proofs.Common.{◌≡◌, ◌⊎◌, inl, inr, ℕ, List, [], ◌∷◌, ◌++◌, Option, Some, drop, zero, suc, ◌∙◌, subst, arith, rules}
 use Rattle.std.proofs.Math.Seq.{drop-nil}
-use Rattle.std.proofs.lemmas.List.Elements.{Contains-append_cases}
 use Rattle.std.specs.List.{Contains}
 use Rattle.avr_desk.specs.Places.{Left}
 use Rattle.avr_desk.specs.Record.{Bytes}
 
-none_of : (y : Option Bytes) → Contains [] y → ⊥
-none_of y (k, within, is) = omega (arith, within)
-
-only_one : (x y : Option Bytes) → Contains (x ∷ []) y → y ≡ x
-only_one x y (zero, within, is) = sym is
-only_one x y (suc k, within, is) = let no : ⊥ = omega (arith, within) in absurd no
-
 drop_added : (n : ℕ) (xs : List (Option Bytes)) (x y : Option Bytes) → Contains (drop n (xs ++ x ∷ [])) y
     → Contains (drop n xs) y ⊎ (y ≡ x)
-drop_added zero xs x y among =
-    elim (Contains-append_cases xs (x ∷ []) y among) [ inl before ↦ inl before | inr added ↦ inr (only_one x y added) ]
-drop_added (suc n) [] x y among = absurd (none_of y (subst (λ ys. Contains ys y) (drop-nil n) among))
+drop_added zero xs x y among = grind (arith, common_steps)
+drop_added (suc n) [] x y among = search (rules, drop-nil)
 drop_added (suc n) (a ∷ xs) x y among = drop_added n xs x y among
 
 -- a file of these bytes is the last one, and the one before is among the earlier ones

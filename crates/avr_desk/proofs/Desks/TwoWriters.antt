@@ -1,20 +1,20 @@
 -- A desk over two writers and the files of a system, call after call: what it keeps of them stays true.
-use Rattle.std.proofs.Common.{◌≡◌, ◌⊎◌, ◌∙◌, inl, inr, sym, ap, subst, refl, arith, ℕ, ◌==◌, ◌&&◌, ◌||◌, ◌≤◌, not, Bool, true, false, List, [], ◌∷◌, ◌++◌, append_assoc, append-nil, length, take, Option, None, Some, IfSome, rules}
-use Rattle.std.proofs.KnownBytes.{Appends-nil, Appends-trans, Consumes-nil, Consumes-trans}
-use Rattle.avr_desk.specs.Record.{files_among, Bytes, Record, all_files, all_uses, file_of, is_nil, noted, nothing_kept, read_on, use_of, written_on, with_absent, with_open, with_replaced, with_tried, after_write}
+use Rattle.std.proofs.Common.{◌≡◌, ◌⊎◌, ◌∙◌, inl, inr, sym, ap, subst, refl, arith, ℕ, ◌==◌, ◌&&◌, ◌||◌, not, Bool, true, false, List, [], ◌∷◌, ◌++◌, append_assoc, append-nil, take, Option, None, Some, rules}
+use Rattle.std.proofs.KnownBytes.{Appends-nil, Consumes-nil}
+use Rattle.avr_desk.specs.Record.{Bytes, Record, all_files, all_uses, file_of, is_nil, noted, nothing_kept, read_on, use_of, with_absent, with_open, with_replaced, with_tried, after_write}
 use Rattle.avr_desk.specs.declared.record.Open.TheVariants.{ToRead, ToWrite}
 use Rattle.std.proofs.lemmas.Bool.{or_parts}
 use Rattle.std.proofs.lemmas.Bool.Decides.{nat_tests}
 use Rattle.std.proofs.lemmas.Grind.{common_steps}
 use Rattle.std.proofs.lemmas.List.Elements.{All-append, All-cons, All-nil, Contains-append_left, Contains-push}
-use Rattle.std.specs.Io.KnownBytes.{Appends, Consumes, IsAtEnd, Keeps}
+use Rattle.std.specs.Io.KnownBytes.{Appends, IsAtEnd}
 use Rattle.std.specs.List.{All, Contains}
 use Rattle.std.specs.declared.io.ErrorKind.{ErrorKind}
 use Rattle.std.specs.declared.io.Read.{Ghosts as Reads}
 use Rattle.std.specs.declared.io.Write.{Ghosts as Writes}
 use Rattle.ghosts.specs.Stays.{Stays}
 use Rattle.avr_desk.specs.Named.{is_dash}
-use Rattle.avr_desk.proofs.FileUses.Calls.{calls_absent, calls_noted, calls_opened, calls_replaced, calls_written, made_dash, opened_dash, opened_named}
+use Rattle.avr_desk.proofs.FileUses.Calls.{calls_opened, calls_replaced, made_dash, opened_dash, opened_named, calls_append}
 use Rattle.avr_desk.proofs.FileUses.Uses.{files_absent, files_opened, files_replaced}
 use Rattle.avr_desk.specs.Journal.{Does, FileCall, Leaves, LeavesAlso, LeavesNoMore, calling, count_of, done_by, giving_input, holding, making, none_done, opened, opening}
 use Rattle.avr_desk.specs.Handles.{CrashLeaves, IsTrueRecord, HasGiven, IsHeldBy, IsTrueOpen, IsTrueUse}
@@ -36,8 +36,7 @@ no_dash_in_front : (prefix back : List Writing) → has_dash (prefix ++ back) �
 no_dash_in_front [] back none = refl
 no_dash_in_front (file ∷ prefix) back none =
     let both = or_parts (is_dash file.name) (has_dash (prefix ++ back)) none in
-    let rest = no_dash_in_front prefix back both.1 in
-    ap (λ (b : Bool). b || has_dash prefix) both.0 ∙ rest
+    let rest = no_dash_in_front prefix back both.1 in search rules
 
 no_dash_behind : (prefix back : List Writing) → has_dash (prefix ++ back) ≡ false → has_dash back ≡ false
 no_dash_behind [] back none = none
@@ -53,33 +52,14 @@ same_dash_behind (file ∷ files) one other same = grind (arith, nat_tests, same
 noted_files : (bytes : Bytes) (ends : Bool) (o : Open) → file_of (noted bytes ends o) ≡ file_of o
 noted_files bytes ends y = grind (arith, nat_tests)
 
-written_dash : (bytes : Bytes) (o : Open) → has_dash (file_of (written_on bytes o)) ≡ has_dash (file_of o)
-written_dash bytes y = grind (arith, nat_tests)
-
 written_dashes : (bytes : Bytes) (r : Record) → has_dash (all_files (after_write bytes r)) ≡ has_dash (all_files r)
-written_dashes bytes r = grind (arith, nat_tests, same_dash_behind, written_dash)
+written_dashes bytes r = grind (arith, nat_tests, same_dash_behind)
 
 -- ---- a handle that gives
 
 module _ {H : Type 0} (reads : Reads H) where
   given_none : (h : H) (name : Bytes) → HasGiven reads h h (record { name = name; bytes = []; ended = false })
   given_none h name = record { gave = Consumes-nil (reads.remaining h); ends = λ e. absurd (cc) }
-
-  given_kept : (first old new : H) (x : Reading) → HasGiven reads first old x
-      → Keeps (reads.remaining old) (reads.remaining new) → HasGiven reads first new x
-  given_kept first old new x given kept = grind (arith, nat_tests)
-
-  -- all that it had
-  all_given : (a b : Option Bytes) (bytes : Bytes) → Consumes a b bytes → IsAtEnd b
-      → IfSome a (λ xs. length xs ≤ length bytes)
-  all_given None b bytes gave end = tt
-  all_given (Some x) None bytes gave end = absurd gave
-  all_given (Some x) (Some y) bytes gave end = grind (arith, nat_tests, append-nil)
-
-  no_more : (a : Option Bytes) (bytes piece : Bytes) → IfSome a (λ xs. length xs ≤ length bytes)
-      → IfSome a (λ xs. length xs ≤ length (bytes ++ piece))
-  no_more None bytes piece few = tt
-  no_more (Some x) bytes piece few = grind (arith, common_steps, few)
 
   -- a read of no bytes into a non-empty buffer is one at the end
   end_seen : (old new : H) (buf : Bytes) (n : ℕ) → GivesBytes reads old new buf n
@@ -90,18 +70,7 @@ module _ {H : Type 0} (reads : Reads H) where
       → GivesBytes reads old new buf n
       → HasGiven reads first new
       (record x { bytes = x.bytes ++ take n buf; ended = x.ended || (n == 0 && not (is_nil buf)) })
-  given_more first old new x buf n given gives =
-      let all : Consumes (reads.remaining first) (reads.remaining new) (x.bytes ++ take n buf) =
-      Consumes-trans (reads.remaining first) (reads.remaining old) (reads.remaining new) x.bytes (take n buf) given.gave
-      gives.gave in
-      record { gave = all; ends = ended x.ended refl all }
-    where
-      ended : (was : Bool) → x.ended ≡ was
-          → Consumes (reads.remaining first) (reads.remaining new) (x.bytes ++ take n buf)
-          → (was || (n == 0 && not (is_nil buf))) ≡ true
-          → IfSome (reads.remaining first) (λ xs. length xs ≤ length (x.bytes ++ take n buf))
-      ended true is all now = no_more (reads.remaining first) x.bytes (take n buf) (given.ends is)
-      ended false is all now = search (rules, all_given, end_seen)
+  given_more first old new x buf n given gives = grind (arith, common_steps, nat_tests)
 
 -- ---- one call
 
@@ -125,19 +94,10 @@ module _ {S F I H O E : Type 0} (system : Ghosts S F I H) (reads : Reads F) (wri
   abbrev Closed : OpenFile F I → Type 0
   Closed = IsClosed system.closed
 
-  -- what is open is a use too, once it is closed
-  of_open : (opened : OpenFile F I) (o : Open) → TrueOpen opened o → Closed opened → All TrueUse (use_of o)
-  of_open open_file.Nothing o same closed = rw same (All-nil TrueUse)
-  of_open (open_file.Input i) o (x, same, was) closed = grind (arith, nat_tests)
-  of_open (open_file.ToRead f) o (x, same, was) closed = grind (arith, nat_tests)
-  of_open (open_file.ToWrite f) o (x, same, was) closed =
-      rw same (All-cons TrueUse (Created x) [] (inr (inl (f, closed, was))) (All-nil TrueUse))
-  of_open open_file.Output o (x, same, was) closed = grind (arith, nat_tests)
-
   uses_true : (s : S) (opened : OpenFile F I) (hold : Option H) (r : Record) → Files s opened hold r → Closed opened
       → All TrueUse (all_uses r)
   uses_true s opened hold r are closed =
-      All-append TrueUse r.uses (use_of r.current) are.uses (of_open opened r.current are.current closed)
+      All-append TrueUse r.uses (use_of r.current) are.uses (search (rules, nat_tests))
 
   -- one more use, after all others
   more_true : (s : S) (opened : OpenFile F I) (hold : Option H) (r : Record) (u : FileUse) → TrueUse u
@@ -158,19 +118,13 @@ module _ {S F I H O E : Type 0} (system : Ghosts S F I H) (reads : Reads F) (wri
   -- a held file is left
   left_none : {old new : S} (hold : Option H) (held : Option Bytes) (calls : List FileCall)
       → IsHeldBy system hold held → Leaves system.did hold old new → Did calls held old → Did calls None new
-  left_none None None calls is leaves did = leaves _ did
-  left_none (Some h) (Some name) calls is leaves did = leaves (record { calls = calls; holds = 0 }) did
-  left_none None (Some name) calls is leaves did = elim is [ ]
-  left_none (Some h) None calls is leaves did = elim is [ ]
+  left_none hold held calls is leaves did = search rules
 
   -- another one is held, and then it is left
   left_one : {old new : S} (hold : Option H) (held : Option Bytes) (calls : List FileCall) (name : Bytes)
       → IsHeldBy system hold held → Leaves system.did hold old new
       → system.did (holding (record { calls = calls; holds = count_of held })) old → Did calls (Some name) new
-  left_one None None calls name is leaves did = leaves _ did
-  left_one (Some h) (Some own) calls name is leaves did = leaves (record { calls = calls; holds = 1 }) did
-  left_one None (Some own) calls name is leaves did = elim is [ ]
-  left_one (Some h) None calls name is leaves did = elim is [ ]
+  left_one hold held calls name is leaves did = search rules
 
   -- ---- what a crash may leave
 
@@ -188,10 +142,7 @@ module _ {S F I H O E : Type 0} (system : Ghosts S F I H) (reads : Reads F) (wri
 
   crash_held : {s t : S} (tried : List Writing) {name : Bytes} → LeavesAlso system.left name (system.began name) s t
       → CrashLeaves system s tried → CrashLeaves system t tried
-  crash_held tried also leaves = λ name found is. elim (also name found is) [
-    | inl before ↦ leaves name found before
-    | inr now ↦ inl (subst (λ (n : Bytes). system.began n found) (sym now.0) now.1)
-  ]
+  crash_held tried also leaves = search rules
 
   -- bytes were to replace the file of this name
   crash_tried : {s t : S} (tried : List Writing) {name own bytes : Bytes} → own ≡ name
@@ -215,32 +166,12 @@ module _ {S F I H O E : Type 0} (system : Ghosts S F I H) (reads : Reads F) (wri
         )
       ]
 
-  true_on : (a b c : Desk) → Since a b → Since b c → Since a c
-  true_on a b c f g = record {
-    said = f.said ++ g.said;
-    messages = g.messages ∙ ap (λ (m : Bytes). m ++ g.said) f.messages ∙ append_assoc a.kept.messages f.said g.said;
-    told = Appends-trans (messages_of.contents a.messages) (messages_of.contents b.messages)
-        (messages_of.contents c.messages) f.said g.said f.told g.told;
-    put = f.put ++ g.put;
-    output = g.output ∙ ap (λ (m : Bytes). m ++ g.put) f.output ∙ append_assoc a.kept.output f.put g.put;
-    dashes = λ none. f.dashes (g.dashes none);
-    out = λ none elsewhere.
-        let first = f.out (g.dashes none) elsewhere in
-        let then = g.out none first.0 in (
-          then.0,
-          Appends-trans (output_of.contents a.output) (output_of.contents b.output) (output_of.contents c.output) f.put
-              g.put first.1 then.1,
-        );
-    files = λ are. g.files (f.files are);
-  }
-
   -- the state that a desk shows is the one inside
   pub from_inside : {inside now new : Desk} → inside ≡ now → Since inside new → Stays Since now new
-  from_inside {inside = inside} {new = new} is then =
-      λ start first. true_on start inside new (subst (Since start) (sym is) first) then
+  from_inside {inside = inside} {new = new} is then = search (rules, append_assoc)
 
   pub from_now : {now new : Desk} → Since now new → Stays Since now new
-  from_now {now = now} {new = new} then = λ start first. true_on start now new first then
+  from_now {now = now} {new = new} then = λ start first. (search (rules, append_assoc))
 
   -- a desk after a call that sent nothing
   abbrev Next : Desk → S → ℕ → ℕ → Option ErrorKind → OpenFile F I → Option H → Record → Desk
@@ -253,16 +184,7 @@ module _ {S F I H O E : Type 0} (system : Ghosts S F I H) (reads : Reads F) (wri
       → (has_dash (all_files k) ≡ false → to_output b ≡ false → is_output o ≡ false)
       → (Files b.system b.opened b.hold b.kept → Files s o h k)
       → Since b (Next b s f u e o h k)
-  quiet {b = b} put said dashes elsewhere files = record {
-    said = [];
-    messages = said ∙ sym (append-nil b.kept.messages);
-    told = Appends-nil (messages_of.contents b.messages);
-    put = [];
-    output = put ∙ sym (append-nil b.kept.output);
-    dashes = dashes;
-    out = λ none was. (elsewhere none was, Appends-nil (output_of.contents b.output));
-    files = files;
-  }
+  quiet {b = b} put said dashes elsewhere files = search (rules, append-nil b.kept.messages)
 
   pub true_now : (a : Desk) → Since a a
   true_now a = quiet refl refl (λ none. none) (λ none was. was) (λ are. are)
@@ -270,28 +192,14 @@ module _ {S F I H O E : Type 0} (system : Ghosts S F I H) (reads : Reads F) (wri
   -- a call failed, which did nothing
   pub failed_true : {b : Desk} {s : S} {f u : ℕ} {e : Option ErrorKind} → Stays system.did b.system s
       → NoMore b.system s → Since b (Next b s f u e b.opened b.hold b.kept)
-  failed_true {b = b} stays keeps = quiet refl refl (λ none. none) (λ none was. was) (λ are. record {
-    uses = are.uses;
-    current = are.current;
-    denied = are.denied;
-    held = are.held;
-    did = stays _ are.did;
-    crash = crash_kept _ keeps are.crash;
-  })
+  failed_true {b = b} stays keeps = search (rules, quiet)
 
   -- only the uses and the open file change
   files_now : {s t : S} {o p : OpenFile F I} {h : Option H} {r : Record} {uses : List FileUse} {current : Open}
       → Files s o h r → All TrueUse uses → TrueOpen p current
       → system.did (done_by (record r { uses = uses; current = current })) t → NoMore s t
       → Files t p h (record r { uses = uses; current = current })
-  files_now are uses current did keeps = record {
-    uses = uses;
-    current = current;
-    denied = are.denied;
-    held = are.held;
-    did = did;
-    crash = crash_kept _ keeps are.crash;
-  }
+  files_now are uses current did keeps = search rules
 
   -- it was opened
   opened_true : {b : Desk} {s : S} {f u : ℕ} {e : Option ErrorKind} {o : OpenFile F I} {k : Record} (x : Reading)
@@ -334,11 +242,7 @@ module _ {S F I H O E : Type 0} (system : Ghosts S F I H) (reads : Reads F) (wri
       → system.lacks name → k ≡ with_absent own b.kept → Closed b.opened → Stays system.did b.system s
       → Stays system.did s t → NoMore b.system s → NoMore s t → Since b (Next b t f u e o b.hold k)
   absent_true {b = b} {t = t} {own = own} is_open same lacks kept closed fails stays keeps keeps_on =
-      rw (is_open, kept) (quiet refl refl
-      (λ none. sym (ap has_dash (files_absent own b.kept)) ∙ none) (λ none was. refl)
-      (λ are. files_now are
-      (more_true b.system b.opened b.hold b.kept _ (subst system.lacks (sym same) lacks) are closed) refl
-      (did_as b.kept.held t (calls_absent own b.kept) (stays _ (fails _ are.did))) (left_on keeps keeps_on)))
+      search (rules, quiet, files_absent, more_true, did_as, append-nil, calls_append, left_on)
 
   -- it was created
   create_true : {b : Desk} {s : S} {f u : ℕ} {e : Option ErrorKind} {o : OpenFile F I} {k : Record} (x : Writing)
@@ -347,7 +251,7 @@ module _ {S F I H O E : Type 0} (system : Ghosts S F I H) (reads : Reads F) (wri
   create_true {b = b} {s = s} {o = o} x kept to_output is closed does keeps =
       let did : (are : Files b.system b.opened b.hold b.kept) → system.did (done_by (with_open (ToWrite x) b.kept)) s =
       λ are. did_as b.kept.held s (calls_opened (ToWrite x) (Created x) b.kept refl) (does _ are.did) in
-      grind (arith, nat_tests, files_opened, quiet, no_dash_in_front, or_parts, no_dash_behind, files_now, uses_true, did)
+      grind (arith, nat_tests, files_opened, quiet, no_dash_in_front, no_dash_behind, files_now, uses_true, did)
 
   pub output_true : {b : Desk} {s : S} {f u : ℕ} {e : Option ErrorKind} {o : OpenFile F I} {k : Record}
       {name own : Bytes} → o ≡ open_file.Output → own ≡ name
@@ -439,28 +343,13 @@ module _ {S F I H O E : Type 0} (system : Ghosts S F I H) (reads : Reads F) (wri
       → Stays system.did b.system s → LeavesAlso system.left name (system.began name) b.system s
       → Since b (Next b s f u e b.opened b.hold k)
   denied_true {b = b} {own = own} same denies kept stays also =
-      rw kept (quiet refl refl (λ none. none) (λ none was. was) (λ are. record {
-        uses = are.uses;
-        current = are.current;
-        denied = All-append system.denies b.kept.denied (own ∷ []) are.denied
-            (All-cons system.denies own [] (subst system.denies (sym same) denies) (All-nil system.denies));
-        held = are.held;
-        did = stays _ are.did;
-        crash = crash_held _ also are.crash;
-      }))
+      rw kept (quiet refl refl (λ none. none) (λ none was. was) (grind (arith, common_steps)))
 
   -- it was not held
   pub unheld_true : {b : Desk} {s : S} {f u : ℕ} {e : Option ErrorKind} {name : Bytes} → Stays system.did b.system s
       → LeavesAlso system.left name (system.began name) b.system s
       → Since b (Next b s f u e b.opened b.hold b.kept)
-  unheld_true stays also = quiet refl refl (λ none. none) (λ none was. was) (λ are. record {
-    uses = are.uses;
-    current = are.current;
-    denied = are.denied;
-    held = are.held;
-    did = stays _ are.did;
-    crash = crash_held _ also are.crash;
-  })
+  unheld_true stays also = search (rules, quiet)
 
   pub released_true : {b c : Desk} {t : S} → c.output ≡ b.output → c.messages ≡ b.messages → c.opened ≡ b.opened
       → c.hold ≡ None → c.kept ≡ record b.kept { held = None } → c.system ≡ t
@@ -468,63 +357,17 @@ module _ {S F I H O E : Type 0} (system : Ghosts S F I H) (reads : Reads F) (wri
   released_true {b = b} {c = c} output messages is_open hold kept last leaves keeps =
       let now = Next b c.system c.failures c.unsaid c.last_error b.opened None (record b.kept { held = None }) in
       let is : c ≡ now = rw (← output, ← messages, ← hold, ← is_open, ← kept) refl in
-      rw is (quiet refl refl (λ none. none) (λ none was. was) (λ are. record {
-        uses = are.uses;
-        current = are.current;
-        denied = are.denied;
-        held = tt;
-        did = rw last (left_none b.hold b.kept.held _ are.held leaves are.did);
-        crash = rw last (crash_kept _ keeps are.crash);
-      }))
-
-  -- bytes of the open file were read
-  read_on_open : (old new : OpenFile F I) (buf : Bytes) (n : ℕ) (o : Open) → FileGives reads input old new buf n
-      → TrueOpen old o → TrueOpen new (read_on buf n o)
-  read_on_open (open_file.Input i) new buf n o (now, is, gives) (x, same, (dash, first, begins, given)) =
-      rw is (_, ap (read_on buf n) same, (dash, first, begins, given_more input first i now x buf n given gives))
-  read_on_open (open_file.ToRead h) new buf n o (now, is, gives) (x, same, (first, named, given)) =
-      rw is (_, ap (read_on buf n) same, (first, named, given_more reads first h now x buf n given gives))
-  read_on_open open_file.Nothing new buf n o gives was = elim gives [ ]
-  read_on_open (open_file.ToWrite h) new buf n o gives was = elim gives [ ]
-  read_on_open open_file.Output new buf n o gives was = elim gives [ ]
+      search (rules, quiet, left_none)
 
   pub read_true : {b : Desk} {f u : ℕ} {e : Option ErrorKind} {o : OpenFile F I} {k : Record} (buf : Bytes) (n : ℕ)
       → k ≡ record b.kept { current = read_on buf n b.kept.current } → is_output o ≡ is_output b.opened
       → FileGives reads input b.opened o buf n → Since b (Next b b.system f u e o b.hold k)
   read_true {b = b} {o = o} buf n kept same gives =
-      let now : Record = record b.kept { current = read_on buf n b.kept.current } in
-      let files : has_dash (all_files now) ≡ has_dash (all_files b.kept) =
-      ap (λ (fs : List Writing). has_dash (files_among b.kept.uses ++ fs)) (noted_files _ _ b.kept.current) in
-      rw kept (quiet refl refl (λ none. sym files ∙ none) (λ none was. same ∙ was)
-      (λ are. files_now are are.uses (read_on_open b.opened o buf n b.kept.current gives are.current)
-      (did_as b.kept.held b.system (calls_noted b.kept.uses _ _ b.kept.current) are.did) same_left))
-
-  -- or none were
-  kept_open : (old new : OpenFile F I) (o : Open) → FileGivesNone reads input old new → TrueOpen old o → TrueOpen new o
-  kept_open (open_file.Input i) new o (now, is, kept) (x, same, (dash, first, begins, given)) =
-      rw is (x, same, (dash, first, begins, given_kept input first i now x given kept))
-  kept_open (open_file.ToRead h) new o (now, is, kept) (x, same, (first, named, given)) =
-      rw is (x, same, (first, named, given_kept reads first h now x given kept))
-  kept_open x new o same was = rw same was
+      search (rules, quiet, files_now, given_more, did_as, calls_append, same_left)
 
   pub unread_true : {b : Desk} {f u : ℕ} {e : Option ErrorKind} {o : OpenFile F I} → is_output o ≡ is_output b.opened
       → FileGivesNone reads input b.opened o → Since b (Next b b.system f u e o b.hold b.kept)
-  unread_true {b = b} {o = o} same none =
-      quiet refl refl (λ none. none) (λ none was. same ∙ was)
-      (λ are. files_now are are.uses (kept_open b.opened o b.kept.current none are.current) are.did same_left)
-
-  -- bytes went to a file other than the output
-  write_on : (old new : F) (bytes : Bytes) (o : Open) → Appends (writes.contents old) (writes.contents new) bytes
-      → TrueOpen (open_file.ToWrite old) o → TrueOpen (open_file.ToWrite new) (written_on bytes o)
-  write_on old new bytes o took (x, same, (first, named, all)) = (
-    _,
-    ap (written_on bytes) same,
-    (
-      first,
-      named,
-      Appends-trans (writes.contents first) (writes.contents old) (writes.contents new) x.bytes bytes all took,
-    ),
-  )
+  unread_true {b = b} {o = o} same none = search (rules, nat_tests, quiet, same_left)
 
   pub write_true : {b : Desk} {f u : ℕ} {e : Option ErrorKind} {k : Record} {old new : F} (bytes : Bytes)
       → b.opened ≡ open_file.ToWrite old → Appends (writes.contents old) (writes.contents new) bytes
@@ -532,18 +375,11 @@ module _ {S F I H O E : Type 0} (system : Ghosts S F I H) (reads : Reads F) (wri
   write_true {b = b} {old = old} {new = new} bytes was took kept =
       rw kept (quiet refl refl
       (λ none. sym (written_dashes bytes b.kept) ∙ none) (λ none elsewhere. refl)
-      (λ are. files_now are are.uses (write_on old new bytes b.kept.current took
-      (subst (λ (h : OpenFile F I). TrueOpen h b.kept.current) was are.current))
-      (did_as b.kept.held b.system (calls_written b.kept.uses bytes b.kept.current) are.did) same_left))
+      (grind (arith, common_steps, calls_append, same_left)))
 
   -- a desk after a call that sent to the output
   abbrev Put : Desk → O → ℕ → ℕ → Option ErrorKind → Record → Desk
   Put b w f u e k = record b { output = w; failures = f; unsaid = u; last_error = e; kept = k }
-
-  -- as the file
-  write_on_output : (bytes : Bytes) (o : Open) → TrueOpen open_file.Output o
-      → TrueOpen open_file.Output (written_on bytes o)
-  write_on_output bytes o (x, same, dash) = (_, ap (written_on bytes) same, dash)
 
   pub write_out_true : {b : Desk} {w : O} {f u : ℕ} {e : Option ErrorKind} {k : Record} (bytes : Bytes)
       → b.opened ≡ open_file.Output → k ≡ after_write bytes b.kept → Since b (Put b w f u e k)
@@ -554,40 +390,14 @@ module _ {S F I H O E : Type 0} (system : Ghosts S F I H) (reads : Reads F) (wri
     put = [];
     output = sym (append-nil b.kept.output);
     dashes = λ none. sym (written_dashes bytes b.kept) ∙ none;
-    out = λ none elsewhere. absurd (let now : is_output b.opened ≡ true =
-        ap (λ (h : OpenFile F I). is_output h) was in cc);
-    files = λ are. record {
-      uses = are.uses;
-      current = subst (λ (h : OpenFile F I). TrueOpen h (written_on bytes b.kept.current)) (sym was)
-          (write_on_output bytes b.kept.current
-          (subst (λ (h : OpenFile F I). TrueOpen h b.kept.current) was are.current));
-      denied = are.denied;
-      held = are.held;
-      did = did_as b.kept.held b.system (calls_written b.kept.uses bytes b.kept.current) are.did;
-      crash = are.crash;
-    };
+    out = λ none elsewhere. absurd (search rules);
+    files = search (rules, calls_append);
   })
 
   pub out_true : {b : Desk} {w : O} {f u : ℕ} {e : Option ErrorKind} {k : Record} (bytes : Bytes)
       → k ≡ record b.kept { output = b.kept.output ++ bytes }
       → Appends (output_of.contents b.output) (output_of.contents w) bytes → Since b (Put b w f u e k)
-  out_true {b = b} bytes kept took = rw kept (record {
-    said = [];
-    messages = sym (append-nil b.kept.messages);
-    told = Appends-nil (messages_of.contents b.messages);
-    put = bytes;
-    output = refl;
-    dashes = λ none. none;
-    out = λ none was. (was, took);
-    files = λ are. record {
-      uses = are.uses;
-      current = are.current;
-      denied = are.denied;
-      held = are.held;
-      did = are.did;
-      crash = are.crash;
-    };
-  })
+  out_true {b = b} bytes kept took = search (rules, append-nil b.kept.messages)
 
   -- a desk after a call that sent to the messages
   abbrev Told : Desk → E → ℕ → ℕ → Option ErrorKind → Record → Desk
@@ -604,14 +414,7 @@ module _ {S F I H : Type 0} (system : Ghosts S F I H) (reads : Reads F) (writes 
   pub none_kept_true : (fresh : S) → system.did none_done fresh
       → ((name : Bytes) (found : Option Bytes) → system.left fresh name found → ⊥)
       → IsTrueRecord system reads writes input fresh open_file.Nothing None nothing_kept
-  none_kept_true fresh did unheld = record {
-    uses = All-nil (IsTrueUse system reads writes input);
-    current = refl;
-    denied = All-nil system.denies;
-    held = tt;
-    did = did;
-    crash = λ name found is. absurd (unheld name found is);
-  }
+  none_kept_true fresh did unheld = search rules
 
 -- what it has come to
 module _ {S F I H O E : Type 0} (system : Ghosts S F I H) (reads : Reads F) (writes : Writes F) (input : Reads I)

@@ -1,5 +1,5 @@
 -- What a writer with known bytes has taken.
-use Rattle.std.proofs.Common.{◌≡◌, ◌∙◌, refl, ap, sym, ℕ, [], ◌++◌, append-nil, take, drop, take-append-drop, Option, None, Some}
+use Rattle.std.proofs.Common.{◌≡◌, ℕ, [], take, drop, take-append-drop, Option, rules}
 use Rattle.std.specs.Io.KnownBytes.{Keeps, Appends}
 use Rattle.avr_desk.specs.Record.{Bytes}
 use Rattle.avr_desk.specs.Shown.{AppendsPrefix}
@@ -10,16 +10,11 @@ took_prefix a b n bytes took = (take n bytes, (drop n bytes, take-append-drop n 
 
 -- nothing was written
 pub keeps : (a : Option Bytes) → Keeps a a
-keeps None = tt
-keeps (Some x) = refl
+keeps a = search rules
 
 pub appends_none : (a : Option Bytes) → Appends a a []
-appends_none None = tt
-appends_none (Some x) = sym (append-nil x)
+appends_none a = search rules
 
 pub kept_nothing : (a b c : Option Bytes) (n : ℕ) (bytes : Bytes) → Keeps a b → n ≡ 0 → Appends b c (take n bytes)
     → Keeps a c
-kept_nothing None b c n bytes p e q = tt
-kept_nothing (Some x) None c n bytes p e q = absurd p
-kept_nothing (Some x) (Some y) None n bytes p e q = absurd q
-kept_nothing (Some x) (Some y) (Some z) n bytes p e q = q ∙ ap (λ m. y ++ take m bytes) e ∙ append-nil y ∙ p
+kept_nothing a b c n bytes p e q = search rules

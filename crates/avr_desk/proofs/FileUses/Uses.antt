@@ -1,11 +1,10 @@
 -- The openings and files among uses that are joined, and when the open file is put by.
 use Rattle.std.proofs.lemmas.Bool.Decides.{nat_tests}
 use Rattle.std.proofs.Common.{arith, ◌≡◌, ◌∙◌, ap, refl, List, [], ◌∷◌, ◌++◌, append-nil, rules}
-use Rattle.avr_desk.specs.Record.{Bytes, Record, all_files, all_openings, all_uses, file_of, files_among, opening_of, openings_among, use_of, with_absent, with_open, with_replaced}
+use Rattle.avr_desk.specs.Record.{Bytes, Record, all_files, all_openings, all_uses, file_of, files_among, openings_among, with_absent, with_open, with_replaced}
 use Rattle.avr_desk.specs.declared.record.FileUse.{FileUse}
 use Rattle.avr_desk.specs.declared.record.FileUse.TheVariants.{Opened, Created}
 use Rattle.avr_desk.specs.declared.record.Open.{Open}
-use Rattle.avr_desk.specs.declared.record.Open.TheVariants.{Closed, ToRead, ToWrite}
 use Rattle.avr_desk.specs.declared.record.Opening.{Opening}
 use Rattle.avr_desk.specs.declared.record.Opening.TheVariants.{Absent}
 use Rattle.avr_desk.specs.declared.record.Writing.{Writing}
@@ -23,39 +22,23 @@ openings_append (Created file ∷ first) last = openings_append first last
 
 -- ---- the open file is a use like any other
 
-file_used : (o : Open) → files_among (use_of o) ≡ file_of o
-file_used y = grind (arith, nat_tests)
-
-opening_used : (o : Open) → openings_among (use_of o) ≡ opening_of o
-opening_used Closed = refl
-opening_used (ToRead x) = refl
-opening_used (ToWrite x) = refl
-
 pub files_used : (r : Record) → files_among (all_uses r) ≡ all_files r
-files_used r = grind (arith, nat_tests, files_append, file_used)
+files_used r = grind (arith, nat_tests, files_append)
 
 pub openings_used : (r : Record) → openings_among (all_uses r) ≡ all_openings r
-openings_used r = search (rules, openings_append, opening_used)
+openings_used r = search (rules, openings_append)
 
 -- ---- it is put by
 
 pub files_opened : (o : Open) (r : Record) → all_files (with_open o r) ≡ all_files r ++ file_of o
 files_opened o r = ap (λ (fs : List Writing). fs ++ file_of o) (files_used r)
 
-pub openings_opened : (o : Open) (r : Record) → all_openings (with_open o r) ≡ all_openings r ++ opening_of o
-openings_opened o r = ap (λ (os : List Opening). os ++ opening_of o) (openings_used r)
-
 pub absent_used : (name : Bytes) (r : Record) → files_among (all_uses r ++ Opened (Absent name) ∷ []) ≡ all_files r
-absent_used name r = grind (arith, nat_tests, files_append, append-nil, files_used)
+absent_used name r = grind (arith, nat_tests, files_append, append-nil)
 
 pub files_absent : (name : Bytes) (r : Record) → all_files (with_absent name r) ≡ all_files r
 files_absent name r = append-nil (files_among (all_uses r ++ Opened (Absent name) ∷ [])) ∙ absent_used name r
 
-pub openings_absent : (name : Bytes) (r : Record)
-    → all_openings (with_absent name r) ≡ all_openings r ++ Absent name ∷ []
-openings_absent name r =
-    search (rules, append-nil, openings_append, openings_used)
-
 pub files_replaced : (name bytes : Bytes) (r : Record)
     → all_files (with_replaced name bytes r) ≡ all_files r ++ record { name = name; bytes = bytes } ∷ []
-files_replaced name bytes r = grind (arith, nat_tests, append-nil, files_append, files_used)
+files_replaced name bytes r = grind (arith, nat_tests, append-nil, files_append)

@@ -1,8 +1,9 @@
 -- Pieces of a line, written one after another.
+use Rattle.std.proofs.lemmas.Grind.{common_steps}
 use Rattle.std.proofs.lemmas.Bool.Decides.{nat_tests}
-use Rattle.std.proofs.Common.{◌≡◌, ◌∙◌, ap, refl, subst, arith, ℕ, ◌+◌, List, [], ◌∷◌, ◌++◌, append_assoc, append-nil, take, drop, length, map, get_or, ◌<◌, OnOk, OnErr, Result, Ok, Err}
+use Rattle.std.proofs.Common.{◌≡◌, ap, refl, subst, arith, ℕ, ◌+◌, List, [], ◌∷◌, ◌++◌, append_assoc, append-nil, take, drop, length, map, get_or, ◌<◌, OnOk, OnErr, Result, Ok, Err}
 use Rattle.std.specs.List.{concat}
-use Rattle.std.proofs.lemmas.List.{drop_more, length-append, take_more, take-append-drop}
+use Rattle.std.proofs.lemmas.List.{drop_more, length-append, take-append-drop}
 use Rattle.avr_desk.specs.Record.{Record, after_err, showing}
 use Rattle.avr_desk.specs.Stream.{SendsPart}
 use Rattle.avr_desk.specs.declared.stream.Stream.TheVariants.{Messages}
@@ -28,9 +29,7 @@ all_text_at ps i d l =
 
 pub all_text_more : (ps : List Piece) (i : ℕ) (d : Piece) → i < length ps
     → all_text (take (i + 1) ps) ≡ all_text (take i ps) ++ text_of (get_or ps i d)
-all_text_more ps i d l =
-    ap all_text (take_more ps i d l) ∙ all_text-append (take i ps) (get_or ps i d ∷ [])
-    ∙ ap (λ (b : List ℕ). all_text (take i ps) ++ b) (append-nil (text_of (get_or ps i d)))
+all_text_more ps i d l = grind (arith, common_steps, all_text-append, append-nil)
 
 -- a line is at least as long as its mark and the pieces up to the ith
 pub line_longer : (mark so_far : List ℕ) (ps : List Piece) (i : ℕ) (d : Piece) (room : ℕ) → i < length ps
@@ -58,8 +57,7 @@ pub line_ends : (old first then new : Record) (mark text : List ℕ) (result : R
     → OnOk result (new ≡ after_err (10 ∷ []) then)
     → OnErr result (SendsPart Messages (showing then 0 0) (showing new 0 0) (10 ∷ []))
     → IsPrinted (showing old 0 0) (showing new 0 0) (mark ++ (text ++ 10 ∷ [])) result
-line_ends old first then new mark text (Ok done) e f all part =
-    sent_next Messages old first new mark (text ++ 10 ∷ []) e (sent_next Messages first then new text (10 ∷ []) f all)
+line_ends old first then new mark text (Ok done) e f all part = grind (arith, common_steps)
 line_ends old first then new mark text (Err fault) e f all part =
     subst (SendsPart Messages (showing old 0 0) (showing new 0 0)) (append_assoc mark text (10 ∷ []))
     (sent_next_part Messages old then new (mark ++ text) (10 ∷ []) [] (sent_next Messages old first then mark text e f)

@@ -1,35 +1,19 @@
 -- Bytes that are sent one after another.
 use Rattle.std.proofs.lemmas.Bool.Decides.{nat_tests}
-use Rattle.std.proofs.Common.{◌≡◌, ◌∙◌, ap, sym, refl, arith, ℕ, ◌+◌, ◌-◌, ◌++◌, append_assoc, append-nil, take, drop, length, [], ◌≤◌}
+use Rattle.std.proofs.Common.{◌≡◌, ◌∙◌, ap, arith, ℕ, ◌+◌, ◌-◌, ◌++◌, append_assoc, take, drop, length, [], ◌≤◌, rules}
 use Rattle.std.proofs.Math.Seq.{take-add, take-append-add}
 use Rattle.std.proofs.lemmas.Grind.{common_steps}
 use Rattle.std.proofs.lemmas.List.{length-append, length-drop, take-append-le}
-use Rattle.avr_desk.specs.Record.{Record, Bytes, showing, written_on}
+use Rattle.avr_desk.specs.Record.{Record, Bytes, showing}
 use Rattle.avr_desk.specs.Stream.{after_sent, SendsPart}
 use Rattle.avr_desk.specs.declared.stream.Stream.{Stream}
-use Rattle.avr_desk.specs.declared.stream.Stream.TheVariants.{File, Output, Messages}
-use Rattle.avr_desk.specs.declared.record.Open.{Open}
-use Rattle.avr_desk.specs.declared.record.Open.TheVariants.{ToWrite}
-
-written_on-written_on : (o : Open) (a b : Bytes) → written_on b (written_on a o) ≡ written_on (a ++ b) o
-written_on-written_on (ToWrite x) a b = ap (λ (m : Bytes). ToWrite (record x { bytes = m })) (append_assoc x.bytes a b)
-written_on-written_on y a b = refl
 
 pub after_sent-after_sent : (s : Stream) (r : Record) (a b : Bytes)
     → after_sent s b (after_sent s a r) ≡ after_sent s (a ++ b) r
-after_sent-after_sent File r a b = ap (λ (o : Open). record r { current = o }) (written_on-written_on r.current a b)
-after_sent-after_sent Output r a b = ap (λ (m : Bytes). record r { output = m }) (append_assoc r.output a b)
-after_sent-after_sent Messages r a b = ap (λ (m : Bytes). record r { messages = m }) (append_assoc r.messages a b)
-
--- none of the bytes
-written_none : (o : Open) → o ≡ written_on [] o
-written_none (ToWrite x) = ap (λ (m : Bytes). ToWrite (record x { bytes = m })) (sym (append-nil x.bytes))
-written_none y = refl
+after_sent-after_sent s r a b = search (rules, append_assoc)
 
 pub sent_none : (s : Stream) (r : Record) → r ≡ after_sent s [] r
-sent_none File r = ap (λ (o : Open). record r { current = o }) (written_none r.current)
-sent_none Output r = ap (λ (m : Bytes). record r { output = m }) (sym (append-nil r.output))
-sent_none Messages r = ap (λ (m : Bytes). record r { messages = m }) (sym (append-nil r.messages))
+sent_none s r = search rules
 
 -- `&bytes[m..]`
 pub slice_rest : (bytes : Bytes) (m : ℕ) → take (length bytes - m) (drop m bytes) ≡ drop m bytes

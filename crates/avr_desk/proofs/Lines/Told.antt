@@ -1,6 +1,6 @@
 -- Lines that were reported, whole or in part.
 use Rattle.std.proofs.lemmas.Bool.Decides.{nat_tests}
-use Rattle.std.proofs.Common.{◌≡◌, ℕ, arith, List, refl, ◌∙◌, subst, Result, Ok, Err, IfErr, inl, inr}
+use Rattle.std.proofs.Common.{◌≡◌, ℕ, arith, List, refl, ◌∙◌, subst, Result, Ok, Err, IfErr, rules}
 use Rattle.std.proofs.lemmas.List.{take-append-drop}
 use Rattle.ghosts.specs.Failures.{HasRisen}
 use Rattle.avr_desk.specs.Fault.{Counts, Follows, HasFailedAt, HasFailedToSay, HasSameCounts}
@@ -9,7 +9,7 @@ use Rattle.avr_desk.specs.declared.desk.DeskFault.{DeskFault}
 use Rattle.avr_desk.specs.declared.desk.DeskFault.TheVariants.{NotFound, Failed}
 use Rattle.avr_desk.specs.declared.stream.Stream.{Stream}
 use Rattle.avr_desk.specs.declared.stream.Stream.TheVariants.{File, Messages}
-use Rattle.avr_desk.specs.Said.{IsPrinted, TellsLine, Tells, TellsFailure}
+use Rattle.avr_desk.specs.Said.{IsPrinted, Tells, TellsFailure}
 
 -- a desk follows itself
 pub follows_here : (a : DeskState) → Follows a a
@@ -41,8 +41,7 @@ unsaid_since a b c same failed = grind (arith, nat_tests)
 pub failed_by : (stream : Stream) (old new : DeskState) (result : Result (Unit {0}) DeskFault) (fault : DeskFault)
     → result ≡ Err fault → IfErr result (λ e. e ≡ Failed)
     → Counts stream old new result → HasFailedAt stream old new
-failed_by stream old new (Err Failed) fault is only counts = counts.1
-failed_by stream old new x fault is only counts = cc
+failed_by stream old new result fault is only counts = search rules
 
 -- a line that was printed, or a prefix of it
 pub tells_line : (old new : DeskState) (line : List ℕ) (printed : Result (Unit {0}) DeskFault)
@@ -51,12 +50,6 @@ pub tells_line : (old new : DeskState) (line : List ℕ) (printed : Result (Unit
 tells_line old new line (Ok done) is counts only = grind (arith, nat_tests)
 tells_line old new line (Err NotFound) is counts only = cc
 tells_line old new line (Err Failed) is counts only = grind (arith, nat_tests, take-append-drop is.0 line)
-
--- if no failure was counted, the report since then is the report since before
-pub tells_since : (line told : List ℕ) (a b c : DeskState) → HasSameCounts a b → TellsLine line told b c
-    → TellsLine line told a c
-tells_since line told a b c first (inl whole) = inl (whole.0, same_on a b c first whole.1)
-tells_since line told a b c first (inr part) = inr (part.0, unsaid_since a b c first part.1)
 
 pub failure_since : (line told : List ℕ) (a b c : DeskState) → HasSameCounts a b → TellsFailure line told b c
     → TellsFailure line told a c

@@ -1,33 +1,22 @@
 -- What is reported if a stage broke off, by what a desk shows.
+use Rattle.std.proofs.lemmas.Grind.{common_steps}
 use Rattle.std.proofs.lemmas.Bool.Decides.{nat_tests}
-use Rattle.std.proofs.Common.{arith, ◌≡◌, sym, refl, ℕ, ◌⊎◌, inl, inr, List, [], ◌∷◌, ◌++◌, drop, append-nil, append_assoc, Result, Ok, Err, true, rules}
+use Rattle.std.proofs.Common.{arith, ◌≡◌, sym, ℕ, ◌⊎◌, inl, inr, List, [], ◌∷◌, ◌++◌, append-nil, append_assoc, Result, Ok, Err, true, rules}
 use Rattle.std.proofs.lemmas.List.{append_cancel_left}
 use Rattle.ghosts.specs.Failures.{HasStood}
-use Rattle.ghosts.proofs.Failures.{stood_has_not_risen}
 use Rattle.avr_desk.specs.Record.{DeskState, Record, showing, all_openings, after_err, Bytes}
-use Rattle.avr_desk.specs.declared.record.Open.TheVariants.{ToRead, ToWrite}
 use Rattle.avr_desk.specs.declared.record.Opening.{Opening}
-use Rattle.avr_desk.specs.declared.record.Opening.TheVariants.{Absent, Found}
+use Rattle.avr_desk.specs.declared.record.Opening.TheVariants.{Found}
 use Rattle.avr_desk.specs.declared.record.Reading.{Reading}
 use Rattle.avr_desk.specs.Lines.{memory_line, not_opened_line}
-use Rattle.avr_desk.specs.Said.{OutputEvent, Opens, Line, Creates, TellsLine, TellsFailure, after, after_all}
+use Rattle.avr_desk.specs.Said.{OutputEvent, Opens, Line, TellsLine, TellsFailure, after, after_all}
 use Rattle.avr_desk.proofs.Stages.Outputs.{after_append}
-use Rattle.avr_desk.proofs.FileUses.Uses.{openings_absent, openings_opened}
+use Rattle.avr_desk.proofs.FileUses.Uses.{openings_append}
 use Rattle.avr_desk.specs.Playing.{Break, NoMemory, NoMemoryFor, last_done, IsBreak, Taking, TakesThere, TellsBreak, WentRefused, Goes}
-use Rattle.avr_desk.specs.Stage.{Stage, StageAnswer, Made, Refused, StageResult, all_told, ◌>>=◌, next_opening, file_stage}
+use Rattle.avr_desk.specs.Stage.{Stage, Refused, StageResult, all_told, ◌>>=◌, next_opening, file_stage}
 use Rattle.avr_desk.proofs.Stages.Played.{says_more}
 
 -- ---- if the desk didn't fail
-
--- of the breaks only a failed allocation is left, and its line is the last of the messages
-only_memory : (before after : Record) (k l m n : ℕ) (break : Break) (whole : List OutputEvent) (told : Bytes)
-    → HasStood k l → ((prefix : Bytes) → after.messages ≡ prefix ++ memory_line → ⊥)
-    → TellsBreak break told (showing before k m) (showing after l n)
-    → after ≡ after_all (whole ++ last_done break told) before → ⊥
-only_memory before after k l m n NoMemory whole told sound other tells kept =
-    grind (arith, nat_tests, after_append, other, stood_has_not_risen)
-only_memory before after k l m n x whole told sound other tells kept =
-    grind (arith, nat_tests, after_append, other, stood_has_not_risen)
 
 -- So a status other than that of a plan is the refusal that the stage returns.
 pub sound_refusal : {A : Type 0} (taking : Taking) (stage : Stage A) (before after : Record) (k l m n status : ℕ)
@@ -35,9 +24,7 @@ pub sound_refusal : {A : Type 0} (taking : Taking) (stage : Stage A) (before aft
     → ((prefix : Bytes) → after.messages ≡ prefix ++ memory_line → ⊥)
     → Goes taking stage (showing before k m) (showing after l n) (Err status)
     → WentRefused stage (showing before k m) (showing after l n)
-sound_refusal taking stage before after k l m n status sound other (one, inl went) = went
-sound_refusal taking stage before after k l m n status sound other (one, inr b) =
-    absurd (only_memory before after k l m n b.break b.whole b.told sound other b.tells b.kept)
+sound_refusal taking stage before after k l m n status sound other l' = search (rules, nat_tests, after_append)
 
 -- ---- what openings a desk shows
 
@@ -51,17 +38,13 @@ openings_in (output ∷ outputs) = opening_in output ++ openings_in outputs
 
 one_shown : (output : OutputEvent) (r : Record)
     → all_openings (after output r) ≡ all_openings r ++ opening_in output
-one_shown (Opens (Absent name)) r = openings_absent name r
-one_shown (Opens (Found reading)) r = openings_opened (ToRead reading) r
-one_shown (Creates name) r = openings_opened (ToWrite (record { name = name; bytes = [] })) r
-one_shown output r = grind (arith, nat_tests, append-nil)
+one_shown output r = search (rules, nat_tests, openings_append, append-nil)
 
 -- each opening is shown
 pub openings_shown : (outputs : List OutputEvent) (r : Record)
     → all_openings (after_all outputs r) ≡ all_openings r ++ openings_in outputs
 openings_shown [] r = sym (append-nil (all_openings r))
-openings_shown (output ∷ outputs) r =
-    search (rules, openings_shown outputs (after output r), one_shown, append_assoc)
+openings_shown (output ∷ outputs) r = search (rules, one_shown, append_assoc, openings_shown outputs (after output r))
 
 -- so the same record shows the same openings
 same_openings : (first second : List OutputEvent) (r : Record) → after_all first r ≡ after_all second r
@@ -85,11 +68,6 @@ pub begins_file : {A : Type 0} (name : Bytes) (limit : ℕ) (judge : Bytes → R
     → Begins name (file_stage name limit judge)
 begins_file name limit judge openings = grind (arith, nat_tests)
 
--- the line of a refusal comes after the first output
-told_first : {A : Type 0} (first : OutputEvent) (says : List OutputEvent) (answer : StageAnswer A)
-    → all_told (first ∷ says) answer ≡ first ∷ all_told says answer
-told_first first says x = grind (arith, nat_tests)
-
 -- only this line was reported since
 only_told : (r : Record) (told line : Bytes) → after_err told r ≡ after_err line r → told ≡ line
 only_told r told line kept = grind (arith, nat_tests, append_cancel_left)
@@ -111,10 +89,6 @@ module _ {A : Type 0} (taking : Taking) (name told : Bytes) (stage : Stage A) (b
   none_opened : (outputs : List OutputEvent) → after_err told r ≡ after_all outputs r → [] ≡ openings_in outputs
   none_opened outputs kept = same_openings (Line told ∷ []) outputs r kept
 
-  first_is : (openings : List Opening) (other : Bytes) (behind extra : List OutputEvent)
-      → Opens (next_opening name openings) ∷ behind ≡ Opens (Absent other) ∷ extra → name ≡ other
-  first_is openings other behind extra is = grind (arith, nat_tests)
-
   -- a break before the file was opened, or while it was; a later one shows the opening
   by_break : (passed openings : List Opening) (p : StageResult A) (whole later : List OutputEvent) (break : Break)
       (line : Bytes) → (extra : List OutputEvent) × (p.says ≡ Opens (next_opening name openings) ∷ extra)
@@ -122,11 +96,10 @@ module _ {A : Type 0} (taking : Taking) (name told : Bytes) (stage : Stage A) (b
       → TellsBreak break line Old New → after_err told r ≡ after_all (whole ++ last_done break line) r → Told
   by_break passed openings p [] later NoMemory line begun are is taken tells kept = search (rules, only_told)
   by_break passed openings p x later break line begun are is taken tells kept =
-      let none = none_opened (x ++ last_done break line) kept in search (rules, first_is, only_told, told_first)
+      let none = none_opened (x ++ last_done break line) kept in search (rules, only_told, nat_tests)
 
   pub unopened : (status : ℕ) → Goes taking stage Old New (Err status) → Told
   unopened status (one, inl (line, went)) =
-      let comes = went.comes [] in
       let none = none_opened (went.says ++ Line line ∷ []) went.kept in
       search (rules, begins (went.passed ++ []))
   unopened status (one, inr b) = let rest = b.rest [] in search (rules, by_break, begins (b.passed ++ []))
@@ -148,16 +121,6 @@ module _ {A : Type 0} (name : Bytes) (limit : ℕ) (judge : Bytes → Result A B
   abbrev After : DeskState
   After = showing (after_all done r) l n
 
-  -- if the next opening gives it, it is made
-  comes_to : (openings : List Opening) → next_opening name openings ≡ Found reading
-      → file_stage name limit judge openings
-      ≡ record { says = Opens (Found reading) ∷ []; answer = Made good; left = drop 1 openings }
-  comes_to openings is = rw (is, given) refl
-
-  told_is : (opening : Opening) (line : Bytes) → after_all done r ≡ after_all (Opens opening ∷ Line line ∷ []) r
-      → told ≡ line
-  told_is opening line kept = grind (arith, nat_tests, append_cancel_left)
-
   -- a break before the file was opened or while it was, or after it, if nothing more is reported
   by_prefix : (openings : List Opening) (whole later : List OutputEvent) (break : Break) (line : Bytes)
       → (file_stage name limit judge openings).says ≡ whole ++ later
@@ -165,18 +128,14 @@ module _ {A : Type 0} (name : Bytes) (limit : ℕ) (judge : Bytes → Result A B
       → TellsBreak break line Before After → after_all done r ≡ after_all (whole ++ last_done break line) r
       → TellsLine memory_line told Before After
   by_prefix openings (first ∷ []) later NoMemory line says is tells kept =
-      let one = same_openings done (first ∷ Line line ∷ []) r kept in
-      search (rules, comes_to, begins_file name limit judge openings, told_is)
-  by_prefix openings [] later (NoMemoryFor x) line says is tells kept = search (rules, told_is (Found x) line kept)
-  by_prefix openings x later break line says is tells kept =
-      let one = same_openings done (x ++ last_done break line) r kept in
-      search (rules, comes_to, begins_file name limit judge openings)
+      search (rules, same_openings, begins_file, nat_tests, append_cancel_left)
+  by_prefix openings [] later (NoMemoryFor x) line says is tells kept = search (rules, nat_tests, append_cancel_left)
+  by_prefix openings x later break line says is tells kept = grind (arith, common_steps)
 
   -- So the desk showed its opening, read to the end, and what was reported is the line of memory.
   pub opened_is_told : (status : ℕ) → Goes taking (file_stage name limit judge) Before After (Err status)
       → TellsLine memory_line told Before After
-  opened_is_told status (one, inl (line, went)) =
-      let begun = begins_file name limit judge (went.passed ++ []) in search (rules, same_openings, comes_to)
+  opened_is_told status (one, inl (line, went)) = search (rules, begins_file name limit judge (went.passed ++ []))
   opened_is_told status (one, inr b) = let rest = b.rest [] in search (rules, by_prefix)
 
 -- ---- a stage that is refused at once
@@ -206,5 +165,5 @@ module _ {A : Type 0} (line told : Bytes) (stage : Stage A)
 
   pub refused_once : (status : ℕ) → Goes taking stage Here There (Err status) → TellsOne
   refused_once status (one, inl (other, went)) =
-      let comes = went.comes [] in grind (arith, nat_tests, only_told, refuses)
+      let comes = went.comes [] in grind (arith, nat_tests, only_told)
   refused_once status (one, inr b) = let rest = b.rest [] in search (rules, at_once)

@@ -1,5 +1,5 @@
 -- Stages that begin by opening a file.
-use Rattle.std.proofs.Common.{◌≡◌, refl, subst, ap, arith, ℕ, List, [], ◌∷◌, Bool, false, Result, Err}
+use Rattle.std.proofs.Common.{◌≡◌, refl, subst, ap, arith, ℕ, List, [], ◌∷◌, Bool, false, Result, Err, rules}
 use Rattle.std.proofs.lemmas.Bool.Decides.{nat_tests}
 use Rattle.avr_desk.specs.Fault.{Follows, HasFailedAt, HasSameCounts}
 use Rattle.avr_desk.specs.Files.{FaultCounts, IsWhole, ReadsFile, with_read, FileBreaks, IsCounted}
@@ -11,7 +11,7 @@ use Rattle.avr_desk.specs.declared.record.Opening.TheVariants.{Found}
 use Rattle.avr_desk.specs.declared.record.Reading.{Reading}
 use Rattle.avr_desk.specs.declared.stream.Stream.TheVariants.{File}
 use Rattle.avr_desk.proofs.Stages.Outputs.{kept_append}
-use Rattle.avr_desk.proofs.Lines.Told.{failure_told, follows_on, follows_same, tells_since}
+use Rattle.avr_desk.proofs.Lines.Told.{failure_told, follows_on, follows_same}
 use Rattle.avr_desk.specs.Lines.{file_fault_line, memory_line, not_opened_line, not_read_line}
 use Rattle.avr_desk.specs.Said.{OutputEvent, Opens, Line, Tells, after_all}
 use Rattle.avr_desk.proofs.Stages.Played.{goes_on}
@@ -92,7 +92,7 @@ goes_unheld : {A : Type 0} (taking : Taking) (name bytes : Bytes) (ended : Bool)
 goes_unheld taking name bytes ended next old mid new status kept same one told =
     let reading : Reading = record { name = name; bytes = bytes; ended = ended } in
     broke_opening taking name next (NoMemoryFor reading) told.told old new status tt one (λ more. ([], refl))
-    (tells_since memory_line told.told old mid new same told.tells)
+    (search rules)
     (kept_append (Opens (Found reading) ∷ []) (Line told.told ∷ []) old.kept mid.kept new.kept kept told.kept)
     (follows_on old mid new (follows_same old mid same) told.follows)
 
@@ -103,14 +103,9 @@ pub goes_broken : {A : Type 0} (taking : Taking) (name : Bytes) (next : Opening 
     → (fault ≡ file_fault.Absent → ⊥) → FileBreaks name old mid fault → Follows old mid → IsCounted old mid fault
     → status ≡ 1 → Tells mid new (file_fault_line name fault)
     → Goes taking (open_stage name >>= next) old new (Err status)
-goes_broken taking name next file_fault.Absent old mid new status there breaks rose counted one told =
-    absurd (there refl)
-goes_broken taking name next file_fault.NotOpened old mid new status there breaks rose counted one told =
-    goes_unopened taking name next old mid new status breaks rose counted one told
-goes_broken taking name next file_fault.NotRead old mid new status there breaks rose counted one told =
-    goes_unread taking name breaks.0 next old mid new status breaks.1 rose counted one told
-goes_broken taking name next file_fault.Memory old mid new status there breaks rose counted one told =
-    goes_unheld taking name breaks.0 breaks.1 next old mid new status breaks.2 counted one told
+goes_broken taking name next file_fault.Absent old mid new status there breaks rose counted one told = search rules
+goes_broken taking name next fault old mid new status there breaks rose counted one told =
+    search (rules, goes_unopened, goes_unread, goes_unheld)
 
 -- ---- a file that is kept whole as it is read
 
@@ -118,8 +113,7 @@ goes_broken taking name next file_fault.Memory old mid new status there breaks r
 pub breaks_as : (name : Bytes) (old mid : Record) (fault : FileFault)
     → ReadsFile name (showing old 0 0) (showing mid 0 0) (Err fault)
     → FileBreaks name (showing old 0 0) (showing mid 0 0) fault
-breaks_as name old mid file_fault.Memory reads = (reads.0, false, reads.1)
-breaks_as name old mid x reads = reads
+breaks_as name old mid fault reads = search rules
 
 -- without the record
 pub counted_as : (k l m n : ℕ) (fault : FileFault)

@@ -1,43 +1,28 @@
 -- Stages that ran, one after another.
 use Rattle.std.proofs.lemmas.Bool.Decides.{nat_tests}
-use Rattle.std.proofs.Common.{arith, ◌≡◌, sym, subst, inl, inr, ap, List, [], ◌∷◌, ◌++◌, ℕ, take, drop, refl, Ok, Err, Result, append_assoc, append-nil, rules}
+use Rattle.std.proofs.Common.{arith, ◌≡◌, sym, subst, inl, inr, List, [], ◌∷◌, ◌++◌, ℕ, take, drop, refl, Ok, Err, Result, append_assoc, append-nil, rules}
 use Rattle.std.proofs.lemmas.List.{take-append-drop}
 use Rattle.avr_desk.specs.Record.{DeskState, Passes}
-use Rattle.avr_desk.specs.Fault.{HasFailedToSay, HasSameCounts, Counts, Follows}
+use Rattle.avr_desk.specs.Fault.{HasSameCounts, Counts, Follows}
 use Rattle.avr_desk.specs.declared.desk.DeskFault.{DeskFault}
-use Rattle.avr_desk.specs.declared.desk.DeskFault.TheVariants.{NotFound, Failed}
+use Rattle.avr_desk.specs.declared.desk.DeskFault.TheVariants.{Failed}
 use Rattle.avr_desk.specs.Stream.{SendsPart}
 use Rattle.avr_desk.specs.declared.stream.Stream.TheVariants.{Messages}
 use Rattle.avr_desk.specs.declared.record.Opening.{Opening}
-use Rattle.avr_desk.specs.Said.{OutputEvent, Line, Opens, TellsLine, Tells, after_all}
+use Rattle.avr_desk.specs.Said.{OutputEvent, Line, TellsLine, Tells, after_all}
 use Rattle.avr_desk.proofs.Stages.Outputs.{kept_none, kept_append}
-use Rattle.avr_desk.proofs.Lines.Told.{follows_on, follows_same, same_here, same_on, unsaid_since, tells_since}
+use Rattle.avr_desk.proofs.Lines.Told.{follows_on, follows_same, same_here, same_on}
 use Rattle.avr_desk.specs.Lines.{memory_line}
-use Rattle.avr_desk.specs.Playing.{Went, Break, InLine, NotOpened, NotRead, NoMemory, NoMemoryFor, last_done, IsNextOutput, IsBreak, TellsBreak, Rest, Taking, TakesThere, StageBrokeOff, Goes}
-use Rattle.avr_desk.specs.Stage.{Stage, StageAnswer, Made, Refused, StageResult, all_told, behind_outputs, going_on, ◌>>=◌, verdict_stage, output_stage, next_opening}
+use Rattle.avr_desk.specs.Playing.{Went, Break, InLine, NoMemory, last_done, IsBreak, TellsBreak, Rest, Taking, TakesThere, StageBrokeOff, Goes}
+use Rattle.avr_desk.specs.Stage.{Stage, StageAnswer, Made, Refused, StageResult, all_told, going_on, ◌>>=◌, verdict_stage, output_stage}
 
 -- ---- counts
 
 break_since : (break : Break) (told : List ℕ) (first old new : DeskState) → HasSameCounts first old
     → TellsBreak break told old new → TellsBreak break told first new
-break_since (InLine line) told first old new same tells = (tells.0, unsaid_since first old new same tells.1)
-break_since NoMemory told first old new same tells = tells_since memory_line told first old new same tells
-break_since (NoMemoryFor reading) told first old new same tells = tells_since memory_line told first old new same tells
-break_since x told first old new same tells = grind (arith, nat_tests)
+break_since break told first old new same tells = search (rules, nat_tests)
 
 -- ---- a stage after another one
-
-next_more : (next : OutputEvent) (later extra : List OutputEvent) → IsNextOutput next later
-    → IsNextOutput next (later ++ extra)
-next_more next later extra is = (is.0 ++ extra, ap (λ (ss : List OutputEvent). ss ++ extra) is.1)
-
-break_more : (break : Break) (more : List Opening) (later extra : List OutputEvent) → IsBreak break more later
-    → IsBreak break more (later ++ extra)
-break_more (InLine line) more later extra is = next_more (Line line) later extra is
-break_more (NotOpened name) more later extra is = next_more (Opens (next_opening name more)) later extra is
-break_more (NotRead name bytes) more later extra is = next_more (Opens (next_opening name more)) later extra is
-break_more NoMemory more later extra is = is
-break_more (NoMemoryFor reading) more later extra is = next_more (Opens (next_opening reading.name more)) later extra is
 
 -- the output of the next stage comes after this one's
 pub says_more : {A B : Type 0} (says : List OutputEvent) (left : List Opening) (go_on : A
@@ -49,35 +34,13 @@ says_more says left go_on x = ([], sym (append-nil says))
 -- the line of a refusal comes after both
 pub told_append : {A : Type 0} (first second : List OutputEvent) (answer : StageAnswer A)
     → all_told (first ++ second) answer ≡ first ++ all_told second answer
-told_append first second (Refused line) = append_assoc first second (Line line ∷ [])
-told_append first second x = refl
-
--- the output events of the next stage come after a rest
-rest_on : {A B : Type 0} (says : List OutputEvent) (left : List Opening) (go_on : A → Stage B) (answer : StageAnswer A)
-    (whole : List OutputEvent) (break : Break) (more : List Opening)
-    → Rest (record { says = says; answer = answer; left = left }) whole break more
-    → Rest (going_on says left go_on answer) whole break more
-rest_on says left go_on (Made a) whole break more rest =
-    grind (arith, nat_tests, append_assoc, subst, told_append, break_more)
-rest_on says left go_on x whole break more rest = grind (arith, nat_tests)
+told_append first second answer = search (rules, append_assoc)
 
 rest_more : {A B : Type 0} (p : StageResult A) (go_on : A → Stage B) (whole : List OutputEvent) (break : Break)
     (more : List Opening)
     → Rest p whole break more
     → Rest (going_on p.says p.left go_on p.answer) whole break more
-rest_more p go_on whole break more rest = rest_on p.says p.left go_on p.answer whole break more rest
-
-rest_behind : {A : Type 0} (says whole : List OutputEvent) (p : StageResult A) (break : Break) (more : List Opening)
-    → Rest p whole break more
-    → Rest (behind_outputs says p) (says ++ whole) break more
-rest_behind says whole p break more rest = grind (arith, nat_tests, append_assoc)
-
--- a stage that made something, and openings after its own
-pub made_then : {A B : Type 0} (stage : Stage A) (go_on : A → Stage B) (old new : DeskState) (a : A)
-    (w : Went stage old new (Made a))
-    (later : List Opening)
-    → (stage >>= go_on) (w.passed ++ later) ≡ behind_outputs w.says (go_on a later)
-made_then stage go_on old new a w later = ap (λ p. going_on p.says p.left go_on p.answer) (w.comes later)
+rest_more p go_on whole break more rest = (search (rules, nat_tests, append_assoc))
 
 pub went_went : {A B : Type 0} (stage : Stage A) (go_on : A → Stage B) (old mid new : DeskState) (a : A)
     (answer : StageAnswer B)
@@ -86,8 +49,8 @@ pub went_went : {A B : Type 0} (stage : Stage A) (go_on : A → Stage B) (old mi
 went_went stage go_on old mid new a answer first then = record {
   passed = first.passed ++ then.passed;
   says = first.says ++ then.says;
-  comes = grind (arith, nat_tests, append_assoc, made_then);
-  kept = grind (arith, nat_tests, subst, told_append, kept_append);
+  comes = grind (arith, nat_tests, append_assoc);
+  kept = grind (arith, nat_tests, told_append, kept_append);
   sound = same_on old mid new first.sound then.sound;
 }
 
@@ -105,7 +68,7 @@ went_broke inner taking stage go_on old mid new a first behind then = record {
   passed = first.passed ++ then.passed;
   whole = first.says ++ then.whole;
   break = then.break;
-  rest = grind (arith, nat_tests, append_assoc, made_then, subst, rest_behind);
+  rest = grind (arith, nat_tests, append_assoc);
   taken = grind (arith, nat_tests);
   told = then.told;
   tells = break_since then.break then.told old mid new first.sound then.tells;
@@ -113,19 +76,13 @@ went_broke inner taking stage go_on old mid new a first behind then = record {
   follows = follows_on old mid new (follows_same old mid first.sound) then.follows;
 }
 
-broke_then : {A B : Type 0} (taking : Taking) (stage : Stage A) (go_on : A → Stage B) (old new : DeskState)
-    → StageBrokeOff taking stage old new → StageBrokeOff taking (stage >>= go_on) old new
-broke_then taking stage go_on old new first = grind (arith, nat_tests, rest_more)
-
 -- a stage that succeeded, and how the next one goes
 pub goes_on : {A B : Type 0} (inner taking : Taking) (stage : Stage A) (go_on : A → Stage B) (old mid new : DeskState)
     (a : A) (result : Result B ℕ) (went : Went stage old mid (Made a))
     → TakesBehind inner taking stage old mid a went
     → Goes inner (go_on a) mid new result → Goes taking (stage >>= go_on) old new result
-goes_on inner taking stage go_on old mid new a (Ok b) went behind then =
-    went_went stage go_on old mid new a (Made b) went then
-goes_on inner taking stage go_on old mid new a (Err status) went behind (one, inl then) =
-    (one, inl (then.0, went_went stage go_on old mid new a (Refused then.0) went then.1))
+goes_on inner taking stage go_on old mid new a (Ok b) went behind then = search (rules, went_went)
+goes_on inner taking stage go_on old mid new a (Err status) went behind (one, inl then) = search (rules, went_went)
 goes_on inner taking stage go_on old mid new a (Err status) went behind (one, inr then) =
     (one, inr (went_broke inner taking stage go_on old mid new a went behind then))
 
@@ -133,15 +90,13 @@ goes_on inner taking stage go_on old mid new a (Err status) went behind (one, in
 pub goes_no_further : {A B : Type 0} (taking : Taking) (stage : Stage A) (go_on : A → Stage B) (old new : DeskState)
     (status : ℕ) → Goes taking stage old new (Err status) → Goes taking (stage >>= go_on) old new (Err status)
 goes_no_further taking stage go_on old new status (one, inl went) = grind (arith, nat_tests)
-goes_no_further taking stage go_on old new status (one, inr broke) = grind (arith, nat_tests, broke_then)
+goes_no_further taking stage go_on old new status (one, inr broke) = grind (arith, nat_tests, rest_more)
 
 -- if allocation may fail in more places
 pub goes_within : {A : Type 0} (inner taking : Taking) (stage : Stage A) (old new : DeskState) (result : Result A ℕ)
     → ((passed : List Opening) (said : List OutputEvent) → inner passed said → taking passed said)
     → Goes inner stage old new result → Goes taking stage old new result
-goes_within inner taking stage old new (Ok a) within went = went
-goes_within inner taking stage old new (Err status) within (one, inl went) = (one, inl went)
-goes_within inner taking stage old new (Err status) within (one, inr broke) = grind (arith, nat_tests)
+goes_within inner taking stage old new result within went = search (rules, nat_tests)
 
 -- ---- stages that read nothing
 
@@ -213,12 +168,6 @@ pub went_output : (old new : DeskState) (line : List ℕ) → Passes (after_all 
 went_output old new line kept same =
     record { passed = []; says = Line line ∷ []; comes = λ more. refl; kept = kept; sound = same }
 
--- a failed call is counted
-failed_counts : (old new : DeskState) (fault : DeskFault) → fault ≡ Failed
-    → Counts {T = Unit {0}} Messages old new (Err fault) → HasFailedToSay old new
-failed_counts old new NotFound is counts = cc
-failed_counts old new Failed is counts = counts.1
-
 pub goes_output_part : (taking : Taking) (old new : DeskState) (line : List ℕ) (fault : DeskFault)
     → SendsPart Messages old new line → fault ≡ Failed → Counts {T = Unit {0}} Messages old new (Err fault)
     → Goes taking (output_stage (Line line ∷ [])) old new (Err 1)
@@ -226,17 +175,15 @@ goes_output_part taking old new line fault part is counts = (
   refl,
   inr (broke_here taking (output_stage (Line line ∷ [])) old new (InLine line) (take part.0 line) tt
       (λ more. ([], refl))
-      ((drop part.0 line, take-append-drop part.0 line), failed_counts old new fault is counts) part.2 counts.0),
+      ((drop part.0 line, take-append-drop part.0 line), (search rules)) part.2 counts.0),
 )
 
 -- the result, made into another
 pub went_into : {A B : Type 0} (stage : Stage A) (f : A → B) (old new : DeskState) (a : A) → Went stage old new (Made a)
     → Went (stage >>= λ x. verdict_stage (Ok (f x))) old new (Made (f a))
-went_into stage f old new a went = search (rules, went_went, went_nowhere)
+went_into stage f old new a went = search rules
 
 -- however a stage goes, the counts of failures never fall
 pub goes_follows : {A : Type 0} (taking : Taking) (stage : Stage A) (old new : DeskState) (result : Result A ℕ)
     → Goes taking stage old new result → Follows old new
-goes_follows taking stage old new (Ok a) went = follows_same old new went.sound
-goes_follows taking stage old new (Err status) (one, inl went) = follows_same old new went.1.sound
-goes_follows taking stage old new (Err status) (one, inr broke) = broke.follows
+goes_follows taking stage old new result went = search rules
