@@ -1,7 +1,7 @@
 -- An address is cut at its last colon.
-use Rattle.std.proofs.Common.{◌≡◌, ◌≢◌, ℕ, true, [], ◌∷◌, ◌++◌, get_or, Some, Ok, codes, rules}
+use Rattle.std.proofs.lemmas.Grind.{common_steps}
+use Rattle.std.proofs.Common.{◌≡◌, ◌≢◌, ℕ, true, [], ◌∷◌, ◌++◌, Some, Ok, codes, rules, arith}
 use Rattle.std.proofs.lemmas.Bool.{cases_Bool}
-use Rattle.std.proofs.lemmas.List.Sums.{AllPass-from_list_all}
 use Rattle.std.specs.List.{list_all}
 use Rattle.std.specs.Char.{is_ascii_digit}
 use Rattle.avr_part.specs.PartFile.{Bytes}
@@ -12,14 +12,8 @@ use Rattle.avr_cli.proofs.UpdatesReread.{not_empty}
 use Rattle.avr_cli.proofs.TextCuts.{HasNoColon, split_last-parts}
 
 digits_without_colon : (text : Bytes) → list_all is_ascii_digit text ≡ true → HasNoColon text
-digits_without_colon text all i small e =
-    let digit : is_ascii_digit (get_or text i 0) ≡ true = AllPass-from_list_all is_ascii_digit text all i 0 small in
-    search rules
-
-only_digits : (port : Bytes) (number : ℕ) → port_number port ≡ Some number → list_all is_ascii_digit port ≡ true
-only_digits port number is = search (rules, cases_Bool)
+digits_without_colon text all i small e = grind (arith, common_steps)
 
 pub address_is_cut : (host port : Bytes) (number : ℕ) → host ≢ [] → port_number port ≡ Some number
     → port_of (codes "net:" ++ (host ++ colon ∷ port)) ≡ Ok (Network (host ++ colon ∷ port))
-address_is_cut host port number some is =
-    search (rules, digits_without_colon, only_digits, split_last-parts, not_empty)
+address_is_cut host port number some is = search (rules, digits_without_colon, cases_Bool, split_last-parts, not_empty)

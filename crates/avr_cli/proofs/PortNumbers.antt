@@ -1,5 +1,6 @@
 -- Numbers of ports.
-use Rattle.std.proofs.Common.{◌≡◌, refl, rules, ℕ, ◌<◌, ◌^◌, true, List, [], ◌∷◌, length, None, Err}
+use Rattle.std.proofs.lemmas.Grind.{common_steps}
+use Rattle.std.proofs.Common.{◌≡◌, rules, ℕ, ◌<◌, ◌^◌, true, List, length, None, Err, arith}
 use Rattle.std.proofs.lemmas.Str.Parse.{IsNumeralModel, numerals_by_value, parse_digits}
 use Rattle.std.specs.List.{list_all}
 use Rattle.std.specs.Char.{is_ascii_digit}
@@ -13,9 +14,7 @@ pub digits : IsNumeralModel IsDigits (digits_value 10)
 digits = numerals_by_value IsDigits (search rules)
 
 too_large : (text : List ℕ) → ((0 < length text) × (digits_value 10 text < 2 ^ 16) → ⊥) → port_number text ≡ None
-too_large [] h = refl
-too_large (c ∷ cs) h =
-    search rules
+too_large text h = grind (arith, common_steps)
 
 pub port_number-refused : {E : Type 0} (text : List ℕ) (e : E) → ParsesUnsigned 16 10 text (Err e) → IsDigits text
     → port_number text ≡ None

@@ -36,9 +36,7 @@ after_prefix-lacks (p ∷ ps) (c ∷ cs) h = ⊎_elim
 pub strips_prefix : (prefix text : List ℕ) (r : Option (Bor (List ℕ)))
     → MatchOption r (FindsTextPrefix prefix text None) (λ x. StripsPrefix (FindsTextPrefix prefix) text x.now)
     → option_map (λ s. s.now) r ≡ after_prefix prefix text
-strips_prefix prefix text None h = sym (after_prefix-lacks prefix text h)
-strips_prefix prefix text (Some x) h =
-    search (rules, after_prefix-append)
+strips_prefix prefix text r h = search (rules, after_prefix-lacks, after_prefix-append)
 
 split_first-none : (text : List ℕ) → HasNoColon text → split_first text ≡ None
 split_first-none [] h = refl
@@ -51,10 +49,7 @@ split_first-parts (x ∷ xs) ys h = rw (no_colon_first x xs h, split_first-parts
 -- the clause of `split_once` at a colon
 pub splits_first : (text : List ℕ) (r : Option (Bor (List ℕ) × Bor (List ℕ))) → IsSplitOnceResult colon text r
     → option_map (λ s. (s.0.now, s.1.now)) r ≡ split_first text
-splits_first text None h = sym (split_first-none text (split_parts colon text None h (omega arith)))
-splits_first text (Some x) h =
-    let parts = split_parts colon text (Some x) h (omega arith) in
-    sym (ap split_first parts.0 ∙ split_first-parts x.0.now x.1.now parts.1)
+splits_first text r h = search (rules, split_first-none, split_parts, split_first-parts)
 
 split_last-none : (text : List ℕ) → HasNoColon text → split_last text ≡ None
 split_last-none [] h = refl

@@ -1,11 +1,11 @@
 -- A block at once is a block byte by byte.
-use Rattle.std.proofs.Common.{◌≡◌, ℕ, zero, suc, ◌+◌, ◌*◌, ◌/◌, ◌%◌, ◌≤◌, ◌<◌, List, [], ◌∷◌, length, set, take, drop, refl, ap, ap₂, ◌∙◌, arith, true, drop-cons, append_assoc, rules}
-use Rattle.std.proofs.Math.Nat.{mod-mod_of_dvd, mod-add-div', dvd-mul_right, dvd_trans}
+use Rattle.std.proofs.lemmas.Grind.{common_steps}
+use Rattle.std.proofs.Common.{◌≡◌, ℕ, zero, suc, ◌+◌, ◌*◌, ◌/◌, ◌%◌, ◌≤◌, ◌<◌, List, [], ◌∷◌, length, set, take, drop, refl, ap, ap₂, ◌∙◌, arith, true, append_assoc, rules}
+use Rattle.std.proofs.Math.Nat.{mod-mod_of_dvd, dvd-mul_right, dvd_trans}
 use Rattle.std.proofs.lemmas.Nat.Gcd.{dvd_of_mod-eq-zero, mod-eq-zero_of_dvd}
 use Rattle.std.proofs.Math.Seq.{take-suc-set}
-use Rattle.std.proofs.lemmas.Nat.{mod-mul-add}
 use Rattle.std.proofs.lemmas.List.{take-append-drop, drop-set-lt, length-set}
-use Rattle.std.proofs.lemmas.Bool.{eqb-true, eqb-false, cases_Bool, leb-true, cond-true, cond-false, and_parts}
+use Rattle.std.proofs.lemmas.Bool.{leb-true, and_parts}
 use Rattle.std.specs.Prelude.{◌-◌, nat_le}
 use Rattle.avr_part.specs.Part.{Part, IsPart}
 use Rattle.avr_part.specs.Memory.{pasted}
@@ -14,45 +14,28 @@ use Rattle.avr_part.specs.Block.{half_at, loaded_in_turn, read_in_turn, is_in_pa
 use Rattle.avr_part.specs.Sound.{IsSoundChip}
 
 pub offset_at : (i : ℕ) → half_offset (half_at i) ≡ i % 2
-offset_at i = search (rules, cases_Bool, cond-true, eqb-true, eqb-false, cond-false)
+offset_at i = search rules
 
 -- a remainder that stays below the end
 mod_on : (word k half : ℕ) → word % half + k < half → (word + k) % half ≡ word % half + k
-mod_on word k half small =
-    let parts = mod-add-div' word half in
-    let whole : word + k ≡ word / half * half + (word % half + k) = omega arith in
-    ap (λ x. x % half) whole ∙ mod-mul-add (word / half) half (word % half + k) small
+mod_on word k half small = grind (arith, common_steps)
 
 -- the place of byte i of a block
 place_on : (word i half : ℕ) → word % half * 2 + i < half * 2 → (word + i / 2) % half * 2 + i % 2 ≡ word % half * 2 + i
-place_on word i half inside =
-    ap (λ x. x * 2 + i % 2) (mod_on word (i / 2) half (omega arith)) ∙ omega arith
-
--- one more byte
-paste_on : (p : ℕ) (d : ℕ) (ds xs : List ℕ) → p < length xs → pasted (suc p) ds (set xs p d) ≡ pasted p (d ∷ ds) xs
-paste_on p d ds xs inside =
-    search (rules, take-suc-set, drop-set-lt, append_assoc)
+place_on word i half inside = search (rules, mod_on)
 
 pub loaded_at_once : (word i half : ℕ) (bytes : List ℕ) (s : ChipState) → s.part.flash_page / 2 ≡ half
     → ((x : ℕ) → x % 256 % half ≡ x % half)
     → word % half * 2 + i + length bytes ≤ half * 2 → half * 2 ≤ length s.flash_buffer
     → loaded_in_turn word i bytes s ≡ record s { flash_buffer = pasted (word % half * 2 + i) bytes s.flash_buffer }
-loaded_at_once word i half [] s is wraps inside long =
-    search (rules, take-append-drop)
+loaded_at_once word i half [] s is wraps inside long = search (rules, take-append-drop)
 loaded_at_once word i half (d ∷ ds) s is wraps inside long =
     let p = word % half * 2 + i in
     let s₂ : ChipState = record s { flash_buffer = set s.flash_buffer p d } in
     let place : (word + i / 2) % 256 % (s.part.flash_page / 2) * 2 + half_offset (half_at i) ≡ p =
-    search (rules, offset_at, place_on) in
+    search (rules, place_on) in
     let long₂ : half * 2 ≤ length (set s.flash_buffer p d) = rw (length-set s.flash_buffer p d) long in
-    search (
-      rules,
-      paste_on,
-      loaded_at_once word (suc i) half ds s₂ is wraps (omega arith) long₂ ∙ ap (λ b. record s {
-        flash_buffer = b;
-      }) (ap (λ q. pasted q ds (set s.flash_buffer p d)) (let e : word % half * 2 + suc i ≡ suc p =
-          omega arith in e) ∙ paste_on p d ds s.flash_buffer (omega arith)),
-    )
+    grind (arith, common_steps, loaded_at_once word (suc i) half ds s₂ is wraps (omega arith) long₂)
 
 pub read_at_once : (word i n half : ℕ) (s : ChipState) → s.part.flash_size / 2 ≡ half
     → (s.extended * 65536 + word) % half * 2 + i + n ≤ half * 2 → half * 2 ≤ length s.flash
@@ -65,17 +48,11 @@ read_at_once word i (suc n) half s is inside long =
     ap₂ (λ h o. (s.extended * 65536 + (word + i / 2)) % h * 2 + o) is (offset_at i)
     ∙ (ap (λ x. x % half * 2 + i % 2) (let e : s.extended * 65536 + (word + i / 2) ≡ w + i / 2 = omega arith in e)
     ∙ place_on w i half (omega arith)) in
-    search (
-      rules,
-      drop-cons,
-      read_at_once word (suc i) n half s is (omega arith) long ∙ ap (λ q. take n (drop q
-          s.flash)) (let e : w % half * 2 + suc i ≡ suc p = omega arith in e),
-    )
+    grind (arith, common_steps, read_at_once word (suc i) n half s is (omega arith) long)
 
 -- a word of the page buffer, by a byte
 wraps_in_page : (half : ℕ) → 256 % (half * 2) ≡ 0 → (x : ℕ) → x % 256 % half ≡ x % half
-wraps_in_page half whole x =
-    mod-mod_of_dvd half x (dvd_trans half (dvd-mul_right half 2) (dvd_of_mod-eq-zero (half * 2) whole))
+wraps_in_page half whole x = search (rules, mod-mod_of_dvd, dvd_trans, dvd-mul_right, dvd_of_mod-eq-zero)
 
 pub block_loaded : (word place : ℕ) (bytes : List ℕ) (s : ChipState) → IsSoundChip s
     → is_in_page word (length bytes) s ≡ true
@@ -83,16 +60,13 @@ pub block_loaded : (word place : ℕ) (bytes : List ℕ) (s : ChipState) → IsS
     → record s { flash_buffer = pasted place bytes s.flash_buffer } ≡ loaded_in_turn word 0 bytes s
 block_loaded word place bytes s sound inside at =
     let half = s.part.flash_page / 2 in
-    let even = sound.part.flash_halves in
     let whole : s.part.flash_page ≡ half * 2 = omega arith in
     let fits = leb-true (word % half * 2 + length bytes) s.part.flash_page inside in
     let long = sound.flash_buffer_size in
-    let first : place ≡ word % half * 2 + 0 = omega arith in
-    search (rules, loaded_at_once, wraps_in_page)
+    let first : place ≡ word % half * 2 + 0 = omega arith in search (rules, loaded_at_once, wraps_in_page)
 
 flash_even : (part : Part) → IsPart part → part.flash_size % 2 ≡ 0
-flash_even part sound =
-    mod-eq-zero_of_dvd 2 (search (rules, dvd_trans, dvd_of_mod-eq-zero))
+flash_even part sound = search (rules, mod-eq-zero_of_dvd, dvd_trans, dvd_of_mod-eq-zero)
 
 pub block_read : (word n start len : ℕ) (bytes : List ℕ) (s : ChipState) → IsSoundChip s → is_in_flash word n s ≡ true
     → start ≡ word_address s word → len ≡ n → bytes ≡ s.flash
@@ -100,9 +74,7 @@ pub block_read : (word n start len : ℕ) (bytes : List ℕ) (s : ChipState) →
 block_read word n start len bytes s sound inside at count is =
     let half = s.part.flash_size / 2 in
     let even = flash_even s.part sound.part in
-    let whole : half * 2 ≡ s.part.flash_size = omega arith in
     let p = (s.extended * 65536 + word) % half * 2 in
     let fits = leb-true (p + n) s.part.flash_size (and_parts (nat_le (word * 2 + n) 131072) _ inside).1 in
     let long = sound.flash_size in
-    let first : start ≡ p + 0 = omega arith in
-    search (rules, read_at_once)
+    let first : start ≡ p + 0 = omega arith in search (rules, read_at_once)

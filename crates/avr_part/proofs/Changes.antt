@@ -1,5 +1,5 @@
 -- Lists whose bytes are changed one by one.
-use Rattle.std.proofs.Common.{◌≡◌, ◌∙◌, ap, ap₂, refl, arith, ℕ, suc, ◌+◌, ◌-◌, ◌<◌, ◌≤◌, List, [], ◌∷◌, length, get_or, bit_and, Option, None, unwrap_or}
+use Rattle.std.proofs.Common.{◌≡◌, ◌∙◌, ap, refl, arith, ℕ, suc, ◌+◌, ◌-◌, ◌<◌, ◌≤◌, List, [], ◌∷◌, length, get_or, bit_and, Option, None, unwrap_or, rules}
 use Rattle.std.proofs.lemmas.Bool.Decides.{nat_tests}
 use Rattle.avr_part.specs.Memory.{map_indexed, map_indexed_from, byte_and_page, overlaid}
 
@@ -12,13 +12,11 @@ changed_from_is k f (x ∷ xs) [] len each = absurd (omega (arith, len))
 changed_from_is k f (x ∷ xs) (y ∷ ys) len each =
     let first : y ≡ f k x = each 0 (omega arith) ∙ ap (λ (n : ℕ). f n x) (omega arith) in
     let rest : ys ≡ map_indexed_from (suc k) f xs = changed_from_is (suc k) f xs ys (omega (arith, len))
-    (λ i l. each (suc i) (omega arith) ∙ ap (λ (n : ℕ). f n (get_or xs i 0)) (omega arith)) in
-    ap₂ (λ (z : ℕ) (zs : List ℕ). z ∷ zs) first rest
+    (λ i l. each (suc i) (omega arith) ∙ ap (λ (n : ℕ). f n (get_or xs i 0)) (omega arith)) in search rules
 
 pub changed_is : (f : ℕ → ℕ → ℕ) (xs ys : List ℕ) → length ys ≡ length xs
     → ((i : ℕ) → i < length xs → get_or ys i 0 ≡ f i (get_or xs i 0)) → ys ≡ map_indexed f xs
-changed_is f xs ys len each =
-    changed_from_is 0 f xs ys len (λ i l. each i l ∙ ap (λ (n : ℕ). f n (get_or xs i 0)) (omega arith))
+changed_is f xs ys len each = search (rules, changed_from_is)
 
 -- a byte of a memory into which a page was ANDed
 pub anded_is : (start : ℕ) (page : List ℕ) (i x y : ℕ) → (i < start → y ≡ x)

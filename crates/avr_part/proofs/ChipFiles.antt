@@ -1,7 +1,7 @@
 -- A chip file read again.
-use Rattle.std.proofs.Common.{◌≡◌, ◌∙◌, ap, arith, ℕ, ◌+◌, List, [], ◌∷◌, ◌++◌, length, take, drop, get_or, Ok, length-append, append_assoc, refl, rules}
+use Rattle.std.proofs.lemmas.Grind.{common_steps}
+use Rattle.std.proofs.Common.{◌≡◌, ◌∙◌, ap, arith, ℕ, ◌+◌, List, [], ◌∷◌, ◌++◌, length, take, drop, get_or, Ok, length-append, append_assoc, rules}
 use Rattle.std.proofs.lemmas.List.{get_or-drop, length-drop, take-append-drop, take_at, drop_at, get_or-append-add}
-use Rattle.std.proofs.lemmas.Bool.{eq-eqb, cond-true}
 use Rattle.avr_part.specs.Part.{Part}
 use Rattle.avr_part.specs.State.{ChipState, with_empty_buffers}
 use Rattle.avr_part.specs.Sound.{IsSoundChip}
@@ -13,17 +13,11 @@ flash_part flash eeprom fuses n e = ap (take n) (append_assoc flash eeprom fuses
 
 pub eeprom_part : (flash eeprom fuses : List ℕ) (n m : ℕ) → length flash ≡ n → length eeprom ≡ m
     → take m (drop n (flash ++ eeprom ++ fuses)) ≡ eeprom
-eeprom_part flash eeprom fuses n m e f =
-    search (rules, append_assoc, drop_at, take_at)
+eeprom_part flash eeprom fuses n m e f = search (rules, append_assoc, drop_at, take_at)
 
 pub fuse_part : (flash eeprom fuses : List ℕ) (at k : ℕ) → at ≡ length flash + length eeprom + k
     → get_or (flash ++ eeprom ++ fuses) at 0 ≡ get_or fuses k 0
-fuse_part flash eeprom fuses at k e =
-    search (rules, length-append, get_or-append-add)
-
-file_length : (s : ChipState) → IsSoundChip s → length (chip_file s) ≡ chip_file_size s.part
-file_length s sound =
-    search (rules, length-append)
+fuse_part flash eeprom fuses at k e = search (rules, length-append, get_or-append-add)
 
 -- the chip of its own file has the same memories, and empty buffers
 pub read_again : (s : ChipState) → IsSoundChip s → chip_in s.part (chip_file s) ≡ Ok (with_empty_buffers s)
@@ -38,15 +32,10 @@ read_again s sound =
     let hfuse = fuse_part s.flash s.eeprom fuses (at + 1) 1 (omega arith) in
     let efuse = fuse_part s.flash s.eeprom fuses (at + 2) 2 (omega arith) in
     let lock = fuse_part s.flash s.eeprom fuses (at + 3) 3 (omega arith) in
-    search (rules, cond-true, eq-eqb, file_length)
+    search (rules, length-append)
 
 four_bytes : (xs : List ℕ) → length xs ≡ 4 → xs ≡ get_or xs 0 0 ∷ get_or xs 1 0 ∷ get_or xs 2 0 ∷ get_or xs 3 0 ∷ []
-four_bytes [] e = absurd (omega (arith, e))
-four_bytes (a ∷ []) e = absurd (omega (arith, e))
-four_bytes (a ∷ b ∷ []) e = absurd (omega (arith, e))
-four_bytes (a ∷ b ∷ c ∷ []) e = absurd (omega (arith, e))
-four_bytes (a ∷ b ∷ c ∷ d ∷ []) e = refl
-four_bytes (a ∷ b ∷ c ∷ d ∷ x ∷ xs) e = absurd (omega (arith, e))
+four_bytes xs e = grind (arith, common_steps)
 
 -- the file of the chip of a file is the file
 pub written_again : (p : Part) (bytes : List ℕ) → length bytes ≡ chip_file_size p → chip_file (state_in p bytes) ≡ bytes

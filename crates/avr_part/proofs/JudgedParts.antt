@@ -1,5 +1,5 @@
 -- Parts that are judged one after another.
-use Rattle.std.proofs.Common.{◌≡◌, ◌∙◌, ap, sym, refl, List, [], ◌∷◌, ◌++◌, Result, Ok, Err, String, Global, string_bytes, append_assoc, Some, None}
+use Rattle.std.proofs.Common.{◌≡◌, List, [], ◌∷◌, ◌++◌, Result, Ok, Err, String, Global, string_bytes, append_assoc, Some, None, rules}
 use Rattle.std.specs.Str.{is_utf8, IsUtf8}
 use Rattle.std.proofs.lemmas.Bool.{false_from_ne_true}
 use Rattle.std.proofs.lemmas.Str.{is_utf8-from_IsUtf8, IsUtf8-from_is_utf8}
@@ -15,8 +15,7 @@ onto ps (Err e) = Err e
 
 pub onto-next : (ps : List Part) (p : Part) (r : Result (List Part) NamedFault)
     → onto ps (r >>= (λ qs. Ok (p ∷ qs))) ≡ onto (ps ++ p ∷ []) r
-onto-next ps p (Ok qs) = ap (λ (xs : List Part). Ok xs) (sym (append_assoc ps (p ∷ []) qs))
-onto-next ps p (Err e) = refl
+onto-next ps p r = search (rules, append_assoc)
 
 -- one more member is judged
 pub judged_next : (all : Result (List Part) NamedFault) (ps : List Part) (left next : List (String Global × Value))
@@ -24,12 +23,7 @@ pub judged_next : (all : Result (List Part) NamedFault) (ps : List Part) (left n
     → left ≡ (k, v) ∷ next → all ≡ onto ps (parts_in (members_view left))
     → Ok p ≡ in_part (string_bytes k) (part_of (string_bytes k) (view v))
     → all ≡ onto (ps ++ p ∷ []) (parts_in (members_view next))
-judged_next all ps left next k v p split so_far is =
-    so_far
-    ∙ ap (λ (es : List (String Global × Value)). onto ps (parts_in (members_view es))) split
-    ∙ ap (λ (r : Result Part NamedFault). onto ps
-    (r >>= (λ part. parts_in (members_view next) >>= (λ parts. Ok (part ∷ parts))))) (sym is)
-    ∙ onto-next ps p (parts_in (members_view next))
+judged_next all ps left next k v p split so_far is = search (rules, onto-next)
 
 -- bytes that are text, and bytes that aren't
 pub text_is_text : (bytes : Bytes) → IsUtf8 bytes → utf8_text bytes ≡ Some bytes

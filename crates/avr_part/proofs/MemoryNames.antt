@@ -1,21 +1,13 @@
 -- A memory and its name.
-use Rattle.std.proofs.Common.{◌≡◌, refl, arith, ℕ, List, [], ◌∷◌, Bool, true, find, Some, inl, inr}
+use Rattle.std.proofs.Common.{◌≡◌, arith, ℕ, List, [], ◌∷◌, Bool, true, find, Some, inl, inr, rules}
 use Rattle.std.proofs.lemmas.Bool.{cases_Bool}
 use Rattle.std.proofs.lemmas.Slice.Eq.{bytes_eq-Decides}
 use Rattle.std.specs.Str.{bytes_eq}
 use Rattle.avr_part.specs.Mem.{name_of, memory_named, all_memories}
 use Rattle.avr_part.specs.declared.part.Mem.{Mem}
-use Rattle.avr_part.specs.declared.part.Mem.TheVariants.{Flash, Eeprom, Lfuse, Hfuse, Efuse, Lock, Signature, Calibration}
 
 pub found_by_name : (m : Mem) → memory_named (name_of m) ≡ Some m
-found_by_name Flash = refl
-found_by_name Eeprom = refl
-found_by_name Lfuse = refl
-found_by_name Hfuse = refl
-found_by_name Efuse = refl
-found_by_name Lock = refl
-found_by_name Signature = refl
-found_by_name Calibration = refl
+found_by_name m = search rules
 
 -- what is found passes the test
 find_passes : {A : Type 0} (test : A → Bool) (xs : List A) (x : A) → find test xs ≡ Some x → test x ≡ true

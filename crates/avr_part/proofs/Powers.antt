@@ -1,5 +1,5 @@
 -- Powers of two up to 256, number by number.
-use Rattle.std.proofs.Common.{◌≡◌, ◌∙◌, ap, refl, ℕ, zero, suc, ◌<◌, ◌≤◌, ◌%◌, Bool, true, cond, arith, inl, inr}
+use Rattle.std.proofs.Common.{◌≡◌, ◌∙◌, ap, refl, ℕ, zero, suc, ◌<◌, ◌≤◌, ◌%◌, Bool, true, cond, arith, inl, inr, rules}
 use Rattle.std.specs.Prelude.{◌&&◌, ◌||◌, ◌==◌, nat_lt}
 use Rattle.std.specs.Int.{is_power_of_two}
 use Rattle.std.proofs.lemmas.Bool.{and_parts, or_cases, eqb-true, ltb-true, cases_lt}
@@ -35,8 +35,7 @@ page_of_power n power most =
     ∙ below page_if_power 257 n all_pages (omega arith)
 
 pub power_divides : (n : ℕ) → is_power_of_two n ≡ true → n ≤ 256 → 256 % n ≡ 0
-power_divides n power most =
-    eqb-true (256 % n) 0 (and_parts (256 % n == 0) (nat_lt n 2 || n % 2 == 0) (page_of_power n power most)).0
+power_divides n power most = search (rules, page_of_power n power most)
 
 pub power_is_even : (n : ℕ) → is_power_of_two n ≡ true → n ≤ 256 → 2 ≤ n → n % 2 ≡ 0
 power_is_even n power most some =

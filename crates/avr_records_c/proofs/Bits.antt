@@ -1,8 +1,8 @@
 -- The bits of a bitmap.
 use Rattle.std.proofs.lemmas.Bool.Decides.{nat_tests}
-use Rattle.std.proofs.Common.{◌≡◌, ap, arith, ℕ, zero, suc, ◌+◌, ◌*◌, ◌<◌, List, get_or, Bool, cond, Option}
+use Rattle.std.proofs.Common.{◌≡◌, ap, arith, ℕ, zero, suc, ◌+◌, ◌*◌, ◌<◌, List, get_or, Option}
 use Rattle.std.specs.Int.{bit_at}
-use Rattle.std.specs.Prelude.{is_some, ◌==◌}
+use Rattle.std.specs.Prelude.{is_some}
 use Rattle.avr_image.specs.Image.{byte_at}
 use Rattle.avr_records_c.specs.Bitmap.{bit, octet, octets, bitmap, is_there}
 
@@ -13,12 +13,9 @@ bit_of : (pick : ℕ → ℕ) (first r : ℕ) → ((i : ℕ) → pick i < 2) →
 bit_of pick first (suc (suc (suc (suc (suc (suc (suc (suc r)))))))) small is l = absurd (omega (arith, l))
 bit_of pick first x small is l = omega arith
 
-bit_small : (image : List (Option ℕ)) (addr : ℕ) → bit image addr < 2
-bit_small image addr = grind (arith, nat_tests)
-
 octet_bit : (image : List (Option ℕ)) (addr r : ℕ) → r < 8 → bit_at (octet image addr) r ≡ bit image (addr + r)
 octet_bit image addr r l =
-    bit_of (λ (i : ℕ). bit image (addr + i)) (bit image addr) r (λ i. bit_small image (addr + i))
+    bit_of (λ (i : ℕ). bit image (addr + i)) (bit image addr) r (λ i. (grind (arith, nat_tests)))
     (ap (bit image) (omega arith)) l
 
 octet_at : (image : List (Option ℕ)) (k n q : ℕ) → q < n → get_or (octets image k n) q 0 ≡ octet image ((k + q) * 8)
@@ -26,9 +23,6 @@ octet_at image k zero q l = absurd (omega (arith, l))
 octet_at image k (suc n) zero l = ap (λ (a : ℕ). octet image (a * 8)) (omega arith)
 octet_at image k (suc n) (suc q) l = grind (arith, nat_tests, octet_at image (k + 1) n q (omega (arith, l)))
 
-one_or_none : (b : Bool) → (cond b 1 0 == 1) ≡ b
-one_or_none x = grind (arith, nat_tests)
-
 pub there_where_held : (image : List (Option ℕ)) (n addr : ℕ) → addr < n * 8
     → is_there (bitmap image n) addr ≡ is_some (byte_at image addr)
-there_where_held image n addr l = grind (arith, nat_tests, octet_at, octet_bit, one_or_none)
+there_where_held image n addr l = grind (arith, nat_tests, octet_at, octet_bit)

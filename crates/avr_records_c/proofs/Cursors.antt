@@ -1,20 +1,19 @@
 -- The numbers of a cursor give back the place of its lines, and pieces joined are the file.
+use Rattle.std.proofs.lemmas.Grind.{common_steps}
 use Rattle.std.proofs.lemmas.Bool.Decides.{nat_tests}
-use Rattle.std.proofs.Common.{◌≡◌, ◌∙◌, ap, ap₂, sym, arith, ℕ, ◌^◌, ◌<◌, min, List, [], ◌∷◌, ◌++◌, length, take, drop, Bool, Option, Some}
+use Rattle.std.proofs.Common.{◌≡◌, ◌∙◌, ap, sym, arith, ℕ, ◌^◌, ◌<◌, min, List, [], ◌∷◌, length, take, drop, Bool, Option, Some, rules}
 use Rattle.std.specs.Prelude.{if◌then◌else◌}
 use Rattle.std.specs.List.{concat}
-use Rattle.std.specs.Option.{option_map, option_and_then}
 use Rattle.std.proofs.lemmas.Bool.{cases_lt}
 use Rattle.std.proofs.lemmas.List.{drop_all, length-take-le, take_all, take-append-le, take-append-drop}
 use Rattle.avr_records.specs.Sparse.{image_text}
 use Rattle.avr_records.specs.Text.{width_of}
-use Rattle.avr_records.specs.Writing.{left, text_from, unless_ended}
+use Rattle.avr_records.specs.Writing.{left, text_from}
 use Rattle.avr_records.specs.declared.address_size.AddressSize.{AddressSize}
-use Rattle.avr_records.specs.declared.address_size.AddressSize.TheVariants.{Two}
 use Rattle.avr_records.specs.declared.cursor.Cursor.{Cursor as Lines}
 use Rattle.avr_records.specs.declared.kind.Kind.{Kind}
-use Rattle.avr_records.specs.declared.kind.Kind.TheVariants.{Ihex, Srec}
-use Rattle.avr_records_c.specs.Cursor.{ended_of, size_in_force, lines_with, cursor_of}
+use Rattle.avr_records.specs.declared.kind.Kind.TheVariants.{Srec}
+use Rattle.avr_records_c.specs.Cursor.{ended_of, size_in_force, cursor_of}
 use Rattle.avr_records_c.specs.Writing.{PieceCall, Wrote, file_left, file_start}
 use Rattle.avr_records_c.specs.declared.cursor.Cursor.{Cursor}
 
@@ -29,27 +28,9 @@ capped : (kind : Kind) (upper : ℕ) (size : AddressSize) (addr : ℕ) (image : 
     → text_from kind upper size (min addr 4294967295) image ≡ text_from kind upper size addr image
 capped kind upper size addr image few = grind (arith, nat_tests, cases_lt, drop_all)
 
-left-with : (kind : Kind) (addr upper gone : ℕ) (size : AddressSize) (ended : Bool) (image : List (Option ℕ))
-    → length image < 2 ^ 32 → file_left kind image
-    (cursor_of (record { kind = kind; addr = addr; upper = upper; address_size = size; ended = ended }) gone)
-    ≡ Some (drop gone (unless_ended ended (text_from kind upper size addr image)))
-left-with Ihex addr upper gone size ended image few =
-    let cursor : Cursor = cursor_of
-    (record { kind = Ihex; addr = addr; upper = upper; address_size = size; ended = ended }) gone in
-    ap (λ (e : Option Bool). option_map (λ (lines : Lines). drop gone (left lines image))
-    (option_and_then (λ (b : Bool). option_map (lines_with Ihex cursor b) (Some Two)) e)) (ended-back ended)
-    ∙ ap (λ (text : List ℕ). Some (drop gone (unless_ended ended text))) (capped Ihex upper size addr image few)
-left-with Srec addr upper gone size ended image few =
-    let cursor : Cursor = cursor_of
-    (record { kind = Srec; addr = addr; upper = upper; address_size = size; ended = ended }) gone in
-    ap₂ (λ (e : Option Bool) (s : Option AddressSize). option_map (λ (lines : Lines). drop gone (left lines image))
-    (option_and_then (λ (b : Bool). option_map (lines_with Srec cursor b) s) e)) (ended-back ended)
-    (size-back size image)
-    ∙ ap (λ (text : List ℕ). Some (drop gone (unless_ended ended text))) (capped Srec upper size addr image few)
-
 pub left_kept : (kind : Kind) (lines : Lines) (gone : ℕ) (image : List (Option ℕ)) → lines.kind ≡ kind
     → length image < 2 ^ 32 → file_left kind image (cursor_of lines gone) ≡ Some (drop gone (left lines image))
-left_kept kind lines gone image is few = grind (arith, nat_tests, left-with)
+left_kept kind lines gone image is few = grind (arith, nat_tests, ended-back, capped, size-back)
 
 -- at the beginning the whole file is left
 pub starts : (kind : Kind) (image : List (Option ℕ)) → file_left kind image file_start ≡ Some (image_text kind image)
@@ -67,11 +48,8 @@ joins kind image cursor (piece ∷ more) text is (next, call, wrote) =
     let n : ℕ = length piece in
     let same : Some call.text ≡ Some text = sym call.left ∙ is in
     let text_is : call.text ≡ text = cc same in
-    ap₂ (λ (xs ys : List ℕ). xs ++ ys) (call-prefix kind image cursor next piece call)
-    (joins kind image next more (drop n call.text) (call.goes.left ∙ ap Some call.goes.puts.left) wrote)
-    ∙ take-append-drop n call.text ∙ text_is
+    grind (arith, common_steps, call-prefix, take-append-drop, joins kind image next more (drop n call.text) (call.goes.left ∙ ap Some call.goes.puts.left) wrote)
 
 pub pieces_join : (kind : Kind) (image : List (Option ℕ)) (pieces : List (List ℕ)) → Wrote kind image file_start pieces
     → concat pieces ≡ image_text kind image
-pieces_join kind image pieces wrote = joins kind image file_start pieces (image_text kind image) (starts kind image)
-    wrote
+pieces_join kind image pieces wrote = search (rules, joins, starts)

@@ -1,31 +1,20 @@
 -- How long a file may be: it has at most two lines for each byte, and an end record.
-use Rattle.std.proofs.Common.{◌≡◌, arith, ℕ, zero, suc, ◌+◌, ◌-◌, ◌*◌, ◌/◌, ◌^◌, ◌<◌, ◌≤◌, ◌==◌, List, [], ◌∷◌, ◌++◌, length, Option, Some, None, inl, inr}
+use Rattle.std.proofs.Common.{◌≡◌, arith, ℕ, zero, suc, ◌+◌, ◌-◌, ◌*◌, ◌/◌, ◌^◌, ◌<◌, ◌≤◌, List, [], ◌∷◌, ◌++◌, length, Option, Some, None, rules}
 use Rattle.std.proofs.lemmas.Bool.{cases_Bool}
 use Rattle.std.proofs.lemmas.Bool.Decides.{nat_tests}
 use Rattle.std.proofs.lemmas.List.{length-append, length-take}
 use Rattle.hex.proofs.HexLemmas.{length-encode_with}
 use Rattle.avr_image.specs.Runs.{runs}
 use Rattle.avr_records.specs.Sparse.{image_text, rows_of}
-use Rattle.avr_records.specs.Text.{rows_behind, two, ihex_record, upper_record, ihex_rows, width_of, low_bytes, srec_record, srec_rows}
+use Rattle.avr_records.specs.Text.{rows_behind, upper_record, ihex_rows, width_of, low_bytes, srec_record, srec_rows}
 use Rattle.avr_records.specs.declared.address_size.AddressSize.{AddressSize}
 use Rattle.avr_records.specs.declared.kind.Kind.{Kind}
-use Rattle.avr_records.specs.declared.kind.Kind.TheVariants.{Ihex, Srec}
 use Rattle.avr_records.proofs.Writers.Pieces.{few_bytes, length_low_bytes}
 
 -- ---- one line
 
-ihex-line : (type offset : ℕ) (bytes : List ℕ) → length (ihex_record type offset bytes) ≡ 2 * length bytes + 12
-ihex-line type offset bytes = grind (arith, nat_tests, length-append, length-encode_with)
-
 upper-line : (old new : ℕ) → length (upper_record old new) ≤ 16
-upper-line old new = elim (cases_Bool (new == old)) [
-  | inl same ↦ rw same (omega arith)
-  | inr other ↦ rw other (omega (arith, ihex-line 4 0 (two new)))
-]
-
-srec-line : (type size addr : ℕ) (bytes : List ℕ)
-    → length (srec_record type (low_bytes size addr ++ bytes)) ≡ 2 * length bytes + 2 * size + 7
-srec-line type size addr bytes = grind (arith, nat_tests, length-append, length-encode_with, length_low_bytes)
+upper-line old new = search (rules, cases_Bool, nat_tests, length-append, length-encode_with)
 
 -- ---- the lines of rows
 
@@ -35,9 +24,9 @@ weight [] = 0
 weight (row ∷ more) = 1 + length row.1 + weight more
 
 ihex-lines : (upper : ℕ) (cut : List (ℕ × List ℕ)) → length (ihex_rows upper cut) ≤ 28 * weight cut + 12
-ihex-lines upper [] = omega (arith, ihex-line 1 0 [])
+ihex-lines upper [] = search (rules, nat_tests, length-append, length-encode_with)
 ihex-lines upper ((addr, bytes) ∷ more) =
-    grind (arith, nat_tests, ihex-lines (addr / 65536) more, length-append, upper-line, ihex-line)
+    search (rules, nat_tests, length-append, upper-line, length-encode_with, ihex-lines (addr / 65536) more)
 
 srec-end : (size : ℕ) → size ≤ 4 → length (srec_record (11 - size) (low_bytes size 0)) ≤ 15
 srec-end size few = grind (arith, nat_tests, length-append, length-encode_with, length_low_bytes)
@@ -45,14 +34,7 @@ srec-end size few = grind (arith, nat_tests, length-append, length-encode_with, 
 srec-lines : (size : AddressSize) (cut : List (ℕ × List ℕ)) → length (srec_rows size cut) ≤ 28 * weight cut + 15
 srec-lines size [] = srec-end (width_of size) (few_bytes size).1
 srec-lines size ((addr, bytes) ∷ more) =
-    let n : ℕ = width_of size in
-    omega (
-      arith,
-      length-append (srec_record (n - 1) (low_bytes n addr ++ bytes)) (srec_rows size more),
-      srec-line (n - 1) n addr bytes,
-      srec-lines size more,
-      (few_bytes size).1,
-    )
+    search (rules, length-append, few_bytes, nat_tests, length-encode_with, length_low_bytes, srec-lines size more)
 
 -- ---- the rows of an image
 
@@ -60,8 +42,7 @@ rows-weight : (taken : ℕ) (size : ℕ → ℕ) (addr : ℕ) (bytes : List ℕ)
     → weight (rows_behind taken size addr bytes) ≤ 2 * (length bytes - taken)
 rows-weight taken size addr [] = omega arith
 rows-weight (suc taken) size addr (b ∷ bytes) = grind (arith, nat_tests, rows-weight taken size (addr + 1) bytes)
-rows-weight zero size addr (b ∷ bytes) =
-    omega (arith, length-take (size addr) (b ∷ bytes), rows-weight (size addr - 1) size (addr + 1) bytes)
+rows-weight zero size addr (b ∷ bytes) = search (rules, length-take, rows-weight (size addr - 1) size (addr + 1) bytes)
 
 weight-append : (first second : List (ℕ × List ℕ)) → weight (first ++ second) ≡ weight first + weight second
 weight-append [] second = omega arith
@@ -81,10 +62,6 @@ cut-weight : (size : ℕ → ℕ) (cut : List (ℕ × List ℕ)) → weight (row
 cut-weight size [] = omega arith
 cut-weight size (run ∷ more) = grind (arith, nat_tests, cut-weight size more, weight-append, rows-weight)
 
-image-weight : (size : ℕ → ℕ) (image : List (Option ℕ)) → weight (rows_of size (runs 0 image)) ≤ 2 * length image
-image-weight size image = grind (arith, nat_tests, cut-weight, runs-held)
-
 pub countable : (kind : Kind) (image : List (Option ℕ)) → length image < 2 ^ 32
     → length (image_text kind image) < 2 ^ 64
-countable Ihex image few = grind (arith, nat_tests, ihex-lines, image-weight)
-countable Srec image few = grind (arith, nat_tests, srec-lines, image-weight)
+countable kind image few = search (rules, nat_tests, ihex-lines, cut-weight, runs-held, srec-lines)

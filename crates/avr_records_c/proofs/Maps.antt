@@ -1,7 +1,7 @@
 -- Bitmaps and images, place by place.
 use Rattle.std.proofs.lemmas.Bool.Decides.{nat_tests}
-use Rattle.std.proofs.Common.{◌≡◌, ◌∙◌, ap, ap₂, refl, arith, ℕ, zero, suc, ◌+◌, ◌*◌, ◌/◌, ◌<◌, ◌≤◌, List, [], ◌∷◌, length, get_or, Option, Some, None}
-use Rattle.avr_image.specs.Image.{byte_at, first_from, run_end}
+use Rattle.std.proofs.Common.{◌≡◌, ◌∙◌, ap, refl, arith, ℕ, zero, suc, ◌+◌, ◌*◌, ◌/◌, ◌<◌, ◌≤◌, List, [], ◌∷◌, length, get_or, Option, Some, None, rules}
+use Rattle.avr_image.specs.Image.{first_from, run_end}
 use Rattle.avr_image.proofs.Lemmas.{next_held, none_held, run_is_longest}
 use Rattle.avr_records_c.specs.Bitmap.{octet, octets, bitmap}
 
@@ -12,8 +12,7 @@ octets_are image k zero [] len each = refl
 octets_are image k (suc n) (x ∷ xs) len each =
     let first : x ≡ octet image (k * 8) = each 0 (omega arith) ∙ ap (λ (a : ℕ). octet image (a * 8)) (omega arith) in
     let rest : xs ≡ octets image (k + 1) n = octets_are image (k + 1) n xs (omega (arith, len))
-    (λ i l. each (suc i) (omega arith) ∙ ap (λ (a : ℕ). octet image (a * 8)) (omega arith)) in
-    ap₂ (λ (y : ℕ) (ys : List ℕ). y ∷ ys) first rest
+    (λ i l. each (suc i) (omega arith) ∙ ap (λ (a : ℕ). octet image (a * 8)) (omega arith)) in search rules
 octets_are image k y z len each = absurd (omega (arith, len))
 
 pub bitmap_is : (image : List (Option ℕ)) (n : ℕ) (xs : List ℕ) → length xs ≡ n
@@ -22,25 +21,16 @@ bitmap_is image n xs len each = grind (arith, nat_tests, octets_are)
 
 -- ---- octets that are all gap, or have none
 
-gap_octet : (image : List (Option ℕ)) (addr : ℕ) → ((k : ℕ) → addr ≤ k → k < addr + 8 → byte_at image k ≡ None)
-    → octet image addr ≡ 0
-gap_octet image addr none = grind (arith, nat_tests)
-
 -- the octets before that of the next byte, and those after the last byte
 pub gap_before : (image : List (Option ℕ)) (from place : ℕ) → first_from image (from * 8) ≡ Some place
     → (i : ℕ) → from ≤ i → i < place / 8 → octet image (i * 8) ≡ 0
-gap_before image from place found i after before =
-    let next = next_held image (from * 8) place found in
-    grind (arith, nat_tests)
+gap_before image from place found i after before = search (rules, next_held image (from * 8) place found)
 
 pub gap_behind : (image : List (Option ℕ)) (from : ℕ) → first_from image (from * 8) ≡ None
     → (i : ℕ) → from ≤ i → octet image (i * 8) ≡ 0
-gap_behind image from none i after =
-    gap_octet image (i * 8) (λ k low high. none_held image (from * 8) none k (omega (arith, low, after)))
+gap_behind image from none i after = search (rules, none_held, nat_tests)
 
 -- the octets of a run
 pub full_inside : (image : List (Option ℕ)) (first end : ℕ) → first * 8 ≤ end
     → (i : ℕ) → first ≤ i → i < run_end image (first * 8) end / 8 → octet image (i * 8) ≡ 255
-full_inside image first end ordered i after before =
-    let run = run_is_longest image (first * 8) end ordered in
-    grind (arith, nat_tests)
+full_inside image first end ordered i after before = search (rules, run_is_longest, nat_tests)

@@ -25,10 +25,6 @@ take-more put count text few =
     ∙ ap (λ (n : ℕ). take (n + count) (prefix ++ drop put text)) (sym (length-take-le put text few))
     ∙ take-append-add prefix (drop put text) count
 
-part-of-line : (gone count : ℕ) (line more : List ℕ) → count ≤ length (drop gone line)
-    → take count (drop gone line) ≡ take count (drop gone (line ++ more))
-part-of-line gone count line more few = grind (arith, nat_tests, cases_lt, drop-append-le, take-append-le, length-drop)
-
 -- a text's next line, and the lines after it
 pub record NextLine (whole : List ℕ) : Type 0 where
   pub line : List ℕ
@@ -62,7 +58,7 @@ more-put text whole room now after put gone count next is fit put_is =
     ∙ drop-append-add prefix (drop put room) count
     ∙ drop-drop count put room in
     let part : take count (drop gone line) ≡ take count (drop put text) =
-    grind (arith, nat_tests, part-of-line) in
+    grind (arith, nat_tests, cases_lt, drop-append-le, take-append-le, length-drop) in
     record {
       fits = omega (arith, fit, long, is.fits);
       most = most;

@@ -1,6 +1,6 @@
 -- What is written of a memory reads back.
 use Rattle.std.proofs.lemmas.Bool.Decides.{nat_tests}
-use Rattle.std.proofs.Common.{◌≡◌, arith, ℕ, zero, suc, ◌<◌, ◌≤◌, ◌^◌, List, [], ◌∷◌, length, Bool, true, false, cond, Some, None}
+use Rattle.std.proofs.Common.{◌≡◌, arith, ℕ, zero, suc, ◌<◌, ◌≤◌, ◌^◌, List, [], ◌∷◌, length, Bool, cond, Some, None, rules}
 use Rattle.avr_image.specs.Image.{HoldsBytes}
 use Rattle.avr_records.specs.Reading.{image_in_text}
 use Rattle.avr_records.specs.declared.kind.Kind.{Kind}
@@ -12,8 +12,7 @@ use Rattle.avr_records_c.specs.Reading.{left_in}
 use Rattle.avr_records_c.specs.RoundTrip.{EachIsByte, written_and_read}
 
 byte_below : (there : Bool) (b byte : ℕ) → b < 256 → cond there (Some b) None ≡ Some byte → byte < 256
-byte_below true b byte small is = let same : b ≡ byte = cc is in omega (arith, same)
-byte_below false b byte small is = absurd (cc is)
+byte_below there b byte small is = search rules
 
 holds : (at : ℕ) (present bytes : List ℕ) → EachIsByte bytes → HoldsBytes (image_from at present bytes)
 holds at present [] small addr byte is = absurd (cc is)

@@ -1,5 +1,5 @@
 -- What the definitions refuse.
-use Rattle.std.proofs.Common.{◌≡◌, ap, refl, arith, ℕ, List, [], ◌∷◌, Option, Some, None, Err, inl, inr}
+use Rattle.std.proofs.Common.{◌≡◌, ap, refl, arith, ℕ, List, [], ◌∷◌, Option, Some, None, Err, rules}
 use Rattle.avr_records.specs.declared.fault.RecordFault.TheVariants.{BadSum}
 use Rattle.avr_records.specs.declared.kind.Kind.TheVariants.{Ihex, Srec}
 use Rattle.avr_records_c.specs.Numbers.{outcome_of_fault, misfit, no_records}
@@ -42,8 +42,7 @@ no_address_of_five_bytes = refl
 
 -- an empty file is good: no call may report a fault of it except a failed allocation, nor an end record
 no_fault_of_nothing : Reads 1 [] [] [] (record { outcome = outcome_of_fault (BadSum 1); bytes = []; present = [] }) → ⊥
-no_fault_of_nothing (inl e) = let same : 4 ≡ 0 = ap (λ (l : Left). l.outcome.fault) e in absurd (omega (arith, same))
-no_fault_of_nothing (inr e) = let same : 4 ≡ 10 = ap (λ (l : Left). l.outcome.fault) e in absurd (omega (arith, same))
+no_fault_of_nothing x0 = search rules
 
 -- a misfit is reported as one
 no_reading_of_a_fourth_kind : Reads 4 [] [] []

@@ -1,6 +1,6 @@
 -- A walk over a memory's bitmap, bit by bit, finds what a walk over its image finds.
 use Rattle.std.proofs.lemmas.Bool.Decides.{nat_tests}
-use Rattle.std.proofs.Common.{◌≡◌, ◌∙◌, ap, sym, refl, arith, ℕ, zero, suc, ◌+◌, ◌-◌, ◌<◌, ◌≤◌, List, [], ◌∷◌, length, take, drop, get_or, true, false, Option, Some, None, is_some, inl, inr, add-zero, min}
+use Rattle.std.proofs.Common.{◌≡◌, ap, sym, refl, arith, ℕ, zero, suc, ◌+◌, ◌-◌, ◌<◌, ◌≤◌, List, [], ◌∷◌, length, take, drop, get_or, true, false, Option, Some, None, is_some, inl, inr, add-zero, min, rules}
 use Rattle.std.proofs.lemmas.Bool.{cases_Bool, cases_lt}
 use Rattle.std.proofs.lemmas.List.{drop_all, drop_more, length-drop, take_min}
 use Rattle.std.specs.List.{position_from}
@@ -20,25 +20,11 @@ drop-image zero addr present bytes = ap (λ (a : ℕ). image_from a present byte
 drop-image (suc k) addr present [] = refl
 drop-image (suc k) addr present (b ∷ bytes) = grind (arith, nat_tests, drop-image k (suc addr) present bytes)
 
-from-here : (k : ℕ) (present bytes : List ℕ) → drop k (image_of present bytes) ≡ image_from k present (drop k bytes)
-from-here k present bytes = grind (arith, nat_tests, drop-image)
-
 -- a byte, if its bit is 1, and what is after it
 next-here : (k : ℕ) (present bytes : List ℕ) → k < length bytes
     → drop k (image_of present bytes)
     ≡ byte_if_there present k (get_or bytes k 0) ∷ drop (k + 1) (image_of present bytes)
-next-here k present bytes inside = grind (arith, nat_tests, from-here, drop_more)
-
-none-past : (k : ℕ) (present bytes : List ℕ) → length bytes ≤ k → drop k (image_of present bytes) ≡ []
-none-past k present bytes past = grind (arith, nat_tests, drop_all, length-image)
-
-there-here : (k : ℕ) (present bytes : List ℕ) → k < length bytes → is_there present k ≡ true
-    → drop k (image_of present bytes) ≡ Some (get_or bytes k 0) ∷ drop (k + 1) (image_of present bytes)
-there-here k present bytes inside there = grind (arith, nat_tests, next-here)
-
-gap-here : (k : ℕ) (present bytes : List ℕ) → k < length bytes → is_there present k ≡ false
-    → drop k (image_of present bytes) ≡ None ∷ drop (k + 1) (image_of present bytes)
-gap-here k present bytes inside gap = grind (arith, nat_tests, next-here)
+next-here k present bytes inside = grind (arith, nat_tests, drop-image, drop_more)
 
 -- ---- the next byte that is there
 
@@ -47,14 +33,14 @@ from k image = position_from is_some k image
 
 pub first-there : (k : ℕ) (present bytes : List ℕ) → k < length bytes → is_there present k ≡ true
     → first_from (image_of present bytes) k ≡ Some k
-first-there k present bytes inside there = ap (from k) (there-here k present bytes inside there)
+first-there k present bytes inside there = search (rules, nat_tests, next-here)
 
 first-gap : (k : ℕ) (present bytes : List ℕ) → k < length bytes → is_there present k ≡ false
     → first_from (image_of present bytes) k ≡ first_from (image_of present bytes) (k + 1)
-first-gap k present bytes inside gap = ap (from k) (gap-here k present bytes inside gap)
+first-gap k present bytes inside gap = search (rules, nat_tests, next-here)
 
 pub first-past : (k : ℕ) (present bytes : List ℕ) → length bytes ≤ k → first_from (image_of present bytes) k ≡ None
-first-past k present bytes past = ap (from k) (none-past k present bytes past)
+first-past k present bytes past = search (rules, nat_tests, drop_all, length-image)
 
 -- a gap of `n` addresses, some of them perhaps past the memory
 pub first-gaps : (n k : ℕ) (present bytes : List ℕ)
@@ -66,8 +52,7 @@ first-gaps (suc n) k present bytes gap =
     (λ at after before. gap at (omega (arith, after)) (omega (arith, before))) in
     let there : k + 1 + n ≡ k + suc n = omega arith in
     let one : first_from (image_of present bytes) k ≡ first_from (image_of present bytes) (k + 1) =
-    grind (arith, nat_tests, cases_lt, first-gap, first-past) in
-    one ∙ rest ∙ ap (λ (at : ℕ). first_from (image_of present bytes) at) there
+    grind (arith, nat_tests, cases_lt, first-gap, first-past) in search rules
 
 -- ---- the bytes before a gap
 
@@ -76,14 +61,14 @@ run k present bytes = length (lead (drop k (image_of present bytes)))
 
 pub run-there : (k : ℕ) (present bytes : List ℕ) → k < length bytes → is_there present k ≡ true
     → run k present bytes ≡ suc (run (k + 1) present bytes)
-run-there k present bytes inside there = grind (arith, nat_tests, there-here)
+run-there k present bytes inside there = grind (arith, nat_tests, next-here)
 
 pub run-gap : (k : ℕ) (present bytes : List ℕ) → k < length bytes → is_there present k ≡ false
     → run k present bytes ≡ 0
-run-gap k present bytes inside gap = grind (arith, nat_tests, gap-here)
+run-gap k present bytes inside gap = grind (arith, nat_tests, next-here)
 
 pub run-past : (k : ℕ) (present bytes : List ℕ) → length bytes ≤ k → run k present bytes ≡ 0
-run-past k present bytes past = grind (arith, nat_tests, none-past)
+run-past k present bytes past = grind (arith, nat_tests, drop_all, length-image)
 
 lead-bytes : (n addr : ℕ) (present bytes : List ℕ) → n ≤ length (lead (image_from addr present bytes))
     → take n bytes ≡ take n (lead (image_from addr present bytes))
@@ -107,4 +92,4 @@ pub record IsRow (addr most end : ℕ) (present bytes : List ℕ) : Type 0 where
 pub row-is : (addr most end : ℕ) (present bytes : List ℕ) → addr ≤ length bytes
     → end ≡ addr + min most (run addr present bytes) → IsRow addr most end present bytes
 row-is addr most end present bytes inside is =
-    grind (arith, nat_tests, from-here, lead-long, length-drop, lead-bytes, take_min)
+    grind (arith, nat_tests, drop-image, lead-long, length-drop, lead-bytes, take_min)

@@ -1,15 +1,13 @@
 -- Images that are equal are one.
 use Rattle.std.proofs.lemmas.Bool.Decides.{nat_tests}
-use Rattle.std.proofs.Common.{arith, ◌≡◌, refl, ℕ, Bool, List, Option, Some, None, nat_eq, IsTrue, ◌↔◌}
+use Rattle.std.proofs.Common.{◌≡◌, ℕ, Bool, List, Option, nat_eq, IsTrue, ◌↔◌, rules}
 use Rattle.std.specs.Option.{option_eq}
 use Rattle.std.specs.Bool.{Decides, one_answer}
 use Rattle.std.specs.Cmp.Lexicographic.{pointwise_decides}
 use Rattle.avr_image.specs.Image.{is_same}
 
 byte_decides : (first second : Option ℕ) → Decides (option_eq nat_eq first second) (first ≡ second)
-byte_decides None None = (λ e. refl, λ e. refl)
-byte_decides (Some a) (Some b) = grind (arith, nat_tests)
-byte_decides x y = (λ e. cc e, λ e. cc e)
+byte_decides first second = search (rules, nat_tests)
 
 pub same_decides : (first second : List (Option ℕ)) → Decides (is_same first second) (first ≡ second)
 same_decides = pointwise_decides byte_decides

@@ -4,7 +4,6 @@ use lib.Count.{trailing_of_zero}
 use Rattle.std.specs.Int.{bit_at, trailing_zeros}
 use Rattle.std.proofs.lemmas.Nat.{and_le_l}
 use Rattle.std.proofs.lemmas.Nat.Bits.{bit_at_and, bit_at_or, bit_at-lt, bit_at-zero, bit_at_not, bit_at_mask_inside, bit_at_mask_below, bit_at_ones, bit_at_ones_above, ones_shl, ones_shr, bit_at-trailing_zeros}
-use Rattle.std.proofs.lemmas.List.{get_or-set_same, get_or-set_other}
 use Rattle.std.proofs.lemmas.Bool.{cases_eq, cases_lt}
 use Rattle.std.proofs.lemmas.Bool.Decides.{nat_tests}
 use Rattle.avr_image.specs.Present.{is_present, is_within, NextOne, FirstPlace}
@@ -35,7 +34,7 @@ next_of_none n from f e = record {
 
 next_of_some : (n from r : ℕ) → from < 64 → r < 64 → bit_at (above n from) r ≡ 1
     → ((i : ℕ) → i < r → bit_at (above n from) i ≡ 0) → NextOne n from r
-next_of_some n from r f l here before = grind (arith, nat_tests, cases_lt, above_low, above_is)
+next_of_some n from r f l here before = grind (arith, nat_tests, above_low, above_is)
 
 pub next_is : (n from : ℕ) → n < 2 ^ 64 → from < 64 → NextOne n from (trailing_zeros w64 (above n from))
 next_is n from fits f = elim (cases_eq (above n from) 0) [
@@ -48,7 +47,7 @@ next_is n from fits f = elim (cases_eq (above n from) 0) [
 
 -- the other bits
 pub other_bit : (n i : ℕ) → n < 2 ^ 64 → i < 64 → eqb (bit_at (2 ^ 64 - 1 - n) i) 1 ≡ not (eqb (bit_at n i) 1)
-other_bit n i fits l = grind (arith, nat_tests, bit_at_not w64 n i fits l, cases_eq (bit_at n i) 1, bit_at-lt n i)
+other_bit n i fits l = grind (arith, nat_tests, bit_at_not w64 n i fits l)
 
 -- a run of ones
 pub ones_are : (low high i : ℕ) → low < 64 → high ≤ 64 → i < 64
@@ -65,14 +64,14 @@ ones_are low high i a b l =
       | inl below ↦
           let none : bit_at left i ≡ 0 = rw left_is (bit_at_mask_below low 64 i below) in
           let zero_bit : bit_at (bit_and left right) i ≡ 0 = omega (arith, both, none) in
-          let test : nat_le low i ≡ false = grind (arith, nat_tests, below) in
+          let test : nat_le low i ≡ false = grind (arith, nat_tests) in
           rw (zero_bit, test) refl
       | inr from ↦ elim (cases_lt i high) [
         | inl inside ↦
             let one_left : bit_at left i ≡ 1 = rw left_is (bit_at_mask_inside low 64 i from l) in
             let one_right : bit_at right i ≡ 1 = rw right_is (bit_at_ones high i inside) in
             let one_bit : bit_at (bit_and left right) i ≡ 1 = omega (arith, both, one_left, one_right) in
-            let first : nat_le low i ≡ true = grind (arith, nat_tests, from) in
+            let first : nat_le low i ≡ true = grind (arith, nat_tests) in
             let second : nat_lt i high ≡ true = grind (arith, nat_tests, inside) in
             rw (one_bit, first, second) refl
         | inr past ↦
@@ -83,13 +82,13 @@ ones_are low high i a b l =
 
 -- a bit of two words laid over each other
 one_of_two : (a b i : ℕ) → eqb (bit_at (bit_or a b) i) 1 ≡ (eqb (bit_at b i) 1 || eqb (bit_at a i) 1)
-one_of_two a b i = grind (arith, nat_tests, bit_at_or, bit_at-lt, cases_eq, bit_or)
+one_of_two a b i = grind (arith, nat_tests, bit_at_or)
 
 pub within_yes : (from end k : ℕ) → from ≤ k → k < end → is_within from end k ≡ true
 within_yes from end k a b = grind (arith, nat_tests)
 
 pub within_low : (from end k : ℕ) → k < from → is_within from end k ≡ false
-within_low from end k a = let first : nat_le from k ≡ false = grind (arith, nat_tests, a) in rw first refl
+within_low from end k a = let first : nat_le from k ≡ false = grind (arith, nat_tests) in rw first refl
 
 pub within_high : (from end k : ℕ) → end ≤ k → is_within from end k ≡ false
 within_high from end k b = grind (arith, nat_tests)
@@ -104,8 +103,7 @@ pub span_word : (words : List ℕ) (at stop bits k : ℕ) → at < stop → stop
     → ((i : ℕ) → i < 64 → eqb (bit_at bits i) 1 ≡ is_within (at % 64) (stop - at / 64 * 64) i)
     → is_present (set words (at / 64) (bit_or (get_or words (at / 64) 0) bits)) k
     ≡ (is_within at stop k || is_present words k)
-span_word words at stop bits k l room within ones =
-    search (rules, cases_eq, get_or-set_same, in_word, one_of_two, get_or-set_other, cases_lt, within_low, within_high)
+span_word words at stop bits k l room within ones = search (rules, in_word, one_of_two)
 
 -- two spans, the one after the other
 pub spans_join : (from at stop k : ℕ) (b : Bool) → from ≤ at → at ≤ stop

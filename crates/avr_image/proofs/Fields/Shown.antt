@@ -2,9 +2,9 @@
 use Rattle.std.proofs.lemmas.Bool.Decides.{nat_tests}
 use Rattle.std.proofs.Common.{◌≡◌, ◌≢◌, ◌∙◌, sym, ap, ap₂, refl, arith, ℕ, suc, zero, ◌+◌, ◌*◌, ◌/◌, ◌%◌, ◌^◌, ◌<◌, ◌≤◌, List, [], ◌∷◌, length, get_or, set, Bool, true, false, Option, Some, None, replicate, bit_or, is_some, inl, inr, nat_lt, w64, min, take, drop, ◌++◌, ◌-◌, rules}
 use Rattle.std.proofs.Math.ListN.{get_or-eq_default}
-use Rattle.std.proofs.lemmas.Bool.{cases_eq, cases_lt, cases_Bool, lt-ltb, le-ltb}
+use Rattle.std.proofs.lemmas.Bool.{cases_eq, cases_lt, lt-ltb, le-ltb}
 use Rattle.std.proofs.lemmas.List.{get_or-set_same, get_or-set_other, length-set, length-drop, length-take, get_or-take, get_or-drop, drop_all}
-use Rattle.std.proofs.lemmas.Nat.Bits.{bit_at_set_same, bit_at_set_other, bit_at-zero}
+use Rattle.std.proofs.lemmas.Nat.Bits.{bit_at_set_same, bit_at_set_other}
 use Rattle.std.proofs.lemmas.List.Sums.{prefix_len_is}
 use Rattle.std.specs.List.{list_any, position_from, prefix_len}
 use Rattle.std.proofs.lemmas.List.Folds.{list_any_at}
@@ -23,8 +23,7 @@ pub get_or-shown_from : (k : ℕ) (words bytes : List ℕ) (i : ℕ) → i < len
     → get_or (shown_from k words bytes) i None ≡ shown_byte words (k + i) (get_or bytes i 0)
 get_or-shown_from k words [] i l = absurd (omega (arith, l))
 get_or-shown_from k words (b ∷ bs) zero l = ap (λ (n : ℕ). shown_byte words n b) (omega arith)
-get_or-shown_from k words (b ∷ bs) (suc i) l =
-    grind (arith, nat_tests, get_or-shown_from (suc k) words bs i (omega (arith, l)))
+get_or-shown_from k words (b ∷ bs) (suc i) l = search (rules, get_or-shown_from (suc k) words bs i (omega (arith, l)))
 
 pub byte_at-shown : (words bytes : List ℕ) (i : ℕ) → i < length bytes
     → byte_at (dense_image words bytes) i ≡ shown_byte words i (get_or bytes i 0)
@@ -56,8 +55,7 @@ filled_is image start (suc n) (y ∷ ys) len each =
     let first : y ≡ or_blank (byte_at image start) =
     each 0 (omega arith) ∙ ap (λ (k : ℕ). or_blank (byte_at image k)) (omega arith) in
     let rest : ys ≡ filled_bytes image (start + 1) n = filled_is image (start + 1) n ys (omega (arith, len))
-    (λ i l. each (suc i) (omega (arith, l)) ∙ ap (λ (k : ℕ). or_blank (byte_at image k)) (omega arith)) in
-    ap₂ (λ (z : ℕ) (zs : List ℕ). z ∷ zs) first rest
+    (λ i l. each (suc i) (omega (arith, l)) ∙ ap (λ (k : ℕ). or_blank (byte_at image k)) (omega arith)) in search rules
 filled_is image start x z len each = absurd (omega (arith, len))
 
 pub get_or-zeros : (n i : ℕ) → ◌≡◌ {A = ℕ} (get_or {A = ℕ} (replicate {A = ℕ} n 0) i 0) 0
@@ -66,8 +64,7 @@ get_or-zeros x y = refl
 
 pub shown_from-zeros : (k n m b : ℕ) → shown_from k (replicate m 0) (replicate n b) ≡ replicate n None
 shown_from-zeros k zero m b = refl
-shown_from-zeros k (suc n) m b =
-    grind (arith, nat_tests, shown_from-zeros (suc k) n m b, replicate, get_or-zeros, bit_at-zero)
+shown_from-zeros k (suc n) m b = search (rules, nat_tests, get_or-zeros, shown_from-zeros (suc k) n m b)
 
 pub present-same : (words : List ℕ) (a : ℕ) → a / 64 < length words → is_present (with_mark words a) a ≡ true
 present-same words a within =
@@ -98,16 +95,7 @@ shown-marked words bytes a b l within =
     same_items _ _ (len-left ∙ sym len-right) (λ i j.
     let in-bytes : i < length bytes = omega (arith, j, len-right) in
     let left = byte_at-shown (with_mark words a) (set bytes a b) i (omega (arith, in-bytes, length-set bytes a b)) in
-    search (
-      rules,
-      cases_eq,
-      present-same,
-      get_or-set_same,
-      length_shown,
-      present-other,
-      get_or-set_other,
-      byte_at-shown,
-    ))
+    search (rules, present-same, length_shown, present-other, get_or-set_other, byte_at-shown))
 
 pub sized : (words bytes : List ℕ) {image : List (Option ℕ)} → dense_image words bytes ≡ image
     → length image ≡ length bytes
@@ -137,29 +125,20 @@ pub blank-marked : (words bytes : List ℕ) (a b : ℕ) → a < length bytes →
     → ((i : ℕ) → i < length bytes → is_present words i ≡ false → get_or bytes i 0 ≡ 255)
     → (i : ℕ) → i < length (set bytes a b) → is_present (with_mark words a) i ≡ false → get_or (set bytes a b) i 0 ≡ 255
 blank-marked words bytes a b l within blank i j none =
-    grind (arith, nat_tests, cases_eq, present-same, get_or-set_other, length-set, present-other)
+    grind (arith, nat_tests, present-same, get_or-set_other, length-set, present-other)
 
 -- a stored byte is what `fill` writes for its address
 pub kept_byte : (words bytes : List ℕ) {image : List (Option ℕ)} (a : ℕ) → dense_image words bytes ≡ image
     → ((i : ℕ) → i < length bytes → is_present words i ≡ false → get_or bytes i 0 ≡ 255)
     → get_or bytes a 255 ≡ or_blank (byte_at image a)
-kept_byte words bytes {image} a seen blank = search (
-  rules,
-  cases_lt,
-  byte_at-shown,
-  cases_Bool,
-  same_default,
-  past,
-  get_or-eq_default,
-  byte_at-past,
-  length_shown,
-)
+kept_byte words bytes {image} a seen blank =
+    search (rules, byte_at-shown, same_default, past, get_or-eq_default, byte_at-past, length_shown)
 
 -- the presence of a byte is its bit
 pub presence : (words bytes : List ℕ) {image : List (Option ℕ)} (a : ℕ) → dense_image words bytes ≡ image
     → a < length bytes
     → is_some (byte_at image a) ≡ is_present words a
-presence words bytes {image} a seen l = grind (arith, nat_tests, cases_Bool, byte_at-shown)
+presence words bytes {image} a seen l = grind (arith, nat_tests, byte_at-shown)
 
 -- a run of places of a list, found by its first and its last
 position-at : {X : Type 0} (p : X → Bool) (xs : List X) (i n : ℕ) (d : X) → n < length xs
@@ -168,8 +147,7 @@ position-at p [] i n d l before here = absurd (omega (arith, l))
 position-at p (x ∷ xs) i zero d l before here = rw here (ap (λ (k : ℕ). Some k) (omega arith))
 position-at p (x ∷ xs) i (suc n) d l before here =
     let first : p x ≡ false = before 0 (omega arith) in
-    rw first (position-at p xs (i + 1) n d (omega (arith, l)) (λ k j. before (suc k) (omega (arith, j))) here
-    ∙ ap (λ (k : ℕ). Some k) (omega arith))
+    search (rules, position-at p xs (i + 1) n d (omega (arith, l)) (λ k j. before (suc k) (omega (arith, j))) here)
 
 position-none : {X : Type 0} (p : X → Bool) (xs : List X) (i : ℕ) (d : X)
     → ((k : ℕ) → k < length xs → p (get_or xs k d) ≡ false) → position_from p i xs ≡ None
@@ -224,16 +202,8 @@ any_is words bytes {image} start count from end place seen from_is end_is found 
     elim (cases_lt place end) [
       | inl l ↦
           let there : start + (place - start) ≡ place = omega (arith, found.after, from_is, end_is, l) in
-          let inside : place - start < count = omega (arith, found.after, from_is, end_is, l) in
-          let within : start + (place - start) < length bytes = omega (arith, found.after, from_is, end_is, l) in
-          rw (lt-ltb place end l) (sym (list_any_at is_some row (place - start) None
-          (omega (arith, row_len, left, size, inside, within))
-          (held (place - start) inside within ∙ ap (is_present words) there ∙ found.here l)))
-      | inr past ↦ rw (le-ltb place end past) (sym (none_held row (λ k j.
-          let few : k < count = omega (arith, row_len, j) in
-          let within : start + k < length bytes = omega (arith, row_len, left, size, j) in
-          held k few within
-          ∙ found.others (start + k) (omega (arith, from_is)) (omega (arith, from_is, end_is, past, few, within)))))
+          rw (lt-ltb place end l) (sym (search (rules, list_any_at)))
+      | inr past ↦ rw (le-ltb place end past) (sym (none_held row (search rules)))
     ]
 
 -- the end of a run
@@ -252,14 +222,10 @@ run_is words bytes {image} addr end place seen found l =
     ∙ presence words bytes (addr + k) seen (omega (arith, j, found.bound))
     ∙ found.others (addr + k) (omega arith) (omega (arith, j)))
     (λ j. let rest : addr + (place - addr) ≡ place = omega (arith, found.after) in
-    search (rules, presence)) in
-    omega (arith, count, found.after)
-
-none_taken : (n : ℕ) → prefix_len is_some (take {A = Option ℕ} n []) ≡ 0
-none_taken x = grind (arith, nat_tests)
+    search (rules, presence)) in search rules
 
 pub no_run_past : (image : List (Option ℕ)) (addr end : ℕ) → length image ≤ addr → addr ≡ run_end image addr end
-no_run_past image addr end l = grind (arith, nat_tests, drop_all, none_taken)
+no_run_past image addr end l = grind (arith, nat_tests, drop_all)
 
 -- all stored bytes are what `fill` writes for all addresses
 pub kept_whole : (words bytes : List ℕ) {image : List (Option ℕ)} → dense_image words bytes ≡ image
@@ -276,7 +242,7 @@ kept_whole words bytes {image} seen blank =
 pub holds_bytes : (words bytes : List ℕ) {image : List (Option ℕ)} → dense_image words bytes ≡ image
     → ((i : ℕ) → get_or bytes i 0 < 256) → HoldsBytes image
 holds_bytes words bytes {image} seen small addr byte is =
-    grind (arith, nat_tests, cases_lt, byte_at-shown, cases_Bool, past, byte_at-past, sized)
+    grind (arith, nat_tests, byte_at-shown, past, byte_at-past, sized)
 
 -- ---- bytes stay bytes
 

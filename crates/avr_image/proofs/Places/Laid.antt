@@ -1,5 +1,5 @@
 -- Bytes laid down at addresses: place by place, in parts, and as a span.
-use Rattle.std.proofs.Common.{rules, append_assoc, ◌≡◌, ◌≢◌, ◌∙◌, sym, ap, ap₂, refl, arith, ℕ, suc, zero, ◌+◌, ◌-◌, ◌<◌, ◌≤◌, List, [], ◌∷◌, ◌++◌, length, get_or, set, drop, replicate, Bool, true, false, cond, ◌||◌, Option, Some, None, inl, inr, ◌⊎◌}
+use Rattle.std.proofs.Common.{rules, append_assoc, ◌≡◌, ◌≢◌, ◌∙◌, sym, ap, ap₂, refl, arith, ℕ, suc, zero, ◌+◌, ◌-◌, ◌<◌, ◌≤◌, List, [], ◌∷◌, ◌++◌, length, get_or, set, Bool, true, false, cond, ◌||◌, Option, Some, None, inl, inr, ◌⊎◌}
 use Rattle.std.proofs.lemmas.Bool.{cases_lt}
 use Rattle.std.proofs.lemmas.List.{get_or-set_same, get_or-set_other, length-set, length-drop, length-take, length-append, length-replicate, get_or_append_left, get_or-append_right, get_or-take, get_or-drop, length-map, map-append, set_at, append-nil}
 use Rattle.std.proofs.lemmas.Bool.Decides.{nat_tests}
@@ -69,26 +69,24 @@ pub span_low : (image : List (Option ℕ)) (addr : ℕ) (span : List ℕ) (i : �
     → byte_at (laid_over image (enumerate_from addr span)) i ≡ byte_at image i
 span_low image addr [] i l = refl
 span_low image addr (b ∷ span) i l =
-    search (rules, arith, span_low (set image addr (Some b)) (addr + 1) span i (omega (arith, l)), get_or-set_other)
+    search (rules, arith, span_low (set image addr (Some b)) (addr + 1) span i (omega (arith, l)))
 
 pub span_high : (image : List (Option ℕ)) (addr : ℕ) (span : List ℕ) (i : ℕ) → addr + length span ≤ i
     → byte_at (laid_over image (enumerate_from addr span)) i ≡ byte_at image i
 span_high image addr [] i l = refl
 span_high image addr (b ∷ span) i l =
-    let other : i ≢ addr = omega (arith, l) in
-    span_high (set image addr (Some b)) (addr + 1) span i (omega (arith, l))
-    ∙ get_or-set_other image addr i (Some b) None other
+    search (rules, span_high (set image addr (Some b)) (addr + 1) span i (omega (arith, l)))
 
 pub span_in : (image : List (Option ℕ)) (addr : ℕ) (span : List ℕ) (j : ℕ) → j < length span
     → addr + length span ≤ length image
     → byte_at (laid_over image (enumerate_from addr span)) (addr + j) ≡ Some (get_or span j 0)
 span_in image addr [] j l room = absurd (omega (arith, l))
-span_in image addr (b ∷ span) zero l room = grind (arith, nat_tests, span_low, set, get_or-set_same)
+span_in image addr (b ∷ span) zero l room = grind (arith, nat_tests, span_low, get_or-set_same)
 span_in image addr (b ∷ span) (suc j) l room =
-    let next : addr + suc j ≡ addr + 1 + j = omega arith in
-    ap (λ (n : ℕ). byte_at (laid_over (set image addr (Some b)) (enumerate_from (addr + 1) span)) n) next
-    ∙ span_in (set image addr (Some b)) (addr + 1) span j (omega (arith, l))
-    (omega (arith, room, length-set image addr (Some b)))
+    search (
+      rules,
+      span_in (set image addr (Some b)) (addr + 1) span j (omega (arith, l)) (omega (arith, room, length-set image addr (Some b))),
+    )
 
 -- ---- a byte, place by place
 
@@ -110,18 +108,14 @@ pasted_low : (start : ℕ) (span bytes : List ℕ) (i : ℕ) → start + length 
     → get_or (with_span start span bytes) i 0 ≡ get_or bytes i 0
 pasted_low start span bytes i room l = grind (arith, nat_tests, get_or_append_left, length-take, get_or-take)
 
-pasted_rest : (start : ℕ) (span bytes : List ℕ) (i : ℕ) → start + length span ≤ length bytes → start ≤ i
-    → get_or (with_span start span bytes) i 0 ≡ get_or (span ++ drop (start + length span) bytes) (i - start) 0
-pasted_rest start span bytes i room l = grind (arith, nat_tests, get_or-append_right, length-take)
-
 pasted_in : (start : ℕ) (span bytes : List ℕ) (i : ℕ) → start + length span ≤ length bytes → start ≤ i
     → i < start + length span
     → get_or (with_span start span bytes) i 0 ≡ get_or span (i - start) 0
-pasted_in start span bytes i room a b = grind (arith, nat_tests, pasted_rest, get_or_append_left)
+pasted_in start span bytes i room a b = grind (arith, nat_tests, get_or-append_right, length-take, get_or_append_left)
 
 pasted_high : (start : ℕ) (span bytes : List ℕ) (i : ℕ) → start + length span ≤ length bytes → start + length span ≤ i
     → get_or (with_span start span bytes) i 0 ≡ get_or bytes i 0
-pasted_high start span bytes i room l = grind (arith, nat_tests, pasted_rest, get_or-append_right, get_or-drop)
+pasted_high start span bytes i room l = grind (arith, nat_tests, length-take, get_or-append_right, get_or-drop)
 
 -- the bits of a span are those of its bytes
 pub shown-pasted : (words words' bytes span : List ℕ) (addr : ℕ) → addr + length span ≤ length bytes
@@ -143,14 +137,12 @@ shown-pasted words words' bytes span addr room bits =
           ∙ sym (byte_at-shown words bytes i inside) ∙ sym (span_low (dense_image words bytes) addr span i low)
       | inr from ↦ elim (cases_lt i (addr + length span)) [
         | inl within ↦
-            let bit : is_present words' i ≡ true = search (rules, within_yes) in
+            let bit : is_present words' i ≡ true = search rules in
             let there : addr + (i - addr) ≡ i = omega (arith, from) in
             see ∙ ap₂ (λ (b : Bool) (n : ℕ). cond b (Some n) None) bit (pasted_in addr span bytes i room from within)
             ∙ sym (search (rules, span_in))
             ∙ ap (λ (n : ℕ). byte_at (laid_over (dense_image words bytes) (enumerate_from addr span)) n) there
         | inr past ↦
-            let bit : is_present words' i ≡ is_present words i =
-            bits i ∙ rw (within_high addr (addr + length span) i past) refl in
             search (rules, pasted_high, byte_at-shown, span_high)
       ]
     ])
@@ -160,25 +152,22 @@ pub kept-pasted : (words words' bytes span : List ℕ) (addr : ℕ) → addr + l
     → length words' ≡ length words
     → ((i : ℕ) → get_or span i 0 < 256) → IsKept words bytes → IsKept words' (with_span addr span bytes)
 kept-pasted words words' bytes span addr room bits same small kept =
-    search (rules, length-pasted, small-pasted, cases_lt, within_low, pasted_low, within_yes, within_high, pasted_high)
+    search (rules, length-pasted, small-pasted, pasted_low, within_yes, within_high, pasted_high)
 
 -- ---- whether a span fits
 
 pub fits_yes : (addr : ℕ) (bytes : List ℕ) (size : ℕ) → addr + length bytes ≤ size → fits addr bytes size ≡ true
-fits_yes addr [] size l = refl
-fits_yes addr (b ∷ bytes) size l = let n = length (b ∷ bytes) in grind (arith, nat_tests, l)
+fits_yes addr bytes size l = search (rules, nat_tests)
 
 pub fits_no : (addr : ℕ) (bytes : List ℕ) (size : ℕ) → 0 < length bytes → size < addr + length bytes
     → fits addr bytes size ≡ false
-fits_no addr [] size some l = absurd (omega (arith, some))
-fits_no addr (b ∷ bytes) size some l = let n = length (b ∷ bytes) in grind (arith, nat_tests, l)
+fits_no addr bytes size some l = search (rules, nat_tests)
 
 -- ---- bytes from address 0 on
 
 pub from_zero-next : (text : List ℕ) (byte size : ℕ) → length text < size
     → set (from_zero text size) (length text) (Some byte) ≡ from_zero (text ++ byte ∷ []) size
-from_zero-next text byte size l =
-    grind (arith, nat_tests, length-map, length-append, set, replicate, set_at, append_assoc, map-append)
+from_zero-next text byte size l = grind (arith, nat_tests, length-map, length-append, set_at, append_assoc, map-append)
 
 pub from_zero-laid : (text span : List ℕ) (size addr : ℕ) → addr ≡ length text → length text + length span ≤ size
     → laid_over (from_zero text size) (enumerate_from addr span) ≡ from_zero (text ++ span) size
@@ -197,14 +186,8 @@ pub from_zero-span : (text : List ℕ) (size : ℕ) → length text ≤ size
 from_zero-span text size l = grind (arith, nat_tests, from_zero-laid [] text size 0 refl (omega (arith, l)))
 
 pub length-from_zero : (text : List ℕ) (size : ℕ) → length text ≤ size → length (from_zero text size) ≡ size
-length-from_zero text size l = grind (arith, nat_tests, length-append, replicate, length-map, length-replicate)
-
-pub fits_within : (addr : ℕ) (bytes : List ℕ) (size : ℕ) → fits addr bytes size ≡ true → addr ≤ size
-    → addr + length bytes ≤ size
-fits_within addr [] size test l = omega (arith, l)
-fits_within addr (b ∷ bytes) size test l = let n = length (b ∷ bytes) in grind (arith, nat_tests, test)
+length-from_zero text size l = grind (arith, nat_tests, length-append, length-map, length-replicate)
 
 pub fits_some : (addr : ℕ) (bytes : List ℕ) (size : ℕ) → fits addr bytes size ≡ true
     → (bytes ≡ []) ⊎ (addr + length bytes ≤ size)
-fits_some addr [] size test = inl refl
-fits_some addr (b ∷ bytes) size test = let n = length (b ∷ bytes) in inr (grind (arith, nat_tests, test))
+fits_some addr bytes size test = search (rules, nat_tests)

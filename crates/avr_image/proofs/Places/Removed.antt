@@ -40,16 +40,7 @@ shown-removed words bytes a l within =
     let in-bytes : i < length bytes = omega (arith, j, len-right) in
     let left = byte_at-shown (without_mark words a) (set bytes a 255) i
     (omega (arith, in-bytes, length-set bytes a 255)) in
-    search (
-      rules,
-      cases_eq,
-      cleared-same,
-      get_or-set_same,
-      length_shown,
-      cleared-other,
-      get_or-set_other,
-      byte_at-shown,
-    ))
+    search (rules, cleared-same, length_shown, cleared-other, get_or-set_other, byte_at-shown))
 
 -- when a byte is taken away, FF is at addresses without a byte
 pub blank-removed : (words bytes : List ℕ) (a : ℕ) → a < length bytes → a / 64 < length words
@@ -57,7 +48,7 @@ pub blank-removed : (words bytes : List ℕ) (a : ℕ) → a < length bytes → 
     → (i : ℕ) → i < length (set bytes a 255) → is_present (without_mark words a) i ≡ false
     → get_or (set bytes a 255) i 0 ≡ 255
 blank-removed words bytes a l within blank i j none =
-    grind (arith, nat_tests, cases_eq, get_or-set_same, get_or-set_other, length-set, cleared-other)
+    grind (arith, nat_tests, get_or-set_same, get_or-set_other, length-set, cleared-other)
 
 -- outside the memory nothing is taken away
 pub removed-past : (image : List (Option ℕ)) (a : ℕ) → length image ≤ a → image ≡ set image a None

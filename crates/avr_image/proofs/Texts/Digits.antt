@@ -1,8 +1,8 @@
 -- Digits, as the code reads and writes them.
-use Rattle.std.proofs.Common.{◌≡◌, ◌∙◌, sym, ap, ap₂, refl, arith, add-one, ℕ, suc, zero, ◌+◌, ◌*◌, ◌/◌, ◌%◌, ◌^◌, ◌<◌, ◌≤◌, List, [], ◌∷◌, length, get_or, set, drop, min, true, false, cond, eqb, nat_lt, ◌≢◌, rules}
+use Rattle.std.proofs.lemmas.Grind.{common_steps}
+use Rattle.std.proofs.Common.{◌≡◌, ◌∙◌, sym, ap, refl, arith, ℕ, suc, ◌+◌, ◌*◌, ◌/◌, ◌%◌, ◌^◌, ◌<◌, ◌≤◌, List, [], ◌∷◌, length, get_or, set, drop, min, true, false, cond, eqb, nat_lt, ◌≢◌, rules}
 use Rattle.std.proofs.lemmas.Bool.Decides.{nat_tests}
 use Rattle.std.proofs.lemmas.List.{drop_more, drop_all, drop-set}
-use Rattle.std.proofs.Math.Nat.{mul-le-mul_left, pow-suc}
 use Rattle.std.specs.List.{list_all}
 use Rattle.std.specs.Fmt.{digits_onto, digits, digit_glyph}
 use Rattle.std.specs.Char.{digit_value}
@@ -40,12 +40,10 @@ pub written-step : (radix rest at next glyph : ℕ) (buffer : List ℕ) → at �
     ≡ cond (eqb (rest / radix) 0) (drop next (set buffer next glyph))
     (digits_onto (56 + next) radix false (rest / radix) (drop next (set buffer next glyph)))
 written-step radix rest at next glyph buffer step l here =
-    let fuel : 56 + at ≡ suc (56 + next) = omega (arith, step) in
-    search (rules, drop-set)
+    let fuel : 56 + at ≡ suc (56 + next) = omega (arith, step) in search (rules, drop-set)
 
 pub digit_left : (radix rest at next : ℕ) → 2 ≤ radix → at ≡ next + 1 → rest < 2 ^ at → rest / radix < 2 ^ next
-digit_left radix rest at next low step l =
-    grind (arith, nat_tests, add-one next, pow-suc 2 next, mul-le-mul_left (2 ^ next) low)
+digit_left radix rest at next low step l = grind (arith, common_steps, nat_tests)
 
 -- the digits of a byte below `at` are still to be written, and the others are in place from there on
 pub record IsWritten (radix byte rest at : ℕ) (buffer : List ℕ) : Type 0 where
@@ -54,34 +52,26 @@ pub record IsWritten (radix byte rest at : ℕ) (buffer : List ℕ) : Type 0 whe
 pub none_written : (radix byte at : ℕ) (buffer : List ℕ) → at ≡ 8 → length buffer ≡ 8
     → IsWritten radix byte byte at buffer
 unfolding digits
-none_written radix byte at buffer start size = record {
-  joined =
-      let fuel : 56 + at ≡ 64 = omega (arith, start) in
-      let none : drop at buffer ≡ [] = drop_all at buffer (omega (arith, start, size)) in
-      ap₂ (λ (k : ℕ) (more : List ℕ). digits_onto k radix false byte more) fuel none;
-}
+none_written radix byte at buffer start size = search (rules, drop_all, buffer, start, size)
 
 pub more_written : (radix byte rest at next glyph : ℕ) (buffer : List ℕ) → IsWritten radix byte rest at buffer
     → at ≡ next + 1 → next < length buffer → glyph ≡ digit_glyph false (rest % radix) → eqb (rest / radix) 0 ≡ false
     → IsWritten radix byte (rest / radix) next (set buffer next glyph)
 more_written radix byte rest at next glyph buffer before step l here left =
-    let e = written-step radix rest at next glyph buffer step l here in
-    record { joined = rw left at (sym e ∙ before.joined) }
+    let e = written-step radix rest at next glyph buffer step l here in search rules
 
 pub all_written : (radix byte rest at next glyph : ℕ) (buffer : List ℕ) → IsWritten radix byte rest at buffer
     → at ≡ next + 1 → next < length buffer → glyph ≡ digit_glyph false (rest % radix) → eqb (rest / radix) 0 ≡ true
     → drop next (set buffer next glyph) ≡ digits radix false byte
 all_written radix byte rest at next glyph buffer before step l here last =
-    let e = written-step radix rest at next glyph buffer step l here in
-    rw last at (sym e ∙ before.joined)
+    let e = written-step radix rest at next glyph buffer step l here in search rules
 
 pub lt_test : (a b : ℕ) → a < b → nat_lt a b ≡ true
-lt_test a b l = grind (arith, nat_tests, l)
+lt_test a b l = grind (arith, nat_tests)
 
 pub ne_test : (a b : ℕ) → a ≢ b → eqb a b ≡ false
-ne_test a b n = grind (arith, nat_tests, n)
+ne_test a b n = grind (arith, nat_tests)
 
 -- a number other than 0 needs a digit
 pub digit_more : (n places : ℕ) → n ≢ 0 → n < 2 ^ places → 0 < places
-digit_more n zero some l = absurd (some (omega (arith, l)))
-digit_more n (suc places) some l = omega arith
+digit_more n places some l = search rules

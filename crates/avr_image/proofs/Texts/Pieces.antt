@@ -1,6 +1,7 @@
 -- A text that is put together, or written, piece by piece.
+use Rattle.std.proofs.lemmas.Grind.{common_steps}
 use Rattle.std.proofs.lemmas.Bool.Decides.{nat_tests}
-use Rattle.std.proofs.Common.{◌≡◌, refl, subst, arith, ℕ, List, [], ◌++◌, length, append_assoc, Option}
+use Rattle.std.proofs.Common.{◌≡◌, refl, arith, ℕ, List, [], ◌++◌, length, append_assoc, Option}
 use Rattle.std.proofs.KnownBytes.{Appends-nil, Appends-trans}
 use Rattle.std.proofs.lemmas.List.{append-nil, length-append, nil_from_length}
 use Rattle.std.specs.Io.KnownBytes.{Appends}
@@ -36,8 +37,7 @@ piece_written old now new piece before left whole written split more = record {
 
 pub all_written : (old now : Option (List ℕ)) (left whole : List ℕ) → Written old now left whole → length left ≡ 0
     → Appends old now whole
-all_written old now left whole written none =
-    subst (Appends old now) (is_whole written.prefix left whole written.split none) written.appended
+all_written old now left whole written none = grind (arith, common_steps)
 
 -- what the loops that join or write pieces need
 pub ruleset joins = (goes_on, is_whole, none_left)

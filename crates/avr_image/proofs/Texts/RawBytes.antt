@@ -1,17 +1,12 @@
 -- A raw reader takes a piece.
 use Rattle.std.proofs.lemmas.Bool.Decides.{nat_tests}
-use Rattle.std.proofs.Common.{◌≡◌, refl, arith, ℕ, ◌+◌, ◌++◌, List, length, Bool, true, false, cond, Option, Result, Ok, Err}
+use Rattle.std.proofs.Common.{◌≡◌, arith, ℕ, ◌+◌, ◌++◌, List, length, Bool, cond, Option, Result, Ok, Err}
 use Rattle.std.proofs.lemmas.List.{length-append}
 use Rattle.std.specs.List.{enumerate_from}
 use Rattle.avr_image.specs.Image.{laid_over, fits}
 use Rattle.avr_image.specs.Raw.{HoldsText}
 use Rattle.avr_image.specs.declared.fault.ImageFault.{ImageFault}
-use Rattle.avr_image.proofs.Places.Laid.{from_zero-laid, fits_within, length-laid_over}
-
-pub ok_chosen : (b : Bool) (n end : ℕ) (fault : ImageFault)
-    → ◌≡◌ {A = Result ℕ ImageFault} (Ok end) (cond b (Ok n) (Err fault)) → (b ≡ true) × (end ≡ n)
-ok_chosen true n end fault e = (refl, cc)
-ok_chosen false n end fault e = cc
+use Rattle.avr_image.proofs.Places.Laid.{from_zero-laid, length-laid_over}
 
 pub stands-fed : (image after : List (Option ℕ)) (fed end : ℕ) (failed : Bool) (text piece : List ℕ)
     (fault : ImageFault)
@@ -21,4 +16,4 @@ pub stands-fed : (image after : List (Option ℕ)) (fed end : ℕ) (failed : Boo
     → after ≡ laid_over image (enumerate_from fed piece)
     → HoldsText (record { image = after; fed = end; failed = failed }) (text ++ piece)
 stands-fed image after fed end failed text piece fault stands judged laid =
-    grind (arith, nat_tests, ok_chosen, fits_within, length-laid_over, length-append, from_zero-laid)
+    grind (arith, nat_tests, length-laid_over, length-append, from_zero-laid)

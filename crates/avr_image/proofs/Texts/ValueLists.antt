@@ -6,7 +6,7 @@ use Rattle.std.proofs.lemmas.Bool.{cases_eq}
 use Rattle.std.proofs.lemmas.Bool.Decides.{nat_tests}
 use Rattle.avr_image.specs.Lists.{number_text, list_line}
 use Rattle.avr_image.specs.Image.{from_zero}
-use Rattle.avr_image.specs.Values.{is_separator, fitting, fitting_value, value_of, all_ok, pieces, values}
+use Rattle.avr_image.specs.Values.{is_separator, fitting_value, value_of, all_ok, pieces, values}
 use Rattle.avr_image.specs.declared.list.Base.{Base}
 use Rattle.avr_image.specs.declared.list.Base.TheVariants.{Dec, Hex, Oct, Bin}
 use Rattle.avr_image.specs.declared.fault.ImageFault.TheVariants.{BadNumber}
@@ -30,8 +30,7 @@ all_below zero test = true
 all_below (suc n) test = test n && all_below n test
 
 both : (a b : Bool) → (a && b) ≡ true → (a ≡ true) × (b ≡ true)
-both true b e = (refl, e)
-both false b e = absurd (cc e)
+both a b e = search rules
 
 below : (n k : ℕ) (test : ℕ → Bool) → all_below n test ≡ true → k < n → test k ≡ true
 below zero k test all l = absurd (omega (arith, l))
@@ -62,13 +61,8 @@ good Hex n l = below 256 n (is_good Hex) all_hexadecimal l
 good Oct n l = below 256 n (is_good Oct) all_octal l
 good Bin n l = below 256 n (is_good Bin) all_binary l
 
-value_is : (read : Option ℕ) (n : ℕ) → is_value read n ≡ true → read ≡ Some n
-value_is None n e = absurd (cc e)
-value_is (Some m) n e = grind (arith, nat_tests)
-
 read_back : (base : Base) (n : ℕ) → n < 256 → value_of (number_text base n) ≡ Some n
-read_back base n l = value_is (value_of (number_text base n)) n
-    (both (is_value (value_of (number_text base n)) n) (is_solid (number_text base n)) (good base n l)).0
+read_back base n l = search (rules, good base n l)
 
 solid : (base : Base) (n : ℕ) → n < 256 → is_solid (number_text base n) ≡ true
 solid base n l = (both (is_value (value_of (number_text base n)) n) (is_solid (number_text base n)) (good base n l)).1
@@ -76,8 +70,7 @@ solid base n l = (both (is_value (value_of (number_text base n)) n) (is_solid (n
 -- ---- the pieces of a list
 
 not_true : (b : Bool) → not b ≡ true → b ≡ false
-not_true true e = absurd (cc e)
-not_true false e = refl
+not_true b e = search rules
 
 split-clean : (text : List ℕ) → list_all (λ c. not (is_separator c)) text ≡ true
     → slice_split is_separator text ≡ text ∷ []
@@ -109,29 +102,19 @@ split-line base b (next ∷ bytes) l all =
 none-empty : (base : Base) (bytes : List ℕ) → AreBytes bytes
     → filter (λ piece. nat_lt 0 (length piece)) (map (number_text base) bytes) ≡ map (number_text base) bytes
 none-empty base [] all = refl
-none-empty base (b ∷ bytes) all =
-    let some : nat_lt 0 (length (number_text base b)) ≡ true =
-    (both (nat_lt 0 (length (number_text base b))) _ (solid base b all.0)).0 in
-    rw some (ap (λ (more : List (List ℕ)). number_text base b ∷ more) (none-empty base bytes all.1))
+none-empty base (b ∷ bytes) all = search (rules, solid base b all.0, none-empty base bytes all.1)
 
 pieces-line : (base : Base) (b : ℕ) (bytes : List ℕ) → b < 256 → AreBytes bytes
     → pieces (list_line base (b ∷ bytes)) ≡ map (number_text base) (b ∷ bytes)
-pieces-line base b bytes l all =
-    search (rules, split-line, none-empty)
+pieces-line base b bytes l all = search (rules, split-line, none-empty)
 
 -- ---- their values
-
-fitting-good : (size addr n : ℕ) → addr < size → n < 256 → fitting size addr (Some n) ≡ Ok n
-fitting-good size addr n low l = grind (arith, nat_tests)
 
 all-good : (base : Base) (size addr : ℕ) (bytes : List ℕ) → AreBytes bytes → addr + length bytes ≤ size
     → all_ok (map (fitting_value size) (enumerate_from addr (map (number_text base) bytes))) ≡ Ok bytes
 all-good base size addr [] all room = refl
 all-good base size addr (b ∷ bytes) all room =
-    let first : fitting_value size (addr, number_text base b) ≡ Ok b =
-    ap (fitting size addr) (read_back base b all.0) ∙ fitting-good size addr b (omega (arith, room)) all.0 in
-    let rest = all-good base size (addr + 1) bytes all.1 (omega (arith, room)) in
-    rw (first, rest) refl
+    search (rules, read_back, nat_tests, all-good base size (addr + 1) bytes all.1 (omega (arith, room)))
 
 are_bytes : (bytes : List ℕ) → ((k d : ℕ) → k < length bytes → get_or bytes k d < 256) → AreBytes bytes
 are_bytes [] all = tt
@@ -145,8 +128,7 @@ list-reads-back base (b ∷ bytes) size some room all =
     let are = are_bytes (b ∷ bytes) all in
     let cut = pieces-line base b bytes are.0 are.1 in
     let judged_are = all-good base size 0 (b ∷ bytes) are (omega (arith, room)) in
-    let some : eqb (length (map (number_text base) (b ∷ bytes))) 0 ≡ false = grind (arith, nat_tests) in
-    rw (cut, judged_are, some) refl
+    let some : eqb (length (map (number_text base) (b ∷ bytes))) 0 ≡ false = grind (arith, nat_tests) in search rules
 
 pub none-reads-back : (base : Base) (size : ℕ) → values (list_line base []) size ≡ Err (BadNumber 1)
 none-reads-back base size = refl

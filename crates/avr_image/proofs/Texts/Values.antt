@@ -1,5 +1,6 @@
 -- Values laid down one after another are the values of the text.
-use Rattle.std.proofs.Common.{◌≡◌, ◌∙◌, sym, ap, refl, arith, ℕ, suc, zero, ◌+◌, ◌<◌, ◌≤◌, List, [], ◌∷◌, ◌++◌, length, map, filter, take, drop, replicate, eqb, Bool, false, cond, nat_lt, Option, Some, None, Result, Ok, Err, inl, inr, rules}
+use Rattle.std.proofs.lemmas.Grind.{common_steps}
+use Rattle.std.proofs.Common.{◌≡◌, ◌∙◌, sym, ap, refl, arith, ℕ, suc, zero, ◌+◌, ◌<◌, ◌≤◌, List, [], ◌∷◌, ◌++◌, length, map, filter, take, drop, replicate, eqb, Bool, cond, nat_lt, Option, None, Result, Ok, Err, inl, inr, rules}
 use Rattle.std.proofs.lemmas.List.{length-append, append_assoc, append-nil, length-take}
 use Rattle.std.proofs.lemmas.Bool.{cases_Bool}
 use Rattle.std.proofs.lemmas.List.Sums.{prefix_len-le-length}
@@ -9,7 +10,6 @@ use Rattle.avr_image.specs.Image.{empty, from_zero}
 use Rattle.avr_image.specs.Values.{is_separator, fitting, fitting_value, value_of, all_ok, onto_ok, image_of_bytes, pieces, values}
 use Rattle.avr_image.specs.Placing.{with_value, with_piece}
 use Rattle.avr_image.specs.declared.fault.ImageFault.{ImageFault}
-use Rattle.avr_image.proofs.Texts.Digits.{ne_test, lt_test}
 use Rattle.avr_image.proofs.Places.Laid.{from_zero-next, length-from_zero}
 
 -- what follows an image, if it came
@@ -31,18 +31,12 @@ before bytes (Err fault) = Err fault
 abbrev ok_of : List ℕ → Result (List ℕ) ImageFault
 ok_of xs = Ok xs
 
-before-onto : (bytes : List ℕ) (byte : ℕ) (rest : Result (List ℕ) ImageFault)
-    → before (bytes ++ byte ∷ []) rest ≡ before bytes (onto_ok (Ok byte) rest)
-before-onto bytes byte (Ok more) = ap ok_of (append_assoc bytes (byte ∷ []) more)
-before-onto bytes byte (Err fault) = refl
-
 pub before-none : (rest : Result (List ℕ) ImageFault) → before [] rest ≡ rest
 before-none x = grind (arith, nat_tests)
 
 -- a good value has an address below the size
 fitting_below : (size addr : ℕ) (value : Option ℕ) (byte : ℕ) → fitting size addr value ≡ Ok byte → addr < size
-fitting_below size addr None byte e = cc
-fitting_below size addr (Some value) byte e = grind (arith, nat_tests)
+fitting_below size addr value byte e = search (rules, nat_tests)
 
 with_next : (bytes : List ℕ) (size addr : ℕ) (parts : List (List ℕ)) (rest : Result (List ℕ) ImageFault)
     (r : Result ℕ ImageFault)
@@ -51,10 +45,7 @@ with_next : (bytes : List ℕ) (size addr : ℕ) (parts : List (List ℕ)) (rest
     ≡ image_of_bytes size (before (bytes ++ byte ∷ []) rest))
     → then_on (with_value (from_zero bytes size) addr r) (λ next. with_pieces next (addr + 1) parts)
     ≡ image_of_bytes size (before bytes (onto_ok r rest))
-with_next bytes size addr parts rest (Err fault) below here more = refl
-with_next bytes size addr parts rest (Ok byte) below here more =
-    let low : addr < size = below byte refl in
-    search (rules, from_zero-next, before-onto)
+with_next bytes size addr parts rest r below here more = search (rules, from_zero-next, append_assoc)
 
 pub with_pieces_is : (bytes : List ℕ) (size addr : ℕ) (parts : List (List ℕ)) → addr ≡ length bytes
     → length bytes ≤ size
@@ -77,16 +68,10 @@ values_of_some : (size : ℕ) (parts : List (List ℕ)) (one : Result (List (Opt
 values_of_some size [] one some = absurd (omega (arith, some))
 values_of_some size (piece ∷ parts) one some =
     let none : from_zero [] size ≡ empty size = ap (λ (n : ℕ). replicate {A = Option ℕ} n None) (omega arith) in
-    let more : eqb (length (piece ∷ parts)) 0 ≡ false = ne_test (length (piece ∷ parts)) 0 (omega (arith, some)) in
     let whole : image_of_bytes size (all_ok (map (fitting_value size) (enumerate_from 0 (piece ∷ parts))))
     ≡ with_pieces (empty size) 0 (piece ∷ parts) =
     ap (image_of_bytes size) (sym (before-none _)) ∙ sym (with_pieces_is [] size 0 (piece ∷ parts) refl (omega arith))
-    ∙ ap (λ (image : List (Option ℕ)). with_pieces image 0 (piece ∷ parts)) none in
-    search rules
-
-pub values_are : (text : List ℕ) (size : ℕ) → 0 < length (pieces text)
-    → values text size ≡ with_pieces (empty size) 0 (pieces text)
-values_are text size some = values_of_some size (pieces text) _ some
+    ∙ ap (λ (image : List (Option ℕ)). with_pieces image 0 (piece ∷ parts)) none in search rules
 
 -- ---- the first piece
 
@@ -106,8 +91,7 @@ prefix p (x ∷ xs) = elim (cases_Bool (p x)) [
 ]
 
 pub no_pieces : (xs : List ℕ) → length xs ≡ 0 → pieces xs ≡ []
-no_pieces [] none = refl
-no_pieces (x ∷ xs) none = absurd (omega (arith, none))
+no_pieces xs none = grind (arith, common_steps)
 
 pieces_tails : (xs : List ℕ) (n : ℕ) → n ≡ position_or_len is_separator xs
     → filter (λ piece. nat_lt 0 (length piece)) (tails is_separator (drop n xs)) ≡ pieces (drop n xs)
@@ -124,8 +108,7 @@ pieces_tails (x ∷ xs) n here = elim (cases_Bool (is_separator x)) [
 
 pub pieces_prefix : (xs : List ℕ) (n : ℕ) → n ≡ position_or_len is_separator xs → 0 < n
     → pieces xs ≡ take n xs ∷ pieces (drop n xs)
-pieces_prefix xs n here some =
-    grind (arith, nat_tests, prefix_len-le-length, length-take, nat_lt, lt_test, filter, prefix, pieces_tails)
+pieces_prefix xs n here some = grind (arith, nat_tests, prefix_len-le-length, length-take, filter, prefix, pieces_tails)
 
 -- one more piece, with a fault or without
 pub piece_bad : (image : List (Option ℕ)) (addr : ℕ) (piece : List ℕ) (more : List (List ℕ)) (fault : ImageFault)
@@ -140,4 +123,4 @@ piece_good image addr piece more next e = grind (arith, nat_tests)
 pub values_from : (text : List ℕ) (image : List (Option ℕ)) (answer : Result (List (Option ℕ)) ImageFault)
     → image ≡ empty (length image)
     → 0 < length (pieces text) → with_pieces image 0 (pieces text) ≡ answer → values text (length image) ≡ answer
-values_from text image answer none some e = grind (arith, nat_tests, values_are)
+values_from text image answer none some e = grind (arith, nat_tests, values_of_some)

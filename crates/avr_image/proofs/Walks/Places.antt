@@ -1,17 +1,16 @@
 -- The walks over an image return what their definitions give, place by place.
 use Rattle.std.proofs.lemmas.Bool.Decides.{nat_tests}
-use Rattle.std.proofs.Common.{◌≡◌, ◌∙◌, ap, refl, arith, ℕ, suc, zero, ◌+◌, ◌-◌, ◌<◌, ◌≤◌, List, [], ◌∷◌, length, get_or, take, drop, Bool, true, false, Option, Some, None, is_some, inl, inr, rules}
+use Rattle.std.proofs.Common.{◌≡◌, ◌∙◌, refl, arith, ℕ, suc, zero, ◌+◌, ◌-◌, ◌<◌, ◌≤◌, List, [], ◌∷◌, length, get_or, take, drop, Bool, true, false, Option, Some, None, is_some, inl, inr, rules}
 use Rattle.std.proofs.lemmas.Bool.{cases_Bool, cases_lt}
 use Rattle.std.proofs.lemmas.List.{length-drop, length-take, get_or-drop, get_or-take}
 use Rattle.std.proofs.lemmas.List.Sums.{prefix_len-le-length, prefix_len_passes, prefix_len_stops}
-use Rattle.std.specs.List.{position_from, prefix_len}
-use Rattle.avr_image.specs.Image.{byte_at, first_from, run_end, filled_bytes, or_blank}
+use Rattle.std.specs.List.{position_from}
+use Rattle.avr_image.specs.Image.{byte_at, first_from, run_end, filled_bytes}
 use Rattle.avr_image.specs.Walk.{IsNextHeld, IsByteRun, IsFilled}
 use Rattle.avr_image.proofs.Fields.Shown.{byte_at-past}
 
 none_is : (byte : Option ℕ) → is_some byte ≡ false → byte ≡ None
-none_is None e = refl
-none_is (Some n) e = cc
+none_is byte e = search rules
 
 -- the place that a search gives
 record Found {X : Type 0} (p : X → Bool) (xs : List X) (d : X) (place : ℕ) : Type 0 where
@@ -73,9 +72,7 @@ none_held image addr e k a = elim (cases_lt k (length image)) [
 pub run_ends : (image : List (Option ℕ)) (addr end : ℕ) → addr ≤ end → IsByteRun image addr end (run_end image addr end)
 run_ends image addr end room =
     let row = take (end - addr) (drop addr image) in
-    let len = prefix_len is_some row in
     let row_len = length-take (end - addr) (drop addr image) in
-    let left = length-drop addr image in
     let fits = prefix_len-le-length is_some row in
     let at : (k : ℕ) → k < end - addr → get_or row k None ≡ byte_at image (addr + k) =
     λ k j. get_or-take (end - addr) (drop addr image) k None j ∙ get_or-drop addr image k None in
@@ -85,16 +82,9 @@ run_ends image addr end room =
       held = λ k a l.
           let there : addr + (k - addr) ≡ k = omega (arith, a) in
           search (rules, prefix_len_passes);
-      stop = search (rules, cases_lt, none_is, prefix_len_stops, byte_at-past);
+      stop = search (rules, prefix_len_stops, byte_at-past);
     }
 
 pub is_filled : (image : List (Option ℕ)) (start n : ℕ) → IsFilled image start n (filled_bytes image start n)
 is_filled image start zero = record { size = refl; byte = λ i l. absurd (omega (arith, l)) }
-is_filled image start (suc n) =
-    let rest = is_filled image (start + 1) n in
-    record { size = ap suc rest.size; byte = one rest }
-  where
-    one : IsFilled image (start + 1) n (filled_bytes image (start + 1) n) → (i : ℕ) → i < suc n
-        → get_or (filled_bytes image start (suc n)) i 0 ≡ or_blank (byte_at image (start + i))
-    one rest zero l = ap (λ (k : ℕ). or_blank (byte_at image k)) (omega arith)
-    one rest (suc i) l = rest.byte i (omega (arith, l)) ∙ ap (λ (k : ℕ). or_blank (byte_at image k)) (omega arith)
+is_filled image start (suc n) = search (rules, is_filled image (start + 1) n)

@@ -1,11 +1,11 @@
 -- The runs of an image, and a walk over them.
+use Rattle.std.proofs.lemmas.Grind.{common_steps}
 use Rattle.std.specs.List.{position_from, prefix_len, flat_map, slice_range}
-use Rattle.std.proofs.lemmas.Bool.{cases_lt}
 use Rattle.std.proofs.lemmas.List.{take_all, append_assoc, drop-drop, get_or-drop, length-drop, length-append, set_at}
-use Rattle.std.proofs.Common.{◌≡◌, ◌∙◌, sym, ap, ap₂, refl, arith, ℕ, zero, suc, ◌+◌, ◌-◌, ◌<◌, ◌≤◌, ◌==◌, Bool, true, false, cond, not, List, [], ◌∷◌, ◌++◌, length, take, drop, fold, min, Option, Some, None, is_some, inl, inr, add-zero, All, ◌⊎◌, rules}
+use Rattle.std.proofs.Common.{◌≡◌, ◌∙◌, sym, ap, ap₂, refl, arith, ℕ, zero, suc, ◌+◌, ◌-◌, ◌<◌, ◌≤◌, ◌==◌, Bool, cond, not, List, [], ◌∷◌, ◌++◌, length, take, drop, fold, min, Option, Some, None, is_some, inl, inr, add-zero, All, ◌⊎◌, rules}
 use Rattle.std.proofs.lemmas.List.Recursion.{is_count_by}
 use Rattle.std.proofs.lemmas.Bool.Decides.{nat_tests}
-use Rattle.avr_image.specs.Image.{empty, byte_at, with_byte, first_from, run_end, filled_bytes, or_blank, image_of_pairs, laid_over, over, byte_count}
+use Rattle.avr_image.specs.Image.{empty, byte_at, with_byte, first_from, run_end, filled_bytes, image_of_pairs, laid_over, over, byte_count}
 use Rattle.avr_image.specs.Runs.{onto_runs, runs, lead, places_of}
 use Rattle.avr_image.proofs.Places.Laid.{laid_over_laid}
 use Rattle.avr_image.specs.Walk.{IsLongestRun}
@@ -19,23 +19,13 @@ abbrev Begins : ℕ → List (ℕ × List ℕ) → Type 0
 Begins addr [] = Unit {0}
 Begins addr (run ∷ more) = addr ≤ run.0
 
-begins-down : (addr : ℕ) (cut : List (ℕ × List ℕ)) → Begins (addr + 1) cut → Begins addr cut
-begins-down addr [] at = tt
-begins-down addr (run ∷ more) at = omega (arith, at)
-
 begins-onto : (addr b : ℕ) (cut : List (ℕ × List ℕ)) → Begins addr (onto_runs addr b cut)
-begins-onto addr b [] = omega arith
-begins-onto addr b ((next, bytes) ∷ more) = grind (arith, nat_tests)
+begins-onto addr b cut = search (rules, nat_tests)
 
 runs-begin : (addr : ℕ) (image : List (Option ℕ)) → Begins addr (runs addr image)
 runs-begin addr [] = tt
-runs-begin addr (None ∷ image) = begins-down addr (runs (addr + 1) image) (runs-begin (addr + 1) image)
+runs-begin addr (None ∷ image) = search (rules, runs-begin (addr + 1) image)
 runs-begin addr (Some b ∷ image) = begins-onto addr b (runs (addr + 1) image)
-
-onto-apart : (addr b : ℕ) (cut : List (ℕ × List ℕ)) → Begins (addr + 1 + 1) cut
-    → onto_runs addr b cut ≡ (addr, b ∷ []) ∷ cut
-onto-apart addr b [] at = refl
-onto-apart addr b ((next, bytes) ∷ more) at = grind (arith, nat_tests)
 
 abbrev after : List (Option ℕ) → List (Option ℕ)
 after image = drop (length (lead image)) image
@@ -43,14 +33,12 @@ after image = drop (length (lead image)) image
 runs-lead : (addr b : ℕ) (image : List (Option ℕ))
     → runs addr (Some b ∷ image) ≡ (addr, b ∷ lead image) ∷ runs (addr + 1 + length (lead image)) (after image)
 runs-lead addr b [] = refl
-runs-lead addr b (None ∷ image) = grind (arith, nat_tests, onto-apart, runs-begin, add-zero)
+runs-lead addr b (None ∷ image) = grind (arith, nat_tests, runs-begin)
 runs-lead addr b (Some c ∷ image) = grind (arith, nat_tests, runs-lead (addr + 1) c image)
 
 pub runs-first : (image : List (Option ℕ)) (addr : ℕ) → 0 < length (lead image)
     → runs addr image ≡ (addr, lead image) ∷ runs (addr + length (lead image)) (drop (length (lead image)) image)
-runs-first (Some b ∷ image) addr some =
-    search (rules, runs-lead)
-runs-first x addr some = absurd (omega (arith, some))
+runs-first image addr some = search (rules, runs-lead)
 
 -- ---- as the walk finds them
 
@@ -70,8 +58,7 @@ walk-next : (addr place : ℕ) (image : List (Option ℕ)) → position_from is_
 walk-next addr place [] is = absurd (cc is)
 walk-next addr place (None ∷ image) is =
     let more = walk-next (addr + 1) place image is in
-    let one : place - addr ≡ suc (place - (addr + 1)) = omega (arith, more.from) in
-    search rules
+    let one : place - addr ≡ suc (place - (addr + 1)) = omega (arith, more.from) in search rules
 walk-next addr place (Some b ∷ image) is = grind (arith, nat_tests)
 
 -- in the whole image
@@ -81,20 +68,17 @@ runs-none image addr none = walk-none addr (drop addr image) none
 found-there : (image : List (Option ℕ)) (addr place : ℕ) → first_from image addr ≡ Some place
     → drop (place - addr) (drop addr image) ≡ drop place image
 found-there image addr place found =
-    let next = walk-next addr place (drop addr image) found in
-    drop-drop (place - addr) addr image ∙ ap (λ (k : ℕ). drop k image) (omega (arith, next.from))
+    search (rules, walk-next addr place (drop addr image) found, drop-drop (place - addr) addr image)
 
 pub runs-next : (image : List (Option ℕ)) (addr place : ℕ) → first_from image addr ≡ Some place
     → runs addr (drop addr image) ≡ runs place (drop place image)
 runs-next image addr place found =
-    let next = walk-next addr place (drop addr image) found in
-    next.same ∙ ap (runs place) (found-there image addr place found)
+    search (rules, walk-next addr place (drop addr image) found, found-there image addr place found)
 
 pub lead-some : (image : List (Option ℕ)) (addr place : ℕ) → first_from image addr ≡ Some place
     → 0 < length (lead (drop place image))
 lead-some image addr place found =
-    let next = walk-next addr place (drop addr image) found in
-    rw (← found-there image addr place found) next.some
+    search (rules, walk-next addr place (drop addr image) found, found-there image addr place found)
 
 drop-next : (image xs : List (Option ℕ)) (place : ℕ) (x : Option ℕ) → drop place image ≡ x ∷ xs
     → drop (place + 1) image ≡ xs
@@ -107,14 +91,7 @@ filled-lead image (Some b ∷ xs) (suc n) place is l =
     let here : byte_at image place ≡ Some b =
     ap (byte_at image) (sym (add-zero place)) ∙ sym (get_or-drop place image 0 None)
     ∙ ap (λ (zs : List (Option ℕ)). byte_at zs 0) is in
-    search (
-      rules,
-      drop-next,
-      filled-lead image xs n (place + 1) (drop-next image xs place (Some b) is) (omega (
-        arith,
-        l,
-      )),
-    )
+    search (rules, filled-lead image xs n (place + 1) (drop-next image xs place (Some b) is) (omega (arith, l)))
 filled-lead image x (suc n) place is l = absurd (omega (arith, l))
 
 prefix-lead : (k : ℕ) (image : List (Option ℕ)) → prefix_len is_some (take k image) ≡ min k (length (lead image))
@@ -146,10 +123,7 @@ laid-held prefix [] addr at = refl
 laid-held prefix (None ∷ image) addr at =
     let gap : List (Option ℕ) = None ∷ [] in
     let next : length (prefix ++ gap) ≡ addr + 1 = length-append prefix gap ∙ omega (arith, at) in
-    ap (λ (whole : List (Option ℕ)). fold put whole (held_places (addr + 1) image))
-    (sym (append_assoc prefix (None ∷ []) (empty (length image))))
-    ∙ laid-held (prefix ++ None ∷ []) image (addr + 1) next
-    ∙ append_assoc prefix (None ∷ []) image
+    search (rules, append_assoc, laid-held (prefix ++ None ∷ []) image (addr + 1) next)
 laid-held prefix (Some b ∷ image) addr at =
     let next : length (prefix ++ Some b ∷ []) ≡ addr + 1 = length-append prefix (Some b ∷ []) ∙ omega (arith, at) in
     ap (λ (whole : List (Option ℕ)). fold put whole (held_places (addr + 1) image))
@@ -237,8 +211,7 @@ EndBy size (run ∷ more) = (run.0 + length run.1 ≤ size) × EndBy size more
 pub runs-end : (size addr : ℕ) (image : List (Option ℕ)) → addr + length image ≤ size → EndBy size (runs addr image)
 runs-end size addr [] room = tt
 runs-end size addr (None ∷ image) room = runs-end size (addr + 1) image (omega (arith, room))
-runs-end size addr (Some b ∷ image) room =
-    grind (arith, nat_tests, runs-end size (addr + 1) image (omega (arith, room)))
+runs-end size addr (Some b ∷ image) room = search (rules, runs-end size (addr + 1) image (omega (arith, room)))
 
 pub runs-inside : (image : List (Option ℕ)) → All (λ run. run.0 + length run.1 ≤ length image) (runs 0 image)
 runs-inside image = each (runs 0 image) (runs-end (length image) 0 image (omega arith))
@@ -251,8 +224,7 @@ runs-inside image = each (runs 0 image) (runs-end (length image) 0 image (omega 
 -- an image laid over one of its size, run by run
 pub runs-over : (image other : List (Option ℕ)) → length other ≡ length image
     → laid_over image (flat_map places_of (runs 0 other)) ≡ over image other
-runs-over image other same =
-    search (rules, runs-hold, laid_over_laid, laid-image)
+runs-over image other same = search (rules, runs-hold, laid_over_laid, laid-image)
 
 -- ---- no byte at all
 
@@ -274,15 +246,9 @@ some-held addr place (Some b ∷ image) some = count-least 1 image
 
 pub empty-held : (image : List (Option ℕ)) (found : Option ℕ) (none : Bool) → found ≡ first_from image 0
     → is_some found ≡ not none → none ≡ (byte_count image == 0)
-empty-held image None true is told = grind (arith, nat_tests, none-held)
-empty-held image (Some place) false is told = grind (arith, nat_tests, some-held)
-empty-held image x y is told = absurd (cc told)
+empty-held image found none is told = search (rules, nat_tests, none-held, some-held)
 
 -- ---- the runs are the longest
-
-gives_byte : (byte : Option ℕ) → is_some byte ≡ true → byte ≡ Some (or_blank byte)
-gives_byte None some = absurd (cc some)
-gives_byte (Some b) some = refl
 
 longest_run : (addr place end : ℕ) (image : List (Option ℕ)) → (addr ≡ 0) ⊎ (byte_at image addr ≡ None)
     → first_from image addr ≡ Some place
@@ -290,37 +256,27 @@ longest_run : (addr place end : ℕ) (image : List (Option ℕ)) → (addr ≡ 0
     → IsLongestRun image (place, slice_range (filled_bytes image 0 (length image)) place end)
 longest_run addr place end image gap found is =
     let next = next_held image addr place found in
-    search (rules, next_run, run_ends, range-filled, is_filled, gives_byte, cases_lt, byte_at-past)
+    search (rules, run_ends, range-filled, is_filled, byte_at-past)
 
 none-behind : (addr place end : ℕ) (image : List (Option ℕ))
     → IsLongestRun image (place, slice_range (filled_bytes image 0 (length image)) place end)
     → place < end → end ≤ length image → byte_at image end ≡ None
 none-behind addr place end image longest rises within = grind (arith, nat_tests, range-filled, length-filled)
 
-all-cons : {X : Type 0} (P : X → Type 0) (x : X) (xs : List X) → P x → All P xs → All P (x ∷ xs)
-all-cons P x xs first rest zero d l = first
-all-cons P x xs first rest (suc k) d l = rest k d (omega (arith, l))
-
 longest-from : (n addr : ℕ) (image : List (Option ℕ)) → length image ≤ addr + n
     → (addr ≡ 0) ⊎ (byte_at image addr ≡ None)
     → (found : Option ℕ) → first_from image addr ≡ found → All (IsLongestRun image) (runs addr (drop addr image))
-longest-from n addr image room gap None found =
-    rw (runs-none image addr found) (λ k d l. absurd (omega (arith, l)))
-longest-from zero addr image room gap (Some place) found =
-    let next = next_held image addr place found in
-    absurd (omega (arith, next.after, next.within, room))
+longest-from n addr image room gap None found = search (rules, runs-none)
+longest-from zero addr image room gap (Some place) found = grind (arith, common_steps)
 longest-from (suc n) addr image room gap (Some place) found =
     let end : ℕ = run_end image place (length image) in
     let stepped = next_run addr place end image found refl in
     let next = next_held image addr place found in
-    let run : List ℕ = slice_range (filled_bytes image 0 (length image)) place end in
     let longest = longest_run addr place end image gap found refl in
     let none = none-behind addr place end image longest stepped.rises stepped.within in
     search (
       rules,
-      all-cons,
-      longest-from n end image (omega (arith, room, next.after, stepped.rises)) (inr none)
-          (first_from image end) refl,
+      longest-from n end image (omega (arith, room, next.after, stepped.rises)) (inr none) (first_from image end) refl,
     )
 
 pub runs-longest : (image : List (Option ℕ)) → All (IsLongestRun image) (runs 0 image)
@@ -336,8 +292,7 @@ held_in (Some b ∷ image) = suc (held_in image)
 
 first_counted : (byte : Option ℕ) (image : List (Option ℕ))
     → held_in (byte ∷ image) ≡ cond (is_some byte) (1 + held_in image) (held_in image)
-first_counted None image = refl
-first_counted (Some b) image = omega arith
+first_counted byte image = search rules
 
 held_is_counted : (image : List (Option ℕ)) → held_in image ≡ byte_count image
 held_is_counted = is_count_by held_in is_some refl first_counted

@@ -1,8 +1,8 @@
 -- How far the bytes of a whole text reach.
+use Rattle.std.proofs.lemmas.Grind.{common_steps}
 use Rattle.std.proofs.lemmas.Bool.Decides.{nat_tests}
-use Rattle.std.proofs.Common.{arith, ◌≡◌, ◌∙◌, sym, ap, refl, ℕ, ◌+◌, List, [], ◌∷◌, ◌++◌, length, map, true, false, Some, Ok, Err, rules}
+use Rattle.std.proofs.Common.{arith, ◌≡◌, ◌∙◌, sym, ap, refl, ℕ, ◌+◌, List, [], ◌∷◌, ◌++◌, length, map, true, false, Ok, Err, rules}
 use Rattle.std.proofs.lemmas.List.{append-nil, append_assoc, map-append, nil_from_length}
-use Rattle.avr_records.specs.Closed.{fault_among}
 use Rattle.avr_records.specs.Lines.{lines}
 use Rattle.avr_records.specs.Needed.{largest, needed_by, needed_in_text}
 use Rattle.avr_records.specs.Progress.{IsExtentOf}
@@ -50,18 +50,12 @@ walk-ended kind e text left done w =
     ∙ ap needed_by (sym (said-all kind w.prefix left text w.cut))
 
 pub walk-last : (kind : Kind) (e : Extent) (text : List ℕ) → Walked kind e text [] → Ok e.end ≡ needed_in_text kind text
-walk-last kind e text w = grind (arith, nat_tests, needed-is, append-nil)
+walk-last kind e text w = grind (arith, nat_tests, append-nil)
 
 pub walk-fault : (kind : Kind) (e : Extent) (text line : List ℕ) (left more : List (List ℕ)) (fault : RecordFault)
     → left ≡ line ∷ more → e.ended ≡ false → Walked kind e text left
     → next_extent largest e (said_by_line kind line) ≡ Err fault → Err fault ≡ needed_in_text kind text
-walk-fault kind e text line left more fault is on w step =
-    let among : fault_among largest (map (said_by_line kind) (lines text)) ≡ Some fault =
-    ap (fault_among largest) (said-all kind w.prefix (line ∷ more) text
-    (w.cut ∙ ap (λ (ls : List (List ℕ)). w.prefix ++ ls) is))
-    ∙ counts-bad largest e (map (said_by_line kind) w.prefix) (map (said_by_line kind) more) (said_by_line kind line)
-    fault on w.extent step in
-    rw among refl
+walk-fault kind e text line left more fault is on w step = grind (arith, common_steps, counts-bad)
 
 -- after the last line's end there is nothing
 pub walk-empty : (kind : Kind) (e : Extent) (text left : List ℕ) → e.ended ≡ false → Walked kind e text (lines left)

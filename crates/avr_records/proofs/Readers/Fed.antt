@@ -1,5 +1,6 @@
 -- How a reader's state changes with the lines of a text that it was fed.
-use Rattle.std.proofs.Common.{◌≡◌, ◌∙◌, sym, ap, refl, arith, ℕ, suc, ◌+◌, List, [], ◌∷◌, ◌++◌, length, map, take, true, false, nat_lt, Some, None, Ok, Err, subst, inl, inr, rules}
+use Rattle.std.proofs.lemmas.Grind.{common_steps}
+use Rattle.std.proofs.Common.{◌≡◌, ◌∙◌, sym, ap, refl, arith, ℕ, suc, ◌+◌, List, [], ◌∷◌, ◌++◌, length, map, take, true, false, nat_lt, Some, None, Ok, Err, inl, inr, rules}
 use Rattle.std.proofs.lemmas.Bool.{cases_Bool}
 use Rattle.std.proofs.lemmas.Bool.Decides.{nat_tests}
 use Rattle.std.proofs.Math.Seq.{take-append-add}
@@ -16,7 +17,6 @@ use Rattle.avr_records.specs.Meaning.{Nothing}
 use Rattle.avr_records.specs.Record.{longest}
 use Rattle.avr_records.specs.Steps.{next_progress, ending_of, HasBase, HasNoLines, Begins}
 use Rattle.avr_records.specs.declared.kind.Kind.{Kind}
-use Rattle.avr_records.specs.declared.kind.Kind.TheVariants.{Ihex, Srec}
 use Rattle.avr_records.specs.declared.kind.AddressBase.TheVariants.{Linear}
 use Rattle.avr_records.specs.declared.fault.LineFault.TheVariants.{TooLong}
 use Rattle.avr_records.specs.declared.fault.RecordFault.{RecordFault}
@@ -32,8 +32,7 @@ goes-on text more prefix last first rest cut next = grind (arith, nat_tests, sli
 
 -- a line, its end, and what follows
 pub line-first : (line more : List ℕ) → lines line ≡ line ∷ [] → lines (line ++ 10 ∷ more) ≡ line ∷ lines more
-line-first line more one =
-    goes-on line (10 ∷ more) [] line [] (lines more) one refl ∙ ap (λ (zs : List ℕ). zs ∷ lines more) (append-nil line)
+line-first line more one = search (rules, goes-on line (10 ∷ more) [] line [] (lines more) one refl)
 
 pub closed-prefix : (prefix : List (List ℕ)) (first : List ℕ) (more : List (List ℕ))
     → all_but_last (prefix ++ first ∷ more) ≡ prefix ++ all_but_last (first ∷ more)
@@ -49,9 +48,7 @@ but_last first (next ∷ more) = let rest = but_last next more in (rest.0, ap (�
 
 pub kept-more : (part more : List ℕ) (room : ℕ) → room + length part ≡ longest + 1
     → part ++ take room more ≡ kept (part ++ more)
-kept-more part more room is =
-    let all : length part + room ≡ longest + 1 = omega (arith, is) in
-    sym (take-append-add part more room) ∙ ap (λ (n : ℕ). take n (part ++ more)) all
+kept-more part more room is = search (rules, take-append-add part more room)
 
 take-again : (n : ℕ) (xs ys : List ℕ) → take n (take n xs ++ ys) ≡ take n (xs ++ ys)
 take-again (suc n) (x ∷ xs) ys = ap (λ (zs : List ℕ). x ∷ zs) (take-again n xs ys)
@@ -66,8 +63,8 @@ pub said-kept : (kind : Kind) (line : List ℕ) → said_by_line kind (kept line
 said-kept kind line =
     elim (cases_Bool (nat_lt longest (length line))) [
       | inl t ↦
-          let len = length-take-le (longest + 1) line (grind (arith, nat_tests, t)) in
-          says-too_long kind (kept line) (grind (arith, nat_tests, len)) ∙ sym (says-too_long kind line t)
+          let len = length-take-le (longest + 1) line (grind (arith, nat_tests)) in
+          says-too_long kind (kept line) (grind (arith, nat_tests)) ∙ sym (says-too_long kind line t)
       | inr f ↦ ap (said_by_line kind) (take_all (longest + 1) line (grind (arith, nat_tests, f)))
     ]
 
@@ -75,9 +72,7 @@ said-kept kind line =
 said-on : (kind : Kind) (part last rest : List ℕ) → part ≡ kept last
     → said_by_line kind (part ++ rest) ≡ said_by_line kind (last ++ rest)
 said-on kind part last rest is =
-    sym (said-kept kind (part ++ rest))
-    ∙ ap (said_by_line kind) (ap (λ (zs : List ℕ). kept (zs ++ rest)) is ∙ take-again (longest + 1) last rest)
-    ∙ said-kept kind (last ++ rest)
+    search (rules, said-kept kind (part ++ rest), take-again (longest + 1) last rest, said-kept kind (last ++ rest))
 
 -- ---- a reader
 
@@ -161,8 +156,7 @@ reads-sound kind p part text r = grind (arith, nat_tests, closed-prefix, append-
 pub no_answer : (kind : Kind) (p : Progress) (size : ℕ) (part text : List ℕ) → image_size p ≡ size
     → ReadsLines kind p part text
     → Ok tt ≡ ok_unless (closed_fault kind text size)
-no_answer kind p size part text same r =
-    ap ok_unless (sym (reads-sound kind p part text r) ∙ ap (closed_fault kind text) same)
+no_answer kind p size part text same r = search (rules, reads-sound kind p part text r)
 
 -- ---- the whole text
 
@@ -173,9 +167,7 @@ whole-said kind text prefix last cut = ap (map (said_by_line kind)) cut ∙ said
 whole-next : (kind : Kind) (p new : Progress) (part text : List ℕ) (r : ReadsLines kind p part text)
     → image_size new ≡ image_size p → next_progress p (said_by_line kind r.last) ≡ Ok new
     → image_in_text kind text (image_size p) ≡ Ok (new.image, ending_of new.extent)
-whole-next kind p new part text r same is =
-    ap (together (image_size p)) (whole-said kind text r.prefix r.last r.cut)
-    ∙ rw (← same) (together-holds new _ (holds-next p new _ (said_by_line kind r.last) r.holds is))
+whole-next kind p new part text r same is = grind (arith, common_steps, together-holds, holds-next)
 
 -- the last line is good
 pub whole-good : (kind : Kind) (p new : Progress) (part text : List ℕ) → image_size new ≡ image_size p
@@ -194,8 +186,7 @@ whole-bad kind p part text fault is r =
     (rw (append-nil r.last) at (line-step kind p part text [] r) ∙ is)) refl
 
 kept-nothing : (line : List ℕ) → [] ≡ kept line → line ≡ []
-kept-nothing [] is = refl
-kept-nothing (c ∷ line) is = cc is
+kept-nothing line is = search rules
 
 pub says-nothing : (kind : Kind) → said_by_line kind [] ≡ Ok Nothing
 says-nothing x = grind (arith, nat_tests)
@@ -237,7 +228,7 @@ pub carries-next : (kind : Kind) (old now new : LineState) (piece left line more
     → next_progress now.progress (said_by_line kind (now.part ++ line)) ≡ Ok new.progress → new.part ≡ []
     → Carries kind old new piece more
 carries-next kind old now new piece left line more carries one end is clear =
-    grind (arith, nat_tests, rearranged, append_assoc, subst, ends-good)
+    grind (arith, nat_tests, rearranged, append_assoc, ends-good)
 
 pub carries-fault : (kind : Kind) (old now : LineState) (piece left line more : List ℕ) (fault : RecordFault)
     → Carries kind old now piece left → lines line ≡ line ∷ [] → left ≡ line ++ 10 ∷ more
@@ -247,8 +238,7 @@ pub carries-fault : (kind : Kind) (old now : LineState) (piece left line more : 
     → closed_fault kind (text ++ piece) (image_size old.progress) ≡ Some fault
 carries-fault kind old now piece left line more fault carries one end is same text r =
     let parts : text ++ piece ≡ (text ++ carries.used) ++ (line ++ 10 ∷ more) =
-    search (rules, append_assoc) in
-    search (rules, ends-bad)
+    search (rules, append_assoc) in search (rules, ends-bad)
 
 pub carries-last : (kind : Kind) (old now new : LineState) (piece left : List ℕ)
     → Carries kind old now piece left → (now.progress.extent.ended ≡ false → lines left ≡ left ∷ [])
@@ -256,7 +246,7 @@ pub carries-last : (kind : Kind) (old now new : LineState) (piece left : List �
     → (text : List ℕ) → ReadsLines kind old.progress old.part text
     → ReadsLines kind new.progress new.part (text ++ piece)
 carries-last kind old now new piece left carries one is goes text r =
-    grind (arith, nat_tests, append_assoc, cases_Bool, keeps-done, keeps)
+    grind (arith, nat_tests, append_assoc, keeps-done, keeps)
 
 pub carries-start : (kind : Kind) (state : LineState) (piece : List ℕ) → Carries kind state state piece piece
 carries-start kind state piece = grind (arith, nat_tests, append-nil)
@@ -264,8 +254,7 @@ carries-start kind state piece = grind (arith, nat_tests, append-nil)
 -- ---- the beginning
 
 pub no-base : (kind : Kind) → HasBase kind (Linear 0)
-no-base Ihex = tt
-no-base Srec = refl
+no-base kind = search rules
 
 pub begins : (kind : Kind) (size : ℕ) (p : Progress) (part : List ℕ) → HasNoLines size p → part ≡ []
     → Begins kind size p part

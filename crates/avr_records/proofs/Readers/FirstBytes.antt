@@ -9,7 +9,7 @@ use Rattle.avr_records.specs.Lines.{lines, is_blank}
 use Rattle.avr_records.specs.declared.kind.Found.{Found}
 
 pub too-few : (p : ℕ → Bool) (n : ℕ) (xs : List ℕ) → length xs < n → false ≡ nat_le n (prefix_len p xs)
-too-few p n xs len = let bound = prefix_len-le-length p xs in grind (arith, nat_tests, len, bound)
+too-few p n xs len = let bound = prefix_len-le-length p xs in grind (arith, nat_tests)
 
 -- the first n elements pass if at least n in front do
 pub all_of_prefix : (p : ℕ → Bool) (n : ℕ) (xs : List ℕ) → n ≤ length xs

@@ -1,6 +1,6 @@
 -- How later lines change the meaning of the lines before them.
 use Rattle.std.proofs.lemmas.Bool.Decides.{nat_tests}
-use Rattle.std.proofs.Common.{◌≡◌, ◌∙◌, sym, ap, refl, arith, ℕ, ◌+◌, List, [], ◌∷◌, ◌++◌, length, Bool, true, false, Option, Some, None, inl, inr, rules}
+use Rattle.std.proofs.Common.{◌≡◌, ◌∙◌, sym, ap, refl, arith, ℕ, ◌+◌, List, [], ◌∷◌, ◌++◌, length, Bool, true, false, Option, None, inl, inr, rules}
 use Rattle.std.proofs.lemmas.Bool.{cases_Bool}
 use Rattle.std.proofs.lemmas.List.{append-nil, append_assoc}
 use Rattle.std.proofs.lemmas.List.Splits.{slice_split-cons_yes, slice_split-cons_no}
@@ -16,8 +16,7 @@ in_place-append before (x ∷ xs) ys = grind (arith, nat_tests, in_place-append 
 
 pub or_later-none : (n : ℕ) (fault : Option LineFault) (later : Option RecordFault) → or_later n fault later ≡ None
     → (fault ≡ None) × (later ≡ None)
-or_later-none n None later e = (refl, e)
-or_later-none n (Some f) later e = absurd (grind (arith, e))
+or_later-none n fault later e = search rules
 
 pub first_fault-append : (size : ℕ) (ps qs : List (List Said × Said)) → first_fault size ps ≡ None
     → first_fault size (ps ++ qs) ≡ first_fault size qs
@@ -31,14 +30,14 @@ pub up_to_end-open : (xs ys : List Said) → list_any is_end (up_to_end xs) ≡ 
 up_to_end-open [] ys none = refl
 up_to_end-open (x ∷ xs) ys none =
     elim (cases_Bool (is_end x)) [
-      | inl t ↦ absurd (grind (arith, t, none))
+      | inl t ↦ absurd (grind arith)
       | inr f ↦
           let more : list_any is_end (up_to_end xs) ≡ false = rw (f, f) at none in
           rw f (ap (λ (zs : List Said). x ∷ zs) (up_to_end-open xs ys more))
     ]
 
 pub up_to_end-done : (xs ys : List Said) → list_any is_end (up_to_end xs) ≡ true → up_to_end (xs ++ ys) ≡ up_to_end xs
-up_to_end-done [] ys some = absurd (grind (arith, some))
+up_to_end-done [] ys some = absurd (grind arith)
 up_to_end-done (x ∷ xs) ys some =
     elim (cases_Bool (is_end x)) [
       | inl t ↦ rw t refl
@@ -71,36 +70,15 @@ pasted (part ∷ []) [] = part ∷ []
 pasted (part ∷ []) (first ∷ more) = (part ++ first) ∷ more
 pasted (part ∷ next ∷ parts) more = part ∷ pasted (next ∷ parts) more
 
-pub onto-pasted : (x : ℕ) (part : List ℕ) (parts more : List (List ℕ))
-    → onto_first x (pasted (part ∷ parts) more) ≡ pasted (onto_first x (part ∷ parts)) more
-onto-pasted x part y z = grind (arith, nat_tests)
-
-pub nil-pasted : (parts more : List (List ℕ)) (first : List ℕ) (rest : List (List ℕ)) → parts ≡ first ∷ rest
-    → pasted ([] ∷ parts) more ≡ [] ∷ pasted parts more
-nil-pasted [] more first rest e = absurd (grind (arith, e))
-nil-pasted (part ∷ parts) more first rest e = refl
-
 pub pasted-nil : (more : List (List ℕ)) (first : List ℕ) (rest : List (List ℕ)) → more ≡ first ∷ rest
     → pasted ([] ∷ []) more ≡ more
-pasted-nil [] first rest e = absurd (grind (arith, e))
-pasted-nil (m ∷ more) first rest e = refl
+pasted-nil more first rest e = search rules
 
 -- the lines of a text and what follows it
 pub slice_split-append : (p : ℕ → Bool) (xs ys : List ℕ)
     → slice_split p (xs ++ ys) ≡ pasted (slice_split p xs) (slice_split p ys)
 slice_split-append p [] ys = let some = parts-some p ys in sym (pasted-nil (slice_split p ys) some.0 some.1 some.2)
-slice_split-append p (x ∷ xs) ys =
-    let some = parts-some p xs in
-    search (
-      rules,
-      cases_Bool,
-      slice_split-cons_yes,
-      nil-pasted,
-      slice_split-cons_no,
-      onto-pasted,
-      slice_split-append p
-          xs ys,
-    )
+slice_split-append p (x ∷ xs) ys = search (rules, parts-some p xs, slice_split-append p xs ys)
 
 pub pasted-last : (prefix : List (List ℕ)) (last first : List ℕ) (more : List (List ℕ))
     → pasted (prefix ++ last ∷ []) (first ∷ more) ≡ prefix ++ (last ++ first) ∷ more

@@ -1,16 +1,13 @@
 -- The size that a file needs is the least memory into which it reads.
-use Rattle.std.proofs.Common.{◌≡◌, ◌∙◌, ap, refl, arith, ℕ, ◌+◌, ◌<◌, ◌≤◌, List, [], ◌∷◌, length, map, max, flat_map, count_by, Option, Some, None, option_map, Ok, Err, nat_lt, inl, inr, rules}
+use Rattle.std.proofs.Common.{◌≡◌, refl, arith, ℕ, ◌+◌, ◌<◌, ◌≤◌, List, [], ◌∷◌, length, map, max, flat_map, Option, None, Ok, nat_lt, inl, inr, rules}
 use Rattle.std.proofs.lemmas.Bool.{cases_Bool}
 use Rattle.std.proofs.lemmas.Bool.Decides.{nat_tests}
 use Rattle.avr_records.specs.Lines.{lines}
-use Rattle.avr_records.specs.Meaning.{Data, Counted}
 use Rattle.avr_records.specs.Needed.{largest, end_past, end_of, size_or_fault, needed_in_text}
-use Rattle.avr_records.specs.Reading.{Said, is_data, up_to_end, in_place, all_placed, first_fault, fault_in, fault_under, base_after, placed_bytes, placed_under, beyond, said_by_line, file_ending, image_or_fault, image_in_text}
+use Rattle.avr_records.specs.Reading.{Said, up_to_end, in_place, all_placed, first_fault, fault_in, fault_under, placed_bytes, placed_under, beyond, said_by_line, file_ending, image_or_fault, image_in_text}
 use Rattle.avr_image.specs.Image.{image_of_pairs}
 use Rattle.avr_records.specs.declared.kind.Kind.{Kind}
 use Rattle.avr_records.specs.declared.kind.Ending.{Ending}
-use Rattle.avr_records.specs.declared.fault.LineFault.{LineFault}
-use Rattle.avr_records.specs.declared.fault.LineFault.TheVariants.{Range}
 use Rattle.avr_records.specs.declared.kind.AddressBase.{AddressBase}
 use Rattle.avr_records.specs.declared.fault.RecordFault.{RecordFault}
 use Rattle.avr_records.proofs.Readers.LaterLines.{or_later-none}
@@ -26,28 +23,15 @@ reaches size end [] l none = l
 reaches size end (p ∷ ps) l none =
     elim (cases_Bool (nat_lt p.0 size)) [
       | inl t ↦
-          let below : p.0 < size = grind (arith, nat_tests, t) in
+          let below : p.0 < size = grind (arith, nat_tests) in
           reaches size (max end (p.0 + 1)) ps (omega (arith, below, l)) (rw t at none)
       | inr f ↦ cc (rw f at none)
     ]
 
-none-mapped : (f : ℕ → LineFault) (found : Option ℕ) → option_map f found ≡ None → found ≡ None
-none-mapped f None is = refl
-none-mapped f (Some n) is = cc is
-
 -- a line that is good for one memory is good for each memory that contains its bytes
 good : (size other : ℕ) (base : AddressBase) (count : ℕ) (line : Said) → fault_under size base count line ≡ None
     → beyond other (placed_under base line) ≡ None → fault_under other base count line ≡ None
-good size other base count (Err fault) none lies' = none
-good size other base count (Ok (Data offset bytes)) none lies' = ap (option_map Range) lies'
-good size other base count (Ok (Counted n)) none lies' = none
-good size other base count x none lies' = refl
-
--- and its bytes are in that memory
-lies : (size : ℕ) (base : AddressBase) (count : ℕ) (line : Said) → fault_under size base count line ≡ None
-    → beyond size (placed_under base line) ≡ None
-lies size base count (Ok (Data offset bytes)) none = none-mapped _ _ none
-lies size base count x none = refl
+good size other base count line none lies' = search rules
 
 all-good : (size other : ℕ) (taken : List (List Said × Said)) → first_fault size taken ≡ None
     → beyond other (flat_map placed_bytes taken) ≡ None → first_fault other taken ≡ None
@@ -55,25 +39,22 @@ all-good size other [] none lies' = refl
 all-good size other (p ∷ ps) none lies' =
     let parts = or_later-none (length p.0 + 1) (fault_in size p) (first_fault size ps) none in
     let both = beyond-parts other (placed_bytes p) (flat_map placed_bytes ps) lies' in
-    search (rules, good, all-good size other ps parts.1 both.1)
+    search (rules, all-good size other ps parts.1 both.1)
 
 all-lie : (size : ℕ) (taken : List (List Said × Said)) → first_fault size taken ≡ None
     → beyond size (flat_map placed_bytes taken) ≡ None
 all-lie size [] none = refl
 all-lie size (p ∷ ps) none =
     let parts = or_later-none (length p.0 + 1) (fault_in size p) (first_fault size ps) none in
-    beyond-append size (placed_bytes p) (flat_map placed_bytes ps)
-    (lies size (base_after p.0) (count_by is_data p.0) p.1 parts.0) ∙ all-lie size ps parts.1
+    search (rules, beyond-append, all-lie size ps parts.1)
 
 sized : (fault : Option RecordFault) (size needed : ℕ) → size_or_fault fault size ≡ Ok needed
     → (fault ≡ None) × (size ≡ needed)
-sized (Some fault) size needed is = cc is
-sized None size needed is = (refl, cc is)
+sized fault size needed is = search rules
 
 read-well : (fault : Option RecordFault) (good read : List (Option ℕ) × Ending) → image_or_fault fault good ≡ Ok read
     → fault ≡ None
-read-well (Some fault) good read is = cc is
-read-well None good read is = refl
+read-well fault good read is = search rules
 
 abbrev taken_of : Kind → List ℕ → List Said
 taken_of kind text = up_to_end (map (said_by_line kind) (lines text))

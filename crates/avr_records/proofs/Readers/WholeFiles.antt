@@ -1,8 +1,7 @@
 -- A fault of the closed lines is that of the whole file.
 use Rattle.std.proofs.Common.{rules}
 use Rattle.std.proofs.lemmas.Bool.Decides.{nat_tests}
-use Rattle.std.proofs.Common.{arith, ◌≡◌, ◌∙◌, sym, ap, refl, ℕ, List, [], ◌∷◌, ◌++◌, map, Option, Some, None, Err}
-use Rattle.std.proofs.lemmas.Bool.{cases_Bool}
+use Rattle.std.proofs.Common.{arith, ◌≡◌, ◌∙◌, sym, ap, ℕ, List, [], ◌∷◌, ◌++◌, map, Option, Some, Err}
 use Rattle.std.proofs.lemmas.List.{map-append}
 use Rattle.avr_records.specs.Lines.{lines, is_line_end}
 use Rattle.avr_records.specs.Reading.{Said, first_fault, said_by_line, image_in_text}
@@ -22,7 +21,7 @@ first_fault-stands size (p ∷ ps) qs told is = grind (arith, nat_tests, first_f
 pub among-stands : (size : ℕ) (said more : List Said) (told : RecordFault) → fault_among size said ≡ Some told
     → fault_among size (said ++ more) ≡ Some told
 among-stands size said more told is =
-    grind (arith, nat_tests, cases_Bool, up_to_end-done, up_to_end-open, in_place-append, first_fault-stands)
+    grind (arith, nat_tests, up_to_end-done, up_to_end-open, in_place-append, first_fault-stands)
 
 pub closed-told : (kind : Kind) (size : ℕ) (text : List ℕ) (told : RecordFault)
     → closed_fault kind text size ≡ Some told → image_in_text kind text size ≡ Err told
@@ -36,12 +35,10 @@ closed-told kind size text told is =
     ap (map (said_by_line kind)) same ∙ map-append (said_by_line kind) closed (cut.0 ∷ []) in
     let whole : fault_among size (map (said_by_line kind) (lines text)) ≡ Some told =
     ap (fault_among size) said ∙ among-stands size (map (said_by_line kind) closed) (said_by_line kind cut.0 ∷ []) told
-    is in
-    rw whole refl
+    is in search rules
 
 pub none-or : (fault : Option RecordFault) (told : RecordFault) → Err told ≡ ok_unless fault → fault ≡ Some told
-none-or None told is = absurd (cc is)
-none-or (Some f) told is = let same : told ≡ f = cc is in ap (λ (x : RecordFault). Some x) (sym same)
+none-or fault told is = search rules
 
 -- the fault that a new reader returns for a whole file
 pub new-told : (kind : Kind) (size : ℕ) (s : ReaderState) (text : List ℕ) (told : RecordFault) → IsNewReader kind size s
@@ -50,5 +47,4 @@ pub new-told : (kind : Kind) (size : ℕ) (s : ReaderState) (text : List ℕ) (t
     → Err told ≡ image_in_text kind text size
 new-told kind size s text told new is =
     let of_s : closed_fault s.kind text (memory_size s) ≡ Some told =
-    none-or (closed_fault s.kind text (memory_size s)) told (is [] new.nothing_fed) in
-    search (rules, closed-told)
+    none-or (closed_fault s.kind text (memory_size s)) told (is [] new.nothing_fed) in search (rules, closed-told)

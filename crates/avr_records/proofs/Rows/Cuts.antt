@@ -1,7 +1,7 @@
 -- The rows into which a writer cuts its bytes.
+use Rattle.std.proofs.lemmas.Grind.{common_steps}
 use Rattle.std.proofs.lemmas.Bool.Decides.{nat_tests}
-use Rattle.std.proofs.Common.{◌≡◌, ◌∙◌, sym, ap, refl, arith, ℕ, zero, suc, ◌+◌, ◌-◌, ◌<◌, ◌≤◌, List, [], ◌∷◌, ◌++◌, length, take, drop, add-zero}
-use Rattle.std.proofs.lemmas.List.{length-take}
+use Rattle.std.proofs.Common.{◌≡◌, ◌∙◌, sym, ap, refl, arith, ℕ, zero, suc, ◌+◌, ◌-◌, ◌<◌, ◌≤◌, List, [], ◌∷◌, ◌++◌, length, take, drop, add-zero, rules}
 use Rattle.std.specs.List.{enumerate_from, flat_map}
 use Rattle.avr_image.specs.Runs.{places_of}
 use Rattle.hex.specs.Hex.{IsBytes}
@@ -14,18 +14,12 @@ pub IsBytes-nil : IsBytes []
 IsBytes-nil i = omega arith
 
 pub IsBytes-cons : (b : ℕ) (bs : List ℕ) → b < 256 → IsBytes bs → IsBytes (b ∷ bs)
-IsBytes-cons b bs fits more zero = fits
-IsBytes-cons b bs fits more (suc i) = more i
+IsBytes-cons b bs fits more e' = search rules
 
 pub IsBytes-append : (xs ys : List ℕ) → IsBytes xs → IsBytes ys → IsBytes (xs ++ ys)
 IsBytes-append [] ys prefix back = back
 IsBytes-append (x ∷ xs) ys prefix back =
     IsBytes-cons x (xs ++ ys) (prefix 0) (IsBytes-append xs ys (λ i. prefix (suc i)) back)
-
-pub IsBytes-take : (n : ℕ) (xs : List ℕ) → IsBytes xs → IsBytes (take n xs)
-IsBytes-take zero xs all = IsBytes-nil
-IsBytes-take (suc n) [] all = IsBytes-nil
-IsBytes-take (suc n) (x ∷ xs) all = IsBytes-cons x (take n xs) (all 0) (IsBytes-take n xs (λ i. all (suc i)))
 
 -- ---- rows
 
@@ -48,17 +42,7 @@ rows_behind-are taken size addr end [] wide is all = tt
 rows_behind-are (suc taken) size addr end (b ∷ bs) wide is all =
     rows_behind-are taken size (addr + 1) end bs wide (omega arith) (λ i. all (suc i))
 rows_behind-are zero size addr end (b ∷ bs) wide is all =
-    let some = wide addr in
-    let len = length-take (size addr) (b ∷ bs) in (
-      record {
-        some = omega arith;
-        few = omega arith;
-        below = omega arith;
-        bytes =
-            IsBytes-take (size addr) (b ∷ bs) all;
-      },
-      rows_behind-are (size addr - 1) size (addr + 1) end bs wide (omega arith) (λ i. all (suc i)),
-    )
+    grind (arith, common_steps, rows_behind-are (size addr - 1) size (addr + 1) end bs wide (omega arith) (λ i. all (suc i)))
 
 pub enumerate-split : (n addr : ℕ) (bytes : List ℕ)
     → enumerate_from addr (take n bytes) ++ enumerate_from (addr + n) (drop n bytes) ≡ enumerate_from addr bytes
@@ -70,8 +54,7 @@ pub rows_behind-hold : (taken : ℕ) (size : ℕ → ℕ) (addr : ℕ) (bytes : 
     → flat_map places_of (rows_behind taken size addr bytes) ≡ enumerate_from (addr + taken) (drop taken bytes)
 rows_behind-hold zero size addr [] wide = refl
 rows_behind-hold (suc taken) size addr [] wide = refl
-rows_behind-hold (suc taken) size addr (b ∷ bs) wide =
-    rows_behind-hold taken size (addr + 1) bs wide ∙ ap (λ (a : ℕ). enumerate_from a (drop taken bs)) (omega arith)
+rows_behind-hold (suc taken) size addr (b ∷ bs) wide = search (rules, rows_behind-hold taken size (addr + 1) bs wide)
 rows_behind-hold zero size addr (b ∷ bs) wide =
     let some = wide addr in
     let prefix : List (ℕ × ℕ) = enumerate_from addr (take (size addr) (b ∷ bs)) in
@@ -84,5 +67,4 @@ rows_behind-hold zero size addr (b ∷ bs) wide =
 -- all bytes are in the rows, at their addresses
 pub rows-hold : (size : ℕ → ℕ) (base : ℕ) (bytes : List ℕ) → ((a : ℕ) → 0 < size a)
     → flat_map places_of (rows size base bytes) ≡ enumerate_from base bytes
-rows-hold size base bytes wide =
-    rows_behind-hold 0 size base bytes wide ∙ ap (λ (a : ℕ). enumerate_from a bytes) (add-zero base)
+rows-hold size base bytes wide = search (rules, rows_behind-hold, add-zero)

@@ -1,7 +1,7 @@
 -- Where a line ends.
 use Rattle.std.proofs.lemmas.Bool.Decides.{nat_tests}
-use Rattle.std.proofs.Common.{◌≡◌, ◌≢◌, ◌∙◌, ap, refl, arith, ℕ, zero, suc, ◌+◌, ◌<◌, ◌≤◌, List, [], ◌∷◌, ◌++◌, length, get_or, take, drop, true, Some, None, inl, inr}
-use Rattle.std.proofs.lemmas.Bool.{cases_Bool, eqb-true}
+use Rattle.std.proofs.Common.{◌≡◌, ◌≢◌, ◌∙◌, ap, refl, arith, ℕ, zero, suc, ◌+◌, ◌<◌, ◌≤◌, List, [], ◌∷◌, ◌++◌, length, get_or, take, drop, true, Some, None, inl, inr, rules}
+use Rattle.std.proofs.lemmas.Bool.{cases_Bool}
 use Rattle.std.proofs.lemmas.List.{take_all}
 use Rattle.std.proofs.lemmas.List.Splits.{slice_split-cons_no}
 use Rattle.std.specs.List.{onto_first}
@@ -31,9 +31,8 @@ cut_at (suc n) (c ∷ text) len = grind (arith, nat_tests, cut_at n text (omega 
 
 pub no_end : (text : List ℕ) → IsFirstByte (is_byte 10) text None → lines text ≡ text ∷ []
 no_end text none =
-    let all = take_all {A = ℕ} (length text) text (omega arith) in
-    rw all at (one_line (length text) text (omega arith) (λ k l. none k (omega arith) l))
+    let all = take_all {A = ℕ} (length text) text (omega arith) in search (rules, one_line)
 
 pub first_end : (text : List ℕ) (at : ℕ) → IsFirstByte (is_byte 10) text (Some at)
     → (lines (take at text) ≡ take at text ∷ []) × (text ≡ take at text ++ 10 ∷ drop (at + 1) text)
-first_end text at first = grind (arith, nat_tests, one_line, cut_at, eqb-true)
+first_end text at first = grind (arith, nat_tests, one_line, cut_at)

@@ -1,5 +1,5 @@
 -- The places of a data record's bytes.
-use Rattle.std.proofs.Common.{◌≡◌, ◌∙◌, ap, ap₂, inl, inr, refl, sym, arith, ℕ, ◌+◌, ◌*◌, ◌%◌, ◌<◌, ◌≤◌, List, [], ◌∷◌, ◌++◌, length, map, take, drop, Option, Some, None, Result, Ok, Err, nat_lt, max, false, true}
+use Rattle.std.proofs.Common.{◌≡◌, ◌∙◌, ap, inl, inr, refl, sym, arith, ℕ, ◌+◌, ◌*◌, ◌%◌, ◌<◌, ◌≤◌, List, [], ◌∷◌, ◌++◌, length, map, take, drop, Option, Some, None, Result, Ok, Err, nat_lt, max, false, true, rules}
 use Rattle.std.proofs.lemmas.Bool.Decides.{nat_tests}
 use Rattle.std.proofs.lemmas.Bool.{cases_Bool}
 use Rattle.std.proofs.lemmas.List.{length-take-le, length-drop, take-append-drop}
@@ -17,7 +17,6 @@ use Rattle.avr_records.specs.Steps.{HasBase}
 use Rattle.avr_records.specs.declared.kind.AddressBase.{AddressBase}
 use Rattle.avr_records.specs.declared.kind.AddressBase.TheVariants.{Linear, Segment}
 use Rattle.avr_records.specs.declared.kind.Kind.{Kind}
-use Rattle.avr_records.specs.declared.kind.Kind.TheVariants.{Ihex, Srec}
 use Rattle.avr_records.specs.declared.line.Line.TheVariants.{Data}
 
 abbrev places_from : AddressBase → ℕ → ℕ → List ℕ → List (ℕ × ℕ)
@@ -43,8 +42,7 @@ segment-from paragraph offset i [] addr is room = refl
 segment-from paragraph offset i (b ∷ []) addr is room = ap (λ (n : ℕ). (n, b) ∷ []) (sym is)
 segment-from paragraph offset i (b ∷ c ∷ bs) addr is room =
     let next : (offset + (i + 1)) % 65536 ≡ (offset + i) % 65536 + 1 = omega (arith, room) in
-    ap₂ (λ (n : ℕ) (ps : List (ℕ × ℕ)). (n, b) ∷ ps) (sym is)
-    (segment-from paragraph offset (i + 1) (c ∷ bs) (addr + 1) (omega (arith, is, next)) (omega (arith, room, next)))
+    search (rules, segment-from paragraph offset (i + 1) (c ∷ bs) (addr + 1) (omega (arith, is, next)) (omega (arith, room, next)))
 
 -- nor do they jump within a segment
 pub places-segment : (paragraph offset : ℕ) (bytes : List ℕ) → offset % 65536 + length bytes ≤ 65536
@@ -61,8 +59,7 @@ pub places-wrapped : (paragraph offset : ℕ) (before behind : List ℕ) → off
     → length behind ≤ 65536
     → places (Segment paragraph) offset (before ++ behind)
     ≡ enumerate_from (paragraph * 16 + offset % 65536) before ++ enumerate_from (paragraph * 16) behind
-places-wrapped paragraph offset before behind full short =
-    grind (arith, nat_tests, places_from-append, places-segment, segment-from)
+places-wrapped paragraph offset before behind full short = grind (arith, nat_tests, places_from-append, segment-from)
 
 -- the same, cut at the segment's end
 pub places-wrapped-at : (paragraph offset n : ℕ) (bytes : List ℕ) → offset % 65536 + n ≡ 65536 → n ≤ length bytes
@@ -110,8 +107,8 @@ beyond-span : (size addr : ℕ) (bytes : List ℕ) → fits addr bytes size ≡ 
 beyond-span size addr [] inside = refl
 beyond-span size addr (b ∷ []) inside = grind (arith, nat_tests)
 beyond-span size addr (b ∷ c ∷ bs) inside =
-    let here : nat_lt addr size ≡ true = grind (arith, nat_tests, inside) in
-    let rest : fits (addr + 1) (c ∷ bs) size ≡ true = grind (arith, nat_tests, inside) in
+    let here : nat_lt addr size ≡ true = grind (arith, nat_tests) in
+    let rest : fits (addr + 1) (c ∷ bs) size ≡ true = grind (arith, nat_tests) in
     rw here (beyond-span size (addr + 1) (c ∷ bs) rest)
 
 -- or leaves the memory, at its first address or at the size
@@ -120,15 +117,8 @@ beyond-span-end : (size addr : ℕ) (bytes : List ℕ) → fits addr bytes size 
 beyond-span-end size addr [] outside = cc outside
 beyond-span-end size addr (b ∷ []) outside = grind (arith, nat_tests)
 beyond-span-end size addr (b ∷ c ∷ bs) outside =
-    let rest : fits (addr + 1) (c ∷ bs) size ≡ false = grind (arith, nat_tests, outside) in
-    elim (cases_Bool (nat_lt addr size)) [
-      | inl t ↦
-          let inside : addr < size = grind (arith, nat_tests, t) in
-          rw t (beyond-span-end size (addr + 1) (c ∷ bs) rest ∙ ap (λ (n : ℕ). Some n) (omega (arith, inside)))
-      | inr f ↦
-          let first : size ≤ addr = grind (arith, nat_tests, f) in
-          rw f (ap (λ (n : ℕ). Some n) (omega (arith, first)))
-    ]
+    let rest : fits (addr + 1) (c ∷ bs) size ≡ false = grind (arith, nat_tests) in
+    search (rules, nat_tests, beyond-span-end size (addr + 1) (c ∷ bs) rest)
 
 end-past-span : (end addr : ℕ) (bytes : List ℕ) → 0 < length bytes
     → max end (addr + length bytes) ≡ end_past end (enumerate_from addr bytes)
@@ -141,23 +131,16 @@ end-past-span end addr (b ∷ c ∷ bs) some =
 
 pub extends-inside : (limit end addr : ℕ) (bytes : List ℕ) → 0 < length bytes → addr + length bytes ≤ limit
     → Extends limit end (enumerate_from addr bytes) (Ok (max end (addr + length bytes)))
-extends-inside limit end addr [] some l = absurd (omega (arith, some))
-extends-inside limit end addr (b ∷ bs) some l =
-    (beyond-span limit addr (b ∷ bs) (grind (arith, nat_tests, l)), end-past-span end addr (b ∷ bs) some)
+extends-inside limit end addr bytes some l = search (rules, beyond-span, nat_tests, end-past-span)
 
 pub extends-outside : (limit end addr : ℕ) (bytes : List ℕ) → 0 < length bytes → limit < addr + length bytes
     → Extends limit end (enumerate_from addr bytes) (Err (max addr limit))
-extends-outside limit end addr [] some l = absurd (omega (arith, some))
-extends-outside limit end addr (b ∷ bs) some l = beyond-span-end limit addr (b ∷ bs) (grind (arith, nat_tests, l))
+extends-outside limit end addr bytes some l = search (rules, beyond-span-end, nat_tests)
 
 -- one span, then another
 pub extends-both : (limit end mid : ℕ) (xs ys : List (ℕ × ℕ)) (result : Result ℕ ℕ) → Extends limit end xs (Ok mid)
     → Extends limit mid ys result → Extends limit end (xs ++ ys) result
-extends-both limit end mid xs ys (Ok new) first second = (
-  beyond-append limit xs ys first.0 ∙ second.0,
-  second.1 ∙ ap (λ (n : ℕ). end_past n ys) first.1 ∙ sym (fold-append _ end xs ys),
-)
-extends-both limit end mid xs ys (Err addr) first second = beyond-append limit xs ys first.0 ∙ second
+extends-both limit end mid xs ys result first second = search (rules, beyond-append, fold-append)
 
 -- ---- laid
 
@@ -167,7 +150,7 @@ pub lays-span : (old new : List (Option ℕ)) (addr : ℕ) (bytes : List ℕ) (r
     → result ≡ (if fits addr bytes (length old) then Ok (addr + length bytes)
     else Err (OutOfRange (max addr (length old))))
     → OnOk result (new ≡ laid_over old (enumerate_from addr bytes)) → new ≡ laid_over old (enumerate_from addr bytes)
-lays-span old new addr bytes result none is laid = grind (arith, nat_tests, cases_Bool, beyond-span-end)
+lays-span old new addr bytes result none is laid = grind (arith, nat_tests, beyond-span-end)
 
 -- ---- addresses in range
 
@@ -175,6 +158,4 @@ lays-span old new addr bytes result none is laid = grind (arith, nat_tests, case
 pub near : (kind : Kind) (base : AddressBase) (offset : ℕ) (bytes : _) → FitsKind kind (Data offset bytes)
     → HasBase kind base
     → Near base offset
-near Ihex (Linear upper) offset bytes fits' has = inl fits'.0
-near Srec (Linear upper) offset bytes fits' has = inr (cc has)
-near x (Segment paragraph) offset bytes fits' has = tt
+near kind base offset bytes fits' has = search rules

@@ -1,22 +1,23 @@
 -- Records of Intel HEX, as they are written and read again.
-use Rattle.std.proofs.Common.{◌≡◌, ◌∙◌, ap, refl, arith, ℕ, ◌+◌, ◌-◌, ◌/◌, ◌%◌, ◌^◌, ◌<◌, ◌≤◌, ◌==◌, Bool, true, false, List, [], ◌∷◌, ◌++◌, length, take, sum, map, Ok, inl, inr, rules}
+use Rattle.std.proofs.lemmas.Grind.{common_steps}
+use Rattle.std.proofs.Common.{◌≡◌, ◌∙◌, ap, refl, arith, ℕ, ◌-◌, ◌/◌, ◌%◌, ◌^◌, ◌<◌, ◌≤◌, ◌==◌, true, false, List, [], ◌∷◌, ◌++◌, length, sum, map, Ok, inl, inr, rules}
 use Rattle.std.specs.Prelude.{if◌then◌else◌}
 use Rattle.std.specs.List.{list_all, flat_map}
 use Rattle.std.proofs.lemmas.Bool.{cases_eq}
 use Rattle.std.proofs.lemmas.Bool.Decides.{nat_tests}
-use Rattle.std.proofs.lemmas.List.{append_assoc, length-append, take_at}
+use Rattle.std.proofs.lemmas.List.{append_assoc, length-append}
 use Rattle.avr_image.specs.Runs.{places_of}
 use Rattle.hex.specs.Hex.{IsBytes, encode_upper, upper_digits}
 use Rattle.hex.proofs.HexLemmas.{length-encode_with}
 use Rattle.avr_records.specs.Lines.{lines}
 use Rattle.avr_records.specs.Meaning.{Data, Rebase, End, Nothing}
-use Rattle.avr_records.specs.Ihex.{ihex_from_fields, checked_ihex, typed_ihex}
+use Rattle.avr_records.specs.Ihex.{ihex_from_fields, typed_ihex}
 use Rattle.avr_records.specs.Reading.{Said, said_by_line, record_meaning}
 use Rattle.avr_records.specs.Text.{two, with_sum_checksum, ihex_row_size, upper_record, ihex_rows}
 use Rattle.avr_records.specs.declared.kind.Kind.TheVariants.{Ihex}
 use Rattle.avr_records.specs.declared.kind.AddressBase.TheVariants.{Linear}
 use Rattle.avr_records.proofs.Rows.Cuts.{IsBytes-nil, IsBytes-cons, IsBytes-append, IsRow, Every}
-use Rattle.avr_records.proofs.Writers.Lines.{is_plain, plain-digits, encode-digits, bytes_of-encode, says-plain, lines-plain, lines-written, sum-push}
+use Rattle.avr_records.proofs.Writers.Lines.{is_plain, plain-digits, encode-digits, bytes_of-encode, says-plain, lines-plain, lines-written}
 use Rattle.avr_records.proofs.Writers.Reread.{AllGoOn, then_end, threaded, places-linear}
 
 -- the bytes between the colon and the checksum
@@ -29,26 +30,15 @@ line_of type offset bytes = 58 ∷ encode_upper (with_sum_checksum (unsummed typ
 
 IsBytes-summed : (type offset : ℕ) (bytes : List ℕ) → type < 256 → length bytes ≤ 32 → IsBytes bytes
     → IsBytes (with_sum_checksum (unsummed type offset bytes))
-IsBytes-summed type offset bytes known short all = grind (arith, nat_tests, IsBytes-cons, IsBytes-append, IsBytes-nil)
+IsBytes-summed type offset bytes known short all = grind (arith, nat_tests, IsBytes-append)
 
 plain-line : (type offset : ℕ) (bytes : List ℕ) → type < 256 → length bytes ≤ 32 → IsBytes bytes
     → list_all is_plain (line_of type offset bytes) ≡ true
-plain-line type offset bytes known short all =
-    let fields = with_sum_checksum (unsummed type offset bytes) in
-    plain-digits (encode_upper fields) (encode-digits fields (IsBytes-summed type offset bytes known short all))
-
-checked-good : (size offset type low_sum : ℕ) (more bytes : List ℕ) → length more ≡ size + 1 → low_sum ≡ 0
-    → take size more ≡ bytes
-    → checked_ihex size offset type low_sum more ≡ typed_ihex type offset bytes
-checked-good size offset type low_sum more bytes len sum_is prefix = grind (arith, nat_tests)
+plain-line type offset bytes known short all = grind (arith, common_steps, plain-digits, encode-digits)
 
 fields-summed : (type offset : ℕ) (bytes : List ℕ) → offset < 65536
     → ihex_from_fields (with_sum_checksum (unsummed type offset bytes)) ≡ typed_ihex type offset bytes
-fields-summed type offset bytes below =
-    let prefix : List ℕ = unsummed type offset bytes in
-    let check : ℕ = (256 - sum prefix % 256) % 256 in
-    let before : sum (prefix ++ check ∷ []) ≡ sum prefix + check = sum-push prefix 0 check in
-    search (rules, checked-good, length-append, take_at)
+fields-summed type offset bytes below = grind (arith, common_steps, nat_tests)
 
 says-line : (type offset : ℕ) (bytes : List ℕ) → type < 256 → offset < 65536 → length bytes ≤ 32 → IsBytes bytes
     → said_by_line Ihex (line_of type offset bytes) ≡ record_meaning Ihex (typed_ihex type offset bytes)
@@ -93,32 +83,18 @@ upper-lines old new rest below =
 -- the lines of the rows, and of the end record
 pub lines-said : (upper end : ℕ) (rows : List (ℕ × List ℕ)) → end ≤ 2 ^ 32 → Every (IsRow ihex_row_size end) rows
     → map (said_by_line Ihex) (lines (ihex_rows upper rows)) ≡ rows_said upper rows ++ Ok End ∷ Ok Nothing ∷ []
-lines-said upper end [] fits all =
-    search (rules, plain-line, lines-plain, says-line)
+lines-said upper end [] fits all = search (rules, plain-line, lines-plain, says-line)
 lines-said upper end (row ∷ rows) fits all =
-    let is = all.0 in
     let high : ℕ = row.0 / 65536 in
     search (rules, plain-line, says-line, append_assoc, upper-lines, lines-written, lines-said high end rows fits all.1)
-
-upper-goes_on : (same : Bool) (new : ℕ) (more : List Said) → AllGoOn more
-    → AllGoOn ((if same then [] else Ok (Rebase (Linear new)) ∷ []) ++ more)
-upper-goes_on true new more on = on
-upper-goes_on false new more on = (tt, on)
 
 pub rows-go_on : (upper : ℕ) (cut : List (ℕ × List ℕ)) → AllGoOn (rows_said upper cut)
 rows-go_on upper [] = tt
 rows-go_on upper (row ∷ more) =
-    let high : ℕ = row.0 / 65536 in
-    upper-goes_on (high == upper) high (Ok (Data (row.0 % 65536) row.1) ∷ rows_said high more)
-    (tt, rows-go_on high more)
-
-upper-threaded : (old new : ℕ) (more : List Said)
-    → threaded (Linear old) (upper_said old new ++ more) ≡ threaded (Linear new) more
-upper-threaded old new more = grind (arith, nat_tests)
+    let high : ℕ = row.0 / 65536 in search (rules, rows-go_on high more)
 
 pub rows-threaded : (upper : ℕ) (rows : List (ℕ × List ℕ))
     → threaded (Linear upper) (then_end (rows_said upper rows)) ≡ flat_map places_of rows
 rows-threaded upper [] = refl
 rows-threaded upper (row ∷ rows) =
-    let high : ℕ = row.0 / 65536 in
-    search (rules, threaded, append_assoc, upper-threaded, then_end, places-linear, rows-threaded high rows)
+    let high : ℕ = row.0 / 65536 in search (rules, nat_tests, places-linear, rows-threaded high rows)

@@ -5,7 +5,6 @@ use Rattle.std.specs.List.{list_all}
 use Rattle.std.proofs.lemmas.Bool.{and_parts}
 use Rattle.std.proofs.lemmas.Bool.Decides.{nat_tests}
 use Rattle.std.proofs.lemmas.List.{take_all, take_at, append_assoc, length-append}
-use Rattle.std.proofs.lemmas.List.Splits.{slice_split-cons_no}
 use Rattle.std.proofs.lemmas.List.Sums.{list_all-from_AllPass, AllPass-from_list_all, suffix_len_is, fold-append}
 use Rattle.hex.specs.Hex.{IsBytes, is_hex_digit, encode_upper}
 use Rattle.hex.proofs.HexLemmas.{decode_of-encode_upper, decode_of-ok}
@@ -39,14 +38,10 @@ encode-digits bytes all =
 pub bytes_of-encode : (bytes : List ℕ) → IsBytes bytes → bytes_of_digits (encode_upper bytes) ≡ Ok bytes
 bytes_of-encode bytes all = grind (arith, nat_tests, encode-digits, decode_of-encode_upper)
 
-not-blank : (c : ℕ) → is_plain c ≡ true → is_blank c ≡ false
-not-blank c plain = grind (arith, (and_parts (not (is_line_end c)) (not (is_blank c)) plain).1)
-
 -- nothing is trimmed from a line without blanks
 trimmed-plain : (line : List ℕ) → list_all is_plain line ≡ true → trimmed_line line ≡ line
 trimmed-plain line plain =
-    let all = AllPass-from_list_all is_plain line plain in
-    search (rules, suffix_len_is, not-blank, take_all)
+    let all = AllPass-from_list_all is_plain line plain in search (rules, suffix_len_is, take_all)
 
 says-bare : (kind : Kind) (line : List ℕ) → said_by_line kind line ≡ unless_long (bare_says kind) line
 says-bare x line = grind (arith, nat_tests)
@@ -66,7 +61,7 @@ pub lines-plain : (line rest : List ℕ) → list_all is_plain line ≡ true →
 lines-plain [] rest plain = refl
 lines-plain (c ∷ cs) rest plain =
     let parts = and_parts (is_plain c) (list_all is_plain cs) plain in
-    search (rules, slice_split-cons_no, lines-plain cs rest parts.1)
+    search (rules, lines-plain cs rest parts.1)
 
 pub lines-written : (line rest : List ℕ) → list_all is_plain line ≡ true
     → lines ((line ++ 10 ∷ []) ++ rest) ≡ line ∷ lines rest
@@ -79,13 +74,12 @@ open-lines : (line : List ℕ) → list_all (λ c. not (is_line_end c)) line ≡
 open-lines [] all = refl
 open-lines (c ∷ cs) all =
     let parts = and_parts (not (is_line_end c)) (list_all (λ c. not (is_line_end c)) cs) all in
-    search (rules, slice_split-cons_no, open-lines cs parts.1)
+    search (rules, open-lines cs parts.1)
 
 open-plain : (cs : List ℕ) → list_all is_plain cs ≡ true → list_all (λ c. not (is_line_end c)) cs ≡ true
 open-plain [] all = refl
 open-plain (c ∷ cs) all =
-    let parts = and_parts (is_plain c) (list_all is_plain cs) all in
-    rw (and_parts (not (is_line_end c)) (not (is_blank c)) parts.0).0 (open-plain cs parts.1)
+    let parts = and_parts (is_plain c) (list_all is_plain cs) all in search (rules, open-plain cs parts.1)
 
 open-append : (prefix back : List ℕ) → list_all (λ c. not (is_line_end c)) prefix ≡ true
     → list_all (λ c. not (is_line_end c)) back ≡ true
@@ -99,7 +93,3 @@ pub is-line : (marks bytes text : List ℕ) → list_all (λ c. not (is_line_end
     → text ≡ (marks ++ encode_upper bytes) ++ 10 ∷ [] → IsLine text
 is-line marks bytes text plain all is =
     search (rules, open-lines, open-append, open-plain, plain-digits, encode-digits, length-append, take_at)
-
--- the sum with one more byte
-pub sum-push : (xs : List ℕ) (n x : ℕ) → fold (λ (a b : ℕ). a + b) n (xs ++ x ∷ []) ≡ fold (λ (a b : ℕ). a + b) n xs + x
-sum-push xs n x = fold-append (λ (a b : ℕ). a + b) n xs (x ∷ [])

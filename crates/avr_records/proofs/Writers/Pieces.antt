@@ -1,6 +1,6 @@
 -- How the text of a record file begins.
-use Rattle.std.proofs.Common.{◌≡◌, ◌∙◌, sym, ap, refl, arith, ℕ, zero, suc, ◌+◌, ◌-◌, ◌/◌, ◌%◌, ◌<◌, ◌≤◌, List, [], ◌∷◌, ◌++◌, length, take, drop, min, map, add-zero, set, get_or, inl, inr, Some, None}
-use Rattle.std.proofs.lemmas.Bool.{cases_eq, cases_lt}
+use Rattle.std.proofs.Common.{◌≡◌, ◌∙◌, sym, ap, refl, arith, ℕ, zero, suc, ◌+◌, ◌-◌, ◌/◌, ◌%◌, ◌<◌, ◌≤◌, List, [], ◌∷◌, ◌++◌, length, take, drop, min, map, add-zero, set, get_or, inl, inr, Some, None, rules}
+use Rattle.std.proofs.lemmas.Bool.{cases_lt}
 use Rattle.std.proofs.lemmas.Bool.Decides.{nat_tests}
 use Rattle.std.proofs.lemmas.List.{append_assoc, get_or-map, get_or_past, take_min, drop_all, drop_more, map_more, set_at, get_or_at, length-map, length-take-le, length-append}
 use Rattle.std.specs.Char.{to_ascii_uppercase}
@@ -10,7 +10,6 @@ use Rattle.avr_records.specs.Text.{rows, rows_behind, width_of, low_bytes, two, 
 use Rattle.avr_records.specs.Sparse.{file_rows, new_upper, row_size, row_text}
 use Rattle.avr_records.specs.declared.address_size.AddressSize.{AddressSize}
 use Rattle.avr_records.specs.declared.kind.Kind.{Kind}
-use Rattle.avr_records.specs.declared.kind.Kind.TheVariants.{Ihex, Srec}
 
 -- a lower-case digit, raised
 raised-digit : (d : ℕ) → to_ascii_uppercase (slice_index lower_digits d) ≡ slice_index upper_digits d
@@ -50,21 +49,13 @@ rows_behind-drop zero size addr (b ∷ bs) = ap (λ (a : ℕ). rows size a (b �
 rows_behind-drop (suc taken) size addr (b ∷ bs) = grind (arith, nat_tests, rows_behind-drop taken size (addr + 1) bs)
 
 pub drop-one_less : (s b : ℕ) (bs : List ℕ) → 0 < s → drop (s - 1) bs ≡ drop s (b ∷ bs)
-drop-one_less zero b bs some = absurd (omega arith)
-drop-one_less (suc s) b bs some = ap (λ (k : ℕ). drop k bs) (omega arith)
-
--- after the last row there is none
-rows-min : (size : ℕ → ℕ) (addr s n : ℕ) (bytes : List ℕ) → n ≡ min s (length bytes)
-    → rows size (addr + s) (drop s bytes) ≡ rows size (addr + n) (drop n bytes)
-rows-min size addr s n bytes is = grind (arith, nat_tests, cases_lt, drop_all)
+drop-one_less s b bs some = search rules
 
 -- the first row, of n bytes
 pub rows-next : (size : ℕ → ℕ) (addr n : ℕ) (bytes : List ℕ) → 0 < length bytes → 0 < size addr
     → n ≡ min (size addr) (length bytes)
     → rows size addr bytes ≡ (addr, take n bytes) ∷ rows size (addr + n) (drop n bytes)
-rows-next size addr n [] some wide is = absurd (omega arith)
-rows-next size addr n (b ∷ bs) some wide is =
-    grind (arith, nat_tests, take_min, rows_behind-drop, drop-one_less, rows-min)
+rows-next size addr n bytes some wide is = search (rules, nat_tests, take_min, rows_behind-drop, drop_all)
 
 pub length_low_bytes : (size n : ℕ) → length (low_bytes size n) ≡ size
 length_low_bytes zero n = refl
@@ -83,12 +74,4 @@ pub rows-upper : (kind : Kind) (upper new addr : ℕ) (size : AddressSize) (row 
     → new_upper kind upper addr ≡ Some new
     → file_rows kind upper size ((addr, row) ∷ more)
     ≡ ihex_record 4 0 (two new) ++ file_rows kind new size ((addr, row) ∷ more)
-rows-upper Srec upper new addr size row more is = absurd (cc is)
-rows-upper Ihex upper new addr size row more is = grind (arith, nat_tests, cases_eq, set, append_assoc)
-
--- the record of a row
-pub rows-row : (kind : Kind) (upper addr : ℕ) (size : AddressSize) (row : List ℕ) (more : List (ℕ × List ℕ))
-    → new_upper kind upper addr ≡ None
-    → file_rows kind upper size ((addr, row) ∷ more) ≡ row_text kind size addr row ++ file_rows kind upper size more
-rows-row Srec upper addr size row more is = refl
-rows-row Ihex upper addr size row more is = grind (arith, nat_tests)
+rows-upper kind upper new addr size row more is = search (rules, nat_tests, append_assoc)

@@ -1,18 +1,16 @@
 -- Lines of data records that follow each other, and the image that they make.
 use Rattle.std.proofs.lemmas.Bool.Decides.{nat_tests}
-use Rattle.std.proofs.Common.{◌≡◌, ◌∙◌, ap, refl, arith, ℕ, ◌+◌, ◌*◌, nat_lt, Bool, true, List, [], ◌∷◌, ◌++◌, length, map, Option, Some, None, Ok, Err, inl, inr, add-zero}
-use Rattle.std.specs.Prelude.{option_map, if◌then◌else◌}
+use Rattle.std.proofs.Common.{◌≡◌, ◌∙◌, ap, refl, arith, ℕ, ◌+◌, ◌*◌, nat_lt, Bool, true, List, [], ◌∷◌, ◌++◌, map, Option, Some, None, Ok, Err, inl, inr, rules}
+use Rattle.std.specs.Prelude.{if◌then◌else◌}
 use Rattle.std.specs.List.{enumerate_from, flat_map, list_any}
 use Rattle.std.proofs.lemmas.Bool.{cases_Bool}
 use Rattle.std.proofs.lemmas.List.Sums.{fold-append}
 use Rattle.avr_image.specs.Image.{image_of_pairs}
 use Rattle.avr_records.specs.Meaning.{Nothing, Data, Rebase, Counted, End}
-use Rattle.avr_records.specs.Reading.{Said, is_end, up_to_end, in_place, next_base, base_after, address, places, placed_bytes, beyond, fault_in, or_later, first_fault, file_ending, together}
+use Rattle.avr_records.specs.Reading.{Said, is_end, up_to_end, in_place, next_base, base_after, address, places, placed_bytes, beyond, first_fault, file_ending, together}
 use Rattle.avr_records.specs.declared.kind.AddressBase.{AddressBase}
 use Rattle.avr_records.specs.declared.kind.AddressBase.TheVariants.{Linear}
 use Rattle.avr_records.specs.declared.kind.Ending.TheVariants.{Ended, NoEnd}
-use Rattle.avr_records.specs.declared.fault.LineFault.{LineFault}
-use Rattle.avr_records.specs.declared.fault.LineFault.TheVariants as line
 
 beyond-parts : (size : ℕ) (xs ys : List (ℕ × ℕ)) → beyond size (xs ++ ys) ≡ None
     → (beyond size xs ≡ None) × (beyond size ys ≡ None)
@@ -35,14 +33,10 @@ abbrev pub threaded : AddressBase → List Said → List (ℕ × ℕ)
 threaded base [] = []
 threaded base (said ∷ more) = under base said ++ threaded (next_base base said) more
 
-placed-under : (before : List Said) (said : Said) → placed_bytes (before, said) ≡ under (base_after before) said
-placed-under before x = grind (arith, nat_tests)
-
 placed-threaded : (before said : List Said)
     → flat_map placed_bytes (in_place before said) ≡ threaded (base_after before) said
 placed-threaded before [] = refl
-placed-threaded before (s ∷ more) =
-    grind (arith, nat_tests, placed-threaded (before ++ s ∷ []) more, placed-under, fold-append)
+placed-threaded before (s ∷ more) = grind (arith, nat_tests, placed-threaded (before ++ s ∷ []) more, fold-append)
 
 -- a line that isn't a fault, a count or an end
 abbrev pub GoesOn : Said → Type 0
@@ -75,13 +69,6 @@ has_end (s ∷ prefix) more = grind (arith, nat_tests, has_end prefix more)
 pub ended : (prefix more : List Said) → file_ending (prefix ++ Ok End ∷ more) ≡ Ended
 ended prefix more = ap (λ (b : Bool). if b then Ended else NoEnd) (has_end prefix more)
 
-fault-none : (size : ℕ) (before : List Said) (s : Said) → GoesOn s → beyond size (placed_bytes (before, s)) ≡ None
-    → fault_in size (before, s) ≡ None
-fault-none size before (Ok Nothing) on inside = refl
-fault-none size before (Ok (Data offset bytes)) on inside = ap (option_map line.Range) inside
-fault-none size before (Ok (Rebase base)) on inside = refl
-fault-none size before x on inside = absurd on
-
 pub first_fault-none : (size : ℕ) (before prefix : List Said) → AllGoOn prefix
     → beyond size (flat_map placed_bytes (in_place before (then_end prefix))) ≡ None
     → first_fault size (in_place before (then_end prefix)) ≡ None
@@ -89,9 +76,7 @@ first_fault-none size before [] on inside = refl
 first_fault-none size before (s ∷ prefix) on inside =
     let parts = beyond-parts size (placed_bytes (before, s))
     (flat_map placed_bytes (in_place (before ++ s ∷ []) (then_end prefix))) inside in
-    ap (λ (fault : Option LineFault). or_later (length before + 1) fault
-    (first_fault size (in_place (before ++ s ∷ []) (then_end prefix)))) (fault-none size before s on.0 parts.0)
-    ∙ first_fault-none size (before ++ s ∷ []) prefix on.1 parts.1
+    search (rules, first_fault-none size (before ++ s ∷ []) prefix on.1 parts.1)
 
 -- Lines of data, the end record and whatever comes after it: they read as the image of their bytes, if all are inside.
 pub together-laid : (size : ℕ) (image : List (Option ℕ)) (places : List (ℕ × ℕ)) (prefix more : List Said)
@@ -104,8 +89,7 @@ together-laid size image places prefix more on follow inside_is laid_is =
 -- the places of a data record while a linear base is in force
 pub places-linear : (upper offset addr : ℕ) (bytes : List ℕ) → upper * 65536 + offset ≡ addr
     → places (Linear upper) offset bytes ≡ enumerate_from addr bytes
-places-linear upper offset addr bytes is =
-    from 0 bytes ∙ ap (λ (a : ℕ). enumerate_from a bytes) (add-zero (upper * 65536 + offset) ∙ is)
+places-linear upper offset addr bytes is = search (rules, from)
   where
     from : (i : ℕ) (bs : List ℕ) → map (λ p. (address (Linear upper) offset p.0, p.1)) (enumerate_from i bs)
         ≡ enumerate_from (upper * 65536 + offset + i) bs

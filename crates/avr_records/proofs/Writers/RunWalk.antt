@@ -16,12 +16,9 @@ first-held : (k base addr : ℕ) (bytes : List ℕ) → addr - base < length byt
     → position_from is_some k (drop addr (held base bytes)) ≡ Some (k + (base - addr))
 first-held k zero addr [] some = absurd (omega (arith, some))
 first-held k zero zero (b ∷ bytes) some = ap Some (omega arith)
-first-held k zero (suc addr) (b ∷ bytes) some =
-    first-held k zero addr bytes (omega (arith, some)) ∙ ap Some (omega arith)
-first-held k (suc base) zero bytes some =
-    first-held (k + 1) base zero bytes (omega (arith, some)) ∙ ap Some (omega arith)
-first-held k (suc base) (suc addr) bytes some =
-    first-held k base addr bytes (omega (arith, some)) ∙ ap Some (omega arith)
+first-held k zero (suc addr) (b ∷ bytes) some = search (rules, first-held k zero addr bytes (omega (arith, some)))
+first-held k (suc base) zero bytes some = search (rules, first-held (k + 1) base zero bytes (omega (arith, some)))
+first-held k (suc base) (suc addr) bytes some = search (rules, first-held k base addr bytes (omega (arith, some)))
 
 pub first-in : (base addr : ℕ) (bytes : List ℕ) → addr - base < length bytes
     → first_from (run_at base bytes) addr ≡ Some (base + (addr - base))

@@ -1,9 +1,9 @@
 -- A written image with gaps reads back as it was.
-use Rattle.std.proofs.Common.{◌≡◌, ◌∙◌, sym, ap, refl, arith, ℕ, zero, suc, add-zero, ◌+◌, ◌^◌, ◌<◌, ◌≤◌, All, List, [], ◌∷◌, ◌++◌, length, map, Option, Some, None, Ok, rules}
+use Rattle.std.proofs.Common.{◌≡◌, ◌∙◌, ap, refl, arith, ℕ, zero, suc, ◌+◌, ◌^◌, ◌<◌, ◌≤◌, All, List, [], ◌∷◌, ◌++◌, length, map, Option, Some, None, Ok, rules}
 use Rattle.std.specs.List.{flat_map, enumerate_from}
 use Rattle.std.proofs.lemmas.Bool.Decides.{nat_tests}
 use Rattle.std.proofs.lemmas.Grind.{flat_map-append}
-use Rattle.std.proofs.lemmas.List.{append-nil, length-append, length-replicate}
+use Rattle.std.proofs.lemmas.List.{length-append, length-replicate}
 use Rattle.avr_image.specs.Runs.{onto_runs, runs, places_of}
 use Rattle.avr_image.proofs.Lemmas.{runs_are_whole, runs_inside}
 use Rattle.hex.specs.Hex.{IsBytes}
@@ -93,7 +93,7 @@ pub rows_of-are : (size : ℕ → ℕ) (end : ℕ) (cut : List (ℕ × List ℕ)
     → Every (IsRow size end) (rows_of size cut)
 rows_of-are size end [] wide all = tt
 rows_of-are size end (run ∷ cut) wide all =
-    grind (arith, nat_tests, rows_of-are size end cut wide all.1, IsRow, rows_behind-are, every-append, rows-up)
+    grind (arith, nat_tests, rows_of-are size end cut wide all.1, rows_behind-are, every-append, rows-up)
 
 -- ---- a memory with gaps after it
 
@@ -119,8 +119,7 @@ last-below image fits = last-most 0 0 (2 ^ 32) image (omega arith) (omega (arith
 
 rows-are : (kind : Kind) (image : List (Option ℕ)) → HoldsBytes image
     → Every (IsRow (row_size kind) (last_held 0 0 image + 1)) (rows_of (row_size kind) (runs 0 image))
-rows-are kind image bytes =
-    rows_of-are (row_size kind) (last_held 0 0 image + 1) (runs 0 image) (wide_row kind) (runs-in 0 0 image bytes)
+rows-are kind image bytes = search (rules, rows_of-are, wide_row, runs-in)
 
 pub reads-back : (kind : Kind) → ReadsBack kind
 reads-back Ihex image more fits bytes =
@@ -146,7 +145,4 @@ reads-back Srec image more fits bytes =
 -- for a memory of the same size
 pub reads-back-same : (kind : Kind) (image : List (Option ℕ)) → length image ≤ 2 ^ 32 → HoldsBytes image
     → image_in_text kind (image_text kind image) (length image) ≡ Ok (image, Ended)
-reads-back-same kind image fits bytes =
-    ap (image_in_text kind (image_text kind image)) (sym (add-zero (length image)))
-    ∙ reads-back kind image 0 fits bytes
-    ∙ ap (λ (held : List (Option ℕ)). Ok (held, Ended)) (append-nil image)
+reads-back-same kind image fits bytes = search (rules, reads-back kind image 0 fits bytes)

@@ -1,6 +1,7 @@
 -- How the text of a memory with gaps begins, by the walk over it.
+use Rattle.std.proofs.lemmas.Grind.{common_steps}
 use Rattle.std.proofs.lemmas.Bool.Decides.{nat_tests}
-use Rattle.std.proofs.Common.{◌≡◌, ◌∙◌, sym, ap, ap₂, refl, arith, ℕ, zero, suc, ◌+◌, ◌-◌, ◌<◌, ◌≤◌, List, [], ◌∷◌, ◌++◌, length, take, drop, min, Option, Some, None, is_some, add-zero, rules}
+use Rattle.std.proofs.Common.{◌≡◌, ◌∙◌, sym, ap, ap₂, refl, arith, ℕ, zero, suc, ◌+◌, ◌-◌, ◌<◌, ◌≤◌, List, [], ◌∷◌, ◌++◌, length, take, drop, min, Option, Some, None, is_some, rules}
 use Rattle.std.specs.List.{position_from, slice_range}
 use Rattle.std.proofs.lemmas.List.{drop-drop, length-append, length-drop, length-take, take_min}
 use Rattle.avr_image.specs.Image.{first_from, run_end, filled_bytes}
@@ -11,7 +12,7 @@ use Rattle.avr_records.specs.Sparse.{file_rows, last_held, new_upper, row_size, 
 use Rattle.avr_records.specs.Writing.{text_from}
 use Rattle.avr_records.specs.declared.address_size.AddressSize.{AddressSize}
 use Rattle.avr_records.specs.declared.kind.Kind.{Kind}
-use Rattle.avr_records.proofs.Writers.Pieces.{rows-next, rows-row, rows-upper, wide_row}
+use Rattle.avr_records.proofs.Writers.Pieces.{rows-next, rows-upper, wide_row}
 
 -- ---- the first run, and what is after it
 
@@ -31,9 +32,7 @@ after-drop (suc n) x l = absurd (omega (arith, l))
 pub rows-lead : (size : ℕ → ℕ) (addr : ℕ) (image : List (Option ℕ))
     → rows_of size (runs addr image) ≡ rows size addr (lead image)
     ++ rows_of size (runs (addr + length (lead image)) (after image))
-rows-lead size addr [] = refl
-rows-lead size addr (None ∷ image) = ap (λ (n : ℕ). rows_of size (runs n (None ∷ image))) (sym (add-zero addr))
-rows-lead size addr (Some b ∷ image) = ap (rows_of size) (runs_first (Some b ∷ image) addr (omega arith))
+rows-lead size addr image = grind (arith, common_steps, runs_first)
 
 -- the first row is the first bytes of the first run
 pub rows-step : (size : ℕ → ℕ) (addr n : ℕ) (image : List (Option ℕ)) → 0 < length (lead image) → 0 < size addr
@@ -90,8 +89,6 @@ pub text-upper : (kind : Kind) (upper new : ℕ) (size : AddressSize) (addr plac
     → text_from kind upper size addr image ≡ ihex_record 4 0 (two new) ++ text_from kind new size addr image
 text-upper kind upper new size addr place image found is =
     let row : List ℕ = take (row_size kind place) (lead (drop place image)) in
-    let more : List (ℕ × List ℕ) =
-    rows_of (row_size kind) (runs (place + length row) (drop (place + length row) image)) in
     let cut = rows-walk (row_size kind) addr place row image found (wide_row kind place) refl in
     search (rules, rows-upper)
 
@@ -100,7 +97,7 @@ pub text-row : (kind : Kind) (upper : ℕ) (size : AddressSize) (addr place : �
     → row ≡ take (row_size kind place) (lead (drop place image))
     → text_from kind upper size addr image
     ≡ row_text kind size place row ++ text_from kind upper size (place + length row) image
-text-row kind upper size addr place row image found same is = grind (arith, nat_tests, rows-walk, wide_row, rows-row)
+text-row kind upper size addr place row image found same is = grind (arith, nat_tests, rows-walk)
 
 pub longer : (text piece more : List ℕ) → text ≡ piece ++ more → 0 < length piece → 0 < length text
 longer text piece more is some = omega (arith, ap length is, length-append piece more, some)

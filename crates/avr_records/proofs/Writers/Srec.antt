@@ -1,5 +1,6 @@
 -- S-records, as they are written and read again.
-use Rattle.std.proofs.Common.{◌≡◌, ◌∙◌, ap, refl, arith, ℕ, zero, suc, ◌+◌, ◌-◌, ◌/◌, ◌%◌, ◌^◌, ◌<◌, ◌≤◌, nat_le, Bool, true, List, [], ◌∷◌, ◌++◌, length, take, sum, map, fold, Result, Ok, Err, rules}
+use Rattle.std.proofs.lemmas.Grind.{common_steps}
+use Rattle.std.proofs.Common.{◌≡◌, ◌∙◌, ap, refl, arith, ℕ, zero, suc, ◌+◌, ◌-◌, ◌/◌, ◌^◌, ◌<◌, ◌≤◌, Bool, true, List, [], ◌∷◌, ◌++◌, length, map, Result, Ok, Err, rules}
 use Rattle.std.specs.Prelude.{if◌then◌else◌}
 use Rattle.std.specs.Char.{is_ascii_digit}
 use Rattle.std.specs.List.{list_all, flat_map}
@@ -14,24 +15,22 @@ use Rattle.hex.proofs.HexLemmas.{length-encode_with}
 use Rattle.avr_records.specs.Lines.{lines}
 use Rattle.avr_records.specs.Meaning.{Data, End, Nothing}
 use Rattle.avr_records.specs.Record.{RecordFields, number, bytes_of_digits, ◌and_then◌}
-use Rattle.avr_records.specs.Srec.{srec_from_fields, checked_srec, typed_srec, record_with_address}
+use Rattle.avr_records.specs.Srec.{srec_from_fields, typed_srec, record_with_address}
 use Rattle.avr_records.specs.Reading.{Said, said_by_line, record_meaning}
 use Rattle.avr_records.specs.Text.{width_of, low_bytes, with_count_and_checksum, srec_rows, address_size}
 use Rattle.avr_records.specs.declared.address_size.AddressSize.{AddressSize}
-use Rattle.avr_records.specs.declared.address_size.AddressSize.TheVariants.{Two, Three, Four}
 use Rattle.avr_records.specs.declared.kind.Kind.TheVariants.{Srec}
 use Rattle.avr_records.specs.declared.kind.AddressBase.TheVariants.{Linear}
 use Rattle.avr_records.specs.declared.fault.LineFault.{LineFault}
 use Rattle.avr_records.specs.declared.fault.LineFault.TheVariants.{Mark}
 use Rattle.avr_records.proofs.Writers.Pieces.{few_bytes, length_low_bytes}
-use Rattle.avr_records.proofs.Rows.Cuts.{IsBytes-nil, IsBytes-cons, IsBytes-append, IsRow, Every}
-use Rattle.avr_records.proofs.Writers.Lines.{is_plain, plain-digits, encode-digits, bytes_of-encode, says-plain, lines-plain, lines-written, sum-push}
+use Rattle.avr_records.proofs.Rows.Cuts.{IsBytes-nil, IsBytes-append, IsRow, Every}
+use Rattle.avr_records.proofs.Writers.Lines.{is_plain, plain-digits, encode-digits, bytes_of-encode, says-plain, lines-plain, lines-written}
 use Rattle.avr_records.proofs.Writers.Reread.{AllGoOn, then_end, threaded, places-linear}
 
 IsBytes-low_bytes : (size n : ℕ) → IsBytes (low_bytes size n)
 IsBytes-low_bytes zero n = IsBytes-nil
-IsBytes-low_bytes (suc size) n =
-    grind (arith, nat_tests, IsBytes-low_bytes size (n / 256), IsBytes-append, IsBytes-cons, IsBytes-nil)
+IsBytes-low_bytes (suc size) n = grind (arith, common_steps, nat_tests, IsBytes-low_bytes size (n / 256))
 
 number-low_bytes : (size n : ℕ) → n < 256 ^ size → number (low_bytes size n) ≡ n
 number-low_bytes zero n fits = omega arith
@@ -44,30 +43,15 @@ abbrev line_of : ℕ → List ℕ → List ℕ
 line_of type body = 83 ∷ (48 + type) ∷ encode_upper (with_count_and_checksum body)
 
 IsBytes-counted : (body : List ℕ) → length body ≤ 36 → IsBytes body → IsBytes (with_count_and_checksum body)
-IsBytes-counted body short all = grind (arith, nat_tests, IsBytes-append, IsBytes-cons, IsBytes-nil)
+IsBytes-counted body short all = grind (arith, nat_tests, IsBytes-append)
 
 plain-line : (type : ℕ) (body : List ℕ) → type ≤ 9 → length body ≤ 36 → IsBytes body
     → list_all is_plain (line_of type body) ≡ true
-plain-line type body digit short all =
-    let mark : is_plain (48 + type) ≡ true = grind (arith, nat_tests) in
-    rw mark (plain-digits (encode_upper (with_count_and_checksum body))
-    (encode-digits (with_count_and_checksum body) (IsBytes-counted body short all)))
-
-checked-good : (type count low_sum : ℕ) (more body : List ℕ) → 0 < count → length more ≡ count → low_sum ≡ 255
-    → take (count - 1) more ≡ body
-    → checked_srec type count low_sum more ≡ typed_srec type body
-checked-good type count low_sum more body some len sum_is prefix = grind (arith, nat_tests)
+plain-line type body digit short all = grind (arith, common_steps, nat_tests, plain-digits, encode-digits)
 
 fields-counted : (type : ℕ) (body : List ℕ)
     → srec_from_fields type (with_count_and_checksum body) ≡ typed_srec type body
-fields-counted type body =
-    let check : ℕ = 255 - sum ((length body + 1) ∷ body) % 256 in
-    let before : fold (λ (a x : ℕ). a + x) (0 + (length body + 1)) (body ++ check ∷ [])
-    ≡ sum ((length body + 1) ∷ body) + check =
-    sum-push body (0 + (length body + 1)) check in
-    checked-good type (length body + 1) (sum ((length body + 1) ∷ (body ++ check ∷ [])) % 256) (body ++ check ∷ []) body
-    (omega arith) (length-append body (check ∷ [])) (omega (arith, before))
-    (take_at body (check ∷ []) (length body + 1 - 1) (omega arith))
+fields-counted type body = grind (arith, common_steps, nat_tests)
 
 says-line : (type : ℕ) (body : List ℕ) → type ≤ 9 → length body ≤ 36 → IsBytes body
     → said_by_line Srec (line_of type body) ≡ record_meaning Srec (typed_srec (48 + type) body)
@@ -86,15 +70,7 @@ says-line type body digit short all =
 
 typed-data : (size : AddressSize) (body : List ℕ)
     → typed_srec (48 + (width_of size - 1)) body ≡ record_with_address (width_of size - 1) (width_of size) body
-typed-data Two body = refl
-typed-data Three body = refl
-typed-data Four body = refl
-
-typed-end : (size : AddressSize)
-    → record_meaning Srec (typed_srec (48 + (11 - width_of size)) (low_bytes (width_of size) 0)) ≡ Ok End
-typed-end Two = refl
-typed-end Three = refl
-typed-end Four = refl
+typed-data size body = search rules
 
 abbrev record_with : ℕ → ℕ → List ℕ → Result RecordFields LineFault
 record_with type addr row = Ok (record { type = type; address = addr; bytes = row })
@@ -102,7 +78,7 @@ record_with type addr row = Ok (record { type = type; address = addr; bytes = ro
 addressed-low : (type size addr : ℕ) (row : List ℕ) → addr < 256 ^ size
     → record_with_address type size (low_bytes size addr ++ row) ≡ record_with type addr row
 addressed-low type size addr row fits =
-    grind (arith, nat_tests, length_low_bytes, nat_le, length-append, take_at, drop_at, number-low_bytes)
+    grind (arith, nat_tests, length_low_bytes, length-append, take_at, drop_at, number-low_bytes)
 
 meant-data : (size : AddressSize) (addr : ℕ) (row : List ℕ)
     → record_meaning Srec (record_with (width_of size - 1) addr row) ≡ Ok (Data addr row)
@@ -122,9 +98,7 @@ lines-said size end [] fits all =
     let len = length_low_bytes (width_of size) 0 in
     let bytes = IsBytes-low_bytes (width_of size) 0 in
     let plain = plain-line (11 - width_of size) body (omega (arith, few.0)) (omega (arith, len, few.1)) bytes in
-    ap (map (said_by_line Srec)) (lines-plain (line_of (11 - width_of size) body) [] plain)
-    ∙ ap (λ (said : Said). said ∷ Ok Nothing ∷ [])
-    (says-line (11 - width_of size) body (omega (arith, few.0)) (omega (arith, len, few.1)) bytes ∙ typed-end size)
+    search (rules, lines-plain, says-line)
 lines-said size end ((addr, row) ∷ rows) fits all =
     let few = few_bytes size in
     let is = all.0 in
@@ -141,8 +115,7 @@ lines-said size end ((addr, row) ∷ rows) fits all =
     let said : said_by_line Srec (line_of type body) ≡ said_of (addr, row) =
     says-line type body digit short bytes
     ∙ ap (record_meaning Srec) (typed-data size body ∙ addressed-low type (width_of size) addr row low)
-    ∙ meant-data size addr row in
-    search (rules, lines-written, lines-said size end rows fits all.1)
+    ∙ meant-data size addr row in search (rules, lines-written, lines-said size end rows fits all.1)
 
 pub rows-go_on : (rows : List (ℕ × List ℕ)) → AllGoOn (map said_of rows)
 rows-go_on [] = tt
@@ -151,7 +124,7 @@ rows-go_on (row ∷ rows) = (tt, rows-go_on rows)
 pub rows-threaded : (rows : List (ℕ × List ℕ))
     → threaded (Linear 0) (then_end (map said_of rows)) ≡ flat_map places_of rows
 rows-threaded [] = refl
-rows-threaded (row ∷ rows) = grind (arith, nat_tests, rows-threaded rows, threaded, then_end, places-linear)
+rows-threaded (row ∷ rows) = grind (arith, nat_tests, rows-threaded rows, places-linear)
 
 -- an address has as many bytes as it needs
 pub wide_enough : (last : ℕ) → last < 2 ^ 32 → last < 256 ^ width_of (address_size last)

@@ -1,5 +1,5 @@
 use Rattle.std.proofs.lemmas.Bool.Decides.{nat_tests}
-use Rattle.std.proofs.Common.{◌-◌, arith, rules}
+use Rattle.std.proofs.Common.{arith, rules}
 use Rattle.std.proofs.lemmas.List.{length-set}
 use Rattle.avr_image.proofs.Texts.Digits.{none_written, more_written, digit_left, digit_more, ne_test}
 use Rattle.avr_image.proofs.digits.write_digits.Goals as goal
