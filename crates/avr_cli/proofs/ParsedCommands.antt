@@ -1,13 +1,13 @@
 -- What parsing a known command gives.
-use Rattle.std.proofs.Common.{ap, true, false, ◌≡◌, ◌∙◌, refl, List}
+use Rattle.std.proofs.Common.{ap, true, ◌≡◌, ◌∙◌, refl, List}
 use Rattle.std.specs.Prelude.{⊤}
 use Rattle.clap.specs.Words.{App, Rule, Text, AddsArg, HasMatchesOf, app_of, is_simple, is_simple_and_free, matches_of}
-use Rattle.clap.specs.Words.{rows_of, found_of, rule_of, with_rule}
+use Rattle.clap.specs.Words.{rows_of, found_of, with_rule}
 use Rattle.clap.specs.declared.builder.arg.Arg.{Arg}
 use Rattle.clap.specs.declared.builder.command.Command.{Command}
 use Rattle.clap.specs.declared.parser.matches.ArgMatches.{ArgMatches}
 use Rattle.clap.proofs.OnLiterals.{clap_on_literals}
-use Rattle.avr_cli.specs.Command.{avrstk, target_rules, write_rules, run_rules, telling_rules, file_rules}
+use Rattle.avr_cli.specs.Command.{IsOption, avrstk, target_rules, write_rules, run_rules, telling_rules, file_rules}
 
 -- what a proof unfolds to compute the command
 unfoldable pub whole_command : ⊤
@@ -28,6 +28,6 @@ pub rows_given : (a b : App) (words : List Text) → a ≡ b → is_simple b ≡
 rows_given a b words is simple m h = (h (ap is_simple is ∙ simple)).0 ∙ ap (λ (c : App). matches_of c words) is
 
 -- one more option
-pub arg_added : {a b : Command} {x : Arg} {r : Rule} → AddsArg a x b → x.global ≡ false → rule_of x ≡ r
+pub arg_added : {a b : Command} {x : Arg} {r : Rule} → AddsArg a x b → IsOption x r
     → app_of b ≡ with_rule (app_of a) r
-arg_added {a} adds local is = adds.shape local ∙ ap (with_rule (app_of a)) is
+arg_added {a} adds is = adds.shape is.local ∙ ap (with_rule (app_of a)) is.shape

@@ -2,7 +2,8 @@
 use Rattle.std.specs.Prelude.{ℕ, Bool, true, false, List, [], ◌∷◌, ◌≡◌, Option, Some, None, codes, pos, Result, IfOk, unwrap_or}
 use Rattle.std.specs.Str.{bytes_eq}
 use Rattle.clap.specs.declared.builder.command.Command.{Command}
-use Rattle.clap.specs.Words.{App, Row, Rule, app_of, new_app, new_rule, with_rule, matches_of, first_of, all_of, count_of}
+use Rattle.clap.specs.declared.builder.arg.Arg.{Arg}
+use Rattle.clap.specs.Words.{App, Row, Rule, app_of, rule_of, new_app, new_rule, with_rule, matches_of, first_of, all_of, count_of}
 use Rattle.clap.specs.declared.builder.ArgAction.TheVariants.{SetTrue, Append, Count}
 use Rattle.clap.specs.declared.builder.value_parser.ValueParser.TheVariants.{Signed}
 use Rattle.avr_part.specs.PartFile.{Bytes}
@@ -76,6 +77,11 @@ overriding a = record a { top = record a.top { args_override_self = true } }
 -- what was built is this command, unless allocation failed
 pub record Builds {E : Type 0} (built : Result Command E) (a : App) : Type 0 where
   pub shape : IfOk built (λ c. app_of c ≡ a)
+
+-- an option with this rule, of its own command alone
+pub record IsOption (arg : Arg) (rule : Rule) : Type 0 where
+  pub shape : rule_of arg ≡ rule
+  pub local : arg.global ≡ false
 
 unfoldable pub avrstk : App
 avrstk =

@@ -1,7 +1,7 @@
 //! The command line, as `clap` reads it.
-ghost use Rattle.std.specs.Prelude.{◌≡◌, IfOk, IfErr, true, false, codes, map, string_bytes};
-ghost use Rattle.clap.specs.Words.{App, Rule, new_app, with_rule, app_of, rule_of, rows_of, found_of, matches_of, takes, kind_of, fault_of, FailsBy};
-ghost use Rattle.avr_cli.specs.Command.{Builds, avrstk, overriding, with_rules, target_rules, write_rules, run_rules, telling_rules, file_rules};
+ghost use Rattle.std.specs.Prelude.{◌≡◌, IfOk, IfErr, true, codes, map, string_bytes};
+ghost use Rattle.clap.specs.Words.{App, Rule, with_rule, app_of, rows_of, found_of, matches_of, takes, kind_of, fault_of, FailsBy};
+ghost use Rattle.avr_cli.specs.Command.{Builds, IsOption, avrstk, with_rules, target_rules, write_rules, run_rules, telling_rules, file_rules};
 ghost use Rattle.avr_cli.specs.Command.{value_rule, list_rule, number_rule, flag_rule, count_rule, long_rule};
 
 use clap::error::ErrorKind;
@@ -33,8 +33,7 @@ clone, --parts /usr/share/avrstk/classic.toml from the package (PREFIX/share by 
 Values in place of a file need the format m. Manual: man avrstk. This is avrstk 0.9.0.";
 
 fn value<'a>(alloc: Global, id: &'a str, short: char, value_name: &'a str, help: &'a str) -> Arg<'a>
-    ensures rule { rule_of result ≡ value_rule id.entry.now short }
-    ensures local { result.global ≡ false }
+    ensures { IsOption result (value_rule id.entry.now short) }
 {
     Arg::new(alloc, id)
         .short(short)
@@ -44,8 +43,7 @@ fn value<'a>(alloc: Global, id: &'a str, short: char, value_name: &'a str, help:
 
 /// An option named by its id.
 fn long_value<'a>(alloc: Global, id: &'a str, value_name: &'a str, help: &'a str) -> Arg<'a>
-    ensures rule { rule_of result ≡ long_rule id.entry.now }
-    ensures local { result.global ≡ false }
+    ensures { IsOption result (long_rule id.entry.now) }
 {
     Arg::new(alloc, id)
         .long(id)
@@ -54,8 +52,7 @@ fn long_value<'a>(alloc: Global, id: &'a str, value_name: &'a str, help: &'a str
 }
 
 fn flag<'a>(alloc: Global, id: &'a str, short: char, help: &'a str) -> Arg<'a>
-    ensures rule { rule_of result ≡ flag_rule id.entry.now short }
-    ensures local { result.global ≡ false }
+    ensures { IsOption result (flag_rule id.entry.now short) }
 {
     Arg::new(alloc, id)
         .short(short)
@@ -64,8 +61,7 @@ fn flag<'a>(alloc: Global, id: &'a str, short: char, help: &'a str) -> Arg<'a>
 }
 
 fn counted<'a>(alloc: Global, id: &'a str, short: char, help: &'a str) -> Arg<'a>
-    ensures rule { rule_of result ≡ count_rule id.entry.now short }
-    ensures local { result.global ≡ false }
+    ensures { IsOption result (count_rule id.entry.now short) }
 {
     Arg::new(alloc, id)
         .short(short)
@@ -73,52 +69,9 @@ fn counted<'a>(alloc: Global, id: &'a str, short: char, help: &'a str) -> Arg<'a
         .help(help)
 }
 
-/// `-p`.
-fn part<'a>(alloc: Global) -> Arg<'a>
-    ensures rule { rule_of result ≡ value_rule (codes "part") 112 }
-    ensures local { result.global ≡ false }
-{
-    value(
-        alloc,
-        "part",
-        'p',
-        "ID",
-        "The part: m328p, t85, m2560, or one of a part file; needed",
-    )
-}
-
-/// `-c`.
-fn programmer<'a>(alloc: Global) -> Arg<'a>
-    ensures rule { rule_of result ≡ value_rule (codes "programmer") 99 }
-    ensures local { result.global ≡ false }
-{
-    value(
-        alloc,
-        "programmer",
-        'c',
-        "NAME",
-        "The programmer: stk500v2, the default",
-    )
-}
-
-/// `-P`.
-fn port<'a>(alloc: Global) -> Arg<'a>
-    ensures rule { rule_of result ≡ value_rule (codes "port") 80 }
-    ensures local { result.global ≡ false }
-{
-    value(
-        alloc,
-        "port",
-        'P',
-        "PORT",
-        "Where the programmer is: stdio:, emu:CHIPFILE or net:HOST:PORT",
-    )
-}
-
 /// `-U`, whose values are collected.
 fn update<'a>(alloc: Global) -> Arg<'a>
-    ensures rule { rule_of result ≡ list_rule (codes "update") 85 }
-    ensures local { result.global ≡ false }
+    ensures { IsOption result (list_rule (codes "update") 85) }
 {
     value(
         alloc,
@@ -132,8 +85,7 @@ fn update<'a>(alloc: Global) -> Arg<'a>
 
 /// `-b`, whose value is a number below 2 to the power 32.
 fn baud<'a>(alloc: Global) -> Arg<'a>
-    ensures rule { rule_of result ≡ number_rule (codes "baud") 98 }
-    ensures local { result.global ≡ false }
+    ensures { IsOption result (number_rule (codes "baud") 98) }
 {
     value(
         alloc,
@@ -147,8 +99,7 @@ fn baud<'a>(alloc: Global) -> Arg<'a>
 
 /// `-A`.
 fn all<'a>(alloc: Global) -> Arg<'a>
-    ensures rule { rule_of result ≡ flag_rule (codes "all") 65 }
-    ensures local { result.global ≡ false }
+    ensures { IsOption result (flag_rule (codes "all") 65) }
 {
     flag(
         alloc,
@@ -165,8 +116,7 @@ fn add<'a>(
     command: Result<Command<'a>, AllocError>,
     arg: Arg<'a>,
 ) -> Result<Command<'a>, AllocError>
-    requires { arg.global ≡ false }
-    ensures { (a : App) (r : Rule) → Builds command.entry a → rule_of arg.entry ≡ r → Builds result (with_rule a r) }
+    ensures { (a : App) (r : Rule) → Builds command.entry a → IsOption arg.entry r → Builds result (with_rule a r) }
 {
     command?.arg(arg)
 }
@@ -177,9 +127,36 @@ fn with_target<'a>(
 ) -> Result<Command<'a>, AllocError>
     ensures app { (a : App) → Builds command.entry a → Builds result (with_rules a target_rules) }
 {
-    let command = add(command, part(alloc));
-    let command = add(command, programmer(alloc));
-    let command = add(command, port(alloc));
+    let command = add(
+        command,
+        value(
+            alloc,
+            "part",
+            'p',
+            "ID",
+            "The part: m328p, t85, m2560, or one of a part file; needed",
+        ),
+    );
+    let command = add(
+        command,
+        value(
+            alloc,
+            "programmer",
+            'c',
+            "NAME",
+            "The programmer: stk500v2, the default",
+        ),
+    );
+    let command = add(
+        command,
+        value(
+            alloc,
+            "port",
+            'P',
+            "PORT",
+            "Where the programmer is: stdio:, emu:CHIPFILE or net:HOST:PORT",
+        ),
+    );
     add(command, update(alloc))
 }
 
@@ -276,22 +253,14 @@ fn with_files<'a>(
     )
 }
 
-fn without_options<'a>(alloc: Global) -> Result<Command<'a>, AllocError>
-    ensures { Builds result (overriding (new_app (codes "avrstk"))) }
-{
-    Ok(
-        Command::new(alloc, "avrstk")
-            .about(ABOUT)
-            .after_help(AFTER)
-            .args_override_self(true),
-    )
-}
-
 fn with_options<'a>(alloc: Global) -> Result<Command<'a>, AllocError>
     ensures { Builds result avrstk }
 {
-    let command = without_options(alloc);
-    let command = with_target(alloc, command);
+    let command = Command::new(alloc, "avrstk")
+        .about(ABOUT)
+        .after_help(AFTER)
+        .args_override_self(true);
+    let command = with_target(alloc, Ok(command));
     let command = with_write(alloc, command);
     let command = with_run(alloc, command);
     let command = with_telling(alloc, command);

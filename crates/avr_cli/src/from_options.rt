@@ -1,13 +1,13 @@
 //! The settings, from the options that the command line gave.
-ghost use Rattle.std.specs.Prelude.{◌≡◌, Ok, option_map, map, ◌≤◌, IsOk, length, [], unwrap_or};
+ghost use Rattle.std.specs.Prelude.{◌≡◌, Ok, option_map, map, IsOk, [], unwrap_or};
 ghost use Rattle.clap.specs.Words.{found_of, rows_of, first_of, all_of};
 ghost use Rattle.avr_cli.specs.Command.{is_on, switches_of, entries_of};
-ghost use Rattle.avr_cli.specs.Settings.{GivesOrMemory, TellsAnyway, settings_of, checked_programmer, updates_of, updates_from, update_at, run_settings, serve_settings};
+ghost use Rattle.avr_cli.specs.Settings.{GivesOrMemory, TellsAnyway, settings_of, checked_programmer, updates_of, update_at, run_settings, serve_settings};
 ghost use Rattle.avr_cli.specs.Update.{update_of};
 
 use crate::owned::{owned, owned_option};
 use crate::ports::{port_given, served};
-use crate::settings::{Port, Settings, SettingsFault, Switches};
+use crate::settings::{Settings, SettingsFault, Switches};
 use crate::standard::check_streams;
 use crate::update::{Update, UpdateFault, Updates};
 use crate::update_text::parse_update;
@@ -76,62 +76,21 @@ fn update_at(alloc: Global, number: u8, text: &str) -> Result<Update, SettingsFa
     }
 }
 
-fn read_updates(alloc: Global, texts: &[&str]) -> Result<Updates, SettingsFault>
-    requires { length texts.now ≤ 16 }
-    ensures { GivesOrMemory (updates_from 1 (map (λ s. s.now) texts.now)) result }
+fn updates_given(alloc: Global, texts: Option<&[&str]>) -> Result<Updates, SettingsFault>
+    ensures { GivesOrMemory (updates_of (unwrap_or (option_map (λ t. map (λ s. s.now) t.now) texts.entry) [])) result }
 {
     let mut updates = Updates::new(alloc);
+    let Some(texts) = texts else {
+        return Ok(updates);
+    };
+    if texts.len() > MOST_UPDATES {
+        return Err(SettingsFault::TooMany);
+    }
     for (i, text) in texts.iter().enumerate() {
         let update = update_at(alloc, i as u8 + 1, text)?;
         updates.push(update).map_err(|_| SettingsFault::Memory)?;
     }
     Ok(updates)
-}
-
-fn all_updates(alloc: Global, texts: &[&str]) -> Result<Updates, SettingsFault>
-    ensures { GivesOrMemory (updates_of (map (λ s. s.now) texts.now)) result }
-{
-    if texts.len() > MOST_UPDATES {
-        return Err(SettingsFault::TooMany);
-    }
-    read_updates(alloc, texts)
-}
-
-fn updates_given(alloc: Global, texts: Option<&[&str]>) -> Result<Updates, SettingsFault>
-    ensures { GivesOrMemory (updates_of (unwrap_or (option_map (λ t. map (λ s. s.now) t.now) texts.entry) [])) result }
-{
-    match texts {
-        Some(texts) => all_updates(alloc, texts),
-        None => Ok(Updates::new(alloc)),
-    }
-}
-
-/// Creates settings that own their texts.
-fn keep(
-    alloc: Global,
-    part: &str,
-    port: Port,
-    parts: Option<&str>,
-    updates: Updates,
-    switches: Switches,
-) -> Result<Settings, SettingsFault>
-    ensures { GivesOrMemory (Ok (record {
-      part = part.now;
-      port = port;
-      parts = option_map (λ s. s.now) parts.entry;
-      updates = updates;
-      switches = switches;
-    })) result }
-{
-    let part = owned(alloc, part)?;
-    let parts = owned_option(alloc, parts)?;
-    Ok(Settings {
-        part,
-        port,
-        parts,
-        updates,
-        switches,
-    })
 }
 
 fn run_settings(
@@ -147,32 +106,35 @@ fn run_settings(
     let updates = updates_given(alloc, texts_of(matches, "update"))?;
     let parts = text_of(matches, "parts");
     check_streams(&port, updates.as_slice(), parts, text_of(matches, "chip"))?;
-    keep(alloc, part, port, parts, updates, switches_of(matches))
+    Ok(Settings {
+        part: owned(alloc, part)?,
+        port,
+        parts: owned_option(alloc, parts)?,
+        updates,
+        switches: switches_of(matches),
+    })
 }
 
 fn serve_settings(
     alloc: Global,
     part: &str,
-    port: &str,
-    matches: &ArgMatches<'_>,
+    at: &str,
+    given: &ArgMatches<'_>,
 ) -> Result<Settings, SettingsFault>
-    ensures gives { GivesOrMemory (serve_settings part.now port.now (entries_of (rows_of (found_of matches.now))))
-        result }
-    ensures tells { TellsAnyway (serve_settings part.now port.now (entries_of (rows_of (found_of matches.now))))
-        result }
+    ensures gives { GivesOrMemory (serve_settings part.now at.now (entries_of (rows_of (found_of given.now)))) result }
+    ensures tells { TellsAnyway (serve_settings part.now at.now (entries_of (rows_of (found_of given.now)))) result }
 {
-    let parts = text_of(matches, "parts");
-    let chip = text_of(matches, "chip");
-    let port = served(alloc, port, chip)?;
+    let parts = text_of(given, "parts");
+    let chip = text_of(given, "chip");
+    let port = served(alloc, at, chip)?;
     check_streams(&port, &[], parts, chip)?;
-    keep(
-        alloc,
-        part,
+    Ok(Settings {
+        part: owned(alloc, part)?,
         port,
-        parts,
-        Updates::new(alloc),
-        Switches::none(),
-    )
+        parts: owned_option(alloc, parts)?,
+        updates: Updates::new(alloc),
+        switches: Switches::none(),
+    })
 }
 
 /// Reads the settings that the command line gives. With `--serve`, only `-p`, `--parts` and `--chip` count.

@@ -2,7 +2,7 @@
 ghost use Rattle.std.specs.Prelude.{◌≡◌, ◌⊎◌, Some, None, option_map};
 ghost use Rattle.std.specs.List.{list_all};
 ghost use Rattle.std.specs.Char.{is_ascii_digit};
-ghost use Rattle.avr_cli.specs.Port.{port_number, is_address, port_after, port_of, port_given_of, served_at};
+ghost use Rattle.avr_cli.specs.Port.{port_number, is_address, port_of, port_given_of, served_at};
 ghost use Rattle.avr_cli.specs.Settings.{GivesOrMemory, TellsAnyway};
 
 use crate::owned::owned;
@@ -53,25 +53,6 @@ fn bad_port(alloc: Global, text: &str) -> SettingsFault
     }
 }
 
-fn emulated(alloc: Global, text: &str, file: &str) -> Result<Port, SettingsFault>
-    ensures { GivesOrMemory (port_after text.now (Some file.now) None) result }
-{
-    if file.is_empty() {
-        return Err(bad_port(alloc, text));
-    }
-    Ok(Port::Emulated(owned(alloc, file)?))
-}
-
-fn network(alloc: Global, text: &str, address: &str) -> Result<Port, SettingsFault>
-    ensures { GivesOrMemory (port_after text.now None (Some address.now)) result }
-{
-    if is_address(address) {
-        Ok(Port::Network(owned(alloc, address)?))
-    } else {
-        Err(bad_port(alloc, text))
-    }
-}
-
 fn port_of(alloc: Global, text: &str) -> Result<Port, SettingsFault>
     ensures { GivesOrMemory (port_of text.now) result }
 {
@@ -79,11 +60,14 @@ fn port_of(alloc: Global, text: &str) -> Result<Port, SettingsFault>
         return Ok(Port::Stdio);
     }
     if let Some(file) = after_prefix(text, "emu:") {
-        return emulated(alloc, text, file);
+        if file.is_empty() {
+            return Err(bad_port(alloc, text));
+        }
+        return Ok(Port::Emulated(owned(alloc, file)?));
     }
     match after_prefix(text, "net:") {
-        Some(address) => network(alloc, text, address),
-        None => Err(bad_port(alloc, text)),
+        Some(address) if is_address(address) => Ok(Port::Network(owned(alloc, address)?)),
+        _ => Err(bad_port(alloc, text)),
     }
 }
 
@@ -98,17 +82,15 @@ pub(crate) fn port_given(alloc: Global, text: Option<&str>) -> Result<Port, Sett
 }
 
 /// Reads the port of `--serve` and the file of `--chip`. A bad number is reported before a missing file.
-pub(crate) fn served(alloc: Global, text: &str, chip: Option<&str>) -> Result<Port, SettingsFault>
-    ensures gives { GivesOrMemory (served_at text.now (port_number text.now) (option_map (λ s. s.now) chip.entry))
-        result }
-    ensures tells { TellsAnyway (served_at text.now (port_number text.now) (option_map (λ s. s.now) chip.entry))
-        result }
+pub(crate) fn served(alloc: Global, at: &str, chip: Option<&str>) -> Result<Port, SettingsFault>
+    ensures gives { GivesOrMemory (served_at at.now (port_number at.now) (option_map (λ s. s.now) chip.entry)) result }
+    ensures tells { TellsAnyway (served_at at.now (port_number at.now) (option_map (λ s. s.now) chip.entry)) result }
 {
-    if port_number(text).is_none() {
-        return Err(bad_port(alloc, text));
+    if port_number(at).is_none() {
+        return Err(bad_port(alloc, at));
     }
     let chip = chip.ok_or(SettingsFault::NoChip)?;
-    let port = owned(alloc, text)?;
+    let port = owned(alloc, at)?;
     let chip = owned(alloc, chip)?;
     Ok(Port::Served { port, chip })
 }

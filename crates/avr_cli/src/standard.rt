@@ -2,7 +2,7 @@
 ghost use Rattle.std.specs.Prelude.{◌≡◌, count_by, option_map};
 ghost use Rattle.std.specs.List.{list_any};
 ghost use Rattle.avr_cli.specs.Settings.{checked_streams};
-ghost use Rattle.avr_cli.specs.Standard.{is_standard, is_given_standard, uses_standard, uses_input, is_port_taken, is_taken};
+ghost use Rattle.avr_cli.specs.Standard.{is_standard, is_given_standard, uses_standard, uses_input, is_port_taken};
 
 use crate::settings::{Port, SettingsFault};
 use crate::update::{Format, Op, Update};
@@ -59,16 +59,6 @@ fn is_port_taken(port: &Port, updates: &[Update]) -> bool
     }
 }
 
-fn is_taken(port: &Port, updates: &[Update], parts: Option<&str>, chip: Option<&str>) -> bool
-    ensures { result ≡ is_taken port.now updates.now (option_map (λ s. s.now) parts.entry)
-        (option_map (λ s. s.now) chip.entry) }
-{
-    is_given_standard(parts)
-        || is_given_standard(chip)
-        || is_port_taken(port, updates)
-        || inputs(updates) >= 2
-}
-
 /// Refuses a standard stream that is asked for twice, or in place of a file. The files of `--parts` and `--chip`
 /// count even if they are not used.
 pub(crate) fn check_streams(
@@ -80,7 +70,11 @@ pub(crate) fn check_streams(
     ensures { result ≡ checked_streams port.now updates.now (option_map (λ s. s.now) parts.entry)
         (option_map (λ s. s.now) chip.entry) }
 {
-    if is_taken(port, updates, parts, chip) {
+    let is_taken = is_given_standard(parts)
+        || is_given_standard(chip)
+        || is_port_taken(port, updates)
+        || inputs(updates) >= 2;
+    if is_taken {
         Err(SettingsFault::StandardTaken)
     } else {
         Ok(())

@@ -1,5 +1,5 @@
 //! The text of `-U`.
-ghost use Rattle.std.specs.Prelude.{◌≡◌, option_map};
+ghost use Rattle.std.specs.Prelude.{◌≡◌};
 ghost use Rattle.avr_cli.specs.Update.{op_named, format_named, format_of, file_and_letter, GivesUpdate, update_of, update_by};
 
 use crate::text::{Text, split_first};

@@ -11,4 +11,3 @@ pub mod Overlap
 -- inside: how images are stored, and contracts of private functions
 pub mod Present
 pub mod Dense
-pub mod Placing

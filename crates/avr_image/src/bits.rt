@@ -1,6 +1,6 @@
 //! Presence bits: one for each address, 64 per word, the lowest address in the lowest bit.
 
-ghost use Rattle.std.specs.Prelude.{◌≡◌, ◌+◌, ◌*◌, ◌^◌, ◌<◌, ◌≤◌, ◌==◌, ◌&&◌, ◌||◌, ℕ, length, nat_le, nat_lt, if◌then◌else◌, not};
+ghost use Rattle.std.specs.Prelude.{◌≡◌, ◌+◌, ◌*◌, ◌^◌, ◌<◌, ◌≤◌, ◌==◌, ◌||◌, ℕ, length, if◌then◌else◌, not};
 ghost use Rattle.std.specs.Int.{bit_at};
 ghost use Rattle.avr_image.specs.Present.{is_present, with_mark, without_mark, is_within, NextOne, FirstPlace};
 
@@ -43,8 +43,7 @@ fn matching(word: u64, wanted: bool) -> u64
 
 /// Returns the least address from `from` on, below `end`, whose presence is `wanted`; or `end`.
 pub(crate) fn first_place(words: &[u64], wanted: bool, from: usize, end: usize) -> usize
-    requires ordered { from ≤ end }
-    requires within { end ≤ length words.now * 64 }
+    requires within { (from ≤ end) × (end ≤ length words.now * 64) }
     requires below { end < 2 ^ 32 }
     ensures { FirstPlace words.now wanted from end result }
 {
@@ -60,18 +59,8 @@ pub(crate) fn first_place(words: &[u64], wanted: bool, from: usize, end: usize) 
     end
 }
 
-fn ones(low: u32, high: u32) -> u64
-    requires low { low < 64 }
-    requires some { 0 < high }
-    requires high { high ≤ 64 }
-    ensures { (i : ℕ) → i < 64 → (bit_at result i == 1) ≡ is_within low high i }
-{
-    (u64::MAX << low) & (u64::MAX >> (64 - high))
-}
-
 pub(crate) fn mark_span(words: &mut Vec<u64>, from: usize, end: usize)
-    requires ordered { from ≤ end }
-    requires within { end ≤ length words.old.items * 64 }
+    requires within { (from ≤ end) × (end ≤ length words.old.items * 64) }
     requires below { end < 2 ^ 32 }
     ensures marked { (k : ℕ) → is_present words.new.items k ≡ (is_within from end k || is_present words.old.items k) }
     ensures len { length words.new.items ≡ length words.old.items }
@@ -80,7 +69,7 @@ pub(crate) fn mark_span(words: &mut Vec<u64>, from: usize, end: usize)
     while at < end {
         let index = at / 64;
         let stop = end.min(index * 64 + 64);
-        words[index] |= ones((at % 64) as u32, (stop - index * 64) as u32);
+        words[index] |= (u64::MAX << (at % 64)) & (u64::MAX >> (64 - (stop - index * 64)));
         at = stop;
     }
 }

@@ -1,27 +1,15 @@
 //! Bytes written as numbers.
-ghost use Rattle.std.specs.Prelude.{◌≡◌, ◌+◌, ◌<◌, ◌≤◌, ◌++◌, length, drop, false};
-ghost use Rattle.std.specs.Fmt.{digit_glyph, digits};
+ghost use Rattle.std.specs.Prelude.{◌≡◌, ◌+◌, ◌<◌, ◌≤◌, ◌++◌, drop, false};
+ghost use Rattle.std.specs.Fmt.{digits};
 ghost use Rattle.arrayvec.specs.ArrayVec.{array_vec_len};
 ghost use Rattle.avr_image.specs.Lists.{number_text, prefix, radix};
 
 use crate::list::Base;
 use arrayvec::ArrayVec;
 
-fn glyph(digit: u8) -> u8
-    requires { digit < 16 }
-    ensures { result ≡ digit_glyph false digit }
-{
-    if digit < 10 {
-        b'0' + digit
-    } else {
-        b'a' + (digit - 10)
-    }
-}
-
 /// Writes the digits at the end of `buffer` and returns where they begin.
 fn write_digits(radix: u8, byte: u8, buffer: &mut [u8; 8]) -> usize
-    requires low { 2 ≤ radix }
-    requires high { radix ≤ 16 }
+    requires { (2 ≤ radix) × (radix ≤ 16) }
     ensures start { result ≤ 8 }
     ensures written { drop result buffer.new ≡ digits radix false byte }
 {
@@ -29,19 +17,17 @@ fn write_digits(radix: u8, byte: u8, buffer: &mut [u8; 8]) -> usize
     let mut at = 8;
     loop {
         at -= 1;
-        buffer[at] = glyph(rest % radix);
+        let digit = rest % radix;
+        buffer[at] = if digit < 10 {
+            b'0' + digit
+        } else {
+            b'a' + (digit - 10)
+        };
         rest /= radix;
         if rest == 0 {
             return at;
         }
     }
-}
-
-fn append(out: &mut ArrayVec<u8, 80>, bytes: &[u8])
-    requires { array_vec_len out.old + length bytes.now ≤ 80 }
-    ensures { out.new.items ≡ out.old.items ++ bytes.now }
-{
-    let _ = out.try_extend_from_slice(bytes);
 }
 
 fn prefix_of(base: Base, byte: u8) -> &'static [u8]
@@ -73,6 +59,6 @@ pub(crate) fn push_number(base: Base, byte: u8, out: &mut ArrayVec<u8, 80>)
 {
     let mut buffer = [0; 8];
     let start = write_digits(radix_of(base), byte, &mut buffer);
-    append(out, prefix_of(base, byte));
-    append(out, &buffer[start..]);
+    let _ = out.try_extend_from_slice(prefix_of(base, byte));
+    let _ = out.try_extend_from_slice(&buffer[start..]);
 }

@@ -1,6 +1,6 @@
 //! Images.
 
-ghost use Rattle.std.specs.Prelude.{◌≡◌, ◌==◌, ◌+◌, ◌*◌, ◌^◌, ◌<◌, ◌≤◌, ◌↔◌, ℕ, List, length, max, nat_lt, Ok, Err, OnOk, OnErr, MatchOption, MatchResult, IfOk, IsTrue, replicate, slice_index, slice_index_or, if◌then◌else◌};
+ghost use Rattle.std.specs.Prelude.{◌≡◌, ◌==◌, ◌+◌, ◌^◌, ◌<◌, ◌≤◌, ℕ, List, length, max, nat_lt, Ok, Err, OnOk, OnErr, MatchOption, MatchResult, slice_index, slice_index_or, if◌then◌else◌};
 ghost use Rattle.std.specs.Cmp.{nat_eq_equiv, partial_equiv_from_equiv};
 ghost use Rattle.std.specs.Cmp.Lexicographic.{lists_equiv, options_equiv};
 ghost use Rattle.avr_image.specs.Image.{empty, is_same, byte_at, with_byte, without_byte, byte_count, filled_bytes, first_from, holds_any, run_end, fits, laid_over, over, IsImage};
@@ -8,7 +8,7 @@ ghost use Rattle.avr_image.specs.Runs.{runs};
 ghost use Rattle.avr_image.specs.Walk.{HoldsNone, IsLastHeld};
 ghost use Rattle.std.specs.List.{enumerate_from};
 ghost use Rattle.avr_image.specs.Dense.{with_span};
-ghost use Rattle.avr_image.specs.Overlap.{AreDisjoint, IsFirstOverlap, hold_both};
+ghost use Rattle.avr_image.specs.Overlap.{AreDisjoint, IsFirstOverlap};
 
 use crate::bits::{first_place, is_set, mark, mark_span, unmark};
 use crate::fault::ImageFault;
@@ -40,18 +40,6 @@ impl Model for Image {
     ghost view = { λ i. dense_image i.words.items i.bytes.items };
 
     ghost invariant = { λ i. IsKept i.words.items i.bytes.items };
-}
-
-fn blank_bytes(alloc: Global, n: usize) -> Result<Vec<u8>, AllocError>
-    ensures { IfOk result (λ v. v.items ≡ replicate n 255) }
-{
-    vec![in alloc; 255; n]
-}
-
-fn zero_words(alloc: Global, n: usize) -> Result<Vec<u64>, AllocError>
-    ensures { IfOk result (λ v. v.items ≡ replicate n 0) }
-{
-    vec![in alloc; 0; n]
 }
 
 /// Copies the bytes from `start` on; FF after their end.
@@ -89,10 +77,10 @@ impl Image {
         ensures { MatchResult result (λ image. image ≡ empty size) (λ fault. fault ≡ ImageFault.Memory) }
     {
         let size = size as usize;
-        let Ok(bytes) = blank_bytes(alloc, size) else {
+        let Ok(bytes) = vec![in alloc; 255; size] else {
             return Err(ImageFault::Memory);
         };
-        let Ok(words) = zero_words(alloc, size / 64 + 1) else {
+        let Ok(words) = vec![in alloc; 0; size / 64 + 1] else {
             return Err(ImageFault::Memory);
         };
         Ok(Image { bytes, words })
@@ -116,7 +104,7 @@ impl Image {
         ensures { MatchResult result (λ copy. copy ≡ self.now) (λ fault. fault ≡ ImageFault.Memory) }
     {
         let mut copy = Image::new(alloc, self.size())?;
-        copy.lay_runs(self);
+        copy.lay_over(self)?;
         Ok(copy)
     }
 
@@ -192,7 +180,10 @@ impl Image {
     pub fn runs(&self) -> Runs<'_>
         ensures { result ≡ runs 0 self.now }
     {
-        Runs::new(self)
+        Runs {
+            image: self,
+            addr: 0,
+        }
     }
 
     /// Returns the byte at a byte address; `None` in a gap or outside the memory.
@@ -323,25 +314,11 @@ impl Image {
         if other.size() != self.size() {
             return Err(ImageFault::OtherSize);
         }
-        self.lay_runs(other);
-        Ok(())
-    }
-
-    fn lay_runs(&mut self, other: &Image)
-        requires { length other.now ≡ length self.old }
-        ensures over { self.new ≡ over self.old other.now }
-        ensures size { length self.new ≡ length self.old }
-    {
         for (addr, bytes) in other.runs() {
             // Each run fits because both images have one size.
             let _ = self.put_slice(addr, bytes);
         }
-    }
-
-    fn holds_both(&self, other: &Image, addr: u32) -> bool
-        ensures { result ≡ hold_both self.now other.now addr }
-    {
-        self.get(addr).is_some() && other.get(addr).is_some()
+        Ok(())
     }
 
     /// Returns the least byte address at which both images, of any size, hold a byte. Laid over each other, one would
@@ -359,7 +336,7 @@ impl Image {
         ensures { MatchOption result (AreDisjoint self.now other.now) (IsFirstOverlap self.now other.now) }
     {
         for addr in 0..self.size() {
-            if self.holds_both(other, addr) {
+            if self.get(addr).is_some() && other.get(addr).is_some() {
                 return Some(addr);
             }
         }
@@ -425,27 +402,6 @@ impl Image {
         None
     }
 
-    fn is_same_at(&self, other: &Image, addr: u32) -> bool
-        ensures { IsTrue result ↔ (byte_at self.now addr ≡ byte_at other.now addr) }
-    {
-        self.get(addr) == other.get(addr)
-    }
-
-    fn holds_same(&self, other: &Image) -> bool
-        ensures { IsTrue result ↔ (self.now ≡ other.now) }
-    {
-        let size = self.size();
-        if size != other.size() {
-            return false;
-        }
-        for addr in 0..size {
-            if !self.is_same_at(other, addr) {
-                return false;
-            }
-        }
-        true
-    }
-
     /// Returns the address after the run of held bytes that begins at `addr`, at most `end`; `addr` if it holds no
     /// byte. `addr` must be at most `end`. Both may be outside the memory.
     ///
@@ -503,7 +459,16 @@ impl PartialEq for Image {
     ghost laws = { partial_equiv_from_equiv (lists_equiv (options_equiv nat_eq_equiv)) };
 
     fn eq(&self, other: &Image) -> bool {
-        self.holds_same(other)
+        let size = self.size();
+        if size != other.size() {
+            return false;
+        }
+        for addr in 0..size {
+            if self.get(addr) != other.get(addr) {
+                return false;
+            }
+        }
+        true
     }
 }
 

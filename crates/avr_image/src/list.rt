@@ -1,6 +1,5 @@
 //! Lists of numbers.
-ghost use Rattle.std.specs.Prelude.{◌≡◌, ◌==◌, ◌+◌, ◌<◌, ◌≤◌, ◌↔◌, ◌++◌, ℕ, List, [], length, not, nat_lt, IsTrue};
-ghost use Rattle.arrayvec.specs.ArrayVec.{array_vec_len};
+ghost use Rattle.std.specs.Prelude.{◌≡◌, ◌+◌, ◌<◌, ◌↔◌, ◌++◌, ℕ, List, [], length, IsTrue};
 ghost use Rattle.avr_image.specs.Lists.{list_text};
 
 use crate::digits::push_number;
@@ -86,37 +85,6 @@ impl<'a> ListWriter<'a> {
     {
         Pieces::next_piece(self, out)
     }
-
-    fn is_done(&self) -> bool
-        ensures { result ≡ (length self.now == 0) }
-    {
-        self.ended
-    }
-
-    /// Appends the next number with its comma or line end, or the line end of an empty list.
-    fn push_next(&mut self, out: &mut ArrayVec<u8, 80>)
-        requires more { 0 < length self.old }
-        requires room { array_vec_len out.old + 11 ≤ 80 }
-        ensures moved { out.old.items ++ self.old ≡ out.new.items ++ self.new }
-        ensures longer { array_vec_len out.old < array_vec_len out.new }
-    {
-        match self.rest {
-            [] => {
-                self.ended = true;
-                out.push(b'\n');
-            }
-            [byte] => {
-                push_number(self.base, *byte, out);
-                self.ended = true;
-                out.push(b'\n');
-            }
-            [byte, more @ ..] => {
-                push_number(self.base, *byte, out);
-                self.rest = more;
-                out.push(b',');
-            }
-        }
-    }
 }
 
 impl Pieces for ListWriter<'_> {
@@ -127,8 +95,24 @@ impl Pieces for ListWriter<'_> {
 
     fn next_piece(&mut self, out: &mut ArrayVec<u8, 80>) -> bool {
         out.clear();
-        while !self.is_done() && out.len() + LONGEST <= out.capacity() {
-            self.push_next(out);
+        while !self.ended && out.len() + LONGEST <= out.capacity() {
+            // the next number with its comma or line end, or the line end of an empty list
+            match self.rest {
+                [] => {
+                    self.ended = true;
+                    out.push(b'\n');
+                }
+                [byte] => {
+                    push_number(self.base, *byte, out);
+                    self.ended = true;
+                    out.push(b'\n');
+                }
+                [byte, more @ ..] => {
+                    push_number(self.base, *byte, out);
+                    self.rest = more;
+                    out.push(b',');
+                }
+            }
         }
         !out.is_empty()
     }

@@ -1,8 +1,6 @@
 //! The runs of an image.
 
-ghost use Rattle.std.specs.Prelude.{◌≡◌};
 ghost use Rattle.std.specs.Iterator.{YieldsFirstBy, item_count};
-ghost use Rattle.avr_image.specs.Runs.{runs};
 
 use crate::image::Image;
 use std::fmt;
@@ -22,9 +20,9 @@ use std::marker::Model;
 /// ```
 #[derive(Drop)]
 pub struct Runs<'a> {
-    image: &'a Image,
+    pub(crate) image: &'a Image,
     /// All runs below this address were returned.
-    addr: u32,
+    pub(crate) addr: u32,
 }
 
 impl<'a> Model for Runs<'a> {
@@ -35,14 +33,6 @@ impl<'a> Model for Runs<'a> {
     ghost use Rattle.avr_image.specs.Runs.{runs};
 
     ghost view = { λ r. runs r.addr (drop r.addr r.image.now) };
-}
-
-impl<'a> Runs<'a> {
-    pub(crate) fn new(image: &'a Image) -> Runs<'a>
-        ensures { result ≡ runs 0 image.now }
-    {
-        Runs { image, addr: 0 }
-    }
 }
 
 impl<'a> Iterator for Runs<'a> {

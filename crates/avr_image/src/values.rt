@@ -1,10 +1,8 @@
 //! Values given on the command line.
 
-ghost use Rattle.std.specs.Prelude.{◌≡◌, ◌+◌, ◌-◌, ◌<◌, ◌≤◌, ◌==◌, ◌||◌, ◌^◌, ℕ, List, length, min, option_map, Ok, Err, IfOk, OnOk, MatchResult};
+ghost use Rattle.std.specs.Prelude.{◌≡◌, ◌+◌, ◌-◌, ◌<◌, ◌≤◌, ◌==◌, ◌||◌, length, min, option_map, IfOk};
 ghost use Rattle.avr_image.specs.Values.{is_separator, number_in_base, value_of, fitting_value, values};
 ghost use Rattle.std.specs.List.{position_or_len};
-ghost use Rattle.avr_image.specs.Placing.{with_piece};
-ghost use Rattle.avr_image.specs.Image.{empty};
 ghost use Rattle.avr_image.specs.Fault.{OrMemory};
 
 use crate::fault::ImageFault;
@@ -31,8 +29,7 @@ fn piece_len(text: &[u8]) -> usize
 
 /// Returns the number that the digits write, or 256 if it is larger.
 fn read_number(base: u32, digits: &[u8]) -> Option<u32>
-    requires low { 2 ≤ base }
-    requires high { base ≤ 16 }
+    requires { (2 ≤ base) × (base ≤ 16) }
     ensures { result ≡ option_map (λ n. min n 256) (number_in_base base digits.now) }
 {
     if digits.is_empty() {
@@ -74,41 +71,6 @@ fn judge(size: u32, addr: u32, piece: &[u8]) -> Result<u8, ImageFault>
     Ok(value as u8)
 }
 
-fn lay_value(image: &mut Image, addr: u32, piece: &[u8]) -> Result<(), ImageFault>
-    ensures laid { MatchResult result (λ _. with_piece image.old addr piece.now ≡ Ok image.new)
-        (λ fault. with_piece image.old addr piece.now ≡ Err fault) }
-    ensures size { length image.new ≡ length image.old }
-    ensures more { OnOk result (addr + 1 < 2 ^ 32) }
-{
-    let byte = judge(image.size(), addr, piece)?;
-    image.put(addr, byte)
-}
-
-fn lay_values(image: &mut Image, text: &[u8]) -> Result<(), ImageFault>
-    requires { image.old ≡ empty (length image.old) }
-    ensures laid { MatchResult result (λ _. values text.now (length image.old) ≡ Ok image.new)
-        (λ fault. values text.now (length image.old) ≡ Err fault) }
-    ensures size { length image.new ≡ length image.old }
-{
-    let mut addr = 0;
-    let mut rest = text;
-    while !rest.is_empty() {
-        let len = piece_len(rest);
-        if len > 0 {
-            let (piece, more) = rest.split_at(len);
-            lay_value(image, addr, piece)?;
-            addr += 1;
-            rest = more;
-        } else {
-            rest = &rest[1..];
-        }
-    }
-    if addr == 0 {
-        return Err(ImageFault::BadNumber(1));
-    }
-    Ok(())
-}
-
 /// Reads the values of AVRDUDE's format `m` from a command line option. A value is `0x` with hexadecimal digits, `0b`
 /// with binary ones, `0` with octal ones, or decimal digits. Commas, spaces and tabs separate values. They are put at
 /// the byte addresses 0, 1 and so on of a memory of `size` bytes.
@@ -129,6 +91,22 @@ pub fn parse_immediate(alloc: Global, text: &str, size: u32) -> Result<Image, Im
     ensures size { IfOk result (λ image. length image ≡ size) }
 {
     let mut image = Image::new(alloc, size)?;
-    lay_values(&mut image, text.as_bytes())?;
+    let mut addr = 0;
+    let mut rest = text.as_bytes();
+    while !rest.is_empty() {
+        let len = piece_len(rest);
+        if len > 0 {
+            let (piece, more) = rest.split_at(len);
+            let byte = judge(image.size(), addr, piece)?;
+            image.put(addr, byte)?;
+            addr += 1;
+            rest = more;
+        } else {
+            rest = &rest[1..];
+        }
+    }
+    if addr == 0 {
+        return Err(ImageFault::BadNumber(1));
+    }
     Ok(image)
 }

@@ -1,10 +1,9 @@
 -- A block at once is a block byte by byte.
 use Rattle.std.proofs.lemmas.Grind.{common_steps}
-use Rattle.std.proofs.Common.{◌≡◌, ℕ, zero, suc, ◌+◌, ◌*◌, ◌/◌, ◌%◌, ◌≤◌, ◌<◌, List, [], ◌∷◌, length, set, take, drop, refl, ap, ap₂, ◌∙◌, arith, true, append_assoc, rules}
+use Rattle.std.proofs.Common.{◌≡◌, ℕ, zero, suc, ◌+◌, ◌*◌, ◌/◌, ◌%◌, ◌≤◌, ◌<◌, List, [], ◌∷◌, length, set, take, drop, refl, ap, ap₂, ◌∙◌, arith, true, rules}
 use Rattle.std.proofs.Math.Nat.{mod-mod_of_dvd, dvd-mul_right, dvd_trans}
 use Rattle.std.proofs.lemmas.Nat.Gcd.{dvd_of_mod-eq-zero, mod-eq-zero_of_dvd}
-use Rattle.std.proofs.Math.Seq.{take-suc-set}
-use Rattle.std.proofs.lemmas.List.{take-append-drop, drop-set-lt, length-set}
+use Rattle.std.proofs.lemmas.List.{take-append-drop, length-set}
 use Rattle.std.proofs.lemmas.Bool.{leb-true, and_parts}
 use Rattle.std.specs.Prelude.{◌-◌, nat_le}
 use Rattle.avr_part.specs.Part.{Part, IsPart}
@@ -12,6 +11,10 @@ use Rattle.avr_part.specs.Memory.{pasted}
 use Rattle.avr_part.specs.State.{ChipState, half_offset, word_address}
 use Rattle.avr_part.specs.Block.{half_at, loaded_in_turn, read_in_turn, is_in_page, is_in_flash}
 use Rattle.avr_part.specs.Sound.{IsSoundChip}
+
+-- the page of a place ends within the memory
+pub page_within : (at page size : ℕ) → at < size → size % page ≡ 0 → at / page * page + page ≤ size
+page_within at page size inside whole = grind (arith, common_steps)
 
 pub offset_at : (i : ℕ) → half_offset (half_at i) ≡ i % 2
 offset_at i = search rules

@@ -6,6 +6,7 @@ use Rattle.std.proofs.lemmas.Str.{is_utf8-from_IsUtf8, IsUtf8-from_is_utf8}
 use Rattle.toml.specs.View.{view, members_view}
 use Rattle.toml.specs.declared.value.Value.{Value}
 use Rattle.avr_part.specs.Part.{Part}
+use Rattle.avr_part.proofs.LineCounts.{line_within}
 use Rattle.avr_part.specs.PartFile.{Bytes, NamedFault, ◌>>=◌, in_part, part_of, parts_in, utf8_text}
 
 -- these parts, then those of the result
@@ -31,3 +32,6 @@ text_is_text bytes h = rw (is_utf8-from_IsUtf8 bytes h)
 
 pub other_is_none : (bytes : Bytes) → (IsUtf8 bytes → ⊥) → utf8_text bytes ≡ None
 other_is_none bytes h = rw (false_from_ne_true (is_utf8 bytes) (λ e. h (IsUtf8-from_is_utf8 bytes e)))
+
+-- whether bytes are text, and the line at which they stop being text
+pub ruleset judges_text = (text_is_text, is_utf8-from_IsUtf8, other_is_none, line_within)

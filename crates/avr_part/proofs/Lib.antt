@@ -1,7 +1,6 @@
 -- in the order in which to read: blocks and changes of memories; names and part files; changes done twice; chip files
 pub mod Blocks
 pub mod Changes
-pub mod FoundParts
 pub mod JudgedParts
 pub mod MemoryNames
 pub mod Powers

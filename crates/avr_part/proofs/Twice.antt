@@ -1,10 +1,10 @@
 -- Changing a chip twice is changing it once.
 use Rattle.std.proofs.lemmas.Grind.{common_steps}
-use Rattle.std.proofs.Common.{◌≡◌, refl, ap₂, ℕ, suc, List, [], ◌∷◌, Bool, cond, Option, unwrap_or, rules, arith}
+use Rattle.std.proofs.Common.{◌≡◌, refl, ap₂, ℕ, suc, List, [], ◌∷◌, Option, unwrap_or, rules, arith}
 use Rattle.std.proofs.lemmas.List.{length-replicate}
 use Rattle.std.proofs.lemmas.Nat.{and_assoc}
 use Rattle.avr_part.specs.declared.instruction.Fuse.{Fuse}
-use Rattle.avr_part.specs.Memory.{map_indexed_from, byte_and_page, overlaid}
+use Rattle.avr_part.specs.Memory.{map_indexed_from, byte_and_page}
 use Rattle.avr_part.specs.State.{ChipState, with_erased, with_flash_page, with_eeprom_page, with_fuse, with_lock}
 use Rattle.avr_part.specs.Laws.{flash_loaded_as, eeprom_loaded_as}
 

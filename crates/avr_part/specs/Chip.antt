@@ -1,6 +1,5 @@
 -- The fields of a chip, as its state.
 use Rattle.avr_part.specs.State.{ChipState}
-use Rattle.avr_part.specs.Sound.{IsSoundChip}
 use Rattle.avr_part.specs.declared.chip.Chip.TheInside.{Inside}
 
 abbrev pub state_of : Inside → ChipState
@@ -16,6 +15,3 @@ state_of c = record {
   eeprom_buffer = c.eeprom_buffer;
   extended = c.extended;
 }
-
-abbrev pub IsSoundInside : Inside → Type 0
-IsSoundInside c = IsSoundChip (state_of c)

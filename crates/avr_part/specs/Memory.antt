@@ -1,11 +1,17 @@
 -- The bytes of a memory, and how they change.
-use Rattle.std.specs.Prelude.{ℕ, Bool, suc, ◌+◌, ◌*◌, ◌/◌, ◌-◌, ◌&&◌, nat_le, nat_lt, List, [], ◌∷◌, ◌++◌, length, take, drop, slice_index, bit_and, Option, None, unwrap_or, slice_index_or, replicate, All, IfSome, ◌<◌, if◌then◌else◌}
+use Rattle.std.specs.Prelude.{◌≡◌, ℕ, Bool, suc, ◌+◌, ◌*◌, ◌/◌, ◌-◌, ◌&&◌, nat_le, nat_lt, List, [], ◌∷◌, ◌++◌, length, take, drop, slice_index, bit_and, Option, None, unwrap_or, slice_index_or, replicate, All, IfSome, ◌<◌, if◌then◌else◌}
 
 abbrev pub AreBytes : List ℕ → Type 0
 AreBytes xs = All (λ b. b < 256) xs
 
 abbrev pub AreLoads : List (Option ℕ) → Type 0
 AreLoads loads = All (λ o. IfSome o (λ b. b < 256)) loads
+
+-- it holds these items, has this size, and is sound
+pub record Becomes {A : Type 0} (IsSound : List A → Type 0) (items : List A) (size : ℕ) (new : List A) : Type 0 where
+  pub bytes : new ≡ items
+  pub len : length new ≡ size
+  pub small : IsSound new
 
 abbrev pub map_indexed_from : ℕ → (ℕ → ℕ → ℕ) → List ℕ → List ℕ
 map_indexed_from i f [] = []

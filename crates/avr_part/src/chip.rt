@@ -1,7 +1,6 @@
 //! The chip as a machine of serial programming instructions.
-ghost use Rattle.std.specs.Prelude.{◌≡◌, ◌+◌, ◌*◌, ◌%◌, ◌<◌, ◌≤◌, IfOk, slice_get, Ok, length, true, ◌/◌};
+ghost use Rattle.std.specs.Prelude.{◌≡◌, ◌+◌, ◌*◌, ◌%◌, ◌<◌, ◌≤◌, IfOk, slice_get, Ok, length, ◌/◌};
 ghost use Rattle.std.specs.Option.{option_copied};
-ghost use Rattle.avr_part.specs.Memory.{page_start};
 
 use crate::fault::PartFault;
 use crate::instruction::{Fuse, Half, Instruction};
@@ -40,33 +39,17 @@ impl Model for Chip {
 
     ghost Value = { ChipState };
 
-    ghost use Rattle.avr_part.specs.Chip.{state_of, IsSoundInside};
+    ghost use Rattle.avr_part.specs.Chip.{state_of};
+    ghost use Rattle.avr_part.specs.Sound.{IsSoundChip};
 
     ghost view = { state_of };
 
-    ghost invariant = { IsSoundInside };
-}
-
-fn extended_word(extended: u8, word: u16) -> usize
-    ensures { result ≡ extended * 65536 + word }
-{
-    usize::from(extended) * 65536 + usize::from(word)
-}
-
-fn page_start(at: usize, page: usize, size: usize) -> usize
-    requires inside { at < size }
-    requires some { 0 < page }
-    requires whole { size % page ≡ 0 }
-    ensures value { result ≡ page_start page at }
-    ensures fits { result + page ≤ size }
-{
-    at / page * page
+    ghost invariant = { λ c. IsSoundChip (state_of c) };
 }
 
 impl Chip {
-    ghost use Rattle.avr_part.specs.State.{fresh_state, with_empty_buffers, with_erased, with_load, with_flash_page, with_eeprom_byte, with_eeprom_load, with_eeprom_page, with_fuse, with_lock, word_address, eeprom_address, flash_byte, eeprom_byte, signature_byte, fuse_of, answer_of, after_instruction, spi_of, keeps_eeprom, is_locked, memory_of};
-    ghost use Rattle.avr_part.specs.Instruction.{instruction_of};
-    ghost use Rattle.avr_part.specs.Block.{load_block, is_in_page, loaded_in_turn, flash_block, is_in_flash, read_in_turn};
+    ghost use Rattle.avr_part.specs.State.{fresh_state, with_empty_buffers, with_erased, with_load, with_flash_page, with_eeprom_byte, with_eeprom_load, with_eeprom_page, with_fuse, word_address, eeprom_address, flash_byte, signature_byte, fuse_of, answer_of, after_instruction, spi_of, is_locked, memory_of};
+    ghost use Rattle.avr_part.specs.Block.{load_block, is_in_page, flash_block, is_in_flash};
     ghost use Rattle.avr_part.specs.Sound.{IsSoundChip};
     ghost use Rattle.avr_part.specs.PartFile.{GivesChipOrMemory};
 
@@ -134,24 +117,11 @@ impl Chip {
         &self.part
     }
 
-    fn flash_size(&self) -> usize
-        ensures { result ≡ self.now.part.flash_size }
-    {
-        self.part.size_of(Mem::Flash) as usize
-    }
-
     fn flash_page(&self) -> usize
         ensures value { result ≡ self.now.part.flash_page }
         ensures some { 2 ≤ result }
     {
         self.part.page_of(Mem::Flash) as usize
-    }
-
-    fn eeprom_size(&self) -> usize
-        ensures value { result ≡ self.now.part.eeprom_size }
-        ensures some { 0 < result }
-    {
-        self.part.size_of(Mem::Eeprom) as usize
     }
 
     fn eeprom_page(&self) -> usize
@@ -170,17 +140,11 @@ impl Chip {
         self.extended = 0;
     }
 
-    fn keeps_eeprom(&self) -> bool
-        ensures { result ≡ keeps_eeprom self.now }
-    {
-        (self.hfuse >> self.part.eesave_bit()) & 1 == 0
-    }
-
     #[inline(never)]
     fn erase(&mut self)
         ensures { self.new ≡ with_erased self.old }
     {
-        let keeps = self.keeps_eeprom();
+        let keeps = (self.hfuse >> self.part.eesave_bit()) & 1 == 0;
         self.flash.erase();
         self.lock = 255;
         if !keeps {
@@ -210,15 +174,15 @@ impl Chip {
         ensures value { result ≡ word_address self.now word }
         ensures inside { result + 1 < self.now.part.flash_size }
     {
-        let words = self.flash_size() / 2;
-        extended_word(self.extended, word) % words * 2
+        let words = self.part.size_of(Mem::Flash) as usize / 2;
+        (usize::from(self.extended) * 65536 + usize::from(word)) % words * 2
     }
 
     fn eeprom_address(&self, address: u16) -> usize
         ensures value { result ≡ eeprom_address self.now address }
         ensures inside { result < self.now.part.eeprom_size }
     {
-        usize::from(address) % self.eeprom_size()
+        usize::from(address) % self.part.size_of(Mem::Eeprom) as usize
     }
 
     /// Returns whether LB1 is programmed: then only a chip erase changes flash, EEPROM and fuses.
@@ -233,8 +197,8 @@ impl Chip {
         ensures { self.new ≡ with_flash_page word self.old }
     {
         if !self.is_locked() {
-            let at = self.word_address(word);
-            let start = page_start(at, self.flash_page(), self.flash_size());
+            let page = self.flash_page();
+            let start = self.word_address(word) / page * page;
             self.flash.and_page(start, self.flash_buffer.as_slice());
         }
         self.flash_buffer.erase();
@@ -245,15 +209,9 @@ impl Chip {
     {
         let at = self.word_address(word);
         match half {
-            Half::Low => self.flash.get(at),
-            Half::High => self.flash.get(at + 1),
+            Half::Low => self.flash.as_slice()[at],
+            Half::High => self.flash.as_slice()[at + 1],
         }
-    }
-
-    fn read_eeprom(&self, address: u16) -> u8
-        ensures { result ≡ eeprom_byte address self.now }
-    {
-        self.eeprom.get(self.eeprom_address(address))
     }
 
     fn write_eeprom(&mut self, address: u16, byte: u8)
@@ -277,8 +235,8 @@ impl Chip {
         ensures { self.new ≡ with_eeprom_page address self.old }
     {
         if !self.is_locked() {
-            let at = self.eeprom_address(address);
-            let start = page_start(at, self.eeprom_page(), self.eeprom_size());
+            let page = self.eeprom_page();
+            let start = self.eeprom_address(address) / page * page;
             self.eeprom.overlay_page(start, &self.eeprom_buffer);
         }
         self.eeprom_buffer.clear();
@@ -295,12 +253,6 @@ impl Chip {
             Fuse::High => self.hfuse = byte,
             Fuse::Extended => self.efuse = byte,
         }
-    }
-
-    fn write_lock(&mut self, byte: u8)
-        ensures { self.new ≡ with_lock byte self.old }
-    {
-        self.lock &= byte;
     }
 
     fn read_fuse(&self, fuse: Fuse) -> u8
@@ -332,7 +284,10 @@ impl Chip {
     {
         match instruction {
             Instruction::ReadFlash { half, word } => self.read_flash(half, word),
-            Instruction::ReadEeprom { address } => self.read_eeprom(address),
+            Instruction::ReadEeprom { address } => {
+                let at = self.eeprom_address(address);
+                self.eeprom.as_slice()[at]
+            }
             Instruction::ReadFuse { fuse } => self.read_fuse(fuse),
             Instruction::ReadLock => self.lock,
             Instruction::ReadSignature { place } => self.read_signature(place),
@@ -355,7 +310,7 @@ impl Chip {
             Instruction::LoadEeprom { place, byte } => self.load_eeprom(place, byte),
             Instruction::WriteEepromPage { address } => self.write_eeprom_page(address),
             Instruction::WriteFuse { fuse, byte } => self.write_fuse(fuse, byte),
-            Instruction::WriteLock { byte } => self.write_lock(byte),
+            Instruction::WriteLock { byte } => self.lock &= byte,
             Instruction::Extend { byte } => self.extended = byte,
             _ => {}
         }
@@ -397,25 +352,12 @@ impl Chip {
     pub fn load_block(&mut self, word: u8, bytes: &[u8]) -> bool
         ensures { (result, self.new) ≡ load_block word bytes.now self.old }
     {
-        let is_in_page = self.is_in_page(word, bytes.len());
+        let place = self.buffer_place(word);
+        let is_in_page = bytes.len() <= self.flash_page() - place;
         if is_in_page {
-            self.load_bytes(word, bytes);
+            self.flash_buffer.paste(place, bytes);
         }
         is_in_page
-    }
-
-    fn is_in_page(&self, word: u8, count: usize) -> bool
-        ensures { result ≡ is_in_page word count self.now }
-    {
-        count <= self.flash_page() - self.buffer_place(word)
-    }
-
-    fn load_bytes(&mut self, word: u8, bytes: &[u8])
-        requires { is_in_page word (length bytes.now) self.old ≡ true }
-        ensures { self.new ≡ loaded_in_turn word 0 bytes.now self.old }
-    {
-        let place = self.buffer_place(word);
-        self.flash_buffer.paste(place, bytes);
     }
 
     /// Returns `count` bytes from a word on as instructions 20 and 28 read them, low byte first. `word` counts in the
@@ -430,26 +372,15 @@ impl Chip {
     pub fn flash_block(&self, word: u16, count: u16) -> Option<&[u8]>
         ensures { option_copied result ≡ flash_block word count self.now }
     {
-        if self.is_in_flash(word, count) {
-            Some(self.flash_bytes(word, count))
+        let start = self.word_address(word);
+        let count = usize::from(count);
+        let is_in_flash = usize::from(word) * 2 + count <= 131_072
+            && count <= self.part.size_of(Mem::Flash) as usize - start;
+        if is_in_flash {
+            Some(&self.flash.as_slice()[start..start + count])
         } else {
             None
         }
-    }
-
-    fn is_in_flash(&self, word: u16, count: u16) -> bool
-        ensures { result ≡ is_in_flash word count self.now }
-    {
-        usize::from(word) * 2 + usize::from(count) <= 131_072
-            && usize::from(count) <= self.flash_size() - self.word_address(word)
-    }
-
-    fn flash_bytes(&self, word: u16, count: u16) -> &[u8]
-        requires { is_in_flash word count self.now ≡ true }
-        ensures { result.now ≡ read_in_turn word 0 count self.now }
-    {
-        let start = self.word_address(word);
-        &self.flash.as_slice()[start..start + usize::from(count)]
     }
 
     /// Returns the bytes of a memory, address 0 first.
@@ -469,7 +400,7 @@ impl Chip {
             Mem::Hfuse => slice::from_ref(&self.hfuse),
             Mem::Efuse => slice::from_ref(&self.efuse),
             Mem::Lock => slice::from_ref(&self.lock),
-            Mem::Signature => self.part.signature_bytes(),
+            Mem::Signature => &self.part.signature,
             Mem::Calibration => &[255],
         }
     }

@@ -40,21 +40,6 @@ impl NamedFault {
             fault,
         }
     }
-
-    fn part(&self) -> Option<&str>
-        ensures { option_map (λ id. id.now) result ≡ self.now.part }
-    {
-        match &self.part {
-            Some(id) => Some(id.as_str()),
-            None => None,
-        }
-    }
-
-    fn fault(&self) -> PartFault
-        ensures { result ≡ self.now.fault }
-    {
-        self.fault
-    }
 }
 
 /// Why a part file is refused, with the id of the part at fault and the line at which the text stops being TOML.
@@ -107,7 +92,10 @@ impl PartFileFault {
     pub fn part(&self) -> Option<&str>
         ensures { option_map (λ id. id.now) result ≡ self.now.why.part }
     {
-        self.why.part()
+        match &self.why.part {
+            Some(id) => Some(id.as_str()),
+            None => None,
+        }
     }
 
     /// Returns the fault.
@@ -120,7 +108,7 @@ impl PartFileFault {
     pub fn fault(&self) -> PartFault
         ensures { result ≡ self.now.why.fault }
     {
-        self.why.fault()
+        self.why.fault
     }
 
     /// Returns the 1-based line at which the text stops being TOML, or `None` for every other fault. It is the line

@@ -1,5 +1,5 @@
 //! A part and its memories.
-ghost use Rattle.std.specs.Prelude.{◌≡◌, ◌<◌, ◌≤◌, ℕ, List, length, Some, option_map};
+ghost use Rattle.std.specs.Prelude.{◌≡◌, ◌<◌, Some};
 ghost use Rattle.avr_part.specs.Mem.{name_of, is_writable, memory_named};
 
 use arrayvec::ArrayString;
@@ -163,13 +163,6 @@ impl Part {
         ensures { result ≡ self.now.signature }
     {
         self.signature
-    }
-
-    /// Borrows the signature.
-    pub(crate) fn signature_bytes(&self) -> &[u8]
-        ensures { result.now ≡ self.now.signature }
-    {
-        &self.signature
     }
 
     /// Returns the size of a memory in bytes.

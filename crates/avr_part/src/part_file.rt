@@ -1,10 +1,10 @@
 //! The part file.
-ghost use Rattle.std.specs.Prelude.{◌≡◌, ◌≢◌, false, Err, Some, None, IfOk, IfErr};
+ghost use Rattle.std.specs.Prelude.{◌≡◌, ◌≢◌, false, Err, Some, None, IfErr};
 ghost use Rattle.std.specs.Str.{is_utf8};
 ghost use Rattle.std.specs.Str.Lossy.{utf8_valid_len};
 ghost use Rattle.toml.specs.View.{table_view};
 ghost use Rattle.toml.specs.Parse.{parse_document};
-ghost use Rattle.avr_part.specs.PartFile.{ReadsOrMemory, listed_items, parts_in, document_parts, parts_of, GivesChipOrMemory, unnamed, utf8_text, ReadsDocument, IsPlaced, line_at, not_toml_at, unplaced};
+ghost use Rattle.avr_part.specs.PartFile.{ReadsOrMemory, listed_items, parts_in, document_parts, parts_of, GivesChipOrMemory, unnamed, ReadsDocument, IsPlaced, line_at, not_toml_at, unplaced};
 
 use crate::fault::{Field, PartFault};
 use crate::file_fault::{NamedFault, PartFileFault};
@@ -42,6 +42,7 @@ fn judge_document(alloc: Global, document: &Table) -> Result<Vec<Part>, NamedFau
 }
 
 /// Parses the document; a fault has the line at which the text stops being TOML.
+#[tactic(auto, using(crate::proofs::LineCounts::line_within))]
 fn read_document(alloc: Global, text: &str) -> Result<Table, PartFileFault>
     ensures reads { ReadsDocument (parse_document text.now) result }
     ensures line { IfErr result (IsPlaced text.now) }
@@ -52,20 +53,6 @@ fn read_document(alloc: Global, text: &str) -> Result<Table, PartFileFault>
             Some(span) => PartFileFault::not_toml_at(line_at(text.as_bytes(), span.start)),
             None => PartFileFault::lineless(NamedFault::of_file(PartFault::Memory)),
         }),
-    }
-}
-
-/// Checks that the bytes are UTF-8; a fault has the line of the first byte that isn't.
-#[tactic(auto, using(crate::proofs::JudgedParts::text_is_text, crate::proofs::JudgedParts::other_is_none))]
-fn utf8_text(bytes: &[u8]) -> Result<&str, PartFileFault>
-    ensures text { IfOk result (λ s. utf8_text bytes.now ≡ Some s.now) }
-    ensures none { IfErr result (λ e. utf8_text bytes.now ≡ None) }
-    ensures line { IfErr result (λ e. e ≡ not_toml_at (line_at bytes.now (utf8_valid_len bytes.now))) }
-    ensures placed { IfErr result (IsPlaced bytes.now) }
-{
-    match str::from_utf8(bytes) {
-        Ok(text) => Ok(text),
-        Err(error) => Err(PartFileFault::not_toml_at(line_at(bytes, error.valid_up_to()))),
     }
 }
 
@@ -89,13 +76,21 @@ fn utf8_text(bytes: &[u8]) -> Result<&str, PartFileFault>
 /// let parts = parse_part_file(alloc, text.as_bytes())?;
 /// assert_eq!(rt; parts.find("x1")?.signature(), [0x1E, 0x95, 0x0F]);
 /// ```
+#[tactic(auto, using(crate::proofs::JudgedParts::judges_text))]
 pub fn parse_part_file(alloc: Global, text: &[u8]) -> Result<Parts, PartFileFault>
     ensures reads { ReadsOrMemory (parts_of text.now) (unplaced result) }
     ensures line { IfErr result (IsPlaced text.now) }
     ensures no_text { is_utf8 text.now ≡ false → result ≡ Err
         (not_toml_at (line_at text.now (utf8_valid_len text.now))) }
 {
-    let text = utf8_text(text)?;
+    let text = match str::from_utf8(text) {
+        Ok(text) => text,
+        Err(error) => {
+            // the line of the first byte that isn't UTF-8
+            let line = line_at(text, error.valid_up_to());
+            return Err(PartFileFault::not_toml_at(line));
+        }
+    };
     let document = read_document(alloc, text)?;
     let parts = judge_document(alloc, &document).map_err(PartFileFault::lineless)?;
     Ok(Parts::of_file(parts))

@@ -6,22 +6,21 @@ use Rattle.std.proofs.lemmas.Bool.{cases_Bool}
 use Rattle.std.proofs.lemmas.List.Sums.{prefix_len-le-length}
 use Rattle.std.proofs.lemmas.Bool.Decides.{nat_tests}
 use Rattle.std.specs.List.{enumerate_from, slice_split, position_or_len, onto_first}
-use Rattle.avr_image.specs.Image.{empty, from_zero}
-use Rattle.avr_image.specs.Values.{is_separator, fitting, fitting_value, value_of, all_ok, onto_ok, image_of_bytes, pieces, values}
-use Rattle.avr_image.specs.Placing.{with_value, with_piece}
+use Rattle.avr_image.specs.Image.{empty, from_zero, with_byte}
+use Rattle.avr_image.specs.Values.{is_separator, fitting, fitting_value, value_of, all_ok, onto_ok, image_of_bytes, pieces}
 use Rattle.avr_image.specs.declared.fault.ImageFault.{ImageFault}
 use Rattle.avr_image.proofs.Places.Laid.{from_zero-next, length-from_zero}
 
--- what follows an image, if it came
-abbrev pub then_on : Result (List (Option ℕ)) ImageFault → (List (Option ℕ) → Result (List (Option ℕ)) ImageFault)
-    → Result (List (Option ℕ)) ImageFault
-then_on (Ok image) more = more image
-then_on (Err fault) more = Err fault
+-- what follows a byte, if it is good
+abbrev pub on_ok : Result ℕ ImageFault → (ℕ → Result (List (Option ℕ)) ImageFault) → Result (List (Option ℕ)) ImageFault
+on_ok (Ok byte) more = more byte
+on_ok (Err fault) more = Err fault
 
 -- an image with the values of some pieces, from an address on
 abbrev pub with_pieces : List (Option ℕ) → ℕ → List (List ℕ) → Result (List (Option ℕ)) ImageFault
 with_pieces image addr [] = Ok image
-with_pieces image addr (piece ∷ more) = then_on (with_piece image addr piece) (λ next. with_pieces next (addr + 1) more)
+with_pieces image addr (piece ∷ more) =
+    on_ok (fitting_value (length image) (addr, piece)) (λ b. with_pieces (with_byte image addr b) (addr + 1) more)
 
 -- bytes before those that follow
 abbrev pub before : List ℕ → Result (List ℕ) ImageFault → Result (List ℕ) ImageFault
@@ -35,7 +34,7 @@ pub before-none : (rest : Result (List ℕ) ImageFault) → before [] rest ≡ r
 before-none x = grind (arith, nat_tests)
 
 -- a good value has an address below the size
-fitting_below : (size addr : ℕ) (value : Option ℕ) (byte : ℕ) → fitting size addr value ≡ Ok byte → addr < size
+pub fitting_below : (size addr : ℕ) (value : Option ℕ) (byte : ℕ) → fitting size addr value ≡ Ok byte → addr < size
 fitting_below size addr value byte e = search (rules, nat_tests)
 
 with_next : (bytes : List ℕ) (size addr : ℕ) (parts : List (List ℕ)) (rest : Result (List ℕ) ImageFault)
@@ -43,7 +42,7 @@ with_next : (bytes : List ℕ) (size addr : ℕ) (parts : List (List ℕ)) (rest
     → ((byte : ℕ) → r ≡ Ok byte → addr < size) → addr ≡ length bytes
     → ((byte : ℕ) → addr < size → with_pieces (from_zero (bytes ++ byte ∷ []) size) (addr + 1) parts
     ≡ image_of_bytes size (before (bytes ++ byte ∷ []) rest))
-    → then_on (with_value (from_zero bytes size) addr r) (λ next. with_pieces next (addr + 1) parts)
+    → on_ok r (λ byte. with_pieces (with_byte (from_zero bytes size) addr byte) (addr + 1) parts)
     ≡ image_of_bytes size (before bytes (onto_ok r rest))
 with_next bytes size addr parts rest r below here more = search (rules, from_zero-next, append_assoc)
 
@@ -54,24 +53,22 @@ pub with_pieces_is : (bytes : List ℕ) (size addr : ℕ) (parts : List (List �
 with_pieces_is bytes size addr [] here l = ap (λ (xs : List ℕ). image_of_bytes size (ok_of xs)) (sym (append-nil bytes))
 with_pieces_is bytes size addr (piece ∷ parts) here l =
     let size_is : length (from_zero bytes size) ≡ size = length-from_zero bytes size l in
-    ap (λ (n : ℕ). then_on (with_value (from_zero bytes size) addr (fitting_value n (addr, piece)))
-    (λ next. with_pieces next (addr + 1) parts)) size_is
+    ap (λ (n : ℕ). on_ok (fitting_value n (addr, piece))
+    (λ byte. with_pieces (with_byte (from_zero bytes size) addr byte) (addr + 1) parts)) size_is
     ∙ with_next bytes size addr parts (all_ok (map (fitting_value size) (enumerate_from (addr + 1) parts)))
     (fitting_value size (addr, piece))
     (λ byte e. fitting_below size addr (value_of piece) byte e) here
     (λ byte low. with_pieces_is (bytes ++ byte ∷ []) size (addr + 1) parts
     (omega (arith, here, length-append bytes (byte ∷ []))) (omega (arith, here, low, length-append bytes (byte ∷ []))))
 
-values_of_some : (size : ℕ) (parts : List (List ℕ)) (one : Result (List (Option ℕ)) ImageFault) → 0 < length parts
+pub values_of_some : (size : ℕ) (parts : List (List ℕ)) (one : Result (List (Option ℕ)) ImageFault) → 0 < length parts
     → cond (eqb (length parts) 0) one (image_of_bytes size (all_ok (map (fitting_value size) (enumerate_from 0 parts))))
     ≡ with_pieces (empty size) 0 parts
 values_of_some size [] one some = absurd (omega (arith, some))
 values_of_some size (piece ∷ parts) one some =
     let none : from_zero [] size ≡ empty size = ap (λ (n : ℕ). replicate {A = Option ℕ} n None) (omega arith) in
-    let whole : image_of_bytes size (all_ok (map (fitting_value size) (enumerate_from 0 (piece ∷ parts))))
-    ≡ with_pieces (empty size) 0 (piece ∷ parts) =
-    ap (image_of_bytes size) (sym (before-none _)) ∙ sym (with_pieces_is [] size 0 (piece ∷ parts) refl (omega arith))
-    ∙ ap (λ (image : List (Option ℕ)). with_pieces image 0 (piece ∷ parts)) none in search rules
+    let whole = with_pieces_is [] size 0 (piece ∷ parts) refl (omega arith) in
+    search (rules, before-none, none, whole)
 
 -- ---- the first piece
 
@@ -112,15 +109,10 @@ pieces_prefix xs n here some = grind (arith, nat_tests, prefix_len-le-length, le
 
 -- one more piece, with a fault or without
 pub piece_bad : (image : List (Option ℕ)) (addr : ℕ) (piece : List ℕ) (more : List (List ℕ)) (fault : ImageFault)
-    → with_piece image addr piece ≡ Err fault → with_pieces image addr (piece ∷ more) ≡ Err fault
+    → fitting_value (length image) (addr, piece) ≡ Err fault → with_pieces image addr (piece ∷ more) ≡ Err fault
 piece_bad image addr piece more fault e = grind (arith, nat_tests)
 
-pub piece_good : (image : List (Option ℕ)) (addr : ℕ) (piece : List ℕ) (more : List (List ℕ)) (next : List (Option ℕ))
-    → with_piece image addr piece ≡ Ok next → with_pieces image addr (piece ∷ more) ≡ with_pieces next (addr + 1) more
-piece_good image addr piece more next e = grind (arith, nat_tests)
-
--- an image that holds nothing, by its length
-pub values_from : (text : List ℕ) (image : List (Option ℕ)) (answer : Result (List (Option ℕ)) ImageFault)
-    → image ≡ empty (length image)
-    → 0 < length (pieces text) → with_pieces image 0 (pieces text) ≡ answer → values text (length image) ≡ answer
-values_from text image answer none some e = grind (arith, nat_tests, values_of_some)
+pub piece_good : (image : List (Option ℕ)) (addr : ℕ) (piece : List ℕ) (more : List (List ℕ)) (byte : ℕ)
+    → fitting_value (length image) (addr, piece) ≡ Ok byte
+    → with_pieces image addr (piece ∷ more) ≡ with_pieces (with_byte image addr byte) (addr + 1) more
+piece_good image addr piece more byte e = grind (arith, nat_tests)

@@ -1,3 +1,4 @@
+use Rattle.std.proofs.Common.{rules}
 use Rattle.avr_cli.specs.Command.{avrstk}
 use Rattle.avr_cli.proofs.command.with_options.Goals as goal
 
@@ -5,4 +6,4 @@ pub returns : goal.returns
 unfolding avrstk
 returns c =
     c.with_files.ensures.app _ (c.with_telling-command.ensures.app _ (c.with_run-command.ensures.app _
-    (c.with_write-command.ensures.app _ (c.with_target-command.ensures.app _ c.without_options-command.ensures))))
+    (c.with_write-command.ensures.app _ (c.with_target-command.ensures.app _ (search rules)))))

@@ -7,4 +7,6 @@ pub invariant_of-result : goal.invariant_of-result
 invariant_of-result c = grind (arith, length-replicate, small-blank, get_or-replicate)
 
 pub returns : goal.returns
-returns c = rw (c.in-Ok.ensures, c.in-Ok-zero_words.ensures) (shown_from-zeros 0 _ _ _)
+returns c =
+    rw (c.in-Ok.ensures.items_if_clones_equal (λ y e. e), c.in-Ok-vec.ensures.items_if_clones_equal (λ y e. e))
+    (shown_from-zeros 0 _ _ _)

@@ -3,7 +3,7 @@ use Rattle.std.specs.List.{flat_map}
 use Rattle.avr_image.specs.Image.{laid_over}
 use Rattle.avr_image.specs.Runs.{places_of}
 use Rattle.avr_image.proofs.Walks.Runs.{EndBy}
-use Rattle.avr_image.proofs.image.Image.lay_runs.Given as goal
+use Rattle.avr_image.proofs.image.Image.lay_over.Given as goal
 
 abbrev pub invariant-loop-addr : goal.invariant-loop-addr
 invariant-loop-addr l = record {

@@ -1,7 +1,7 @@
 use Rattle.std.proofs.Common.{◌≡◌, ◌+◌, map, drop}
 use Rattle.avr_cli.specs.Settings.{updates_from}
 use Rattle.avr_cli.proofs.UpdateLists.{onto}
-use Rattle.avr_cli.proofs.from_options.read_updates.Given as goal
+use Rattle.avr_cli.proofs.from_options.updates_given.Given as goal
 
 abbrev pub invariant-loop-i : goal.invariant-loop-i
 invariant-loop-i l =
