@@ -1,10 +1,11 @@
 -- What the code finds in a line.
-use Rattle.std.specs.Prelude.{ℕ, ◌+◌, ◌%◌, ◌<◌, ◌≤◌, List, length, fold}
+use Rattle.std.specs.Prelude.{◌≡◌, ℕ, ◌+◌, ◌%◌, ◌<◌, ◌≤◌, List, length, fold, Result, Ok, Err, MatchResult}
 use Rattle.avr_records.specs.Record.{RecordFields}
 use Rattle.avr_records.specs.Meaning.{Meaning}
 use Rattle.avr_records.specs.Meaning as said
 use Rattle.avr_records.specs.declared.kind.Kind.{Kind}
 use Rattle.avr_records.specs.declared.kind.Kind.TheVariants.{Ihex, Srec}
+use Rattle.avr_records.specs.declared.fault.LineFault.{LineFault}
 use Rattle.avr_records.specs.declared.record.LineRecord.{LineRecord}
 use Rattle.avr_records.specs.declared.line.Line.{Line}
 use Rattle.avr_records.specs.declared.line.Line.TheVariants as line
@@ -16,6 +17,11 @@ record_of r = record { type = r.record_type; address = r.address; bytes = r.byte
 abbrev pub FitsFields : Kind → LineRecord → Type 0
 FitsFields Ihex r = (r.address < 65536) × (length r.bytes.now ≤ 255)
 FitsFields Srec r = length r.bytes.now ≤ 255
+
+-- fields that fit, of the record that is there, or its fault
+abbrev pub Finds : Kind → Result RecordFields LineFault → Result LineRecord LineFault → Type 0
+Finds kind want result =
+    MatchResult result (λ found. (want ≡ Ok (record_of found)) × FitsFields kind found) (λ fault. want ≡ Err fault)
 
 abbrev pub meaning_of : Line → Meaning
 meaning_of line.Nothing = said.Nothing

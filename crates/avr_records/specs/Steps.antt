@@ -1,11 +1,10 @@
 -- How one line changes what the lines before it leave.
-use Rattle.std.specs.Prelude.{ℕ, true, false, ◌+◌, ◌≡◌, ◌≤◌, List, [], Option, Some, None, Result, Ok, Err, IsSome, if◌then◌else◌}
-use Rattle.avr_image.specs.Image.{laid_over, empty}
+use Rattle.std.specs.Prelude.{ℕ, true, false, ◌+◌, ◌≡◌, ◌≤◌, List, Option, Some, None, Result, Ok, Err, IsSome, MatchResult, OnOk, if◌then◌else◌}
+use Rattle.avr_image.specs.Image.{laid_over}
 use Rattle.avr_records.specs.Fault.{fault_line_number}
 use Rattle.avr_records.specs.Needed.{end_past}
 use Rattle.avr_records.specs.Progress.{image_size}
-use Rattle.avr_records.specs.Reader.{ReadsLines}
-use Rattle.avr_records.specs.Reading.{Said, is_end, is_data, next_base, placed_under, fault_under, in_line}
+use Rattle.avr_records.specs.Reading.{Said, is_end, is_data, next_base, placed_under, fault_under, in_line, said_by_line}
 use Rattle.avr_records.specs.declared.extent.Extent.{Extent}
 use Rattle.avr_records.specs.declared.kind.Kind.{Kind}
 use Rattle.avr_records.specs.declared.kind.Kind.TheVariants.{Ihex, Srec}
@@ -18,24 +17,21 @@ use Rattle.avr_records.specs.declared.fault.RecordFault.{RecordFault}
 use Rattle.avr_records.specs.declared.progress.Progress.{Progress}
 
 abbrev pub extended : Extent → Said → Extent
-extended e said = record e {
+extended e said = record {
   base = next_base e.base said;
   data_records = if is_data said then e.data_records + 1 else e.data_records;
+  lines = e.lines + 1;
   end = end_past e.end (placed_under e.base said);
   ended = if is_end said then true else e.ended;
 }
 
-abbrev pub extent_unless : Option LineFault → ℕ → Extent → Result Extent RecordFault
-extent_unless (Some fault) line new = Err (in_line line fault)
-extent_unless None line new = Ok new
-
--- what the line just counted leaves, or its fault
-abbrev pub after_line : ℕ → Extent → Said → Result Extent RecordFault
-after_line size e said = extent_unless (fault_under size e.base e.data_records said) e.lines (extended e said)
+abbrev pub extent_unless : Option LineFault → Extent → Result Extent RecordFault
+extent_unless (Some fault) new = Err (in_line new.lines fault)
+extent_unless None new = Ok new
 
 -- what one more line leaves, or its fault
 abbrev pub next_extent : ℕ → Extent → Said → Result Extent RecordFault
-next_extent size e = after_line size (record e { lines = e.lines + 1 })
+next_extent size e said = extent_unless (fault_under size e.base e.data_records said) (extended e said)
 
 abbrev pub with_extent : Progress → Said → Result Extent RecordFault → Result Progress RecordFault
 with_extent p said (Err fault) = Err fault
@@ -62,17 +58,14 @@ pub record InRange (kind : Kind) (e : Extent) : Type 0 where
   pub base : HasBase kind e.base
   pub counts : e.data_records ≤ e.lines
 
+-- a reader takes its next line
+pub record TakesOne (kind : Kind) (p : Progress) (line : List ℕ) (new : Progress) (result : Result Unit RecordFault)
+    : Type 0 where
+  pub step : MatchResult result (λ _. next_progress p (said_by_line kind line) ≡ Ok new)
+      (λ fault. next_progress p (said_by_line kind line) ≡ Err fault)
+  pub size : image_size new ≡ image_size p
+  pub range : OnOk result (InRange kind new.extent)
+  pub lines : OnOk result (new.extent.lines ≤ p.extent.lines + 1)
+
 abbrev pub no_lines : Extent
 no_lines = record { base = Linear 0; data_records = 0; lines = 0; end = 0; ended = false }
-
--- before any line, with the image
-abbrev pub HasNoLines : ℕ → Progress → Type 0
-HasNoLines size p = (p.extent ≡ no_lines) × (p.image ≡ empty size)
-
--- what a reader holds before any byte came
-pub record Begins (kind : Kind) (size : ℕ) (p : Progress) (part : List ℕ) : Type 0 where
-  pub sized : image_size p ≡ size
-  pub range : InRange kind p.extent
-  pub lines : p.extent.lines ≡ 0
-  pub empty : part ≡ []
-  pub reads : ReadsLines kind p part []

@@ -23,30 +23,7 @@ pub(crate) fn are_digits(text: &[u8]) -> bool
     text.iter().all(|c| c.is_ascii_hexdigit())
 }
 
-/// Returns the fault of an odd number of digits; a bad digit comes first.
-fn odd_fault(digits: &[u8]) -> LineFault
-    requires { length digits.now % 2 ≡ 1 }
-    ensures { bytes_of_digits digits.now ≡ Err result }
-{
-    if are_digits(digits) {
-        LineFault::Length
-    } else {
-        LineFault::Digit
-    }
-}
-
-fn decode_pairs(digits: &[u8], out: &mut [u8]) -> Result<(), LineFault>
-    requires { length digits.now ≡ 2 * length out.old }
-    ensures { MatchResult result (λ _. bytes_of_digits digits.now ≡ Ok out.new)
-        (λ fault. bytes_of_digits digits.now ≡ Err fault) }
-{
-    match hex::decode_to_slice(digits, out) {
-        Ok(()) => Ok(()),
-        Err(_) => Err(LineFault::Digit),
-    }
-}
-
-/// Decodes digits into `room`, two digits a byte.
+/// Decodes digits into `room`, two digits a byte. A bad digit comes before an odd number of digits.
 pub(crate) fn decode_digits<'b>(
     digits: &[u8],
     room: &'b mut [u8; ROOM],
@@ -56,11 +33,17 @@ pub(crate) fn decode_digits<'b>(
         (λ fault. bytes_of_digits digits.now ≡ Err fault) }
 {
     if digits.len() % 2 == 1 {
-        return Err(odd_fault(digits));
+        return if are_digits(digits) {
+            Err(LineFault::Length)
+        } else {
+            Err(LineFault::Digit)
+        };
     }
-    let n = digits.len() / 2;
-    decode_pairs(digits, &mut room[..n])?;
-    Ok(&room[..n])
+    let out = &mut room[..digits.len() / 2];
+    match hex::decode_to_slice(digits, out) {
+        Ok(()) => Ok(out),
+        Err(_) => Err(LineFault::Digit),
+    }
 }
 
 #[tactic(auto, using(crate::proofs::Texts::Sums::low_sum_is))]

@@ -1,12 +1,13 @@
 //! How far a record file of a memory is written.
 
-ghost use Rattle.std.specs.Prelude.{◌≡◌, ◌-◌, ◌<◌, ◌≤◌, ◌↔◌, ◌++◌, [], false, length, IsTrue};
-ghost use Rattle.avr_records.specs.Text.{IsLine, address_size};
+ghost use Rattle.std.specs.Prelude.{◌≡◌, ◌<◌, ◌≤◌, ◌↔◌, ◌++◌, [], false, length, IsTrue};
+ghost use Rattle.avr_records.specs.Text.{IsLine, IsThisLine, address_size};
 ghost use Rattle.avr_records.specs.Sparse.{file_rows, last_held, new_upper as spec_new_upper, row_size as spec_row_size, row_text};
 ghost use Rattle.avr_records.specs.Writing.{left};
 
 use crate::address_size::AddressSize;
-use crate::kind::Kind;
+use crate::ihex::{DATA, END_OF_FILE};
+use crate::kind::{Kind, SEGMENT};
 use crate::sparse::Sparse;
 use crate::written_line::ROW_SIZE;
 use crate::{ihex_line, srec_line};
@@ -118,13 +119,12 @@ impl Cursor {
     }
 
     fn put_end(&self, out: &mut ArrayVec<u8, 80>)
-        ensures text { out.new.items ≡ file_rows self.now.kind self.now.upper self.now.address_size [] }
-        ensures some { 0 < length out.new.items }
-        ensures line { IsLine out.new.items }
+        ensures { IsThisLine out.new.items (file_rows self.now.kind self.now.upper self.now.address_size []) }
     {
+        let size = self.address_size;
         match self.kind {
-            Kind::Ihex => ihex_line::put_end(out),
-            Kind::Srec => srec_line::put_end(self.address_size, out),
+            Kind::Ihex => ihex_line::put_record(END_OF_FILE, 0, &[], out),
+            Kind::Srec => srec_line::put_record(11 - size.bytes() as u8, size, 0, &[], out),
         }
     }
 
@@ -132,9 +132,10 @@ impl Cursor {
     fn new_upper(&self, addr: u32) -> Option<u16>
         ensures { result ≡ spec_new_upper self.now.kind self.now.upper addr }
     {
+        let upper = (addr / SEGMENT) as u16;
         match self.kind {
-            Kind::Ihex => ihex_line::new_upper(addr, self.upper),
-            Kind::Srec => None,
+            Kind::Ihex if upper != self.upper => Some(upper),
+            _ => None,
         }
     }
 
@@ -144,20 +145,19 @@ impl Cursor {
         ensures most { result ≤ 32 }
     {
         match self.kind {
-            Kind::Ihex => ihex_line::row_size(addr),
+            Kind::Ihex => ROW_SIZE.min((SEGMENT - addr % SEGMENT) as usize),
             Kind::Srec => ROW_SIZE,
         }
     }
 
     fn put_row(&self, addr: u32, row: &[u8], out: &mut ArrayVec<u8, 80>)
         requires { length row.now ≤ 32 }
-        ensures text { out.new.items ≡ row_text self.now.kind self.now.address_size addr row.now }
-        ensures some { 0 < length out.new.items }
-        ensures line { IsLine out.new.items }
+        ensures { IsThisLine out.new.items (row_text self.now.kind self.now.address_size addr row.now) }
     {
+        let size = self.address_size;
         match self.kind {
-            Kind::Ihex => ihex_line::put_row(addr, row, out),
-            Kind::Srec => srec_line::put_row(self.address_size, addr, row, out),
+            Kind::Ihex => ihex_line::put_record(DATA, (addr % SEGMENT) as u16, row, out),
+            Kind::Srec => srec_line::put_record(size.bytes() as u8 - 1, size, addr, row, out),
         }
     }
 }

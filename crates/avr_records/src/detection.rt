@@ -1,9 +1,9 @@
 //! Detects a file's format from its first bytes.
-ghost use Rattle.std.specs.Prelude.{◌≡◌, Some, length, take, find, not, true, false, MatchOption};
+ghost use Rattle.std.specs.Prelude.{◌≡◌, Some, take, find, not, true, false, MatchOption};
 ghost use Rattle.std.specs.List.{list_all};
 ghost use Rattle.std.specs.Str.{bytes_eq};
 ghost use Rattle.avr_records.specs.Lines.{is_blank, lines};
-ghost use Rattle.avr_records.specs.Detect.{kind_of_file, kind_of_line, begins_ihex, begins_srec, has_digits as spec_has_digits, elf_mark};
+ghost use Rattle.avr_records.specs.Detect.{kind_of_file, kind_of_line, has_digits as spec_has_digits, elf_mark};
 
 use crate::bytes::{are_digits, first};
 use crate::kind::Found;

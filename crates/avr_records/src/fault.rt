@@ -3,7 +3,6 @@
 ghost use Rattle.std.specs.Prelude.{◌≡◌};
 ghost use Rattle.avr_records.specs.Fault.{fault_address, fault_number, fault_line_number};
 ghost use Rattle.avr_records.specs.Reading.{in_line};
-ghost use Rattle.avr_records.specs.Steps.{IsLineFault};
 
 use std::fmt;
 use thiserror::Error;
@@ -130,8 +129,7 @@ pub enum LineFault {
 
 impl LineFault {
     pub(crate) fn in_line(self, line: u32) -> RecordFault
-        ensures value { result ≡ in_line line self }
-        ensures line { IsLineFault result }
+        ensures { result ≡ in_line line self }
     {
         match self {
             LineFault::Mark => RecordFault::BadMark(line),

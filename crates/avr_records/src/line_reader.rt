@@ -1,11 +1,11 @@
 //! The lines of a text that comes in pieces, and what is kept of an unfinished one.
-ghost use Rattle.std.specs.Prelude.{◌≡◌, ◌<◌, [], Some, MatchOption, ◌+◌, ◌≤◌, ◌^◌, ◌++◌, ℕ, List, false, Ok, Err, ◌∷◌, length, MatchResult, OnOk, IfErr, IfOk};
-ghost use Rattle.avr_records.specs.Steps.{next_progress, ending_of, Begins, InRange, IsLineFault};
+ghost use Rattle.std.specs.Prelude.{◌≡◌, ◌<◌, [], Some, MatchOption, ◌+◌, ◌≤◌, ◌^◌, ◌++◌, ℕ, List, false, ◌∷◌, length, OnOk, IfErr, IfOk};
 ghost use Rattle.avr_records.specs.Closed.{closed_fault};
 ghost use Rattle.avr_records.specs.Lines.{lines};
 ghost use Rattle.avr_records.specs.Progress.{image_size};
 ghost use Rattle.avr_records.specs.Reader.{kept, ReadsLines};
-ghost use Rattle.avr_records.specs.Reading.{image_in_text, said_by_line};
+ghost use Rattle.avr_records.specs.Reading.{image_in_text};
+ghost use Rattle.avr_records.specs.Steps.{ending_of, InRange, IsLineFault, TakesOne};
 
 use crate::bytes::{ROOM, first};
 use crate::fault::RecordFault;
@@ -13,8 +13,7 @@ use crate::kind::{Ending, Kind};
 use crate::line::{LONGEST, split_line};
 use crate::progress::Progress;
 use arrayvec::ArrayVec;
-use avr_image::{Image, ImageFault};
-use std::alloc::Global;
+use avr_image::Image;
 
 /// How many bytes of an unfinished line are kept: one more than the longest line has shows that it is too long.
 const KEPT: usize = LONGEST + 1;
@@ -36,80 +35,25 @@ pub struct LineReader {
 }
 
 impl LineReader {
-    pub(crate) fn new(alloc: Global, kind: Kind, size: u32) -> Result<LineReader, ImageFault>
-        ensures { MatchResult result (λ reader. (reader.kind ≡ kind)
-            × Begins kind size reader.progress reader.part.items) (λ fault. fault ≡ ImageFault.Memory) }
-    {
-        match Progress::new(alloc, size) {
-            Ok(progress) => Ok(LineReader {
-                kind,
-                progress,
-                part: ArrayVec::new(),
-                room: [0; ROOM],
-            }),
-            Err(fault) => Err(fault),
-        }
-    }
-
-    /// Takes the line that is kept, and begins the next. It stays a call because few lines span two pieces.
-    #[inline(never)]
-    fn take_part(&mut self) -> Result<(), RecordFault>
-        requires range { InRange self.old.kind self.old.progress.extent }
-        requires few { self.old.progress.extent.lines + 1 < 2 ^ 32 }
-        ensures step { MatchResult result
-            (λ _. next_progress self.old.progress (said_by_line self.old.kind self.old.part.items)
-            ≡ Ok self.new.progress) (λ fault. next_progress self.old.progress
-            (said_by_line self.old.kind self.old.part.items) ≡ Err fault) }
-        ensures part { OnOk result (self.new.part.items ≡ []) }
-        ensures kind { self.new.kind ≡ self.old.kind }
-        ensures size { length self.new.progress.image ≡ length self.old.progress.image }
-        ensures range { OnOk result (InRange self.old.kind self.new.progress.extent) }
-        ensures lines { OnOk result (self.new.progress.extent.lines ≤ self.old.progress.extent.lines + 1) }
-        ensures line { IfErr result IsLineFault }
-    {
-        let taken = self
-            .progress
-            .take_line(self.kind, &self.part, &mut self.room);
-        self.part.clear();
-        taken
-    }
-
     /// Takes the last bytes of a line at its end. A line of which nothing is kept is read in place.
     #[inline(always)]
     fn end_line(&mut self, rest: &[u8]) -> Result<(), RecordFault>
         requires range { InRange self.old.kind self.old.progress.extent }
         requires few { self.old.progress.extent.lines + 1 < 2 ^ 32 }
-        ensures step { MatchResult result
-            (λ _. next_progress self.old.progress (said_by_line self.old.kind (self.old.part.items ++ rest.now))
-            ≡ Ok self.new.progress) (λ fault. next_progress self.old.progress
-            (said_by_line self.old.kind (self.old.part.items ++ rest.now)) ≡ Err fault) }
+        ensures is { TakesOne self.old.kind self.old.progress (self.old.part.items ++ rest.now)
+            self.new.progress result }
         ensures part { OnOk result (self.new.part.items ≡ []) }
         ensures kind { self.new.kind ≡ self.old.kind }
-        ensures size { length self.new.progress.image ≡ length self.old.progress.image }
-        ensures range { OnOk result (InRange self.old.kind self.new.progress.extent) }
-        ensures lines { OnOk result (self.new.progress.extent.lines ≤ self.old.progress.extent.lines + 1) }
-        ensures count { OnOk result (self.new.progress.extent.lines + length self.new.part.items
-            ≤ self.old.progress.extent.lines + length self.old.part.items + 1) }
-        ensures line { IfErr result IsLineFault }
     {
         if self.part.is_empty() {
             return self.progress.take_line(self.kind, rest, &mut self.room);
         }
         extend(&mut self.part, rest);
-        self.take_part()
-    }
-
-    /// Keeps bytes of an unfinished line, if they count.
-    fn keep(&mut self, piece: &[u8])
-        ensures kept { self.old.progress.extent.ended ≡ false
-            → self.new.part.items ≡ kept (self.old.part.items ++ piece.now) }
-        ensures progress { self.new.progress ≡ self.old.progress }
-        ensures kind { self.new.kind ≡ self.old.kind }
-        ensures count { length self.new.part.items ≤ length self.old.part.items + length piece.now }
-    {
-        if !self.progress.extent.ended {
-            extend(&mut self.part, piece);
-        }
+        let taken = self
+            .progress
+            .take_line(self.kind, &self.part, &mut self.room);
+        self.part.clear();
+        taken
     }
 
     /// Splits the next ended line from `rest`. After an end record, when nothing counts, it looks for none.
@@ -146,26 +90,12 @@ impl LineReader {
             self.end_line(line)?;
             rest = more;
         }
-        self.keep(rest);
-        Ok(())
-    }
-
-    fn end_text(&mut self) -> Result<(), RecordFault>
-        requires range { InRange self.old.kind self.old.progress.extent }
-        requires few { self.old.progress.extent.lines + length self.old.part.items < 2 ^ 32 }
-        ensures whole { MatchResult result (λ _. (text : List ℕ)
-            → ReadsLines self.old.kind self.old.progress self.old.part.items text
-            → image_in_text self.old.kind text (image_size self.old.progress)
-            ≡ Ok (self.new.progress.image, ending_of self.new.progress.extent))
-            (λ fault. (text : List ℕ) → ReadsLines self.old.kind self.old.progress self.old.part.items text
-            → image_in_text self.old.kind text (image_size self.old.progress) ≡ Err fault) }
-        ensures size { length self.new.progress.image ≡ length self.old.progress.image }
-        ensures line { IfErr result IsLineFault }
-    {
-        if self.part.is_empty() {
+        // Of an unfinished line the bytes are kept, if they count.
+        if self.progress.extent.ended {
             return Ok(());
         }
-        self.end_line(&[])
+        extend(&mut self.part, rest);
+        Ok(())
     }
 
     /// Takes the last line and returns what the whole text says.
@@ -177,12 +107,22 @@ impl LineReader {
         ensures size { IfOk result (λ read. length read.0 ≡ length self.progress.image) }
         ensures line { IfErr result IsLineFault }
     {
-        match self.end_text() {
-            Ok(()) => {
-                let ending = self.progress.extent.ending();
-                Ok((self.progress.image, ending))
-            }
-            Err(fault) => Err(fault),
+        if self.part.is_empty() {
+            return Ok(self.read());
         }
+        self.end_line(&[])?;
+        Ok(self.read())
+    }
+
+    /// Returns the image, and whether the end record came.
+    fn read(self) -> (Image, Ending)
+        ensures { result ≡ (self.progress.image, ending_of self.progress.extent) }
+    {
+        let ending = if self.progress.extent.ended {
+            Ending::Ended
+        } else {
+            Ending::NoEnd
+        };
+        (self.progress.image, ending)
     }
 }

@@ -1,14 +1,12 @@
 //! The lines of a record file so far: their extent, and their bytes in an image.
-ghost use Rattle.std.specs.Prelude.{◌≡◌, ◌<◌, ◌≤◌, ◌+◌, ◌^◌, length, Ok, Err, MatchResult, OnOk, IfErr};
-ghost use Rattle.avr_records.specs.Reading.{said_by_line};
-ghost use Rattle.avr_records.specs.Steps.{next_progress, HasNoLines, InRange, IsLineFault};
+ghost use Rattle.std.specs.Prelude.{◌<◌, ◌+◌, ◌^◌};
+ghost use Rattle.avr_records.specs.Steps.{InRange, TakesOne};
 
 use crate::bytes::ROOM;
 use crate::extent::Extent;
 use crate::fault::RecordFault;
 use crate::kind::Kind;
-use avr_image::{Image, ImageFault};
-use std::alloc::Global;
+use avr_image::Image;
 
 #[derive(Drop)]
 pub struct Progress {
@@ -17,15 +15,6 @@ pub struct Progress {
 }
 
 impl Progress {
-    pub(crate) fn new(alloc: Global, size: u32) -> Result<Progress, ImageFault>
-        ensures { MatchResult result (HasNoLines size) (λ fault. fault ≡ ImageFault.Memory) }
-    {
-        Ok(Progress {
-            extent: Extent::new(),
-            image: Image::new(alloc, size)?,
-        })
-    }
-
     /// Takes the next line, if it counts. Its bytes are decoded into `room` and put from there into the image. It
     /// stays a call so that all the work of a line is in one place.
     #[inline(never)]
@@ -37,13 +26,7 @@ impl Progress {
     ) -> Result<(), RecordFault>
         requires range { InRange kind self.old.extent }
         requires few { self.old.extent.lines + 1 < 2 ^ 32 }
-        ensures step { MatchResult result
-            (λ _. next_progress self.old (said_by_line kind line.now) ≡ Ok self.new)
-            (λ fault. next_progress self.old (said_by_line kind line.now) ≡ Err fault) }
-        ensures size { length self.new.image ≡ length self.old.image }
-        ensures range { OnOk result (InRange kind self.new.extent) }
-        ensures lines { OnOk result (self.new.extent.lines ≤ self.old.extent.lines + 1) }
-        ensures line { IfErr result IsLineFault }
+        ensures { TakesOne kind self.old line.now self.new result }
     {
         if self.extent.ended {
             return Ok(());

@@ -1,12 +1,16 @@
 //! The reader of record files: in pieces, or a whole file in one call.
-ghost use Rattle.std.specs.Prelude.{◌≡◌, ◌≢◌, ◌+◌, ◌<◌, ◌≤◌, ◌^◌, ◌++◌, ℕ, List, [], true, Ok, Err, length, MatchResult, IfOk, OnOk, OnErr, ◌⊎◌};
+ghost use Rattle.std.specs.Prelude.{◌≡◌, ◌≢◌, ◌+◌, ◌<◌, ◌≤◌, ◌^◌, ◌++◌, ℕ, List, true, Ok, Err, length, MatchResult, IfOk, OnOk, OnErr, ◌⊎◌};
 ghost use Rattle.avr_records.specs.Closed.{closed_fault, ok_unless};
 ghost use Rattle.avr_records.specs.Reader.{ReaderState, StandsFor, IsNewReader, memory_size};
 ghost use Rattle.avr_records.specs.Reading.{image_in_text};
 
+use crate::bytes::ROOM;
+use crate::extent::Extent;
 use crate::fault::RecordFault;
 use crate::kind::{Ending, Kind};
 use crate::line_reader::LineReader;
+use crate::progress::Progress;
+use arrayvec::ArrayVec;
 use avr_image::Image;
 use std::alloc::Global;
 use std::fmt;
@@ -70,14 +74,24 @@ impl RecordReader {
     pub fn new(alloc: Global, kind: Kind, size: u32) -> Result<RecordReader, RecordFault>
         ensures { MatchResult result (IsNewReader kind size) (λ fault. fault ≡ RecordFault.Memory) }
     {
-        match LineReader::new(alloc, kind, size) {
-            Ok(lines) => Ok(RecordReader {
-                lines,
-                fed: 0,
-                failed: false,
-            }),
-            Err(_) => Err(RecordFault::Memory),
-        }
+        let Ok(image) = Image::new(alloc, size) else {
+            return Err(RecordFault::Memory);
+        };
+        let progress = Progress {
+            extent: Extent::new(),
+            image,
+        };
+        let lines = LineReader {
+            kind,
+            progress,
+            part: ArrayVec::new(),
+            room: [0; ROOM],
+        };
+        Ok(RecordReader {
+            lines,
+            fed: 0,
+            failed: false,
+        })
     }
 
     /// Returns how many bytes were fed, without those of a `feed` that failed.

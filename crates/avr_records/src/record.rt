@@ -1,12 +1,11 @@
 //! The record of one line, as its fields.
-ghost use Rattle.std.specs.Prelude.{◌≡◌, ◌≤◌, length, Ok, Err, MatchResult};
+ghost use Rattle.std.specs.Prelude.{◌≡◌, ◌≤◌, length};
 ghost use Rattle.avr_records.specs.Judging.{record_of};
 ghost use Rattle.avr_records.specs.Line.{line_record};
 ghost use Rattle.avr_records.specs.Reading.{alone};
-ghost use Rattle.avr_records.specs.Record.{with_size as spec_with_size};
 
 use crate::bytes::ROOM;
-use crate::fault::{LineFault, RecordFault};
+use crate::fault::RecordFault;
 use crate::kind::Kind;
 use crate::line::record_in;
 use arrayvec::ArrayVec;
@@ -19,19 +18,6 @@ pub struct LineRecord<'a> {
     pub(crate) record_type: u8,
     pub(crate) address: u32,
     pub(crate) bytes: &'a [u8],
-}
-
-/// Checks the number of data bytes.
-pub(crate) fn with_size(n: usize, good: LineRecord<'_>) -> Result<LineRecord<'_>, LineFault>
-    ensures is { MatchResult result (λ found. (found ≡ good.entry)
-        × (spec_with_size n good.entry.bytes.now (Ok (record_of good.entry)) ≡ Ok (record_of good.entry)))
-        (λ fault. spec_with_size n good.entry.bytes.now (Ok (record_of good.entry)) ≡ Err fault) }
-{
-    if good.bytes.len() == n {
-        Ok(good)
-    } else {
-        Err(LineFault::Length)
-    }
 }
 
 /// A record: its type, its address field and its data bytes, which it owns. Its checksum was right.

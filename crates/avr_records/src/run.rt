@@ -1,8 +1,7 @@
 //! Consecutive bytes of a memory.
 
-ghost use Rattle.std.specs.Prelude.{◌≡◌, ◌+◌, ◌^◌, ◌≤◌, length, take, drop};
+ghost use Rattle.std.specs.Prelude.{◌≡◌, ◌+◌, ◌^◌, ◌≤◌, length};
 ghost use Rattle.avr_image.specs.Image.{first_from};
-ghost use Rattle.avr_image.specs.Runs.{lead};
 ghost use Rattle.avr_records.specs.Sparse.{IsMemory, run_at};
 
 use crate::sparse::Sparse;
@@ -61,18 +60,6 @@ fn next_in(base: u32, bytes: &[u8], addr: u64) -> Option<u32>
     }
 }
 
-/// Returns at most `most` of the bytes from `addr` on; none if the run begins after `addr`.
-fn row_in<'a>(base: u32, bytes: &'a [u8], addr: u32, most: usize) -> &'a [u8]
-    ensures row { result.now ≡ take most (lead (drop addr (run_at base bytes.now))) }
-    ensures few { length result.now ≤ most }
-{
-    if addr < base {
-        return &[];
-    }
-    let rest = &bytes[((addr - base) as usize).min(bytes.len())..];
-    &rest[..most.min(rest.len())]
-}
-
 impl Sparse for Run<'_> {
     ghost held = { λ run. run };
 
@@ -80,7 +67,13 @@ impl Sparse for Run<'_> {
         next_in(self.base, self.bytes, addr)
     }
 
+    // None of the bytes if the run begins after `addr`.
     fn row_at(&self, addr: u32, most: usize) -> &[u8] {
-        row_in(self.base, self.bytes, addr, most)
+        if addr < self.base {
+            return &[];
+        }
+        let skipped = (addr - self.base) as usize;
+        let rest = &self.bytes[skipped.min(self.bytes.len())..];
+        &rest[..most.min(rest.len())]
     }
 }

@@ -21,14 +21,6 @@ fn span_end(limit: u32, end: u32, addr: u32, bytes: &[u8]) -> Result<u32, u32>
     }
 }
 
-fn lay_span(image: &mut Image, addr: u32, bytes: &[u8])
-    requires { beyond (length image.old) (enumerate_from addr bytes.now) ≡ None }
-    ensures laid { image.new ≡ laid_over image.old (enumerate_from addr bytes.now) }
-    ensures size { length image.new ≡ length image.old }
-{
-    let _ = image.put_slice(addr, bytes);
-}
-
 /// Bytes from an address on, and those that wrap: past the end of a segment a record goes on at its start.
 #[derive(Clone, Copy)]
 pub struct Spans<'a> {
@@ -56,24 +48,6 @@ impl<'a> Spans<'a> {
         Spans::one(0, &[])
     }
 
-    fn in_segment(paragraph: u16, offset: u32, bytes: &'a [u8]) -> Spans<'a>
-        requires { length bytes.now ≤ 255 }
-        ensures { spans_places result ≡ places (AddressBase.Segment paragraph) offset bytes.now }
-    {
-        let start = paragraph as u32 * 16;
-        let offset = offset % SEGMENT;
-        let room = (SEGMENT - offset) as usize;
-        if bytes.len() <= room {
-            return Spans::one(start + offset, bytes);
-        }
-        Spans {
-            addr: start + offset,
-            bytes: &bytes[..room],
-            start,
-            wrapped: &bytes[room..],
-        }
-    }
-
     pub(crate) fn of_record(base: AddressBase, offset: u32, bytes: &'a [u8]) -> Spans<'a>
         requires short { length bytes.now ≤ 255 }
         requires near { Near base offset }
@@ -81,7 +55,20 @@ impl<'a> Spans<'a> {
     {
         match base {
             AddressBase::Linear(upper) => Spans::one(upper as u32 * SEGMENT + offset, bytes),
-            AddressBase::Segment(paragraph) => Spans::in_segment(paragraph, offset, bytes),
+            AddressBase::Segment(paragraph) => {
+                let start = paragraph as u32 * 16;
+                let offset = offset % SEGMENT;
+                let room = (SEGMENT - offset) as usize;
+                if bytes.len() <= room {
+                    return Spans::one(start + offset, bytes);
+                }
+                Spans {
+                    addr: start + offset,
+                    bytes: &bytes[..room],
+                    start,
+                    wrapped: &bytes[room..],
+                }
+            }
         }
     }
 
@@ -102,7 +89,7 @@ impl<'a> Spans<'a> {
         ensures laid { image.new ≡ laid_over image.old (spans_places self.entry) }
         ensures size { length image.new ≡ length image.old }
     {
-        lay_span(image, self.addr, self.bytes);
-        lay_span(image, self.start, self.wrapped);
+        let _ = image.put_slice(self.addr, self.bytes);
+        let _ = image.put_slice(self.start, self.wrapped);
     }
 }

@@ -1,22 +1,21 @@
 //! The fields of an S-record.
-ghost use Rattle.std.specs.Prelude.{◌≡◌, ◌≤◌, length, Ok, Err, IfOk, MatchResult};
-ghost use Rattle.avr_records.specs.Srec.{srec_from_fields, typed_srec, checked_srec, record_with_address as spec_addressed, without_data as spec_without_data};
-ghost use Rattle.avr_records.specs.Judging.{record_of, FitsFields};
+ghost use Rattle.std.specs.Prelude.{◌≤◌, length};
+ghost use Rattle.avr_records.specs.Judging.{Finds};
+ghost use Rattle.avr_records.specs.Srec.{srec_from_fields, typed_srec, record_with_address as spec_addressed, without_data as spec_without_data};
+ghost use Rattle.avr_records.specs.Text.{width_of};
 
+use crate::address_size::AddressSize;
 use crate::bytes::{low_sum_of, number_of};
 use crate::fault::LineFault;
 use crate::kind::Kind;
 use crate::record::LineRecord;
 
-/// Reads a record whose address has `n` bytes, with data after it.
-fn addressed(record_type: u8, n: usize, bytes: &[u8]) -> Result<LineRecord<'_>, LineFault>
-    requires short { length bytes.now ≤ 255 }
-    requires least { 2 ≤ n }
-    requires most { n ≤ 4 }
-    ensures is { MatchResult result (λ found. spec_addressed record_type n bytes.now ≡ Ok (record_of found))
-        (λ fault. spec_addressed record_type n bytes.now ≡ Err fault) }
-    ensures narrow { IfOk result (FitsFields Kind.Srec) }
+/// Reads a record with an address, and data after it.
+fn addressed(record_type: u8, size: AddressSize, bytes: &[u8]) -> Result<LineRecord<'_>, LineFault>
+    requires { length bytes.now ≤ 255 }
+    ensures { Finds Kind.Srec (spec_addressed record_type (width_of size) bytes.now) result }
 {
+    let n = size.bytes();
     if n <= bytes.len() {
         Ok(LineRecord {
             record_type,
@@ -28,17 +27,17 @@ fn addressed(record_type: u8, n: usize, bytes: &[u8]) -> Result<LineRecord<'_>, 
     }
 }
 
-/// Reads a record whose address has `n` bytes, without data.
-fn without_data(record_type: u8, n: usize, bytes: &[u8]) -> Result<LineRecord<'_>, LineFault>
-    requires short { length bytes.now ≤ 255 }
-    requires least { 2 ≤ n }
-    requires most { n ≤ 4 }
-    ensures is { MatchResult result (λ found. spec_without_data record_type n bytes.now ≡ Ok (record_of found))
-        (λ fault. spec_without_data record_type n bytes.now ≡ Err fault) }
-    ensures narrow { IfOk result (FitsFields Kind.Srec) }
+/// Reads a record with an address, without data.
+fn without_data(
+    record_type: u8,
+    size: AddressSize,
+    bytes: &[u8],
+) -> Result<LineRecord<'_>, LineFault>
+    requires { length bytes.now ≤ 255 }
+    ensures { Finds Kind.Srec (spec_without_data record_type (width_of size) bytes.now) result }
 {
-    if bytes.len() == n {
-        addressed(record_type, n, bytes)
+    if bytes.len() == size.bytes() {
+        addressed(record_type, size, bytes)
     } else {
         Err(LineFault::Length)
     }
@@ -47,31 +46,31 @@ fn without_data(record_type: u8, n: usize, bytes: &[u8]) -> Result<LineRecord<'_
 /// Reads the bytes between count and checksum, by the digit of the type.
 fn srec_typed(digit: u8, bytes: &[u8]) -> Result<LineRecord<'_>, LineFault>
     requires { length bytes.now ≤ 255 }
-    ensures is { MatchResult result (λ found. typed_srec digit bytes.now ≡ Ok (record_of found))
-        (λ fault. typed_srec digit bytes.now ≡ Err fault) }
-    ensures narrow { IfOk result (FitsFields Kind.Srec) }
+    ensures { Finds Kind.Srec (typed_srec digit bytes.now) result }
 {
     match digit {
-        b'0' => addressed(0, 2, bytes),
-        b'1' => addressed(1, 2, bytes),
-        b'2' => addressed(2, 3, bytes),
-        b'3' => addressed(3, 4, bytes),
-        b'5' => without_data(5, 2, bytes),
-        b'6' => without_data(6, 3, bytes),
-        b'7' => without_data(7, 4, bytes),
-        b'8' => without_data(8, 3, bytes),
-        b'9' => without_data(9, 2, bytes),
+        b'0' => addressed(0, AddressSize::Two, bytes),
+        b'1' => addressed(1, AddressSize::Two, bytes),
+        b'2' => addressed(2, AddressSize::Three, bytes),
+        b'3' => addressed(3, AddressSize::Four, bytes),
+        b'5' => without_data(5, AddressSize::Two, bytes),
+        b'6' => without_data(6, AddressSize::Three, bytes),
+        b'7' => without_data(7, AddressSize::Four, bytes),
+        b'8' => without_data(8, AddressSize::Three, bytes),
+        b'9' => without_data(9, AddressSize::Two, bytes),
         _ => Err(LineFault::Unknown),
     }
 }
 
-/// Checks count and sum.
-fn srec_checked(digit: u8, count: u8, low_sum: u8, more: &[u8]) -> Result<LineRecord<'_>, LineFault>
-    ensures is { MatchResult result (λ found. checked_srec digit count low_sum more.now ≡ Ok (record_of found))
-        (λ fault. checked_srec digit count low_sum more.now ≡ Err fault) }
-    ensures narrow { IfOk result (FitsFields Kind.Srec) }
+/// Reads the record from a line's bytes, and checks count and sum.
+pub(crate) fn srec_fields(digit: u8, bytes: &[u8]) -> Result<LineRecord<'_>, LineFault>
+    ensures { Finds Kind.Srec (srec_from_fields digit bytes.now) result }
 {
-    let count = count as usize;
+    let [count, more @ ..] = bytes else {
+        return Err(LineFault::Length);
+    };
+    let low_sum = low_sum_of(bytes);
+    let count = *count as usize;
     if count == 0 || more.len() != count {
         return Err(LineFault::Length);
     }
@@ -79,16 +78,4 @@ fn srec_checked(digit: u8, count: u8, low_sum: u8, more: &[u8]) -> Result<LineRe
         return Err(LineFault::Sum);
     }
     srec_typed(digit, &more[..count - 1])
-}
-
-/// Reads the record from a line's bytes.
-pub(crate) fn srec_fields(digit: u8, bytes: &[u8]) -> Result<LineRecord<'_>, LineFault>
-    ensures is { MatchResult result (λ found. srec_from_fields digit bytes.now ≡ Ok (record_of found))
-        (λ fault. srec_from_fields digit bytes.now ≡ Err fault) }
-    ensures narrow { IfOk result (FitsFields Kind.Srec) }
-{
-    match bytes {
-        [] => Err(LineFault::Length),
-        [count, more @ ..] => srec_checked(digit, *count, low_sum_of(bytes), more),
-    }
 }

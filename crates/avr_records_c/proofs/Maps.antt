@@ -1,6 +1,7 @@
 -- Bitmaps and images, place by place.
 use Rattle.std.proofs.lemmas.Bool.Decides.{nat_tests}
-use Rattle.std.proofs.Common.{◌≡◌, ◌∙◌, ap, refl, arith, ℕ, zero, suc, ◌+◌, ◌*◌, ◌/◌, ◌<◌, ◌≤◌, List, [], ◌∷◌, length, get_or, Option, Some, None, rules}
+use Rattle.std.proofs.Common.{◌≡◌, ◌∙◌, ap, refl, arith, ℕ, zero, suc, ◌+◌, ◌*◌, ◌/◌, ◌<◌, ◌≤◌, List, [], ◌∷◌, length, get_or, set, take, drop, replicate, ◌++◌, ◌-◌, Option, Some, None, rules}
+use Rattle.std.proofs.lemmas.List.{get_or-set_same, get_or-set_other, get_or_append_left, get_or-append_right, get_or-take, get_or-replicate, get_or-drop, length-take-le, length-replicate}
 use Rattle.avr_image.specs.Image.{first_from, run_end}
 use Rattle.avr_image.proofs.Lemmas.{next_held, none_held, run_is_longest}
 use Rattle.avr_records_c.specs.Bitmap.{octet, octets, bitmap}
@@ -34,3 +35,48 @@ gap_behind image from none i after = search (rules, none_held, nat_tests)
 pub full_inside : (image : List (Option ℕ)) (first end : ℕ) → first * 8 ≤ end
     → (i : ℕ) → first ≤ i → i < run_end image (first * 8) end / 8 → octet image (i * 8) ≡ 255
 full_inside image first end ordered i after before = search (rules, run_is_longest, nat_tests)
+
+-- ---- a bitmap that is put from the beginning on
+
+-- the first n octets, and no bit after them
+pub record PutUpTo (image : List (Option ℕ)) (n : ℕ) (xs : List ℕ) : Type 0 where
+  pub put : (i : ℕ) → i < n → get_or xs i 0 ≡ octet image (i * 8)
+  pub zeros : (i : ℕ) → n ≤ i → get_or xs i 0 ≡ 0
+
+-- all of it
+pub put-all : (image : List (Option ℕ)) (n : ℕ) (xs : List ℕ) → PutUpTo image n xs → length xs ≤ n
+    → xs ≡ bitmap image (length xs)
+put-all image n xs p long = grind (arith, nat_tests, bitmap_is)
+
+-- up to the next byte, or without one
+pub put-gap : (image : List (Option ℕ)) (from place : ℕ) (xs : List ℕ) → first_from image (from * 8) ≡ Some place
+    → PutUpTo image from xs → PutUpTo image (place / 8) xs
+put-gap image from place xs found p =
+    grind (arith, nat_tests, next_held image (from * 8) place found, gap_before image from place found)
+
+pub put-none : (image : List (Option ℕ)) (from : ℕ) (xs : List ℕ) → first_from image (from * 8) ≡ None
+    → PutUpTo image from xs → xs ≡ bitmap image (length xs)
+put-none image from xs none p = grind (arith, nat_tests, bitmap_is, gap_behind image from none)
+
+-- one octet more
+pub put-one : (image : List (Option ℕ)) (first byte : ℕ) (xs : List ℕ) → first < length xs
+    → byte ≡ octet image (first * 8) → PutUpTo image first xs → PutUpTo image (first + 1) (set xs first byte)
+put-one image first byte xs inside is p = grind (arith, nat_tests, get_or-set_other, get_or-set_same)
+
+-- octets of a run more
+pub put-run : (image : List (Option ℕ)) (first end size : ℕ) (xs ys : List ℕ) → PutUpTo image first xs
+    → first * 8 ≤ size → first ≤ end → end ≤ run_end image (first * 8) size / 8
+    → ys ≡ take first xs ++ (replicate (end - first) 255 ++ drop end xs) → end ≤ length xs → PutUpTo image end ys
+put-run image first end size xs ys p ordered rises inside is within =
+    grind (
+      arith,
+      nat_tests,
+      full_inside,
+      get_or_append_left,
+      get_or-append_right,
+      get_or-take,
+      get_or-replicate,
+      get_or-drop,
+      length-take-le,
+      length-replicate,
+    )

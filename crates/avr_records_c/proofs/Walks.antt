@@ -1,6 +1,6 @@
 -- A walk over a memory's bitmap, bit by bit, finds what a walk over its image finds.
 use Rattle.std.proofs.lemmas.Bool.Decides.{nat_tests}
-use Rattle.std.proofs.Common.{◌≡◌, ap, sym, refl, arith, ℕ, zero, suc, ◌+◌, ◌-◌, ◌<◌, ◌≤◌, List, [], ◌∷◌, length, take, drop, get_or, true, false, Option, Some, None, is_some, inl, inr, add-zero, min, rules}
+use Rattle.std.proofs.Common.{◌≡◌, ap, sym, refl, arith, ℕ, zero, suc, ◌+◌, ◌-◌, ◌/◌, ◌%◌, ◌<◌, ◌≤◌, List, [], ◌∷◌, length, take, drop, get_or, true, false, Option, Some, None, is_some, inl, inr, add-zero, min, rules}
 use Rattle.std.proofs.lemmas.Bool.{cases_Bool, cases_lt}
 use Rattle.std.proofs.lemmas.List.{drop_all, drop_more, length-drop, take_min}
 use Rattle.std.specs.List.{position_from}
@@ -35,7 +35,7 @@ pub first-there : (k : ℕ) (present bytes : List ℕ) → k < length bytes → 
     → first_from (image_of present bytes) k ≡ Some k
 first-there k present bytes inside there = search (rules, nat_tests, next-here)
 
-first-gap : (k : ℕ) (present bytes : List ℕ) → k < length bytes → is_there present k ≡ false
+pub first-gap : (k : ℕ) (present bytes : List ℕ) → k < length bytes → is_there present k ≡ false
     → first_from (image_of present bytes) k ≡ first_from (image_of present bytes) (k + 1)
 first-gap k present bytes inside gap = search (rules, nat_tests, next-here)
 
@@ -53,6 +53,11 @@ first-gaps (suc n) k present bytes gap =
     let there : k + 1 + n ≡ k + suc n = omega arith in
     let one : first_from (image_of present bytes) k ≡ first_from (image_of present bytes) (k + 1) =
     grind (arith, nat_tests, cases_lt, first-gap, first-past) in search rules
+
+-- an octet that is 0
+pub octet-gap : (k : ℕ) (present bytes : List ℕ) → k % 8 ≡ 0 → get_or present (k / 8) 0 ≡ 0
+    → first_from (image_of present bytes) k ≡ first_from (image_of present bytes) (k + 8)
+octet-gap k present bytes whole none = first-gaps 8 k present bytes (λ at after before. search rules)
 
 -- ---- the bytes before a gap
 

@@ -1,6 +1,6 @@
 //! How far a file is written, as C keeps it.
 ghost use Rattle.std.specs.Prelude.{◌≡◌, ◌^◌, min, IfSome};
-ghost use Rattle.avr_records_c.specs.Cursor.{cursor_of as spec_cursor_of, ended_of as spec_ended_of};
+ghost use Rattle.avr_records_c.specs.Cursor.{cursor_of as spec_cursor_of};
 ghost use Rattle.avr_records_c.specs.Cursor.{lines_of as spec_lines_of, size_in_force as spec_size_of};
 
 use crate::memory::Memory;
@@ -38,22 +38,16 @@ fn size_in_force(kind: Kind, size: u8, memory: &Memory<'_>) -> Option<AddressSiz
     }
 }
 
-fn ended_of(ended: u8) -> Option<bool>
-    ensures { result ≡ spec_ended_of ended }
-{
-    match ended {
-        0 => Some(false),
-        1 => Some(true),
-        _ => None,
-    }
-}
-
 /// Returns the position of a cursor, or `None` if no call leaves such a cursor.
 pub(crate) fn lines_of(kind: Kind, cursor: &Cursor, memory: &Memory<'_>) -> Option<Lines>
     ensures value { result ≡ spec_lines_of kind cursor.now memory.now }
     ensures kind { IfSome result (λ lines. lines.kind ≡ kind) }
 {
-    let ended = ended_of(cursor.ended)?;
+    let ended = match cursor.ended {
+        0 => false,
+        1 => true,
+        _ => return None,
+    };
     let address_size = size_in_force(kind, cursor.address_size, memory)?;
     Some(Lines {
         kind,

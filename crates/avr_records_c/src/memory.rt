@@ -1,9 +1,9 @@
 //! A memory as C passes it, for the writers of record files.
-ghost use Rattle.std.specs.Prelude.{◌≡◌, ◌+◌, ◌*◌, ◌^◌, ◌<◌, ◌≤◌, ℕ, false, length, take, drop, min};
+ghost use Rattle.std.specs.Prelude.{◌≡◌, ◌+◌, ◌^◌, ◌<◌, ◌≤◌, length, drop, min};
 ghost use Rattle.avr_image.specs.Image.{first_from};
 ghost use Rattle.avr_image.specs.Runs.{lead};
 ghost use Rattle.avr_records.specs.Sparse.{IsMemory};
-ghost use Rattle.avr_records_c.specs.Bitmap.{image_of, is_there as spec_is_there, octets_of};
+ghost use Rattle.avr_records_c.specs.Bitmap.{image_of, octets_of, HasBitmap};
 
 use crate::bitmap::is_there;
 use avr_records::Sparse;
@@ -29,8 +29,7 @@ impl<'a> Model for Memory<'a> {
 
 impl<'a> Memory<'a> {
     pub(crate) fn new(present: &'a [u8], bytes: &'a [u8]) -> Memory<'a>
-        requires below { length bytes.now < 2 ^ 32 }
-        requires octets { length present.now ≡ octets_of (length bytes.now) }
+        requires { HasBitmap present.now bytes.now }
         ensures image { result ≡ image_of present.now bytes.now }
         ensures short { length result < 2 ^ 32 }
     {
@@ -38,24 +37,8 @@ impl<'a> Memory<'a> {
     }
 }
 
-/// Returns the step of a search from an absent byte: a whole octet that is 0, else one address.
-fn gap_at(present: &[u8], addr: usize) -> usize
-    requires inside { addr < length present.now * 8 }
-    requires gap { spec_is_there present.now addr ≡ false }
-    ensures some { 0 < result }
-    ensures few { result ≤ 8 }
-    ensures gap { (k : ℕ) → addr ≤ k → k < addr + result → spec_is_there present.now k ≡ false }
-{
-    if addr % 8 == 0 && present[addr / 8] == 0 {
-        8
-    } else {
-        1
-    }
-}
-
 fn next_there(present: &[u8], bytes: &[u8], addr: usize) -> Option<usize>
-    requires octets { length present.now ≡ octets_of (length bytes.now) }
-    requires below { length bytes.now < 2 ^ 32 }
+    requires { HasBitmap present.now bytes.now }
     ensures next { result ≡ first_from (image_of present.now bytes.now) addr }
     ensures memory { IsMemory (image_of present.now bytes.now) }
 {
@@ -64,7 +47,12 @@ fn next_there(present: &[u8], bytes: &[u8], addr: usize) -> Option<usize>
         if is_there(present, at) {
             return Some(at);
         }
-        at += gap_at(present, at);
+        // An octet that is 0 is passed in one step.
+        if at % 8 == 0 && present[at / 8] == 0 {
+            at += 8;
+            continue;
+        }
+        at += 1;
     }
     None
 }
@@ -82,18 +70,6 @@ fn row_end(present: &[u8], bytes: &[u8], addr: usize, most: usize) -> usize
     end
 }
 
-fn row_there<'a>(present: &[u8], bytes: &'a [u8], addr: usize, most: usize) -> &'a [u8]
-    requires { length present.now ≡ octets_of (length bytes.now) }
-    ensures row { result.now ≡ take most (lead (drop addr (image_of present.now bytes.now))) }
-    ensures few { length result.now ≤ most }
-{
-    if addr >= bytes.len() {
-        return &[];
-    }
-    let end = row_end(present, bytes, addr, most);
-    &bytes[addr..end]
-}
-
 impl Sparse for Memory<'_> {
     ghost held = { λ memory. memory };
 
@@ -105,6 +81,11 @@ impl Sparse for Memory<'_> {
     }
 
     fn row_at(&self, addr: u32, most: usize) -> &[u8] {
-        row_there(self.present, self.bytes, addr as usize, most)
+        let addr = addr as usize;
+        if addr >= self.bytes.len() {
+            return &[];
+        }
+        let end = row_end(self.present, self.bytes, addr, most);
+        &self.bytes[addr..end]
     }
 }

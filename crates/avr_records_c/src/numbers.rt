@@ -6,7 +6,7 @@ ghost use Rattle.avr_records_c.specs.Numbers.{
   kind_to_read as spec_kind_to_read,
 };
 
-use crate::outcome::Outcome;
+use crate::outcome::{MISFIT, NO_RECORDS, Outcome};
 use avr_records::{Found, Kind};
 
 pub(crate) fn found_number(found: Found) -> u8
@@ -35,10 +35,10 @@ pub(crate) fn kind_to_read(number: u8) -> Result<Kind, Outcome>
     ensures { result ≡ spec_kind_to_read number }
 {
     match number {
-        0 => Err(Outcome::no_records()),
+        0 => Err(Outcome::unread(NO_RECORDS)),
         1 => Ok(Kind::Ihex),
         2 => Ok(Kind::Srec),
-        3 => Err(Outcome::no_records()),
-        _ => Err(Outcome::misfit()),
+        3 => Err(Outcome::unread(NO_RECORDS)),
+        _ => Err(Outcome::unread(MISFIT)),
     }
 }

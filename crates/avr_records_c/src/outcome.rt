@@ -1,6 +1,6 @@
 //! How a read ended.
-ghost use Rattle.std.specs.Prelude.{◌≡◌};
-ghost use Rattle.avr_records_c.specs.Numbers.{outcome_of_end, misfit, no_records, outcome_of_fault};
+ghost use Rattle.std.specs.Prelude.{◌≡◌, false};
+ghost use Rattle.avr_records_c.specs.Numbers.{outcome_of_end, outcome_of_fault};
 
 use avr_records::{Ending, RecordFault};
 
@@ -47,24 +47,14 @@ impl Outcome {
         }
     }
 
-    pub(crate) fn misfit() -> Outcome
-        ensures { result ≡ misfit }
+    /// Returns the outcome of arguments by which nothing is read.
+    pub(crate) fn unread(fault: u8) -> Outcome
+        ensures { result ≡ record { line = 0; address = 0; fault = fault; ended = false } }
     {
         Outcome {
             line: 0,
             address: 0,
-            fault: MISFIT,
-            ended: false,
-        }
-    }
-
-    pub(crate) fn no_records() -> Outcome
-        ensures { result ≡ no_records }
-    {
-        Outcome {
-            line: 0,
-            address: 0,
-            fault: NO_RECORDS,
+            fault,
             ended: false,
         }
     }

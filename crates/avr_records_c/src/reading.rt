@@ -4,7 +4,7 @@ ghost use Rattle.avr_records_c.specs.Reading.{asked_read as spec_asked_read, Rea
 
 use crate::bitmap::{is_bitmap_of, put_bitmap};
 use crate::numbers::kind_to_read;
-use crate::outcome::Outcome;
+use crate::outcome::{MISFIT, Outcome};
 use avr_records::{Kind, read_records};
 use std::alloc::Global;
 
@@ -14,7 +14,7 @@ fn asked_read(kind: u8, text: usize, size: usize, present: usize) -> Result<Kind
     if text <= u32::MAX as usize && is_bitmap_of(present, size) {
         kind_to_read(kind)
     } else {
-        Err(Outcome::misfit())
+        Err(Outcome::unread(MISFIT))
     }
 }
 

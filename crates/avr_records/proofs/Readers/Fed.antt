@@ -15,9 +15,8 @@ use Rattle.avr_records.specs.Reader.{kept, ReadsLines}
 use Rattle.avr_records.specs.Reading.{said_by_line, together, image_in_text}
 use Rattle.avr_records.specs.Meaning.{Nothing}
 use Rattle.avr_records.specs.Record.{longest}
-use Rattle.avr_records.specs.Steps.{next_progress, ending_of, HasBase, HasNoLines, Begins}
+use Rattle.avr_records.specs.Steps.{next_progress, ending_of, no_lines}
 use Rattle.avr_records.specs.declared.kind.Kind.{Kind}
-use Rattle.avr_records.specs.declared.kind.AddressBase.TheVariants.{Linear}
 use Rattle.avr_records.specs.declared.fault.LineFault.TheVariants.{TooLong}
 use Rattle.avr_records.specs.declared.fault.RecordFault.{RecordFault}
 use Rattle.avr_records.specs.declared.progress.Progress.{Progress}
@@ -253,23 +252,8 @@ carries-start kind state piece = grind (arith, nat_tests, append-nil)
 
 -- ---- the beginning
 
-pub no-base : (kind : Kind) → HasBase kind (Linear 0)
-no-base kind = search rules
-
-pub begins : (kind : Kind) (size : ℕ) (p : Progress) (part : List ℕ) → HasNoLines size p → part ≡ []
-    → Begins kind size p part
-begins kind size p part is empty' =
-    let sized : image_size p ≡ size = ap length is.1 ∙ length-replicate size None in
-    rw is.0 (record {
-      sized = sized;
-      range = record { base = no-base kind; counts = omega arith };
-      lines = refl;
-      empty = empty';
-      reads = record {
-        prefix = [];
-        last = [];
-        cut = refl;
-        holds = search rules;
-        keeps = λ _. empty';
-      };
-    })
+pub begins : (kind : Kind) (size : ℕ) (p : Progress) (part : List ℕ) → p.extent ≡ no_lines → p.image ≡ empty size
+    → part ≡ [] → (image_size p ≡ size) × ReadsLines kind p part []
+begins kind size p part none is empty' =
+    let sized : image_size p ≡ size = ap length is ∙ length-replicate size None in
+    rw none (sized, record { prefix = []; last = []; cut = refl; holds = search rules; keeps = λ _. empty' })

@@ -13,9 +13,8 @@ use Rattle.avr_records.specs.Closed.{fault_among}
 use Rattle.avr_records.specs.Needed.{end_past, end_of}
 use Rattle.avr_records.specs.Progress.{IsExtentOf, Holds, image_size}
 use Rattle.avr_records.specs.Reading.{Said, is_end, is_data, up_to_end, in_place, all_placed, placed_under, placed_bytes, first_fault, fault_in, together}
-use Rattle.avr_records.specs.Steps.{extent_unless, next_extent, with_extent, next_progress, ending_of}
+use Rattle.avr_records.specs.Steps.{next_extent, with_extent, next_progress, ending_of}
 use Rattle.avr_records.specs.declared.extent.Extent.{Extent}
-use Rattle.avr_records.specs.declared.fault.LineFault.{LineFault}
 use Rattle.avr_records.specs.declared.fault.RecordFault.{RecordFault}
 use Rattle.avr_records.specs.declared.progress.Progress.{Progress}
 use Rattle.avr_records.proofs.Readers.LaterLines.{in_place-append, first_fault-append, up_to_end-open, up_to_end-done, up_to_end-any}

@@ -3,5 +3,5 @@ use Rattle.std.proofs.Common.{arith}
 use Rattle.avr_records.proofs.Readers.Fed.{said-kept}
 use Rattle.avr_records.proofs.line_reader.LineReader.end_line.Goals as goal
 
-pub returns-clause-step : goal.returns-clause-step
-returns-clause-step c = grind (arith, nat_tests, said-kept)
+pub returns-clause-is : goal.returns-clause-is
+returns-clause-is c = grind (arith, nat_tests, said-kept)

@@ -1,10 +1,8 @@
-use Rattle.std.proofs.lemmas.Grind.{common_steps}
+use Rattle.std.proofs.lemmas.Bool.Decides.{nat_tests}
 use Rattle.std.proofs.Common.{arith}
-use Rattle.avr_records.proofs.Texts.Places.{beyond-parts}
+use Rattle.std.proofs.lemmas.List.Sums.{fold-append}
+use Rattle.avr_records.proofs.Texts.Places.{beyond-parts, lays-span}
 use Rattle.avr_records.proofs.spans.Spans.lay.Goals as goal
 
-pub lay_span-requires : goal.lay_span-requires
-lay_span-requires c = grind (arith, common_steps, beyond-parts)
-
-pub lay_span-requires-2 : goal.lay_span-requires-2
-lay_span-requires-2 c = grind (arith, common_steps, beyond-parts)
+pub returns-clause-laid : goal.returns-clause-laid
+returns-clause-laid c = grind (arith, nat_tests, beyond-parts, lays-span, fold-append)

@@ -2,14 +2,14 @@ use Rattle.std.proofs.lemmas.Grind.{common_steps}
 use Rattle.std.proofs.Common.{arith, rules}
 use Rattle.std.proofs.lemmas.List.{length-take, nil_from_length}
 use Rattle.avr_records_c.proofs.Walks.{row-is, run-past}
-use Rattle.avr_records_c.proofs.memory.row_there.Goals as goal
+use Rattle.avr_records_c.proofs.memory.MemorySparse.row_at.Goals as goal
 
-pub returns-then-addr-bytes-clause-row : goal.returns-then-addr-bytes-clause-row
-returns-then-addr-bytes-clause-row c = grind (arith, common_steps, run-past, nil_from_length, length-take)
+pub returns-then-addr-self-clause-row : goal.returns-then-addr-self-clause-row
+returns-then-addr-self-clause-row c = grind (arith, common_steps, run-past, nil_from_length, length-take)
 
 pub slice_bounds-result-end-2 : goal.slice_bounds-result-end-2
 slice_bounds-result-end-2 c =
-    (row-is c.args.addr c.args.most c.row_end-end.result c.args.present.now c.args.bytes.now (omega arith)
+    (row-is c.args.addr c.args.most c.row_end-end.result c.self.inside.present.now c.self.inside.bytes.now (omega arith)
     c.row_end-end.ensures).within
 
 pub returns-clause-row : goal.returns-clause-row
