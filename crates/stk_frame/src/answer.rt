@@ -1,5 +1,5 @@
 //! Replies, and how they are checked.
-ghost use Rattle.std.specs.Prelude.{◌≡◌, ◌<◌, ◌≤◌, length, MatchResult, IfOk, Ok, Err};
+ghost use Rattle.std.specs.Prelude.{◌≡◌, ◌≤◌, length, MatchResult, IfOk, Ok, Err};
 ghost use Rattle.stk_frame.specs.Commands.{judge, shape, data_of, SizedBy};
 ghost use Rattle.stk_frame.specs.Faults.{frame_fault_number};
 
@@ -132,25 +132,18 @@ impl Shape {
             } else {
                 Err(FrameFault::WrongLength)
             },
-            Shape::Closed(size) => closed_data(*size as usize, more),
+            Shape::Closed(size) => {
+                let size = *size as usize;
+                if more.len() != size + 1 {
+                    return Err(FrameFault::WrongLength);
+                }
+                if more[size] != STATUS_CMD_OK {
+                    return Err(FrameFault::Status(more[size]));
+                }
+                Ok(&more[..size])
+            }
         }
     }
-}
-
-fn closed_data(size: usize, more: &[u8]) -> Result<&[u8], FrameFault>
-    requires { size < 65536 }
-    ensures judged { MatchResult result (λ found. data_of (Shape.Closed size) more.now ≡ Ok found.now)
-        (λ fault. data_of (Shape.Closed size) more.now ≡ Err fault) }
-    ensures fits { IfOk result (λ found. length found.now ≤ length more.now) }
-    ensures sized { IfOk result (λ found. length found.now ≡ size) }
-{
-    if more.len() != size + 1 {
-        return Err(FrameFault::WrongLength);
-    }
-    if more[size] != STATUS_CMD_OK {
-        return Err(FrameFault::Status(more[size]));
-    }
-    Ok(&more[..size])
 }
 
 impl<'a> Answer<'a> {

@@ -1,7 +1,7 @@
 //! Reads commands from their bodies. Fields of a single command are read as this command, shared fields as fields.
 ghost use Rattle.std.specs.Prelude.{◌≡◌, ◌↔◌, Some, IfSome};
 ghost use Rattle.stk_frame.specs.Commands.{body};
-ghost use Rattle.stk_frame.specs.Decoding.{FieldsFit, command_of, with_fields, sign_on_of, set_parameter_of, get_parameter_of, load_address_of, enter_progmode_of, leave_progmode_of, chip_erase_of, program_block_of, read_block_of, instruction, read_byte_of, spi_multi_of};
+ghost use Rattle.stk_frame.specs.Decoding.{FieldsFit, command_of, with_fields, set_parameter_of, load_address_of, enter_progmode_of, leave_progmode_of, chip_erase_of, program_block_of, read_block_of, instruction, read_byte_of, spi_multi_of};
 
 use crate::command::{Command, Data, EnterProgmode, ProgramBlock, ReadBlock, ReadByte};
 use crate::protocol::{
@@ -13,15 +13,6 @@ use crate::protocol::{
 };
 use byteorder::{BigEndian, ByteOrder};
 
-fn sign_on(fields: &[u8]) -> Option<Command<'_>>
-    ensures { result ≡ sign_on_of fields.now }
-{
-    match fields {
-        [] => Some(Command::SignOn),
-        _ => None,
-    }
-}
-
 fn set_parameter(fields: &[u8]) -> Option<Command<'_>>
     ensures { result ≡ set_parameter_of fields.now }
 {
@@ -30,15 +21,6 @@ fn set_parameter(fields: &[u8]) -> Option<Command<'_>>
             number: *number,
             value: *value,
         }),
-        _ => None,
-    }
-}
-
-fn get_parameter(fields: &[u8]) -> Option<Command<'_>>
-    ensures { result ≡ get_parameter_of fields.now }
-{
-    match fields {
-        [number] => Some(Command::GetParameter { number: *number }),
         _ => None,
     }
 }
@@ -190,9 +172,15 @@ fn with_fields(code: u8, fields: &[u8]) -> Option<Command<'_>>
     ensures { result ≡ with_fields code fields.now }
 {
     match code {
-        CMD_SIGN_ON => sign_on(fields),
+        CMD_SIGN_ON => match fields {
+            [] => Some(Command::SignOn),
+            _ => None,
+        },
         CMD_SET_PARAMETER => set_parameter(fields),
-        CMD_GET_PARAMETER => get_parameter(fields),
+        CMD_GET_PARAMETER => match fields {
+            [number] => Some(Command::GetParameter { number: *number }),
+            _ => None,
+        },
         CMD_LOAD_ADDRESS => load_address(fields),
         CMD_ENTER_PROGMODE_ISP => enter_progmode(fields),
         CMD_LEAVE_PROGMODE_ISP => leave_progmode(fields),

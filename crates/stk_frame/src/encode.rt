@@ -2,9 +2,9 @@
 ghost use Rattle.std.specs.Prelude.{◌≡◌, ◌+◌, ◌<◌, ◌≤◌, ◌++◌, length};
 ghost use Rattle.byteorder.specs.Endian.{big_bytes};
 ghost use Rattle.stk_frame.specs.Frame.{frame};
-ghost use Rattle.stk_frame.specs.Commands.{body, fields, enter_progmode_fields, program_block_fields, read_block_fields, read_byte_fields};
+ghost use Rattle.stk_frame.specs.Commands.{body, fields, enter_progmode_fields, program_block_fields};
 
-use crate::command::{Command, EnterProgmode, ProgramBlock, ReadBlock, ReadByte};
+use crate::command::{Command, EnterProgmode, ProgramBlock};
 use crate::frame::{begin, end};
 use crate::protocol::{LARGEST_BODY, LARGEST_FRAME};
 use arrayvec::ArrayVec;
@@ -25,13 +25,13 @@ fn put_both<const CAP: usize>(out: &mut ArrayVec<u8, CAP>, front: &[u8], back: &
     put(out, back);
 }
 
-fn put_u16<const CAP: usize>(out: &mut ArrayVec<u8, CAP>, number: u16)
-    requires { length out.old.items + 2 ≤ CAP }
-    ensures { out.new.items ≡ out.old.items ++ big_bytes 2 number }
+fn put_count<const CAP: usize>(out: &mut ArrayVec<u8, CAP>, count: u16, back: &[u8])
+    requires { length out.old.items + 2 + length back.now ≤ CAP }
+    ensures { out.new.items ≡ out.old.items ++ (big_bytes 2 count ++ back.now) }
 {
-    let mut bytes = [0; 2];
-    BigEndian::write_u16(&mut bytes, number);
-    put(out, &bytes);
+    let mut front = [0; 2];
+    BigEndian::write_u16(&mut front, count);
+    put_both(out, &front, back);
 }
 
 fn put_u32<const CAP: usize>(out: &mut ArrayVec<u8, CAP>, number: u32)
@@ -47,9 +47,9 @@ fn put_program_block<const CAP: usize>(out: &mut ArrayVec<u8, CAP>, block: &Prog
     requires { length out.old.items + length (program_block_fields block.now) ≤ CAP }
     ensures { out.new.items ≡ out.old.items ++ program_block_fields block.now }
 {
-    put_u16(out, block.count);
-    put(
+    put_count(
         out,
+        block.count,
         &[
             block.mode,
             block.delay,
@@ -82,22 +82,6 @@ fn put_enter_progmode<const CAP: usize>(out: &mut ArrayVec<u8, CAP>, enter: &Ent
     put(out, &enter.instruction);
 }
 
-fn put_read_block<const CAP: usize>(out: &mut ArrayVec<u8, CAP>, block: &ReadBlock)
-    requires { length out.old.items + 3 ≤ CAP }
-    ensures { out.new.items ≡ out.old.items ++ read_block_fields block.now }
-{
-    put_u16(out, block.count);
-    put(out, &[block.cmd1]);
-}
-
-fn put_read_byte<const CAP: usize>(out: &mut ArrayVec<u8, CAP>, read: &ReadByte)
-    requires { length out.old.items + length (read_byte_fields read.now) ≤ CAP }
-    ensures { out.new.items ≡ out.old.items ++ read_byte_fields read.now }
-{
-    put(out, &[read.return_address]);
-    put(out, &read.instruction);
-}
-
 impl Command<'_> {
     /// Puts the frame that carries the command with the sequence number `seq` into `out`. Borrowed bytes are copied
     /// only there. The command's body must have at most 275 bytes.
@@ -112,7 +96,8 @@ impl Command<'_> {
         ensures { out.new.items ≡ frame seq (body self.now) }
     {
         begin(out);
-        self.put_body(out);
+        put(out, &[self.code()]);
+        self.put_fields(out);
         end(seq, out);
     }
 
@@ -130,13 +115,6 @@ impl Command<'_> {
         ensures some { 0 < length out.new.items }
     {
         out.clear();
-        self.put_body(out);
-    }
-
-    fn put_body<const CAP: usize>(&self, out: &mut ArrayVec<u8, CAP>)
-        requires { length out.old.items + length (body self.now) ≤ CAP }
-        ensures { out.new.items ≡ out.old.items ++ body self.now }
-    {
         put(out, &[self.code()]);
         self.put_fields(out);
     }
@@ -163,7 +141,11 @@ impl Command<'_> {
             Command::ProgramFlash(block) | Command::ProgramEeprom(block) => put_program_block(
                 out, block,
             ),
-            Command::ReadFlash(block) | Command::ReadEeprom(block) => put_read_block(out, block),
+            Command::ReadFlash(block) | Command::ReadEeprom(block) => put_count(
+                out,
+                block.count,
+                &[block.cmd1],
+            ),
             Command::ProgramFuse { instruction } | Command::ProgramLock { instruction } => put(
                 out,
                 instruction,
@@ -171,7 +153,7 @@ impl Command<'_> {
             Command::ReadFuse(read)
             | Command::ReadLock(read)
             | Command::ReadSignature(read)
-            | Command::ReadOsccal(read) => put_read_byte(out, read),
+            | Command::ReadOsccal(read) => put_both(out, &[read.return_address], &read.instruction),
             Command::SpiMulti {
                 send_count,
                 receive_count,

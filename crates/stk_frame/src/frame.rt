@@ -1,6 +1,6 @@
 //! Frames, as they are sent.
-ghost use Rattle.std.specs.Prelude.{◌≡◌, ◌<◌, ◌≤◌, ◌∷◌, ◌++◌, [], drop, length};
-ghost use Rattle.stk_frame.specs.Frame.{frame, xor_all, header};
+ghost use Rattle.std.specs.Prelude.{◌≡◌, ◌<◌, ◌≤◌, ◌∷◌, [], drop, length};
+ghost use Rattle.stk_frame.specs.Frame.{frame, xor_all};
 
 use crate::protocol::{HEADER_SIZE, LARGEST_BODY, LARGEST_FRAME, MESSAGE_START, TOKEN};
 use arrayvec::ArrayVec;
@@ -12,19 +12,6 @@ pub(crate) fn xor_of(bytes: &[u8]) -> u8
     bytes.iter().fold(0, |xor, byte| xor ^ *byte)
 }
 
-/// Writes the header into the first five bytes; the body follows.
-fn write_header(seq: u8, bytes: &mut [u8])
-    requires header { HEADER_SIZE ≤ length bytes.old }
-    requires fits { length bytes.old < LARGEST_FRAME }
-    ensures { bytes.new ≡ header seq (length (drop HEADER_SIZE bytes.old)) ++ drop HEADER_SIZE bytes.old }
-{
-    let size = (bytes.len() - HEADER_SIZE) as u16;
-    bytes[0] = MESSAGE_START;
-    bytes[1] = seq;
-    BigEndian::write_u16(&mut bytes[2..4], size);
-    bytes[4] = TOKEN;
-}
-
 /// Puts five zeros in place of the header.
 pub(crate) fn begin(out: &mut ArrayVec<u8, LARGEST_FRAME>)
     ensures { out.new.items ≡ 0 ∷ 0 ∷ 0 ∷ 0 ∷ 0 ∷ [] }
@@ -33,13 +20,18 @@ pub(crate) fn begin(out: &mut ArrayVec<u8, LARGEST_FRAME>)
     let _ = out.try_extend_from_slice(&[0; HEADER_SIZE]);
 }
 
-/// Ends a frame that has its body: writes the header and appends the checksum.
+/// Ends a frame that has its body: writes the header into the first five bytes, and appends the checksum.
 pub(crate) fn end(seq: u8, out: &mut ArrayVec<u8, LARGEST_FRAME>)
     requires header { HEADER_SIZE ≤ length out.old.items }
     requires room { length out.old.items < LARGEST_FRAME }
     ensures { out.new.items ≡ frame seq (drop HEADER_SIZE out.old.items) }
 {
-    write_header(seq, out.as_mut_slice());
+    let bytes = out.as_mut_slice();
+    let size = (bytes.len() - HEADER_SIZE) as u16;
+    bytes[0] = MESSAGE_START;
+    bytes[1] = seq;
+    BigEndian::write_u16(&mut bytes[2..4], size);
+    bytes[4] = TOKEN;
     let xor = xor_of(out.as_slice());
     out.push(xor);
 }

@@ -20,26 +20,6 @@ pub enum Fuse {
     Extended,
 }
 
-fn write_address(fuse: Fuse) -> u8
-    ensures { result ≡ write_address fuse }
-{
-    match fuse {
-        Fuse::Low => 0xA0,
-        Fuse::High => 0xA8,
-        Fuse::Extended => 0xA4,
-    }
-}
-
-fn read_instruction(fuse: Fuse) -> [u8; 4]
-    ensures { result ≡ read_instruction fuse }
-{
-    match fuse {
-        Fuse::Low => [0x50, 0x00, 0x00, 0x00],
-        Fuse::High => [0x58, 0x08, 0x00, 0x00],
-        Fuse::Extended => [0x50, 0x08, 0x00, 0x00],
-    }
-}
-
 /// Returns a block in page mode that is written at its end and polls RDY/BSY.
 fn programming<'a>(cmd1: u8, cmd2: u8, cmd3: u8, bytes: &'a [u8]) -> ProgramBlock<'a>
     requires { length bytes.now ≤ LARGEST_BLOCK }
@@ -192,8 +172,13 @@ impl<'a> Command<'a> {
         ensures value { result ≡ program_fuse fuse value }
         ensures bytes { body result ≡ CMD_PROGRAM_FUSE_ISP ∷ 0xAC ∷ write_address fuse ∷ 0x00 ∷ value ∷ [] }
     {
+        let place = match fuse {
+            Fuse::Low => 0xA0,
+            Fuse::High => 0xA8,
+            Fuse::Extended => 0xA4,
+        };
         Command::ProgramFuse {
-            instruction: [0xAC, write_address(fuse), 0x00, value],
+            instruction: [0xAC, place, 0x00, value],
         }
     }
 
@@ -208,9 +193,14 @@ impl<'a> Command<'a> {
         ensures value { result ≡ read_fuse fuse }
         ensures bytes { body result ≡ CMD_READ_FUSE_ISP ∷ 0x04 ∷ read_instruction fuse }
     {
+        let instruction = match fuse {
+            Fuse::Low => [0x50, 0x00, 0x00, 0x00],
+            Fuse::High => [0x58, 0x08, 0x00, 0x00],
+            Fuse::Extended => [0x50, 0x08, 0x00, 0x00],
+        };
         Command::ReadFuse(ReadByte {
             return_address: 4,
-            instruction: read_instruction(fuse),
+            instruction,
         })
     }
 

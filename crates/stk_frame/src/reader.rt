@@ -1,7 +1,7 @@
 //! A reader of frames from bytes in pieces.
-ghost use Rattle.std.specs.Prelude.{List, ℕ, ◌≡◌, [], ◌++◌, ◌<◌, ◌≤◌, length, take, true, false, MatchOption};
+ghost use Rattle.std.specs.Prelude.{◌≡◌, [], ◌<◌, ◌≤◌, length, take, Some, None, if◌then◌else◌};
 ghost use Rattle.stk_frame.specs.Cut.{piece_size, is_header, body_size, seq_of, body_of};
-ghost use Rattle.stk_frame.specs.Reader.{Fed, HoldsFrame, IsHeld, FeedsLike, frames_of_event, TellsEvent};
+ghost use Rattle.stk_frame.specs.Reader.{Fed, HoldsFrame, frames_of_event, TellsEvent};
 
 use crate::frame::xor_of;
 use crate::protocol::{HEADER_SIZE, LARGEST_BODY, LARGEST_FRAME, MESSAGE_START, TOKEN};
@@ -60,8 +60,7 @@ impl Model for FrameReader {
 
 /// Returns the body's size by its header, if a frame can have it.
 fn size_in(high: u8, low: u8, token: u8) -> Option<usize>
-    ensures { MatchOption result (is_header high low token ≡ false)
-        (λ size. (is_header high low token ≡ true) × (size ≡ body_size high low) × (size ≤ LARGEST_BODY)) }
+    ensures { result ≡ (if is_header high low token then Some (body_size high low) else None) }
 {
     let size = BigEndian::read_u16(&[high, low]) as usize;
     if 1 <= size && size <= LARGEST_BODY && token == TOKEN {
@@ -83,61 +82,6 @@ fn size_of_piece(bytes: &[u8]) -> usize
         },
         [MESSAGE_START, ..] => HEADER_SIZE,
         _ => 1,
-    }
-}
-
-fn drop_whole(held: &mut ArrayVec<u8, LARGEST_FRAME>)
-    requires { IsHeld held.old.items }
-    ensures part { length held.new.items < piece_size held.new.items }
-    ensures same { FeedsLike held.new.items held.old.items }
-{
-    if size_of_piece(held.as_slice()) == held.len() {
-        held.clear();
-    }
-}
-
-fn noise_in_front(bytes: &[u8]) -> usize
-    ensures within { result ≤ length bytes.now }
-    ensures fed { Fed [] (take result bytes.now) [] [] }
-{
-    memchr(MESSAGE_START, bytes).unwrap_or(bytes.len())
-}
-
-/// Takes bytes that the piece still lacks, up to the start byte, the header's end or the frame's end. Returns how
-/// many.
-fn take_missing(held: &mut ArrayVec<u8, LARGEST_FRAME>, bytes: &[u8]) -> usize
-    requires part { length held.old.items < piece_size held.old.items }
-    requires some { 0 < length bytes.now }
-    ensures within { result ≤ length bytes.now }
-    ensures progress { 0 < result }
-    ensures items { held.new.items ≡ held.old.items ++ take result bytes.now }
-    ensures at_most { length held.new.items ≤ piece_size held.old.items }
-{
-    let missing = size_of_piece(held.as_slice()) - held.len();
-    let taken = missing.min(bytes.len());
-    let _ = held.try_extend_from_slice(&bytes[..taken]);
-    taken
-}
-
-/// Returns what has ended with the last byte, and drops a piece that is no frame.
-fn end_piece(held: &mut ArrayVec<u8, LARGEST_FRAME>) -> Event
-    requires { IsHeld held.old.items }
-    ensures held { IsHeld held.new.items }
-    ensures fed { (part bytes : List ℕ) → length part < piece_size part → held.old.items ≡ part ++ bytes
-        → Fed part bytes held.new.items (frames_of_event result held.new.items) }
-    ensures tells { TellsEvent result held.new.items }
-{
-    if held.len() < size_of_piece(held.as_slice()) {
-        return Event::More;
-    }
-    if held.len() <= HEADER_SIZE {
-        held.clear();
-        return Event::More;
-    }
-    if xor_of(held.as_slice()) == 0 {
-        Event::Frame
-    } else {
-        Event::Spoiled
     }
 }
 
@@ -212,15 +156,31 @@ impl FrameReader {
         ensures fed { Fed self.old (take result.0 bytes.now) self.new (frames_of_event result.1 self.new) }
         ensures tells { TellsEvent result.1 self.new }
     {
-        drop_whole(&mut self.held);
+        // A frame that had ended was kept until now.
+        if size_of_piece(self.held.as_slice()) == self.held.len() {
+            self.held.clear();
+        }
         if self.held.is_empty() {
-            let noise = noise_in_front(bytes);
+            let noise = memchr(MESSAGE_START, bytes).unwrap_or(bytes.len());
             if noise > 0 {
                 return (noise, Event::More);
             }
         }
-        let taken = take_missing(&mut self.held, bytes);
-        (taken, end_piece(&mut self.held))
+        let missing = size_of_piece(self.held.as_slice()) - self.held.len();
+        let taken = missing.min(bytes.len());
+        let _ = self.held.try_extend_from_slice(&bytes[..taken]);
+        if self.held.len() < size_of_piece(self.held.as_slice()) {
+            return (taken, Event::More);
+        }
+        // Noise or a bad header is dropped.
+        if self.held.len() <= HEADER_SIZE {
+            self.held.clear();
+            return (taken, Event::More);
+        }
+        if xor_of(self.held.as_slice()) != 0 {
+            return (taken, Event::Spoiled);
+        }
+        (taken, Event::Frame)
     }
 
     /// Takes bytes up to the end of the first frame that ends in the piece, or all of them. Returns how many bytes it

@@ -9,6 +9,8 @@ use Rattle.stk_frame.specs.Commands.{body, shape, SizedBy}
 use Rattle.stk_frame.specs.Cut.{body_of}
 use Rattle.stk_frame.specs.Reader.{HoldsFrame}
 use Rattle.stk_frame.specs.Names.{command_names, name_in, status_names}
+use Rattle.ghosts.specs.Stays.{Stays}
+use Rattle.stk_host.specs.declared.link.Link.{Ghosts}
 use Rattle.stk_host.specs.declared.link.Heard.{Heard}
 use Rattle.stk_host.specs.declared.link.Heard.TheVariants as heard
 use Rattle.stk_host.specs.declared.link.Item.TheVariants as item
@@ -44,12 +46,14 @@ HearsPiece heard.Silence unread old new =
 HearsPiece heard.End unread old new = (unread ≡ []) × Grows old.transcript (Got (item.End ∷ []) ∷ []) new.transcript
 
 -- Receives the next piece, of at most `most` bytes, which alone is unread then.
-pub record HearsNext (most : ℕ) (old new : LinkState) (unread : List ℕ) (result : Result Heard LinkFault) : Type 0 where
+pub record HearsNext {L : Type 0} (link : Ghosts L) (most : ℕ) (old new : L) (unread : List ℕ)
+    (result : Result Heard LinkFault) : Type 0 where
   pub within : length unread ≤ most
   pub fits : length unread ≤ LARGEST_FRAME
-  pub ok : IfOk result (λ heard. HearsPiece heard unread old new)
-  pub err : OnErr result (Grows old.transcript [] new.transcript)
-  pub counts : LinkCounts old new result
+  pub ok : IfOk result (λ heard. HearsPiece heard unread (link.view old) (link.view new))
+  pub err : OnErr result (Grows (link.view old).transcript [] (link.view new).transcript)
+  pub counts : LinkCounts (link.view old) (link.view new) result
+  pub comes : Stays link.comes_of old new
 
 -- How listening ended; the reader holds the reply.
 abbrev pub reading_of : Reading → List ℕ → tape.Reading
@@ -63,13 +67,14 @@ HoldsAnswer read.Answered held = HoldsFrame held
 HoldsAnswer _ held = Unit {0}
 
 -- How listening for the reply to a frame ends, with what the reader holds and what is unread then.
-pub record HearsAnswer (seq : ℕ) (before : List ℕ) (old new : LinkState) (result : Result Reading LinkFault)
-    (held after : List ℕ) : Type 0 where
-  pub ok : IfOk result (λ reading. Hears seq before old new (reading_of reading held) after)
+pub record HearsAnswer {L : Type 0} (link : Ghosts L) (seq : ℕ) (old new : L) (before after held : List ℕ)
+    (result : Result Reading LinkFault) : Type 0 where
+  pub ok : IfOk result (λ reading. Hears seq before (link.view old) (link.view new) (reading_of reading held) after)
   pub holds : IfOk result (λ reading. HoldsAnswer reading held)
-  pub err : OnErr result (HearsNone seq before old new)
-  pub counts : LinkCounts old new result
+  pub err : OnErr result (HearsNone seq before (link.view old) (link.view new))
+  pub counts : LinkCounts (link.view old) (link.view new) result
   pub fits : length after ≤ LARGEST_FRAME
+  pub comes : Stays link.comes_of old new
 
 -- What follows from the reply, with its data.
 abbrev pub reply_of : Reply → List ℕ → steps.Reply
@@ -89,27 +94,23 @@ abbrev pub EndsSteps : {A : Type 0} → Dialog ⊥ steps.StepOutcome → (A → 
 EndsSteps dialog bytes before old new (Ok a) after = PlaysOver dialog before old new (Ok (bytes a)) after
 EndsSteps dialog bytes before old new (Err fault) after = StopsSteps dialog before old new fault after
 
--- The run of any list of steps after some data.
-abbrev pub Playing : Type 0
-Playing = List (List Command) → Dialog ⊥ steps.StepOutcome
-
--- The run of these steps and then the others.
-abbrev pub with_steps : List (List Command) → List ℕ → Playing
-with_steps these before steps = play (these ++ steps) before
-
-abbrev pub with_step : List Command → List ℕ → Playing
-with_step commands before = with_steps (commands ∷ []) before
-
-abbrev pub without_step : List ℕ → Playing
-without_step before steps = play steps before
-
--- A step that others follow: they remain, after all data so far, or all stop with it.
-abbrev pub EndsInnerStep : Playing → Playing → Progress → LinkState → LinkState → Result (Unit {0}) HostFault
+-- A run of these steps that ended: they brought these data, or they stopped.
+abbrev pub Gets : List (List Command) → List ℕ → Progress → LinkState → LinkState → Result (Unit {0}) HostFault
     → Progress → Type 0
-EndsInnerStep whole rest before old new (Ok done) after =
-    (steps : List (List Command)) → Reaches (whole steps) before old (rest steps) after new
-EndsInnerStep whole rest before old new (Err fault) after =
-    (steps : List (List Command)) → StopsSteps (whole steps) before old new fault after
+Gets these brought = EndsSteps (play these []) (λ done. brought)
+
+-- Steps that others follow: these remain, with all data so far, or all stop.
+abbrev pub GoesOnWith : List (List Command) → List ℕ → List ℕ → Progress → LinkState → LinkState
+    → Result (Unit {0}) HostFault → Progress → Type 0
+GoesOnWith these given brought before old new (Ok done) after =
+    (steps : List (List Command)) → Reaches (play (these ++ steps) given) before old (play steps brought) after new
+GoesOnWith these given brought before old new (Err fault) after =
+    (steps : List (List Command)) → StopsSteps (play (these ++ steps) given) before old new fault after
+
+-- Steps that others follow, and that bring no data.
+abbrev pub GoesOn : List (List Command) → Progress → LinkState → LinkState → Result (Unit {0}) HostFault → Progress
+    → Type 0
+GoesOn these = GoesOnWith these [] []
 
 -- The data bytes that a reply of this shape brings, if the shape fixes them.
 abbrev pub data_count : Shape → ℕ
@@ -122,30 +123,26 @@ IsSizedShape Name = ⊥
 IsSizedShape (Bytes n) = Unit {0}
 IsSizedShape (Closed n) = Unit {0}
 
--- A call of a conversation that asks. It ends like this, and leaves at most one piece unread.
-pub record AsksLink {A : Type 0} (Ends : Progress → LinkState → LinkState → Result A HostFault → Progress → Type 0)
-    (before : Progress) (old new : LinkState) (result : Result A HostFault) (after : Progress) : Type 0 where
-  pub played : Ends before old new result after
-  pub counted : old.failures ≤ new.failures
-  pub bound : HasFewUnread after
-
--- A call that may have nothing to ask.
-pub record MayAsk {A : Type 0} (Ends : Progress → LinkState → LinkState → Result A HostFault → Progress → Type 0)
-    (before : Progress) (old new : LinkState) (result : Result A HostFault) (after : Progress) : Type 0 where
-  pub played : Ends before old new result after
-  pub counted : old.failures ≤ new.failures
-  pub bound : HasFewUnread before → HasFewUnread after
+-- A call of a conversation over a link. It ends like this, and at most one piece is unread if that was so before.
+pub record Asks {A L : Type 0} (link : Ghosts L)
+    (Ends : Progress → LinkState → LinkState → Result A HostFault → Progress → Type 0)
+    (before after : ConversationState) (old new : L) (result : Result A HostFault) : Type 0 where
+  pub played : Ends before.progress (link.view old) (link.view new) result after.progress
+  pub counted : (link.view old).failures ≤ (link.view new).failures
+  pub bound : HasFewUnread before.progress → HasFewUnread after.progress
+  pub comes : Stays link.comes_of old new
 
 -- How some commands are answered: their run returned this reply, or it broke off because the link failed. Data have
 -- the size that the last command asks for.
-pub record GetsReply (dialog : Dialog ⊥ steps.Reply) (last : Command) (before : Progress) (old new : LinkState)
-    (result : Result Reply HostFault) (after : ConversationState) : Type 0 where
-  pub ok : IfOk result (λ reply. PlaysOver dialog before old new (reply_of reply (data_held last after.held))
-      after.progress)
-  pub err : IfErr result (λ fault. FailsOver fault dialog before old new)
+pub record GetsReply {L : Type 0} (link : Ghosts L) (dialog : Dialog ⊥ steps.Reply) (last : Command)
+    (before after : ConversationState) (old new : L) (result : Result Reply HostFault) : Type 0 where
+  pub ok : IfOk result (λ reply. PlaysOver dialog before.progress (link.view old) (link.view new)
+      (reply_of reply (data_held last after.held)) after.progress)
+  pub err : IfErr result (λ fault. FailsOver fault dialog before.progress (link.view old) (link.view new))
   pub sized : IsOkAnd result (λ reply. reply ≡ said.Data) → SizedBy (shape last) (data_held last after.held)
-  pub counted : old.failures ≤ new.failures
+  pub counted : (link.view old).failures ≤ (link.view new).failures
   pub bound : HasFewUnread after.progress
+  pub comes : Stays link.comes_of old new
 
 -- How a call of a host ends. Its dialog broke off if and only if the link has failed, at sending or at listening.
 -- Only a call that allocates (`takes`) can fail at that; then nothing was sent or received. Otherwise the dialog was

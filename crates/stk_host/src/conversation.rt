@@ -1,15 +1,12 @@
 //! Commands and their replies, attempts, and steps.
-ghost use Rattle.std.specs.Prelude.{◌≡◌, ◌<◌, ◌≤◌, ◌++◌, ◌∷◌, [], length, IsOkAnd, OnOk, IfSome, ◌+◌, vec_capacity};
-ghost use Rattle.stk_frame.specs.Frame.{frame};
-ghost use Rattle.stk_frame.specs.Commands.{body, judge, shape, SizedBy};
-ghost use Rattle.ghosts.specs.Stays.{Stays};
-ghost use Rattle.stk_host.specs.Reach.{SendsAll};
-ghost use Rattle.stk_host.specs.Steps.{exchange, attempt, step, commands_by, answer_reply, reading_reply};
-ghost use Rattle.stk_host.specs.State.{data_in, data_held};
-ghost use Rattle.stk_host.specs.Calls.{reading_of, reply_of, EndsSteps, AsksLink, GetsReply, FitsFrame, BringsNoData, with_step, without_step, EndsInnerStep, IsSizedStep, step_brings};
+ghost use Rattle.std.specs.Prelude.{◌≡◌, ◌<◌, ◌≤◌, ◌∷◌, [], length, OnOk, IfSome, ◌+◌, vec_capacity};
+ghost use Rattle.stk_frame.specs.Commands.{shape, SizedBy};
+ghost use Rattle.stk_host.specs.Steps.{exchange, attempt, step, commands_by, reading_reply};
+ghost use Rattle.stk_host.specs.State.{data_held};
+ghost use Rattle.stk_host.specs.Calls.{reading_of, reply_of, EndsSteps, Asks, GetsReply, FitsFrame, BringsNoData, GoesOn, GoesOnWith, IsSizedStep, step_brings};
 
 use crate::fault::{HostFault, StepFault};
-use crate::link::{Link, LinkFault, send_all};
+use crate::link::{Link, send_all};
 use crate::listen::{Reading, Unread, listen};
 use arrayvec::ArrayVec;
 use std::marker::Model;
@@ -52,37 +49,6 @@ impl Model for Conversation {
     ghost invariant = { λ conversation. length conversation.unread ≤ LARGEST_FRAME };
 }
 
-fn send_command<L: Link>(link: &mut L, seq: u8, command: &Command<'_>) -> Result<(), LinkFault>
-    requires { FitsFrame command.now }
-    ensures sends { SendsAll (frame seq (body command.now)) (L.view link.old) (L.view link.new) result }
-    ensures comes { Stays L.comes_of link.old link.new }
-{
-    let mut frame = ArrayVec::new();
-    command.put_frame(seq, &mut frame);
-    send_all(link, frame.as_slice())
-}
-
-fn judge_body(command: &Command<'_>, body: &[u8]) -> Reply
-    ensures reply { reply_of result (data_in (judge command.now body.now))
-        ≡ answer_reply command.now (judge command.now body.now) }
-    ensures sized { result ≡ Reply.Data → SizedBy (shape command.now) (data_in (judge command.now body.now)) }
-{
-    match Answer::read(command, body) {
-        Ok(_) => Reply::Data,
-        Err(FrameFault::CheckSum) => Reply::Again(StepFault::Refused {
-            command: command.code(),
-            status: STATUS_CKSUM_ERROR,
-        }),
-        Err(FrameFault::Status(status)) => Reply::Stop(StepFault::Refused {
-            command: command.code(),
-            status,
-        }),
-        Err(FrameFault::WrongCommand | FrameFault::WrongLength) => {
-            Reply::Stop(StepFault::BadAnswer(command.code()))
-        }
-    }
-}
-
 /// Returns what follows from the way listening ended.
 fn reply_to(reader: &FrameReader, reading: Reading, command: &Command<'_>) -> Reply
     ensures reply { reply_of result (data_held command.now reader.now)
@@ -90,7 +56,20 @@ fn reply_to(reader: &FrameReader, reading: Reading, command: &Command<'_>) -> Re
     ensures sized { result ≡ Reply.Data → SizedBy (shape command.now) (data_held command.now reader.now) }
 {
     match reading {
-        Reading::Answered => judge_body(command, reader.body()),
+        Reading::Answered => match Answer::read(command, reader.body()) {
+            Ok(_) => Reply::Data,
+            Err(FrameFault::CheckSum) => Reply::Again(StepFault::Refused {
+                command: command.code(),
+                status: STATUS_CKSUM_ERROR,
+            }),
+            Err(FrameFault::Status(status)) => Reply::Stop(StepFault::Refused {
+                command: command.code(),
+                status,
+            }),
+            Err(FrameFault::WrongCommand | FrameFault::WrongLength) => {
+                Reply::Stop(StepFault::BadAnswer(command.code()))
+            }
+        },
         Reading::Silent => Reply::Again(StepFault::NoAnswer),
         Reading::Ended => Reply::Stop(StepFault::LinkEnded),
         Reading::Babbled => Reply::Again(StepFault::Babble),
@@ -99,8 +78,7 @@ fn reply_to(reader: &FrameReader, reading: Reading, command: &Command<'_>) -> Re
 
 impl Conversation {
     pub(crate) fn new() -> Self
-        ensures next { result.progress.next ≡ 1 }
-        ensures unread { result.progress.unread ≡ [] }
+        ensures { result.progress ≡ record { next = 1; unread = [] } }
     {
         Conversation {
             reader: FrameReader::new(),
@@ -121,14 +99,12 @@ impl Conversation {
 
     fn exchange<L: Link>(&mut self, link: &mut L, command: &Command<'_>) -> Result<Reply, HostFault>
         requires { FitsFrame command.now }
-        ensures replies { GetsReply (exchange command.now) command.now self.old.progress
-            (L.view link.old) (L.view link.new) result self.new }
-        ensures quiet { BringsNoData command.now → IsOkAnd result (λ reply. reply ≡ Reply.Data)
-            → data_held command.now self.new.held ≡ [] }
-        ensures comes { Stays L.comes_of link.old link.new }
+        ensures { GetsReply L.Link (exchange command.now) command.now self.old self.new link.old link.new result }
     {
         let seq = self.next;
-        let Ok(()) = send_command(link, seq, command) else {
+        let mut frame = ArrayVec::new();
+        command.put_frame(seq, &mut frame);
+        let Ok(()) = send_all(link, frame.as_slice()) else {
             return Err(HostFault::SendFailed);
         };
         let Ok(reading) = listen(&mut self.reader, &mut self.unread, link, seq) else {
@@ -147,9 +123,8 @@ impl Conversation {
     ) -> Result<Reply, HostFault>
         requires quiet { IfSome first.now BringsNoData }
         requires fits { FitsFrame last.now }
-        ensures replies { GetsReply (attempt (commands_by first.now last.now) []) last.now self.old.progress
-            (L.view link.old) (L.view link.new) result self.new }
-        ensures comes { Stays L.comes_of link.old link.new }
+        ensures { GetsReply L.Link (attempt (commands_by first.now last.now) []) last.now
+            self.old self.new link.old link.new result }
     {
         match first {
             None => self.exchange(link, last),
@@ -170,11 +145,10 @@ impl Conversation {
     ) -> Result<(), HostFault>
         requires quiet { IfSome first.now BringsNoData }
         requires fits { FitsFrame last.now }
-        ensures asks { AsksLink
+        ensures asks { Asks L.Link
             (EndsSteps (step (commands_by first.now last.now)) (λ done. data_held last.now self.new.held))
-            self.old.progress (L.view link.old) (L.view link.new) result self.new.progress }
+            self.old self.new link.old link.new result }
         ensures sized { OnOk result (SizedBy (shape last.now) (data_held last.now self.new.held)) }
-        ensures comes { Stays L.comes_of link.old link.new }
     {
         // Every attempt that doesn't return replaces it.
         let mut fault = StepFault::NoAnswer;
@@ -189,33 +163,23 @@ impl Conversation {
     }
 }
 
-fn append(out: &mut Vec<u8>, bytes: &[u8])
-    requires { length out.old.items + length bytes.now ≤ vec_capacity out.old }
-    ensures items { out.new.items ≡ out.old.items ++ bytes.now }
-    ensures room { vec_capacity out.old ≤ vec_capacity out.new }
-{
-    let _there_is_room = out.extend_from_slice(bytes);
-}
-
 /// Runs a step that brings no data.
 pub(crate) fn play_step<L: Link>(
-    conversation: &mut Conversation,
+    talk: &mut Conversation,
     link: &mut L,
     first: &Option<Command<'_>>,
     last: &Command<'_>,
 ) -> Result<(), HostFault>
     requires sized { IsSizedStep first.now last.now }
     requires none { step_brings last.now ≡ 0 }
-    ensures asks { AsksLink (EndsInnerStep (with_step (commands_by first.now last.now) []) (without_step []))
-        conversation.old.progress (L.view link.old) (L.view link.new) result conversation.new.progress }
-    ensures comes { Stays L.comes_of link.old link.new }
+    ensures { Asks L.Link (GoesOn (commands_by first.now last.now ∷ [])) talk.old talk.new link.old link.new result }
 {
-    conversation.step(link, first, last)
+    talk.step(link, first, last)
 }
 
 /// Runs a step and appends its data to a vector that has room for them.
 pub(crate) fn read_step<L: Link>(
-    conversation: &mut Conversation,
+    talk: &mut Conversation,
     link: &mut L,
     first: &Option<Command<'_>>,
     last: &Command<'_>,
@@ -223,14 +187,12 @@ pub(crate) fn read_step<L: Link>(
 ) -> Result<(), HostFault>
     requires sized { IsSizedStep first.now last.now }
     requires room { length out.old.items + step_brings last.now ≤ vec_capacity out.old }
-    ensures asks { AsksLink
-        (EndsInnerStep (with_step (commands_by first.now last.now) out.old.items) (without_step out.new.items))
-        conversation.old.progress (L.view link.old) (L.view link.new) result conversation.new.progress }
-    ensures comes { Stays L.comes_of link.old link.new }
+    ensures asks { Asks L.Link (GoesOnWith (commands_by first.now last.now ∷ []) out.old.items out.new.items)
+        talk.old talk.new link.old link.new result }
     ensures size { OnOk result (length out.new.items ≡ length out.old.items + step_brings last.now) }
     ensures room { vec_capacity out.old ≤ vec_capacity out.new }
 {
-    conversation.step(link, first, last)?;
-    append(out, conversation.data_read(last));
+    talk.step(link, first, last)?;
+    let _there_is_room = out.extend_from_slice(talk.data_read(last));
     Ok(())
 }

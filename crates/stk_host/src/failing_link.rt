@@ -1,5 +1,5 @@
 //! A link that fails once, at a chosen call: for tests of code that uses links.
-ghost use Rattle.std.specs.Prelude.{◌≡◌, ◌==◌, ◌<◌, ◌≤◌, ◌+◌, ◌-◌, ◌^◌, ◌∷◌, [], ℕ, length, take, min, Err, IfOk, OnOk};
+ghost use Rattle.std.specs.Prelude.{◌≡◌, ◌==◌, ◌<◌, ◌≤◌, ◌+◌, ◌-◌, length, min, Err, IfOk};
 ghost use Rattle.stk_host.specs.Links.{failing_link_state, CountsCall, FailsAsPlanned};
 ghost use Rattle.ghosts.specs.Stays.{Stays};
 ghost use Rattle.stk_host.specs.Transcript.{Sends, Receives, FitsBuffer};
@@ -76,8 +76,7 @@ impl<L> FailingLink<L> {
 
     /// Counts a call, and returns whether it is the one that fails.
     fn is_due(&mut self) -> bool
-        ensures counts { CountsCall self.old self.new result }
-        ensures some { 0 < self.new.cut }
+        ensures { CountsCall self.old self.new result }
     {
         let is_due = self.due == 1;
         self.due = self.due.saturating_sub(1);

@@ -10,17 +10,18 @@ ghost use Rattle.stk_host.specs.State.{lasting_fault};
 ghost use Rattle.stk_host.specs.Calls.{Calls, opening_result, given_or_fault, vector_after, verifying_result};
 
 use crate::comparing::compare;
-use crate::conversation::Conversation;
+use crate::conversation::{Conversation, play_step};
 use crate::fault::HostFault;
 use crate::link::Link;
 use crate::opening::{begin, end};
 use crate::reading::read_memory;
-use crate::writing::{erase_chip, write_memory};
+use crate::writing::write_memory;
 use avr_image::Image;
 use avr_part::{Mem, Part};
 use std::alloc::Global;
 use std::fmt;
 use std::marker::Model;
+use stk_frame::Command;
 
 /// The host's side of the STK500v2 protocol: asks a programmer, over any link, to work on a part.
 ///
@@ -199,7 +200,7 @@ impl Host {
         ensures comes { Stays L.comes_of link.old link.new }
     {
         self.check()?;
-        let outcome = erase_chip(&mut self.conversation, link);
+        let outcome = play_step(&mut self.conversation, link, &None, &Command::erase());
         self.broken = lasting(&outcome);
         outcome
     }

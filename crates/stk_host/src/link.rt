@@ -1,5 +1,5 @@
 //! The link between the host and a programmer.
-ghost use Rattle.std.specs.Prelude.{◌≡◌, ◌<◌, length, ◌≤◌, ℕ, OnOk, OnErr};
+ghost use Rattle.std.specs.Prelude.{◌≡◌, ◌<◌, length};
 ghost use Rattle.ghosts.specs.Stays.{Stays};
 ghost use Rattle.stk_host.specs.Transcript.{LinkState, Sends, Receives};
 ghost use Rattle.stk_host.specs.Reach.{SendsAll};

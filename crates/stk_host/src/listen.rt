@@ -1,9 +1,8 @@
 //! Waits for a reply, and keeps the bytes received and not yet read.
-ghost use Rattle.std.specs.Prelude.{◌≡◌, ◌<◌, ◌≤◌, ◌↔◌, IsTrue, ℕ, length, take, drop, [], ◌∷◌, ◌++◌, OnOk, List, true, false, None};
-ghost use Rattle.ghosts.specs.Stays.{Stays};
+ghost use Rattle.std.specs.Prelude.{◌≡◌, ◌<◌, ◌≤◌, ◌↔◌, IsTrue, length, take, drop, [], true, false, None};
 ghost use Rattle.stk_host.specs.Calls.{HearsNext, HearsAnswer};
 ghost use Rattle.stk_frame.specs.declared.protocol.TheConstants.{LARGEST_FRAME};
-ghost use Rattle.stk_frame.specs.Reader.{Fed, frames_of_event, TellsEvent, HoldsFrame};
+ghost use Rattle.stk_frame.specs.Reader.{frames_of_event, TellsEvent, HoldsFrame};
 ghost use Rattle.stk_host.specs.Tape.{is_answer, first_answer};
 
 use crate::link::{Heard, Link, LinkFault};
@@ -47,12 +46,6 @@ impl Unread {
         self.start == self.end
     }
 
-    pub(crate) fn len(&self) -> usize
-        ensures { result ≡ length self.now }
-    {
-        self.end - self.start
-    }
-
     /// Returns the first `most` bytes, or all if there are fewer.
     pub(crate) fn prefix(&self, most: usize) -> &[u8]
         ensures { result.now ≡ take most self.now }
@@ -72,10 +65,8 @@ impl Unread {
 
     /// Receives the next piece, of at most `most` bytes.
     pub(crate) fn hear<L: Link>(&mut self, link: &mut L, most: usize) -> Result<Heard, LinkFault>
-        requires empty { length self.old ≡ 0 }
-        requires room { 0 < most }
-        ensures hears { HearsNext most (L.view link.old) (L.view link.new) self.new result }
-        ensures comes { Stays L.comes_of link.old link.new }
+        requires { 0 < most }
+        ensures { HearsNext L.Link most link.old link.new self.new result }
     {
         self.start = 0;
         self.end = 0;
@@ -100,22 +91,6 @@ pub(crate) enum Reading {
     Babbled,
 }
 
-/// Reads at most `most` unread bytes, up to the end of a frame, and returns how many.
-fn read_on(reader: &mut FrameReader, unread: &mut Unread, most: usize) -> (usize, Event)
-    requires some { 0 < length unread.old }
-    requires room { 0 < most }
-    ensures within { result.0 ≤ most }
-    ensures progress { 0 < result.0 }
-    ensures fed { (used : List ℕ) × (length used ≡ result.0) × (unread.old ≡ used ++ unread.new)
-        × Fed reader.old used reader.new (frames_of_event result.1 reader.new) }
-    ensures tells { TellsEvent result.1 reader.new }
-    ensures fits { length unread.new ≤ LARGEST_FRAME }
-{
-    let (used, event) = reader.feed(unread.prefix(most));
-    unread.consume(used);
-    (used, event)
-}
-
 /// Returns whether the reader holds the reply to the frame numbered `seq`.
 fn is_answer(reader: &FrameReader, event: Event, seq: u8) -> bool
     requires { TellsEvent event reader.now }
@@ -136,9 +111,8 @@ pub(crate) fn listen<L: Link>(
     link: &mut L,
     seq: u8,
 ) -> Result<Reading, LinkFault>
-    requires few { length unread.old ≤ LARGEST_FRAME }
-    ensures hears { HearsAnswer seq unread.old (L.view link.old) (L.view link.new) result reader.new unread.new }
-    ensures comes { Stays L.comes_of link.old link.new }
+    requires { length unread.old ≤ LARGEST_FRAME }
+    ensures { HearsAnswer L.Link seq link.old link.new unread.old unread.new reader.new result }
 {
     reader.reset();
     let mut count = 0;
@@ -150,7 +124,8 @@ pub(crate) fn listen<L: Link>(
                 Heard::End => return Ok(Reading::Ended),
             }
         }
-        let (used, event) = read_on(reader, unread, MOST_BYTES_PER_ANSWER - count);
+        let (used, event) = reader.feed(unread.prefix(MOST_BYTES_PER_ANSWER - count));
+        unread.consume(used);
         count += used;
         if is_answer(reader, event, seq) {
             return Ok(Reading::Answered);

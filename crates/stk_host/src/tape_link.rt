@@ -1,5 +1,5 @@
 //! A link over a tape.
-ghost use Rattle.std.specs.Prelude.{◌≡◌, ◌<◌, ◌≤◌, ◌++◌, ◌∷◌, [], ℕ, List, length, take, drop, min, slice_get, Some, IfOk, OnOk, OnErr};
+ghost use Rattle.std.specs.Prelude.{◌≡◌, ◌<◌, ◌≤◌, [], ℕ, List, length, take, drop, min, slice_get, Some, IfOk, OnOk, OnErr};
 ghost use Rattle.stk_host.specs.Tape.{bytes_in};
 ghost use Rattle.stk_host.specs.Transcript.{Sends, Receives, FitsBuffer, items_of};
 ghost use Rattle.stk_host.specs.Transcript as transcript;
@@ -133,27 +133,6 @@ impl TapeLink {
     {
         self.log.sent()
     }
-
-    fn give(&mut self, buffer: &mut [u8]) -> Result<Heard, LinkFault>
-        requires { 0 < length buffer.old }
-        ensures receives { Receives buffer.new (tape_state self.old) (tape_state self.new) result }
-        ensures piece { IfOk result (λ heard. items_of heard buffer.new
-            ≡ next_piece (min self.old.cut (length buffer.new)) self.old.left) }
-        ensures left { IfOk result (λ heard. self.new.left ≡ drop (length (items_of heard buffer.new)) self.old.left) }
-        ensures kept { OnErr result (self.new.left ≡ self.old.left) }
-        ensures cut { self.new.cut ≡ self.old.cut }
-    {
-        let most = self.cut.min(buffer.len());
-        let heard = give_piece(&self.items[self.at..], &mut buffer[..most]);
-        let Ok(()) = self.log.hear(heard, buffer) else {
-            self.failures = self.failures.saturating_add(1);
-            return Err(LinkFault::Failed);
-        };
-        // The ends after the last item are not on the tape.
-        let next = self.at.saturating_add(item_count(heard));
-        self.at = next.min(self.items.len());
-        Ok(heard)
-    }
 }
 
 impl Link for TapeLink {
@@ -193,7 +172,16 @@ impl Link for TapeLink {
         ensures cut { self.new.cut ≡ self.old.cut }
         ensures comes { Stays IsOfTape self.old self.new }
     {
-        self.give(buffer)
+        let most = self.cut.min(buffer.len());
+        let heard = give_piece(&self.items[self.at..], &mut buffer[..most]);
+        let Ok(()) = self.log.hear(heard, buffer) else {
+            self.failures = self.failures.saturating_add(1);
+            return Err(LinkFault::Failed);
+        };
+        // The ends after the last item are not on the tape.
+        let next = self.at.saturating_add(item_count(heard));
+        self.at = next.min(self.items.len());
+        Ok(heard)
     }
 }
 

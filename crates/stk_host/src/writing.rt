@@ -1,40 +1,26 @@
-//! The steps that erase the chip, and that write an image to a memory.
-ghost use Rattle.std.specs.Prelude.{◌≡◌, ◌≤◌, ◌∷◌, [], length, ◌<◌, ◌+◌, ◌-◌, ◌^◌};
-ghost use Rattle.stk_frame.specs.HostCommands.{erase};
-ghost use Rattle.stk_host.specs.Steps.{play};
-ghost use Rattle.stk_host.specs.Calls.{EndsSteps, AsksLink, with_step, with_steps, without_step, EndsInnerStep, MayAsk};
-ghost use Rattle.ghosts.specs.Stays.{Stays};
-ghost use Rattle.avr_image.specs.Image.{byte_at, filled_bytes};
-ghost use Rattle.stk_host.specs.WriteSteps.{page_step, page_steps, begins_run, run_steps_at, byte_steps, place_steps, place_count, write_steps};
-ghost use Rattle.stk_frame.specs.HostCommands as host;
+//! The steps that write an image to a memory.
+ghost use Rattle.std.specs.Prelude.{◌≡◌, ◌≤◌, ◌∷◌, [], ◌<◌, ◌-◌, ◌^◌};
+ghost use Rattle.stk_frame.specs.HostCommands.{program_eeprom_block, program_fuse};
+ghost use Rattle.stk_host.specs.Calls.{Asks, GoesOn, Gets};
+ghost use Rattle.avr_image.specs.Image.{filled_bytes};
+ghost use Rattle.stk_host.specs.WriteSteps.{page_step, begins_run, byte_steps, place_steps, place_count, write_steps};
 ghost use Rattle.stk_host.specs.Places.{each_from};
 ghost use Rattle.stk_host.specs.Places as places;
 
 use crate::conversation::{Conversation, play_step};
 use crate::fault::HostFault;
 use crate::link::Link;
-use crate::places::{load_eeprom, load_flash, page_size};
+use crate::places::load_flash;
 use avr_image::Image;
 use avr_part::{Mem, Part};
 use stk_frame::{Command, Fuse};
-
-pub(crate) fn erase_chip<L: Link>(
-    conversation: &mut Conversation,
-    link: &mut L,
-) -> Result<(), HostFault>
-    ensures asks { AsksLink (EndsSteps (play ((erase ∷ []) ∷ []) []) (λ done. [])) conversation.old.progress
-        (L.view link.old) (L.view link.new) result conversation.new.progress }
-    ensures comes { Stays L.comes_of link.old link.new }
-{
-    play_step(conversation, link, &None, &Command::erase())
-}
 
 /// Returns how many places are written in turn: the pages of flash, or the bytes of EEPROM.
 fn place_count(part: &Part, mem: Mem) -> u32
     ensures { result ≡ place_count part.now mem }
 {
     match mem {
-        Mem::Flash => part.size_of(Mem::Flash) / page_size(part, Mem::Flash),
+        Mem::Flash => part.size_of(Mem::Flash) / part.page_of(Mem::Flash),
         _ => part.size_of(Mem::Eeprom),
     }
 }
@@ -42,30 +28,36 @@ fn place_count(part: &Part, mem: Mem) -> u32
 /// The most bytes of a page.
 const LARGEST_PAGE: usize = 256;
 
+fn flash_page(part: &Part) -> usize
+    ensures value { result ≡ part.now.flash_page }
+    ensures most { result ≤ 256 }
+{
+    part.page_of(Mem::Flash) as usize
+}
+
 /// Programs the page of flash that begins at `start`, with FF in the image's gaps.
 fn program_page<L: Link>(
-    conversation: &mut Conversation,
+    talk: &mut Conversation,
     link: &mut L,
     part: &Part,
     image: &Image,
     start: u32,
 ) -> Result<(), HostFault>
     requires { start < 2 ^ 20 }
-    ensures asks { AsksLink (EndsInnerStep (with_step (page_step part.now image.now start) []) (without_step []))
-        conversation.old.progress (L.view link.old) (L.view link.new) result conversation.new.progress }
-    ensures comes { Stays L.comes_of link.old link.new }
+    ensures { Asks L.Link (GoesOn (page_step part.now image.now start ∷ []))
+        talk.old talk.new link.old link.new result }
 {
-    let size = page_size(part, Mem::Flash) as usize;
+    let size = flash_page(part);
     let mut page = [0; LARGEST_PAGE];
     image.fill(start, &mut page[..size]);
     let load = load_flash(part, start);
     let program = Command::program_page(&page[..size]);
-    play_step(conversation, link, &Some(load), &program)
+    play_step(talk, link, &Some(load), &program)
 }
 
 /// Programs the image's bytes from `start` to `end`, which are in one page of EEPROM.
 fn program_run<L: Link>(
-    conversation: &mut Conversation,
+    talk: &mut Conversation,
     link: &mut L,
     image: &Image,
     start: u32,
@@ -73,19 +65,15 @@ fn program_run<L: Link>(
 ) -> Result<(), HostFault>
     requires order { start ≤ end }
     requires fits { end - start ≤ 256 }
-    ensures asks { AsksLink (EndsInnerStep
-        (with_step (places.load_eeprom start ∷ host.program_eeprom_block (filled_bytes image.now start (end - start))
-        ∷ []) [])
-        (without_step []))
-        conversation.old.progress (L.view link.old) (L.view link.new) result conversation.new.progress }
-    ensures comes { Stays L.comes_of link.old link.new }
+    ensures { Asks L.Link (GoesOn ((places.load_eeprom start ∷ program_eeprom_block
+        (filled_bytes image.now start (end - start)) ∷ []) ∷ [])) talk.old talk.new link.old link.new result }
 {
     let size = (end - start) as usize;
     let mut run = [0; LARGEST_PAGE];
     image.fill(start, &mut run[..size]);
-    let load = load_eeprom(start);
+    let load = Command::LoadAddress { address: start };
     let program = Command::program_eeprom(&run[..size]);
-    play_step(conversation, link, &Some(load), &program)
+    play_step(talk, link, &Some(load), &program)
 }
 
 /// Returns whether a run of the image's bytes begins at this address of EEPROM.
@@ -96,50 +84,10 @@ fn begins_run(page: u32, image: &Image, addr: u32) -> bool
     image.get(addr).is_some() && (addr % page == 0 || image.get(addr - 1).is_none())
 }
 
-/// Programs page `number` of flash, if the image has a byte in it.
-fn write_page<L: Link>(
-    conversation: &mut Conversation,
-    link: &mut L,
-    part: &Part,
-    image: &Image,
-    number: u32,
-) -> Result<(), HostFault>
-    requires { number < place_count part.now Mem.Flash }
-    ensures asks { MayAsk (EndsInnerStep (with_steps (page_steps part.now image.now number) []) (without_step []))
-        conversation.old.progress (L.view link.old) (L.view link.new) result conversation.new.progress }
-    ensures comes { Stays L.comes_of link.old link.new }
-{
-    let size = page_size(part, Mem::Flash);
-    let start = number * size;
-    if !image.holds_any(start, size) {
-        return Ok(());
-    }
-    program_page(conversation, link, part, image, start)
-}
-
-/// Programs the run of EEPROM that begins at this address, if one does.
-fn write_run<L: Link>(
-    conversation: &mut Conversation,
-    link: &mut L,
-    part: &Part,
-    image: &Image,
-    addr: u32,
-) -> Result<(), HostFault>
-    requires { addr < place_count part.now Mem.Eeprom }
-    ensures asks { MayAsk (EndsInnerStep (with_steps (run_steps_at part.now image.now addr) []) (without_step []))
-        conversation.old.progress (L.view link.old) (L.view link.new) result conversation.new.progress }
-    ensures comes { Stays L.comes_of link.old link.new }
-{
-    let size = page_size(part, Mem::Eeprom);
-    if !begins_run(size, image, addr) {
-        return Ok(());
-    }
-    let end = image.run_from(addr, addr - addr % size + size);
-    program_run(conversation, link, image, addr, end)
-}
-
+/// Programs page `place` of flash, if the image has a byte in it, or the run of EEPROM that begins at address `place`,
+/// if one does.
 fn write_place<L: Link>(
-    conversation: &mut Conversation,
+    talk: &mut Conversation,
     link: &mut L,
     part: &Part,
     mem: Mem,
@@ -147,89 +95,78 @@ fn write_place<L: Link>(
     place: u32,
 ) -> Result<(), HostFault>
     requires { place < place_count part.now mem }
-    ensures asks { MayAsk (EndsInnerStep (with_steps (place_steps part.now mem image.now place) []) (without_step []))
-        conversation.old.progress (L.view link.old) (L.view link.new) result conversation.new.progress }
-    ensures comes { Stays L.comes_of link.old link.new }
+    ensures { Asks L.Link (GoesOn (place_steps part.now mem image.now place))
+        talk.old talk.new link.old link.new result }
 {
     match mem {
-        Mem::Flash => write_page(conversation, link, part, image, place),
-        _ => write_run(conversation, link, part, image, place),
+        Mem::Flash => {
+            let size = part.page_of(Mem::Flash);
+            if !image.holds_any(place * size, size) {
+                return Ok(());
+            }
+            program_page(talk, link, part, image, place * size)
+        }
+        _ => {
+            let size = part.page_of(Mem::Eeprom);
+            if !begins_run(size, image, place) {
+                return Ok(());
+            }
+            let end = image.run_from(place, place - place % size + size);
+            program_run(talk, link, image, place, end)
+        }
     }
 }
 
 /// Programs each page of flash that has a byte of the image, or each longest run of its bytes in a page of EEPROM.
 fn write_places<L: Link>(
-    conversation: &mut Conversation,
+    talk: &mut Conversation,
     link: &mut L,
     part: &Part,
     mem: Mem,
     image: &Image,
 ) -> Result<(), HostFault>
-    ensures asks { MayAsk (EndsSteps (play (each_from (place_steps part.now mem image.now) 0 (place_count part.now mem))
-        []) (λ done. []))
-        conversation.old.progress (L.view link.old) (L.view link.new) result conversation.new.progress }
-    ensures comes { Stays L.comes_of link.old link.new }
+    ensures { Asks L.Link (Gets (each_from (place_steps part.now mem image.now) 0 (place_count part.now mem)) [])
+        talk.old talk.new link.old link.new result }
 {
     for place in 0..place_count(part, mem) {
-        write_place(conversation, link, part, mem, image, place)?;
+        write_place(talk, link, part, mem, image, place)?;
     }
     Ok(())
 }
 
 fn write_fuse<L: Link>(
-    conversation: &mut Conversation,
+    talk: &mut Conversation,
     link: &mut L,
     fuse: Fuse,
     byte: Option<u8>,
 ) -> Result<(), HostFault>
-    ensures asks { MayAsk (EndsSteps (play (byte_steps (host.program_fuse fuse) byte) []) (λ done. []))
-        conversation.old.progress (L.view link.old) (L.view link.new) result conversation.new.progress }
-    ensures comes { Stays L.comes_of link.old link.new }
+    ensures { Asks L.Link (Gets (byte_steps (program_fuse fuse) byte) []) talk.old talk.new link.old link.new result }
 {
     match byte {
-        Some(value) => play_step(
-            conversation,
-            link,
-            &None,
-            &Command::program_fuse(fuse, value),
-        ),
-        None => Ok(()),
-    }
-}
-
-fn write_lock<L: Link>(
-    conversation: &mut Conversation,
-    link: &mut L,
-    byte: Option<u8>,
-) -> Result<(), HostFault>
-    ensures asks { MayAsk (EndsSteps (play (byte_steps host.program_lock byte) []) (λ done. []))
-        conversation.old.progress (L.view link.old) (L.view link.new) result conversation.new.progress }
-    ensures comes { Stays L.comes_of link.old link.new }
-{
-    match byte {
-        Some(value) => play_step(conversation, link, &None, &Command::program_lock(value)),
+        Some(value) => play_step(talk, link, &None, &Command::program_fuse(fuse, value)),
         None => Ok(()),
     }
 }
 
 /// Writes the image to a memory that can be written, and nothing to any other.
 pub(crate) fn write_memory<L: Link>(
-    conversation: &mut Conversation,
+    talk: &mut Conversation,
     link: &mut L,
     part: &Part,
     mem: Mem,
     image: &Image,
 ) -> Result<(), HostFault>
-    ensures asks { MayAsk (EndsSteps (play (write_steps part.now mem image.now) []) (λ done. []))
-        conversation.old.progress (L.view link.old) (L.view link.new) result conversation.new.progress }
-    ensures comes { Stays L.comes_of link.old link.new }
+    ensures { Asks L.Link (Gets (write_steps part.now mem image.now) []) talk.old talk.new link.old link.new result }
 {
     match mem {
-        Mem::Flash | Mem::Eeprom => write_places(conversation, link, part, mem, image),
-        Mem::Lfuse => write_fuse(conversation, link, Fuse::Low, image.get(0)),
-        Mem::Hfuse => write_fuse(conversation, link, Fuse::High, image.get(0)),
-        Mem::Efuse => write_fuse(conversation, link, Fuse::Extended, image.get(0)),
-        Mem::Lock => write_lock(conversation, link, image.get(0)),
+        Mem::Flash | Mem::Eeprom => write_places(talk, link, part, mem, image),
+        Mem::Lfuse => write_fuse(talk, link, Fuse::Low, image.get(0)),
+        Mem::Hfuse => write_fuse(talk, link, Fuse::High, image.get(0)),
+        Mem::Efuse => write_fuse(talk, link, Fuse::Extended, image.get(0)),
+        Mem::Lock => match image.get(0) {
+            Some(value) => play_step(talk, link, &None, &Command::program_lock(value)),
+            None => Ok(()),
+        },
         Mem::Signature | Mem::Calibration => Ok(()),
     }
 }

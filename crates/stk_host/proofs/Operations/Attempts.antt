@@ -3,6 +3,8 @@ use Rattle.std.proofs.Common.{◌≡◌, ℕ, zero, suc, List, [], ◌∷◌, �
 use Rattle.stk_frame.specs.declared.command.Command.{Command}
 use Rattle.stk_frame.specs.Frame.{frame}
 use Rattle.stk_frame.specs.Commands.{body}
+use Rattle.ghosts.specs.Stays.{Stays}
+use Rattle.stk_host.specs.declared.link.Link.{Ghosts}
 use Rattle.stk_host.specs.declared.fault.StepFault.{StepFault}
 use Rattle.stk_host.specs.Tape.{Reading}
 use Rattle.stk_host.specs.Transcript.{LinkState, HasFailed}
@@ -64,8 +66,7 @@ exchange_unheard seq command {u = u} {o = o} {p = p} {q = q} says hears failed =
 -- an attempt whose next command was sent and answered
 
 attempt_on : (command : Command) (commands : List Command) (before : List ℕ) {seq n : Progress} {o q : LinkState}
-    (reply : Reply) → PlaysOver (exchange command) seq o q reply n
-    → Reaches (attempt (command ∷ commands) before) seq o
+    (reply : Reply) → PlaysOver (exchange command) seq o q reply n → Reaches (attempt (command ∷ commands) before) seq o
     (with_data (λ bytes. attempt commands (before ++ bytes)) reply) n q
 unfolding attempt
 attempt_on command commands before reply f = then_reaches (with_data (λ bytes. attempt commands (before ++ bytes))) f
@@ -77,40 +78,41 @@ unfolding attempt
 attempt_off command commands f = broken_bind (with_data (λ bytes. attempt commands ([] ++ bytes))) f
 
 -- an attempt of one command
-pub gets_one : (last : Command) (m : Progress) (o q : LinkState) (result : Result said.Reply HostFault)
-    (after : ConversationState)
-    → GetsReply (exchange last) last m o q result after → GetsReply (attempt (last ∷ []) []) last m o q result after
+by_reply : (last : Command) (reply : said.Reply) (bytes : List ℕ) {m n : Progress} {o q : LinkState}
+    → PlaysOver (exchange last) m o q (reply_of reply bytes) n
+    → PlaysOver (attempt (last ∷ []) []) m o q (reply_of reply bytes) n
 unfolding attempt
-gets_one last m o q (Ok reply) after f =
-    record { ok = by_reply reply _ f.ok; err = tt; sized = f.sized; counted = f.counted; bound = f.bound }
-  where
-    by_reply : (reply : said.Reply) (bytes : List ℕ) {n : Progress}
-        → PlaysOver (exchange last) m o q (reply_of reply bytes) n
-        → PlaysOver (attempt (last ∷ []) []) m o q (reply_of reply bytes) n
-    by_reply replies.Data bytes e = played_from (attempt_on last [] [] (Data bytes) e)
-    by_reply reply bytes e = played_from (attempt_on last [] [] (reply_of reply bytes) e)
-gets_one last m o q (Err fault) after f = search (rules, attempt_off)
+by_reply last replies.Data bytes e = played_from (attempt_on last [] [] (Data bytes) e)
+by_reply last reply bytes e = played_from (attempt_on last [] [] (reply_of reply bytes) e)
+
+pub gets_one : {L : Type 0} {link : Ghosts L} (last : Command) (m n : ConversationState) (o q : L)
+    (result : Result said.Reply HostFault)
+    → GetsReply link (exchange last) last m n o q result → GetsReply link (attempt (last ∷ []) []) last m n o q result
+gets_one last m n o q (Ok reply) f = search (rules, by_reply)
+gets_one last m n o q (Err fault) f = search (rules, attempt_off)
 
 -- an attempt of two commands, whose first was answered and brought nothing
-pub gets_last : (first last : Command) (m n : Progress) (o p q : LinkState) (was : said.Reply) (none : List ℕ)
-    (result : Result said.Reply HostFault) (after : ConversationState)
-    → PlaysOver (exchange first) m o p (reply_of was none) n → was ≡ replies.Data → none ≡ []
-    → GetsReply (exchange last) last n p q result after
-    → GetsReply (attempt (first ∷ last ∷ []) []) last m o q result after
-gets_last first last m n o p q was none result after f is nothing g = search (rules, by_result, gets_one)
+pub gets_last : {L : Type 0} {link : Ghosts L} (first last : Command) (m n after : ConversationState) (o p q : L)
+    (was : said.Reply) (none : List ℕ) (result : Result said.Reply HostFault)
+    → PlaysOver (exchange first) m.progress (link.view o) (link.view p) (reply_of was none) n.progress
+    → Stays link.comes_of o p → was ≡ replies.Data → none ≡ [] → GetsReply link (exchange last) last n after p q result
+    → GetsReply link (attempt (first ∷ last ∷ []) []) last m after o q result
+gets_last {link = link} first last m n after o p q was none result f stays is nothing g =
+    by_result result (gets_one last n after p q result g)
   where
-    begun : Reaches (attempt (first ∷ last ∷ []) []) m o (attempt (last ∷ []) []) n p
-    begun = attempt_on first (last ∷ []) [] (Data [])
-        (rw (is, nothing) at f)
+    begun : Reaches (attempt (first ∷ last ∷ []) []) m.progress (link.view o) (attempt (last ∷ []) []) n.progress
+        (link.view p)
+    begun = attempt_on first (last ∷ []) [] (Data []) (rw (is, nothing) at f)
 
-    by_result : (result : Result said.Reply HostFault) → GetsReply (attempt (last ∷ []) []) last n p q result after
-        → GetsReply (attempt (first ∷ last ∷ []) []) last m o q result after
+    by_result : (result : Result said.Reply HostFault) → GetsReply link (attempt (last ∷ []) []) last n after p q result
+        → GetsReply link (attempt (first ∷ last ∷ []) []) last m after o q result
     by_result (Ok reply) e = record {
       ok = played_from (reaches_on begun (reaches_from e.ok));
       err = tt;
       sized = e.sized;
       counted = omega (arith, f.sound, e.counted);
       bound = e.bound;
+      comes = λ start of. e.comes start (stays start of);
     }
     by_result (Err fault) e = record {
       ok = tt;
@@ -118,6 +120,7 @@ gets_last first last m n o p q was none result after f is nothing g = search (ru
       sized = e.sized;
       counted = omega (arith, f.sound, e.counted);
       bound = e.bound;
+      comes = λ start of. e.comes start (stays start of);
     }
 
 -- an attempt whose first command brought no data
@@ -173,6 +176,5 @@ module _ {a : Dialog ⊥ StepOutcome} {l seq : Progress} {j o : LinkState} {k : 
   try_breaks f = broken_on next_try (tries_off more commands last f)
 
 pub try_end : {a : Dialog ⊥ StepOutcome} {l seq : Progress} {j o : LinkState} (k : ℕ) (commands : List Command)
-    (last : StepFault)
-    → Reaches a l j (tries k commands last) seq o → k ≡ 0 → PlaysOver a l j o (Err last) seq
+    (last : StepFault) → Reaches a l j (tries k commands last) seq o → k ≡ 0 → PlaysOver a l j o (Err last) seq
 try_end k commands last f is = played_from (rw (is, tries_none commands last) at f)

@@ -3,8 +3,8 @@ use Rattle.std.proofs.Common.{◌≡◌, ℕ, ◌+◌, ◌*◌, ◌<◌, ◌≤�
 use Rattle.std.specs.Prelude.{min}
 use Rattle.avr_part.specs.declared.part.Mem.{Mem}
 use Rattle.avr_part.specs.Part.{Part, IsPart, size_of}
-use Rattle.stk_host.specs.ReadSteps.{read_unit, read_count, read_at}
-use Rattle.stk_host.specs.Calls.{step_brings}
+use Rattle.stk_host.specs.ReadSteps.{read_unit, read_count, load_at, read_at}
+use Rattle.stk_host.specs.Calls.{IsSizedStep, step_brings}
 
 -- how many bytes the steps before this number have brought
 abbrev pub read_before : Part → Mem → ℕ → ℕ
@@ -24,3 +24,7 @@ all_brought part mem number past = search rules
 
 pub few_reads : (part : Part) (mem : Mem) → IsPart part → read_count part mem ≤ 1024
 few_reads part mem is = search rules
+
+pub sized_read : (part : Part) (mem : Mem) (number : ℕ)
+    → IsSizedStep (load_at part mem number) (read_at part mem number)
+sized_read part mem number = search rules

@@ -17,28 +17,24 @@ use Rattle.stk_host.proofs.Transcripts.Reached.{reaches_on, reaches_from, played
 
 -- a stop in a dialog that was reached
 pub stops_on : {a b : Dialog ⊥ StepOutcome} {m n : Progress} {o p : LinkState} (k : Progress) (q : LinkState)
-    (fault : HostFault)
-    → Reaches a m o b n p → StopsSteps b n p q fault k → StopsSteps a m o q fault k
+    (fault : HostFault) → Reaches a m o b n p → StopsSteps b n p q fault k → StopsSteps a m o q fault k
 stops_on k q fault f (inl e) = inl (broken_on f e)
 stops_on k q fault f (inr (of, is, e)) = inr (of, is, played_from (reaches_on f (reaches_from e)))
 
 -- a stop, after which nothing follows
 pub stops_there : (a : Dialog ⊥ StepOutcome) (go_on : List ℕ → Dialog ⊥ StepOutcome) (m n : Progress) (o p : LinkState)
-    (fault : HostFault)
-    → StopsSteps a m o p fault n → StopsSteps (a >>= if_done go_on) m o p fault n
+    (fault : HostFault) → StopsSteps a m o p fault n → StopsSteps (a >>= if_done go_on) m o p fault n
 stops_there a go_on m n o p fault (inl e) = inl (broken_bind (if_done go_on) e)
 stops_there a go_on m n o p fault (inr (of, is, e)) = inr (of, is, played_from (then_reaches (if_done go_on) e))
 
 -- steps that brought their data
 pub goes_on : {a : Dialog ⊥ StepOutcome} {m n : Progress} {o p : LinkState} (go_on : List ℕ → Dialog ⊥ StepOutcome)
-    (bytes : List ℕ)
-    → PlaysOver a m o p (Ok bytes) n → Reaches (a >>= if_done go_on) m o (go_on bytes) n p
+    (bytes : List ℕ) → PlaysOver a m o p (Ok bytes) n → Reaches (a >>= if_done go_on) m o (go_on bytes) n p
 goes_on go_on bytes f = then_reaches (if_done go_on) f
 
 -- a step of a list of steps
 pub play_on : (commands : List Command) (steps : List (List Command)) (before bytes : List ℕ) {m n : Progress}
-    {o p : LinkState}
-    → PlaysOver (step commands) m o p (Ok bytes) n
+    {o p : LinkState} → PlaysOver (step commands) m o p (Ok bytes) n
     → Reaches (play (commands ∷ steps) before) m o (play steps (before ++ bytes)) n p
 unfolding play
 play_on commands steps before bytes f = goes_on (λ bs. play steps (before ++ bs)) bytes f
@@ -64,8 +60,7 @@ told_ends takes dialog fault m n o p e = search rules
 
 pub stop_ends : {A : Type 0} (takes : Bool) (first : Dialog ⊥ StepOutcome) (judge : StepOutcome → Result A HostFault)
     → ((fault : StepFault) → judge (Err fault) ≡ Err (host_fault fault)) → (fault : HostFault) (m n : Progress)
-    (o p : LinkState)
-    → StopsSteps first m o p fault n
+    (o p : LinkState) → StopsSteps first m o p fault n
     → EndsCall takes (first >>= λ outcome. Done (judge outcome)) m o p (Err fault) n
 stop_ends takes first judge told fault m n o p (inr (of, is, e)) =
     search (rules, then_reaches (λ outcome. Done (judge outcome)) e)

@@ -18,7 +18,7 @@ use Rattle.stk_host.specs.Steps.{StepOutcome, step, play}
 use Rattle.stk_host.specs.Places.{each_from}
 use Rattle.stk_host.specs.WriteSteps.{write_steps}
 use Rattle.stk_host.specs.Operations.{judged_by, operation, writing, Difference, difference_from, differs, comparison}
-use Rattle.stk_host.specs.Calls.{StopsSteps, EndsSteps, EndsCall, EndsInnerStep, with_step, with_steps, without_step, IsSizedShape, data_count, given_or_fault, vector_after, verifying_result}
+use Rattle.stk_host.specs.Calls.{StopsSteps, EndsSteps, EndsCall, GoesOn, GoesOnWith, IsSizedShape, data_count, given_or_fault, vector_after, verifying_result}
 use Rattle.stk_host.proofs.ImagePlaces.PagesAndRuns.{next_place}
 use Rattle.stk_host.proofs.Transcripts.Reached.{reaches_here, reaches_on, played_from, then_reaches}
 use Rattle.stk_host.proofs.Operations.StepEnds.{stops_on, stop_ends, play_on, play_stops, play_done}
@@ -29,31 +29,26 @@ counted_data of bytes counted sized = search rules
 
 -- a step that was run goes on with those that follow
 pub goes_with : (commands : List Command) (before bytes : List ℕ) {m n : Progress} {o p : LinkState}
-    → PlaysOver (step commands) m o p (Ok bytes) n
-    → EndsInnerStep (with_step commands before) (without_step (before ++ bytes)) m o p (Ok tt) n
+    → PlaysOver (step commands) m o p (Ok bytes) n → GoesOnWith (commands ∷ []) before (before ++ bytes) m o p (Ok tt) n
 goes_with commands before bytes f = λ steps. play_on commands steps before bytes f
 
 pub stops_with : (commands : List Command) (before : List ℕ) (m n : Progress) (o p : LinkState) (fault : HostFault)
     → StopsSteps (step commands) m o p fault n
-    → (steps : List (List Command)) → StopsSteps (with_step commands before steps) m o p fault n
+    → (steps : List (List Command)) → StopsSteps (play (commands ∷ steps) before) m o p fault n
 stops_with commands before m n o p fault e = λ steps. play_stops commands steps before m n o p fault e
 
 -- a step that brings no data
 pub goes_quietly : (commands : List Command) (of : Shape) (bytes : List ℕ) (result : Result (Unit {0}) HostFault)
-    (m n : Progress) (o p : LinkState)
-    → IsSizedShape of → data_count of ≡ 0 → OnOk result (SizedBy of bytes)
-    → EndsSteps (step commands) (λ done. bytes) m o p result n
-    → EndsInnerStep (with_step commands []) (without_step []) m o p result n
+    (m n : Progress) (o p : LinkState) → IsSizedShape of → data_count of ≡ 0 → OnOk result (SizedBy of bytes)
+    → EndsSteps (step commands) (λ done. bytes) m o p result n → GoesOn (commands ∷ []) m o p result n
 goes_quietly commands of bytes (Ok done) m n o p counted zero sized e =
     rw (nil_from_length bytes (counted_data of bytes counted sized ∙ zero)) at (goes_with commands [] bytes e)
 goes_quietly commands of bytes (Err fault) m n o p counted zero sized e = stops_with commands [] m n o p fault e
 
 -- a step that nothing follows
-pub alone : (commands : List Command) (before after : List ℕ) (result : Result (Unit {0}) HostFault) (m n : Progress)
-    (o p : LinkState)
-    → EndsInnerStep (with_step commands before) (without_step after) m o p result n
-    → EndsSteps (play (commands ∷ []) before) (λ done. after) m o p result n
-alone commands before after result m n o p e = search (rules, play_done)
+pub alone : (commands : List Command) (result : Result (Unit {0}) HostFault) (m n : Progress) (o p : LinkState)
+    → GoesOn (commands ∷ []) m o p result n → EndsSteps (play (commands ∷ []) []) (λ done. []) m o p result n
+alone commands result m n o p e = search (rules, play_done)
 
 -- no step at all
 pub none_played : (m : Progress) (o : LinkState) → PlaysOver (play [] []) m o o (Ok []) m
@@ -67,18 +62,16 @@ module _ {a : Dialog ⊥ StepOutcome} {k m : Progress} {r o : LinkState} (steps_
   rest = each_from steps_at (place + 1) (end - (place + 1))
 
   pub reaches_next : {n : Progress} {p : LinkState} (after : List ℕ)
-      → EndsInnerStep (with_steps (steps_at place) before) (without_step after) m o p (Ok tt) n
-      → Reaches a k r (play rest after) n p
+      → GoesOnWith (steps_at place) before after m o p (Ok tt) n → Reaches a k r (play rest after) n p
   reaches_next after e = search (rules, reaches_on, next_place)
 
   pub stops_next : (n : Progress) (p : LinkState) (fault : HostFault)
-      → ((more : List (List Command)) → StopsSteps (with_steps (steps_at place) before more) m o p fault n)
+      → ((more : List (List Command)) → StopsSteps (play (steps_at place ++ more) before) m o p fault n)
       → StopsSteps a k r p fault n
   stops_next n p fault e = search (rules, stops_on, next_place)
 
 -- a place without steps
-pub passes : {these : List (List Command)} (m : Progress) (o : LinkState) → these ≡ []
-    → EndsInnerStep (with_steps these []) (without_step []) m o o (Ok tt) m
+pub passes : {these : List (List Command)} (m : Progress) (o : LinkState) → these ≡ [] → GoesOn these m o o (Ok tt) m
 passes m o none = λ steps. rw none (reaches_here (play steps []) m o)
 
 -- after the last place
@@ -92,8 +85,7 @@ plays_all steps_at place end {before = before} come past = search (rules, play_d
 
 -- a stop, as the host reports it
 told_ends : {A : Type 0} (takes : Bool) (steps : List (List Command)) (judge : List ℕ → Result A HostFault)
-    (fault : HostFault)
-    (m n : Progress) (o p : LinkState)
+    (fault : HostFault) (m n : Progress) (o p : LinkState)
     → StopsSteps (play steps []) m o p fault n → EndsCall takes (operation steps judge) m o p (Err fault) n
 unfolding operation
 told_ends takes steps judge fault m n o p e = search (rules, stop_ends)
@@ -124,10 +116,8 @@ writes_nothing part mem image m o cannot = search (rules, played_from, reaches_h
 
 -- a read
 pub reading_ends : (steps : List (List Command)) (bytes : List ℕ) (result : Result (Unit {0}) HostFault)
-    (m n : Progress) (o p : LinkState)
-    → EndsSteps (play steps []) (λ done. bytes) m o p result n
-    → EndsCall true (operation steps Ok) m o p
-    (given_or_fault (vector_after result bytes) result) n
+    (m n : Progress) (o p : LinkState) → EndsSteps (play steps []) (λ done. bytes) m o p result n
+    → EndsCall true (operation steps Ok) m o p (given_or_fault (vector_after result bytes) result) n
 reading_ends steps bytes (Ok done) m n o p e = judged_from steps Ok bytes e
 reading_ends steps bytes (Err fault) m n o p e = told_ends true steps Ok fault m n o p e
 

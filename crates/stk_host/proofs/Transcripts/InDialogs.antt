@@ -41,8 +41,7 @@ bytes_append (Said e ∷ x) y = bytes_append x y
 -- turns
 
 turns_quiet : {E R : Type 0} (dialog : Dialog E R) (seq : ℕ) (tape : Tape) (bytes : List ℕ) (transcript : Transcript)
-    → IsQuiet transcript
-    → TurnsFrom dialog seq tape bytes transcript
+    → IsQuiet transcript → TurnsFrom dialog seq tape bytes transcript
 turns_quiet dialog seq tape bytes [] quiet = tt
 turns_quiet dialog seq tape bytes (Sent more ∷ transcript) quiet =
     turns_quiet dialog seq tape (bytes ++ more) transcript quiet
@@ -103,8 +102,7 @@ turns_waiting body answered seq tape (Got items ∷ transcript) waits =
 
 -- a frame was sent whole, and its answer awaited
 turns_asking : {E R : Type 0} (body : List ℕ) (answered : Reading → Dialog E R) (seq : ℕ) (u : List ℕ)
-    (x y : Transcript)
-    → IsQuiet x → NoneTaken x → sent x ≡ frame seq body → WaitsFrom seq (on_tape u) y
+    (x y : Transcript) → IsQuiet x → NoneTaken x → sent x ≡ frame seq body → WaitsFrom seq (on_tape u) y
     → InTurn (Ask body answered) (progress_at seq u) (x ++ y)
 turns_asking body answered seq u x y quiet none is waits =
     search (rules, turns_append, turns_quiet, heard_quiet, turns_waiting)
@@ -163,8 +161,7 @@ module _ {E R : Type 0} {a b : Dialog E R} {m n : Progress} {x : Transcript} {ev
   leads_bind go_on f = search (rules, played_bind, append_assoc, turns_bind)
 
   pub breaks_on : (SaidPart : E → E → Type 0) {y : Transcript} {shown : List (Event E)}
-      → TranscriptLeads a m x events b n
-      → Breaks SaidPart b n y shown → Breaks SaidPart a m (x ++ y) (events ++ shown)
+      → TranscriptLeads a m x events b n → Breaks SaidPart b n y shown → Breaks SaidPart a m (x ++ y) (events ++ shown)
   breaks_on SaidPart {y = y} {shown = shown} f g = search (rules, led, prefix_behind, led_bytes, led_turns, f, g)
 
 -- an output event
@@ -197,8 +194,7 @@ pub breaks_here : {E R : Type 0} (SaidPart : E → E → Type 0) (dialog : Dialo
 breaks_here SaidPart dialog m = search rules
 
 pub by_bind : {E A B : Type 0} (by : HostFault) (a : Dialog E A) (m : Progress) (transcript : Transcript)
-    (shown : List (Event E))
-    (go_on : A → Dialog E B)
+    (shown : List (Event E)) (go_on : A → Dialog E B)
     → BreaksBy by a m transcript shown → BreaksBy by (a >>= go_on) m transcript shown
 by_bind SendFailed a m transcript shown go_on f =
     let p = played_over a m transcript in
@@ -224,8 +220,7 @@ module _ {E R : Type 0} (body : List ℕ) (answered : Reading → Dialog E R) (s
       → WaitsFrom seq (on_tape u) y
       → ((more : Tape) → answer seq (on_tape u ++ (heard y ++ more)) ≡ Some (reading, on_tape v ++ more))
       → TranscriptLeads (Ask body answered) (progress_at seq u) (x ++ y) (Frame (frame seq body)
-      ∷ []) (answered reading)
-      (progress_at (next seq) v)
+      ∷ []) (answered reading) (progress_at (next seq) v)
   leads_ask v x y reading quiet none is waits answers =
       search (rules, heard_both, heard_quiet, sent_append, sent_waiting, turns_asking, none_append, none_waiting)
 

@@ -1,6 +1,6 @@
 -- Listening for an answer, as the code does it round by round.
 use Rattle.std.proofs.lemmas.Grind.{common_steps}
-use Rattle.std.proofs.Common.{◌≡◌, ℕ, ◌+◌, ◌<◌, ◌≤◌, List, [], ◌∷◌, ◌++◌, length, refl, sym, ap, ◌∙◌, subst, append_assoc, arith, length-append, Some, None, true, rules}
+use Rattle.std.proofs.Common.{take, drop, ◌≡◌, ℕ, ◌+◌, ◌<◌, ◌≤◌, List, [], ◌∷◌, ◌++◌, length, refl, sym, ap, ◌∙◌, subst, append_assoc, arith, length-append, Some, None, true, rules}
 use Rattle.std.proofs.lemmas.List.{append-nil, length-map, nil_from_length}
 use Rattle.stk_frame.specs.declared.reader.Event.{Event}
 use Rattle.stk_frame.specs.declared.reader.Event.TheVariants as event
@@ -49,6 +49,12 @@ begins seq u o few = record {
 abbrev pub ReadOn : List ℕ → List ℕ → ℕ → List ℕ → List ℕ → Event → Type 0
 ReadOn left new_left n held new what = (used : List ℕ) × (length used ≡ n) × (left ≡ used ++ new_left)
     × Fed held used new (frames_of_event what new)
+
+-- from what the reader was fed, a front of the unread bytes
+pub read_on : {held new left new_left piece : List ℕ} (n most : ℕ) (what : Event) → piece ≡ take most left
+    → n ≤ length piece → new_left ≡ drop n left → Fed held (take n piece) new (frames_of_event what new)
+    → ReadOn left new_left n held new what × (n ≤ most)
+read_on n most what is within behind fed = (grind (arith, common_steps), grind (arith, common_steps))
 
 -- laws of listening
 module _ {seq : ℕ} {u : List ℕ} {o : LinkState} where
@@ -129,8 +135,7 @@ module _ {seq : ℕ} {u : List ℕ} {o : LinkState} where
 
   finds_in : {held : List ℕ} {count : ℕ} {p : LinkState} (used left new : List ℕ)
       → Listening seq u o held count (used ++ left) p → Fed held used new (new ∷ []) → HoldsFrame new
-      → is_answer seq new ≡ true → count + length used ≤ limit
-      → Hears seq u o p (Answered (body_of new)) left
+      → is_answer seq new ≡ true → count + length used ≤ limit → Hears seq u o p (Answered (body_of new)) left
   finds_in used left new l fed frame good few =
       let whole : rest (l.text ++ used) ≡ [] = fed.stands l.text l.stands ∙ rest_whole new frame.whole in
       let size : length (l.text ++ used) ≤ limit = rw length-append (omega (arith, l.counted)) in
@@ -138,8 +143,7 @@ module _ {seq : ℕ} {u : List ℕ} {o : LinkState} where
       (l.all_heard ∙ ap on_tape (sym (append_assoc l.text used left)))
       (λ more. search (rules, answer_found, now_found))
 
-  pub finds : {held : List ℕ} {count : ℕ} {left : List ℕ} {p : LinkState} (n : ℕ)
-      (new_left new : List ℕ) (what : Event)
+  pub finds : {held : List ℕ} {count : ℕ} {left : List ℕ} {p : LinkState} (n : ℕ) (new_left new : List ℕ) (what : Event)
       → Listening seq u o held count left p → ReadOn left new_left n held new what
       → (what ≡ event.Frame) × HoldsFrame new × (is_answer seq new ≡ true) → count + n ≤ limit
       → Hears seq u o p (Answered (body_of new)) new_left

@@ -3,9 +3,6 @@ use Rattle.std.proofs.lemmas.Result.{err_from_is_err_and}
 use Rattle.stk_host.proofs.Operations.Steps.{counted_data, goes_with, stops_with}
 use Rattle.stk_host.proofs.conversation.read_step.Goals as goal
 
-pub append-requires : goal.append-requires
-append-requires g c = search (rules, counted_data)
-
 pub returns-in_err-step-clause-asks : goal.returns-in_err-step-clause-asks
 returns-in_err-step-clause-asks g c =
     let p = err_from_is_err_and c.from_residual.result c.from_residual.ensures.1 in
@@ -13,7 +10,7 @@ returns-in_err-step-clause-asks g c =
     rw (p.1, p.2) (search rules)
 
 pub returns-clause-asks : goal.returns-clause-asks
-returns-clause-asks g c = search (rules, goes_with)
+returns-clause-asks g c = search (rules, goes_with, counted_data)
 
 pub returns-clause-size : goal.returns-clause-size
 returns-clause-size g c = search (rules, length-append, counted_data)

@@ -31,9 +31,9 @@ unfolding entering
 entered {nothing = nothing} is f g =
     reaches_on f (goes_on (λ nothing. play signature_steps []) nothing (rw is at g))
 
-pub returns-in_err-step-clause-asks : goal.returns-in_err-step-clause-asks
+pub returns-in_err-step : goal.returns-in_err-step
 unfolding handshake
-returns-in_err-step-clause-asks g c =
+returns-in_err-step g c =
     let p = err_from_is_err_and c.from_residual.result c.from_residual.ensures.1 in
     rw (p.1, p.2) (
     let played = stops_there (step (SignOn ∷ []))
@@ -41,9 +41,9 @@ returns-in_err-step-clause-asks g c =
     c.in_err-step.ensures.asks.played in
     search rules)
 
-pub returns-in_err-step-2-clause-asks : goal.returns-in_err-step-2-clause-asks
+pub returns-in_err-step-2 : goal.returns-in_err-step-2
 unfolding entering
-returns-in_err-step-2-clause-asks g c =
+returns-in_err-step-2 g c =
     let p = err_from_is_err_and c.from_residual-in_err-step-2.result c.from_residual-in_err-step-2.ensures.1 in
     rw (p.1, p.2) (
     let played = stops_on _ _ _ (signed_on c.in_ok-step.ensures.asks.played)
@@ -51,38 +51,38 @@ returns-in_err-step-2-clause-asks g c =
     (rw c.enter.ensures.value at c.in_err-step-2.ensures.asks.played)) in
     search rules)
 
-pub returns-in_err-first-clause-asks : goal.returns-in_err-first-clause-asks
-returns-in_err-first-clause-asks g c =
+pub returns-in_err-first : goal.returns-in_err-first
+returns-in_err-first g c =
     let p = err_from_is_err_and c.from_residual-in_err-first.result c.from_residual-in_err-first.ensures.1 in
     rw (p.1, p.2) (
     let played = stops_on _ _ _ (entered c.enter.ensures.value (signed_on c.in_ok-step.ensures.asks.played)
     c.in_ok-step-2.ensures.asks.played) (play_stops (read_signature 0 ∷ []) _ [] _ _ _ _ _
-    c.in_err-first.ensures.asks.played) in
+    c.in_err-first.ensures.played) in
     search rules)
 
-pub returns-in_err-second-clause-asks : goal.returns-in_err-second-clause-asks
-returns-in_err-second-clause-asks g c =
+pub returns-in_err-second : goal.returns-in_err-second
+returns-in_err-second g c =
     let p = err_from_is_err_and c.from_residual-in_err-second.result c.from_residual-in_err-second.ensures.1 in
     rw (p.1, p.2) (
     let played = stops_on _ _ _ (reaches_on (entered c.enter.ensures.value (signed_on c.in_ok-step.ensures.asks.played)
-    c.in_ok-step-2.ensures.asks.played) (play_on (read_signature 0 ∷ []) _ [] _ c.in_ok-first.ensures.asks.played))
-    (play_stops (read_signature 1 ∷ []) _ _ _ _ _ _ _ c.in_err-second.ensures.asks.played) in
+    c.in_ok-step-2.ensures.asks.played) (play_on (read_signature 0 ∷ []) _ [] _ c.in_ok-first.ensures.played))
+    (play_stops (read_signature 1 ∷ []) _ _ _ _ _ _ _ c.in_err-second.ensures.played) in
     search rules)
 
-pub returns-in_err-third-clause-asks : goal.returns-in_err-third-clause-asks
-returns-in_err-third-clause-asks g c =
+pub returns-in_err-third : goal.returns-in_err-third
+returns-in_err-third g c =
     let p = err_from_is_err_and c.from_residual-in_err-third.result c.from_residual-in_err-third.ensures.1 in
     rw (p.1, p.2) (
     let played = stops_on _ _ _ (reaches_on (reaches_on (entered c.enter.ensures.value (signed_on
     c.in_ok-step.ensures.asks.played) c.in_ok-step-2.ensures.asks.played) (play_on (read_signature 0 ∷ []) _ [] _
-    c.in_ok-first.ensures.asks.played)) (play_on (read_signature 1 ∷ []) _ _ _ c.in_ok-second.ensures.asks.played))
-    (play_stops (read_signature 2 ∷ []) _ _ _ _ _ _ _ c.in_err-third.ensures.asks.played) in
+    c.in_ok-first.ensures.played)) (play_on (read_signature 1 ∷ []) _ _ _ c.in_ok-second.ensures.played))
+    (play_stops (read_signature 2 ∷ []) _ _ _ _ _ _ _ c.in_err-third.ensures.played) in
     search rules)
 
-pub returns-clause-asks : goal.returns-clause-asks
-returns-clause-asks g c =
+pub returns : goal.returns
+returns g c =
     let played = play_done _ (reaches_on (reaches_on (reaches_on (entered c.enter.ensures.value (signed_on
     c.in_ok-step.ensures.asks.played) c.in_ok-step-2.ensures.asks.played) (play_on (read_signature 0 ∷ []) _ [] _
-    c.in_ok-first.ensures.asks.played)) (play_on (read_signature 1 ∷ []) _ _ _ c.in_ok-second.ensures.asks.played))
-    (play_on (read_signature 2 ∷ []) _ _ _ c.in_ok-third.ensures.asks.played)) in
+    c.in_ok-first.ensures.played)) (play_on (read_signature 1 ∷ []) _ _ _ c.in_ok-second.ensures.played))
+    (play_on (read_signature 2 ∷ []) _ _ _ c.in_ok-third.ensures.played)) in
     search rules

@@ -11,11 +11,11 @@ use Rattle.stk_host.proofs.reading.read_memory.Given as goal
 
 abbrev pub invariant-loop-number : goal.invariant-loop-number
 invariant-loop-number g l = record {
-  reaches : Reaches (play (read_steps l.part l.mem) []) l.fn.conversation.progress (g.L.Link.view l.fn.link)
+  reaches : Reaches (play (read_steps l.part l.mem) []) l.fn.talk.progress (g.L.Link.view l.fn.link)
       (play (each_from (read_step l.part l.mem) l.number (read_count l.part l.mem - l.number)) l.out.items)
-      l.conversation.progress (g.L.Link.view l.link);
+      l.talk.progress (g.L.Link.view l.link);
   size : length l.out.items ≡ read_before l.part l.mem l.number;
   room : size_of l.mem l.part ≤ vec_capacity l.out;
   comes : Stays g.L.Link.comes_of l.fn.link l.link;
-  bound : length l.fn.conversation.progress.unread ≤ 281 → length l.conversation.progress.unread ≤ 281;
+  bound : length l.fn.talk.progress.unread ≤ 281 → length l.talk.progress.unread ≤ 281;
 }

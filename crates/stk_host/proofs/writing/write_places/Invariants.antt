@@ -9,9 +9,9 @@ use Rattle.stk_host.proofs.writing.write_places.Given as goal
 abbrev pub invariant-loop-place : goal.invariant-loop-place
 invariant-loop-place g l = record {
   reaches : Reaches (play (each_from (place_steps l.part l.mem l.image) 0 (place_count l.part l.mem)) [])
-      l.fn.conversation.progress (g.L.Link.view l.fn.link)
+      l.fn.talk.progress (g.L.Link.view l.fn.link)
       (play (each_from (place_steps l.part l.mem l.image) l.place (place_count l.part l.mem - l.place)) [])
-      l.conversation.progress (g.L.Link.view l.link);
+      l.talk.progress (g.L.Link.view l.link);
   comes : Stays g.L.Link.comes_of l.fn.link l.link;
-  bound : length l.fn.conversation.progress.unread ≤ 281 → length l.conversation.progress.unread ≤ 281;
+  bound : length l.fn.talk.progress.unread ≤ 281 → length l.talk.progress.unread ≤ 281;
 }

@@ -11,13 +11,13 @@ loop-tried-init g c = search (rules, reaches_here)
 pub returns-in-Data-clause-asks : goal.returns-in-Data-clause-asks
 returns-in-Data-clause-asks g c =
     let played = try_data {k = 4 - c.loop-tried._tried} (4 - (c.loop-tried._tried + 1)) _ _ (omega arith)
-    c.loop-tried.invariant.reaches c.in_ok-attempt.ensures.replies.ok c.in-Data.is in
+    c.loop-tried.invariant.reaches c.in_ok-attempt.ensures.ok c.in-Data.is in
     search rules
 
 pub returns-in-Stop-clause-asks : goal.returns-in-Stop-clause-asks
 returns-in-Stop-clause-asks g c =
     let played = try_stop {k = 4 - c.loop-tried._tried} (4 - (c.loop-tried._tried + 1)) _ _ (omega arith)
-    c.loop-tried.invariant.reaches _ c.in_ok-attempt.ensures.replies.ok c.in-Stop.is in
+    c.loop-tried.invariant.reaches _ c.in_ok-attempt.ensures.ok c.in-Stop.is in
     search rules
 
 pub returns-in_err-attempt-clause-asks : goal.returns-in_err-attempt-clause-asks
@@ -25,7 +25,7 @@ returns-in_err-attempt-clause-asks g c =
     let p = err_from_is_err_and c.from_residual.result c.from_residual.ensures.1 in
     rw (p.1, p.2) (
     let played = try_breaks {k = 4 - c.loop-tried._tried} (4 - (c.loop-tried._tried + 1)) _ _ (omega arith)
-    c.loop-tried.invariant.reaches c.in_err-attempt.ensures.replies.err in
+    c.loop-tried.invariant.reaches c.in_err-attempt.ensures.err in
     search rules)
 
 pub loop-tried-preserved : goal.loop-tried-preserved
