@@ -10,7 +10,7 @@ use Rattle.avr_desk.specs.Shown.{IsNewDesk, Shown, TellsAll, shown_state}
 use Rattle.avr_desk.specs.Stage.{Stage, StageAnswer}
 use Rattle.avr_desk.specs.declared.file_system.FileSystem.{Ghosts}
 use Rattle.avr_desk.specs.declared.record.Writing.{Writing}
-use Rattle.avr_emulator.specs.Emulated.{IsSaved, RunsEmulator}
+use Rattle.avr_emulator.specs.Emulated.{RunsEmulator}
 use Rattle.avr_emulator.specs.Holding.{HoldsAndLoads, Loaded}
 use Rattle.avr_emulator.specs.Killed.{LeavesOldOrNew, chip_of_part, chip_of_run, chip_of_server}
 use Rattle.avr_emulator.specs.ServedRun.{RunsServedFor, ServesPart, TellsIfAny, end_pieces}

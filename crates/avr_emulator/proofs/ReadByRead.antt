@@ -1,8 +1,7 @@
 -- Serving read by read.
-use Rattle.std.proofs.Common.{◌≡◌, ℕ, ◌+◌, ◌≤◌, List, [], ◌∷◌, ◌++◌, append_assoc, rules}
+use Rattle.std.proofs.Common.{ℕ, ◌+◌, ◌≤◌, List, [], ◌∷◌, ◌++◌, append_assoc, rules}
 use Rattle.std.specs.Prelude.{◌≢◌}
 use Rattle.std.proofs.lemmas.List.{append-nil}
-use Rattle.stk_host.specs.declared.link.Item.TheVariants.{End}
 use Rattle.stk_host.specs.Tape.{on_tape, bytes_of}
 use Rattle.stk_host.specs.Transcript.{Transcript, Got, NoneTaken, sent, heard as heard_in, Grows, LinkState}
 use Rattle.stk_host.proofs.Transcripts.Laws.{sent_append, heard_append, heard_quiet, grows_none, grows_on, none_append}
@@ -10,8 +9,8 @@ use Rattle.stk_host.proofs.Tapes.Answers.{bytes_of_append, bytes_of_on_tape}
 use Rattle.stk_emu.specs.Programmer.{Programmer}
 use Rattle.stk_emu.specs.Emulator.{Machine}
 use Rattle.avr_emulator.specs.declared.serving.Served.{Served}
-use Rattle.avr_emulator.specs.declared.serving.Served.TheVariants.{Ended, SendFailed, TooManyReads}
-use Rattle.avr_emulator.specs.Serving.{HearsUntil, AnswersAll, BreaksOff, SendsSoundly, ServingLeaves, Serves, FailsBy}
+use Rattle.avr_emulator.specs.declared.serving.Served.TheVariants.{SendFailed, TooManyReads}
+use Rattle.avr_emulator.specs.Serving.{HearsUntil, AnswersAll, BreaksOff, SendsSoundly, ServingLeaves, Serves}
 use Rattle.avr_emulator.specs.Replying.{Replies, RepliesPart}
 use Rattle.avr_emulator.proofs.Transcripts.{no_end_append, no_end_on_tape, reads_append, reads_quiet, in_turn_quiet, in_turn_append}
 use Rattle.avr_emulator.proofs.Answers.{all_nothing, all_more, breaks_more, breaks_prefix, breaks_heard}
@@ -49,10 +48,6 @@ serves_more served turns old mid now a b c first then =
 pub serves_within : (served : Served) (few many : ℕ) (old now : Machine) (a b : LinkState) → served ≢ TooManyReads
     → few ≤ many → Serves old few served a b now → Serves old many served a b now
 serves_within served few many old now a b other le s = search rules
-
-pub fails_more : (served : Served) (a b c : LinkState) → b.failures ≡ a.failures → FailsBy served b c
-    → FailsBy served a c
-fails_more served a b c same f = search rules
 
 -- the outcome of one read
 

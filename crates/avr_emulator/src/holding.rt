@@ -1,7 +1,7 @@
 //! Locks a chip file for one run, and loads its chip.
 ghost use Rattle.std.specs.Prelude.{◌≡◌, IfOk};
 ghost use Rattle.avr_desk.specs.Fault.{Follows};
-ghost use Rattle.avr_emulator.specs.Holding.{HoldsFile, HoldsAndLoads};
+ghost use Rattle.avr_emulator.specs.Holding.{HoldsAndLoads};
 ghost use Rattle.ghosts.specs.Stays.{Stays};
 
 use crate::loading::load_chip;
@@ -9,18 +9,6 @@ use crate::messages::in_use_message;
 use avr_desk::{ChipDesk, not_written_message, refuse};
 use avr_part::{Chip, Part};
 use std::alloc::Global;
-
-fn hold_file<D: ChipDesk>(file: &str, desk: &mut D) -> Result<(), u8>
-    ensures holds { HoldsFile (D.view desk.old) (D.view desk.new) file.now result }
-    ensures follows { Follows (D.view desk.old) (D.view desk.new) }
-    ensures stays { Stays D.comes_of desk.old desk.new }
-{
-    match desk.hold(file) {
-        Ok(true) => Ok(()),
-        Ok(false) => Err(refuse(desk, &in_use_message(file))),
-        Err(_) => Err(refuse(desk, &not_written_message(file))),
-    }
-}
 
 /// Locks this file, so that no other run can use it, and loads the chip of this part from it, as [`load_chip`] does.
 /// The lock lasts until [`crate::save_chip`] or [`ChipDesk::release`].
@@ -41,8 +29,10 @@ pub fn hold_chip<D: ChipDesk>(
     ensures follows { Follows (D.view desk.old) (D.view desk.new) }
     ensures stays { Stays D.comes_of desk.old desk.new }
 {
-    if let Err(status) = hold_file(file, desk) {
-        return Err(status);
+    match desk.hold(file) {
+        Ok(true) => {}
+        Ok(false) => return Err(refuse(desk, &in_use_message(file))),
+        Err(_) => return Err(refuse(desk, &not_written_message(file))),
     }
     match load_chip(alloc, part, file, desk) {
         Ok(chip) => Ok(chip),

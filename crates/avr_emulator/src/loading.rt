@@ -1,8 +1,5 @@
 //! Loads a chip from its file.
 ghost use Rattle.std.specs.Prelude.{◌≡◌, ◌≤◌, true, IfOk, Ok, length};
-ghost use Rattle.avr_desk.specs.Fault.{Follows};
-ghost use Rattle.avr_desk.specs.Files.{FileBreaks, IsCounted};
-ghost use Rattle.avr_desk.specs.Record.{DeskState};
 ghost use Rattle.avr_part.specs.State.{fresh_state};
 ghost use Rattle.avr_desk.specs.Playing.{AtStart, Goes};
 ghost use Rattle.avr_desk.specs.Stage.{verdict_stage};
@@ -55,27 +52,6 @@ fn chip_of<D: Desk>(
     }
 }
 
-/// Returns the chip if its file was not read: a fresh one if the file doesn't exist.
-fn unread_chip<D: Desk>(
-    alloc: Global,
-    part: &Part,
-    file: &str,
-    fault: FileFault,
-    desk: &mut D,
-) -> Result<Chip, u8>
-    ensures goes { (old : DeskState) → FileBreaks file.now old (D.view desk.old) fault
-        → Follows old (D.view desk.old)
-        → IsCounted old (D.view desk.old) fault
-        → Goes AtOpened (chip_stage part.now file.now) old (D.view desk.new) result }
-    ensures part { IfOk result (λ c. c.part ≡ part.now) }
-    ensures stays { Stays D.comes_of desk.old desk.new }
-{
-    match fault {
-        FileFault::Absent => fresh_chip(alloc, part, desk),
-        _ => Err(refuse(desk, &file_message(file, fault))),
-    }
-}
-
 /// Loads the chip of this part from its file, or a fresh chip if the file doesn't exist.
 ///
 /// The file is read to its end, or until more than 4,194,304 bytes have come. The chip loaded has empty buffers.
@@ -92,7 +68,12 @@ pub fn load_chip<D: Desk>(alloc: Global, part: &Part, file: &str, desk: &mut D) 
 {
     let contents = match read_file(alloc, desk, file, LARGEST_CHIP_FILE) {
         Ok(contents) => contents,
-        Err(fault) => return unread_chip(alloc, part, file, fault, desk),
+        Err(fault) => {
+            return match fault {
+                FileFault::Absent => fresh_chip(alloc, part, desk),
+                _ => Err(refuse(desk, &file_message(file, fault))),
+            };
+        }
     };
     if !contents.ended {
         return Err(refuse(desk, &too_long_message(file, LARGEST_CHIP_FILE as u32)));

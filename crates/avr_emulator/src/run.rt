@@ -11,7 +11,7 @@ ghost use Rattle.avr_part.specs.ChipFile.{chip_file};
 ghost use Rattle.avr_emulator.specs.Emulated.{IsSaved, RunsEmulator};
 
 use crate::holding::hold_chip;
-use crate::saving::save_chip;
+use crate::saving::save_after;
 use avr_cli::Settings;
 use avr_desk::{ChipDesk, Desk};
 use avr_plan::{Plan, plan};
@@ -62,10 +62,7 @@ fn save_if_sent<D: ChipDesk>(
         desk.release();
         return status;
     }
-    match save_chip(alloc, wire.chip(), file, desk) {
-        Ok(()) => status,
-        Err(_) => 1,
-    }
+    save_after(alloc, wire.chip(), file, desk, status)
 }
 
 /// Makes the plan of a run, and runs it over an emulated programmer. Its chip is loaded from this file, or fresh if

@@ -1,27 +1,12 @@
 //! Saves a chip to its file.
 ghost use Rattle.avr_desk.specs.Fault.{Follows};
 ghost use Rattle.avr_part.specs.ChipFile.{chip_file};
-ghost use Rattle.avr_emulator.specs.Saving.{Saves};
+ghost use Rattle.avr_emulator.specs.Saving.{Saves, SavesAfter};
 ghost use Rattle.ghosts.specs.Stays.{Stays};
 
 use avr_desk::{ChipDesk, memory_message, not_written_message, refuse};
 use avr_part::Chip;
 use std::alloc::Global;
-
-/// Replaces the file by these bytes.
-fn save_bytes<D: ChipDesk>(file: &str, bytes: &[u8], desk: &mut D) -> Result<(), u8>
-    ensures saves { Saves (D.view desk.old) (D.view desk.new) file.now bytes.now result }
-    ensures follows { Follows (D.view desk.old) (D.view desk.new) }
-    ensures stays { Stays D.comes_of desk.old desk.new }
-{
-    match desk.replace(file, bytes) {
-        Ok(()) => Ok(()),
-        Err(_) => {
-            desk.release();
-            Err(refuse(desk, &not_written_message(file)))
-        }
-    }
-}
 
 /// Saves a chip: replaces the file by the chip's memories, whole, as [`crate::load_chip`] reads them. The file is
 /// then unlocked.
@@ -40,11 +25,36 @@ pub fn save_chip<D: ChipDesk>(
     ensures follows { Follows (D.view desk.old) (D.view desk.new) }
     ensures stays { Stays D.comes_of desk.old desk.new }
 {
-    match chip.to_bytes(alloc) {
-        Ok(bytes) => save_bytes(file, bytes.as_slice(), desk),
+    let bytes = match chip.to_bytes(alloc) {
+        Ok(bytes) => bytes,
         Err(_) => {
             desk.release();
-            Err(refuse(desk, &memory_message()))
+            return Err(refuse(desk, &memory_message()));
         }
+    };
+    match desk.replace(file, bytes.as_slice()) {
+        Ok(()) => Ok(()),
+        Err(_) => {
+            desk.release();
+            Err(refuse(desk, &not_written_message(file)))
+        }
+    }
+}
+
+/// Saves a chip, and returns this status, or 1 if the chip can't be saved.
+pub(crate) fn save_after<D: ChipDesk>(
+    alloc: Global,
+    chip: &Chip,
+    file: &str,
+    desk: &mut D,
+    status: u8,
+) -> u8
+    ensures saved { SavesAfter status (D.view desk.old) (D.view desk.new) file.now (chip_file chip.now) result }
+    ensures follows { Follows (D.view desk.old) (D.view desk.new) }
+    ensures stays { Stays D.comes_of desk.old desk.new }
+{
+    match save_chip(alloc, chip, file, desk) {
+        Ok(()) => status,
+        Err(_) => 1,
     }
 }

@@ -3,13 +3,14 @@ ghost use Rattle.std.specs.Prelude.{◌≡◌, ◌≤◌, [], None, IfErr, false
 ghost use Rattle.avr_desk.specs.Fault.{Follows};
 ghost use Rattle.avr_desk.specs.Playing.{AtStart, Goes};
 ghost use Rattle.avr_plan.specs.Planning.{LacksPart};
-ghost use Rattle.avr_emulator.specs.ServedRun.{JudgesChip, JudgesPart, settings_part};
+ghost use Rattle.avr_emulator.specs.ServedRun.{JudgesPart, settings_part};
 ghost use Rattle.avr_emulator.specs.ServedRun.{RunsServed, RunsServedFor, ServesChip, ServesPart};
 ghost use Rattle.avr_session.specs.Runs.{devices};
 ghost use Rattle.ghosts.specs.Stays.{Stays};
 
-use crate::ending::{save_served, tell_end};
+use crate::ending::{status_of, tell_end};
 use crate::holding::hold_chip;
+use crate::saving::save_after;
 use crate::serving::answer_all;
 use avr_cli::Settings;
 use avr_desk::{ChipDesk, Desk};
@@ -36,19 +37,6 @@ fn find_part<D: Desk>(alloc: Global, desk: &mut D, settings: &Settings) -> Resul
     chosen_part(desk, &parts, settings.part.as_str())
 }
 
-/// Checks that a chip of this part can be loaded from the file, and returns the part.
-fn judge_chip<D: ChipDesk>(alloc: Global, part: Part, file: &str, desk: &mut D) -> Result<Part, u8>
-    ensures judges { JudgesChip part file.now (D.view desk.old) (D.view desk.new) result }
-    ensures stays { Stays D.comes_of desk.old desk.new }
-{
-    let _judged = match hold_chip(alloc, &part, file, desk) {
-        Ok(judged) => judged,
-        Err(status) => return Err(status),
-    };
-    desk.release();
-    Ok(part)
-}
-
 /// Returns the part of the settings after checking that a chip of it can be loaded from the file. A server calls this
 /// before a client connects; the chip itself is loaded later.
 ///
@@ -66,10 +54,16 @@ pub fn judge_part<D: ChipDesk>(
     ensures judges { JudgesPart settings.now file.now (D.view desk.old) (D.view desk.new) result }
     ensures stays { Stays D.comes_of desk.old desk.new }
 {
-    match find_part(alloc, desk, settings) {
-        Ok(part) => judge_chip(alloc, part, file, desk),
-        Err(status) => Err(status),
-    }
+    let part = match find_part(alloc, desk, settings) {
+        Ok(part) => part,
+        Err(status) => return Err(status),
+    };
+    let _judged = match hold_chip(alloc, &part, file, desk) {
+        Ok(judged) => judged,
+        Err(status) => return Err(status),
+    };
+    desk.release();
+    Ok(part)
 }
 
 /// Serves a chip over a link in at most `turns` reads, reports how that ended, and saves the chip to this file.
@@ -97,7 +91,7 @@ pub fn serve_chip<D: ChipDesk, L: Link>(
     let mut emulator = Emulator::new(chip);
     let served = answer_all(&mut emulator, link, turns);
     tell_end(desk, served);
-    save_served(alloc, emulator.chip(), file, desk, served)
+    save_after(alloc, emulator.chip(), file, desk, status_of(served))
 }
 
 /// Serves the chip of this part over a link as [`serve_chip`] does. The chip is loaded from this file, or fresh if

@@ -1,5 +1,5 @@
 -- A wire as a link: what passes over it is what the fates say.
-use Rattle.std.specs.Prelude.{ℕ, List, [], ◌∷◌, ◌++◌, ◌≡◌, ◌≢◌, length, take, drop, ◌<◌, ◌≤◌, filter}
+use Rattle.std.specs.Prelude.{ℕ, List, [], ◌∷◌, ◌++◌, ◌≡◌, ◌≢◌, length, take, drop, ◌<◌, filter}
 use Rattle.stk_frame.specs.Cut.{frames, is_frame}
 use Rattle.stk_frame.specs.Reader.{MayHold, Fed}
 use Rattle.stk_host.specs.declared.link.Item.TheVariants.{Silence}
@@ -63,12 +63,6 @@ pub record PassesBytes (old new : WiredState) (used : List ℕ) : Type 0 where
   pub waits : new.waits ≡ old.waits ++ tape_of device found old.wire
   pub wire : new.wire ≡ wire_after device found old.wire
   pub transcript : new.transcript ≡ old.transcript ++ Sent used ∷ []
-
--- Passes the first `count` bytes, up to the end of the first frame.
-pub record PassesSome (bytes : List ℕ) (old new : WiredState) (count : ℕ) : Type 0 where
-  pub within : count ≤ length bytes
-  pub progress : 0 < length bytes → 0 < count
-  pub passes : PassesBytes old new (take count bytes)
 
 -- These items are received, and wait no more.
 abbrev pub after_hearing : Tape → WiredState → WiredState

@@ -1,14 +1,14 @@
 //! What a frame brings, and the replies that wait: bytes, and a `None` for each timeout.
-ghost use Rattle.std.specs.Prelude.{◌≡◌, ◌+◌, ◌*◌, ◌<◌, ◌≤◌, ◌++◌, ◌∷◌, [], length, take};
+ghost use Rattle.std.specs.Prelude.{◌≡◌, ◌+◌, ◌*◌, ◌<◌, ◌≤◌, ◌++◌, [], length, take, if◌then◌else◌};
 ghost use Rattle.stk_emu.specs.declared.arrival.TheConstants.{ROOM};
 ghost use Rattle.stk_frame.specs.declared.protocol.TheConstants.{LARGEST_FRAME};
 ghost use Rattle.stk_host.specs.Tape.{on_tape};
 ghost use Rattle.stk_emu.specs.Waiting.{tape_in, BeginsSilent};
-ghost use Rattle.stk_emu.specs.Lawful.{none_late, behind_late, waiting};
-ghost use Rattle.stk_host.specs.declared.link.Item.TheVariants as item;
+ghost use Rattle.stk_emu.specs.Lawful.{none_late, behind_late};
+ghost use Rattle.stk_emu.specs.Wire.{let_go, is_held};
 
 use crate::emulator::Frame;
-use crate::fate::LARGEST_NOISE;
+use crate::fate::{Fate, LARGEST_NOISE};
 use arrayvec::ArrayVec;
 use std::marker::Model;
 use std::mem;
@@ -27,14 +27,6 @@ pub(crate) fn put_bytes(arrival: &mut Arrival, bytes: &[u8])
     for byte in bytes {
         arrival.push(Some(*byte));
     }
-}
-
-/// Appends a timeout.
-pub(crate) fn put_silence(arrival: &mut Arrival)
-    requires { length arrival.old.items + 1 ≤ ROOM }
-    ensures { tape_in arrival.new.items ≡ tape_in arrival.old.items ++ item.Silence ∷ [] }
-{
-    arrival.push(None);
 }
 
 /// Copies the leading bytes of the items into the buffer, and returns how many.
@@ -86,14 +78,6 @@ impl Late {
         }
     }
 
-    pub fn clear(&mut self)
-        ensures { self.new ≡ none_late }
-    {
-        self.first.clear();
-        self.second.clear();
-        self.third.clear();
-    }
-
     /// Adds a reply; a fourth one drops the first.
     pub fn hold(&mut self, answered: Frame)
         ensures { self.new ≡ behind_late self.old answered.items }
@@ -102,14 +86,21 @@ impl Late {
         self.first = mem::replace(&mut self.second, third);
     }
 
-    /// Puts all that wait into `out`, which is empty.
-    pub fn put(&self, out: &mut Arrival)
+    /// Puts all that wait into the empty `out`, unless this fate of a frame lets them go on waiting.
+    pub fn bring(&mut self, fate: &Fate, out: &mut Arrival)
         requires { out.old.items ≡ [] }
-        ensures items { tape_in out.new.items ≡ on_tape (waiting self.now) }
+        ensures items { tape_in out.new.items ≡ on_tape (let_go fate.now self.old) }
         ensures len { length out.new.items ≤ 3 * LARGEST_FRAME }
+        ensures late { self.new ≡ (if is_held fate.now then self.old else none_late) }
     {
+        if matches!(fate, Fate::HeldAnswer) {
+            return;
+        }
         put_bytes(out, self.first.as_slice());
         put_bytes(out, self.second.as_slice());
         put_bytes(out, self.third.as_slice());
+        self.first.clear();
+        self.second.clear();
+        self.third.clear();
     }
 }

@@ -34,7 +34,6 @@ pub(crate) fn read(chip: &mut Chip, command: u8, address: u32, count: u16, out: 
     requires room { length out.old.items + count ≤ LARGEST_BODY }
     ensures bytes { out.new.items ≡ out.old.items ++ (eeprom_looks command address 0 count chip.old).0 }
     ensures chip { chip.new ≡ (eeprom_looks command address 0 count chip.old).1 }
-    ensures len { length out.new.items ≡ length out.old.items + count }
 {
     for place in 0..count {
         let at = byte_at(address, place);

@@ -1,10 +1,10 @@
 //! The programmer behind its frames.
 
-ghost use Rattle.std.specs.Prelude.{◌≡◌, ◌<◌, ◌≤◌, ◌++◌, ◌∷◌, [], ℕ, ◌+◌, List, length, take, vec_len, vec_capacity, IfOk, OnOk, OnErr};
+ghost use Rattle.std.specs.Prelude.{◌≡◌, ◌<◌, ◌≤◌, ◌++◌, [], ℕ, ◌+◌, List, length, take, OnOk, OnErr};
 ghost use Rattle.stk_frame.specs.Frame.{frame};
-ghost use Rattle.stk_frame.specs.Cut.{is_good, seq_of, body_of};
+ghost use Rattle.stk_frame.specs.Cut.{is_good, seq_of};
 ghost use Rattle.stk_frame.specs.Reader.{HoldsFrame, TellsEvent, frames_of_event};
-ghost use Rattle.stk_emu.specs.Programmer.{Programmer as ProgrammerState, fresh_programmer, obey};
+ghost use Rattle.stk_emu.specs.Programmer.{Programmer as ProgrammerState, fresh_programmer};
 ghost use Rattle.stk_emu.specs.Device.{device, refusal, answer_frame, after_frame, answers, after_frames};
 ghost use Rattle.stk_emu.specs.Emulator.{Answers, AppendsAnswers, AnswersPrefix, IsFed, emulate};
 
@@ -30,17 +30,6 @@ pub(crate) fn refuse(reader: &FrameReader, out: &mut Frame)
     put_frame(reader.seq(), &REFUSAL, out);
 }
 
-/// Obeys the frame that the reader holds, and makes `out` the reply.
-fn obey_frame(reader: &FrameReader, programmer: &mut Programmer, out: &mut Frame)
-    requires { HoldsFrame reader.now }
-    ensures answer { out.new.items ≡ frame (seq_of reader.now) (obey (body_of reader.now) programmer.old).0 }
-    ensures after { programmer.new ≡ (obey (body_of reader.now) programmer.old).1 }
-{
-    let mut body = Body::new();
-    programmer.obey(reader.body(), &mut body);
-    put_frame(reader.seq(), body.as_slice(), out);
-}
-
 /// Replies to the frame that the reader holds: obeys it if it is good, and refuses it otherwise.
 pub(crate) fn answer(reader: &FrameReader, good: bool, programmer: &mut Programmer, out: &mut Frame)
     requires holds { HoldsFrame reader.now }
@@ -48,11 +37,12 @@ pub(crate) fn answer(reader: &FrameReader, good: bool, programmer: &mut Programm
     ensures answer { out.new.items ≡ answer_frame device reader.now programmer.old }
     ensures after { programmer.new ≡ after_frame device reader.now programmer.old }
 {
-    if good {
-        obey_frame(reader, programmer, out);
-    } else {
-        refuse(reader, out);
+    if !good {
+        return refuse(reader, out);
     }
+    let mut body = Body::new();
+    programmer.obey(reader.body(), &mut body);
+    put_frame(reader.seq(), body.as_slice(), out);
 }
 
 /// Replies to the frame that the event reports; if it reports none, `out` becomes empty.
@@ -66,13 +56,6 @@ fn answer_event(reader: &FrameReader, event: Event, programmer: &mut Programmer,
         Event::Frame => answer(reader, true, programmer, out),
         Event::Spoiled => answer(reader, false, programmer, out),
     }
-}
-
-fn append(answers: &mut Vec<u8>, bytes: &[u8])
-    requires { vec_len answers.old + length bytes.now ≤ vec_capacity answers.old }
-    ensures { answers.new.items ≡ answers.old.items ++ bytes.now }
-{
-    let _there_is_room = answers.extend_from_slice(bytes);
 }
 
 /// A programmer with its part: takes the bytes of a link and replies to each frame.
@@ -174,23 +157,6 @@ impl Emulator {
         used
     }
 
-    /// Uses bytes up to the end of the first frame, or all of them, appends the reply, and returns how many it used.
-    /// If allocation fails, nothing changes.
-    fn answer_next(&mut self, bytes: &[u8], answers: &mut Vec<u8>) -> Result<usize, AllocError>
-        ensures within { IfOk result (λ n. n ≤ length bytes.now) }
-        ensures progress { IfOk result (λ n. 0 < length bytes.now → 0 < n) }
-        ensures appends { IfOk result (λ n. AppendsAnswers self.old (take n bytes.now) self.new
-            answers.old.items answers.new.items) }
-        ensures same { OnErr result (self.new ≡ self.old) }
-        ensures kept { OnErr result (answers.new.items ≡ answers.old.items) }
-    {
-        answers.reserve(LARGEST_FRAME)?;
-        let mut answer = Frame::new();
-        let used = self.feed(bytes, &mut answer);
-        append(answers, answer.as_slice());
-        Ok(used)
-    }
-
     /// Uses all of these bytes, and appends the replies to their frames to `answers`, in order.
     ///
     /// # Errors
@@ -220,7 +186,10 @@ impl Emulator {
     {
         let mut used = 0;
         while used < bytes.len() {
-            used += self.answer_next(&bytes[used..], answers)?;
+            answers.reserve(LARGEST_FRAME)?;
+            let mut answer = Frame::new();
+            used += self.feed(&bytes[used..], &mut answer);
+            let _there_is_room = answers.extend_from_slice(answer.as_slice());
         }
         Ok(())
     }

@@ -1,7 +1,5 @@
 //! What can happen to a frame and its reply, and noise on the wire.
-ghost use Rattle.std.specs.Prelude.{◌≡◌, ◌≢◌, ◌↔◌, [], ◌∷◌, IsTrue, true, false, filter};
-ghost use Rattle.stk_frame.specs.Cut.{cut, is_good};
-ghost use Rattle.stk_frame.specs.Reader.{TellsEvent, frames_of_event};
+ghost use Rattle.std.specs.Prelude.{◌↔◌, IsTrue, true, false};
 ghost use Rattle.stk_emu.specs.Lawful.{IsLawful};
 
 use stk_frame::{Event, FrameReader};
@@ -42,35 +40,6 @@ pub enum Fate {
 /// The most bytes of noise.
 pub(crate) const LARGEST_NOISE: usize = 2048;
 
-/// Returns whether the event reports a good frame.
-fn tells_of_good(reader: &FrameReader, event: Event) -> bool
-    requires { TellsEvent event reader.now }
-    ensures no { result ≡ false → filter is_good (frames_of_event event reader.now) ≡ [] }
-    ensures yes { result ≡ true → (frames_of_event event reader.now ≡ reader.now ∷ []) × (is_good reader.now ≡ true) }
-{
-    match event {
-        Event::Frame => true,
-        Event::More | Event::Spoiled => false,
-    }
-}
-
-/// Returns whether the noise has a good frame, cut from the left.
-fn has_good_frame(noise: &[u8]) -> bool
-    ensures none { result ≡ false → filter is_good (cut noise.now) ≡ [] }
-    ensures some { result ≡ true → filter is_good (cut noise.now) ≢ [] }
-{
-    let mut reader = FrameReader::new();
-    let mut at = 0;
-    while at < noise.len() {
-        let (used, event) = reader.feed(&noise[at..]);
-        if tells_of_good(&reader, event) {
-            return true;
-        }
-        at += used;
-    }
-    false
-}
-
 /// Returns whether noise can't be taken for a reply: it has at most 2,048 bytes and, cut from the left, no good
 /// frame.
 ///
@@ -84,5 +53,17 @@ fn has_good_frame(noise: &[u8]) -> bool
 pub fn noise_is_lawful(noise: &[u8]) -> bool
     ensures { IsTrue result ↔ IsLawful noise.now }
 {
-    noise.len() <= LARGEST_NOISE && !has_good_frame(noise)
+    if noise.len() > LARGEST_NOISE {
+        return false;
+    }
+    let mut reader = FrameReader::new();
+    let mut at = 0;
+    while at < noise.len() {
+        let (used, event) = reader.feed(&noise[at..]);
+        match event {
+            Event::Frame => return false,
+            _ => at += used,
+        }
+    }
+    true
 }

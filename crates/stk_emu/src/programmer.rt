@@ -1,9 +1,8 @@
 //! The programmer, and what each command does.
 
-ghost use Rattle.std.specs.Prelude.{◌≡◌, ◌<◌, ◌≤◌, ◌∷◌, [], ◌+◌, ◌%◌, ℕ, length, slice_index, if◌then◌else◌, false, true};
-ghost use Rattle.avr_part.specs.State.{spi_of};
-ghost use Rattle.stk_frame.specs.declared.protocol.TheConstants.{LARGEST_BODY, STATUS_CMD_FAILED, STATUS_CMD_UNKNOWN};
-ghost use Rattle.stk_emu.specs.Programmer.{fresh_programmer, restarted_programmer, sign_on, set_parameter, get_parameter, load_address, enter_response, enter_progmode, leave_progmode, chip_erase, program_byte, read_byte, program_flash, flash_fits, program_eeprom, eeprom_fits, is_paged, is_written, writes_page, is_polled, read_flash, read_eeprom, spi_multi, obey_command, is_known, not_read, obey, bit_31};
+ghost use Rattle.std.specs.Prelude.{◌≡◌, ◌<◌, ◌≤◌, ◌∷◌, [], ◌+◌, ◌%◌, length, false, true};
+ghost use Rattle.stk_frame.specs.declared.protocol.TheConstants.{LARGEST_BODY, STATUS_CMD_FAILED};
+ghost use Rattle.stk_emu.specs.Programmer.{fresh_programmer, restarted_programmer, set_parameter, get_parameter, load_address, enter_progmode, leave_progmode, chip_erase, program_byte, read_byte, program_flash, program_eeprom, is_paged, is_written, read_flash, read_eeprom, spi_multi, obey_command, is_known, obey, bit_31};
 
 use crate::flash::Block;
 use crate::{eeprom, flash};
@@ -80,42 +79,6 @@ fn is_known(code: u8) -> bool
     matches!(code, CMD_SIGN_ON..=CMD_GET_PARAMETER | CMD_LOAD_ADDRESS | CMD_ENTER_PROGMODE_ISP..=CMD_SPI_MULTI)
 }
 
-fn code_of(body: &[u8]) -> u8
-    ensures { result ≡ slice_index body.now 0 }
-{
-    match body {
-        [code, ..] => *code,
-        [] => 0,
-    }
-}
-
-fn status_of(code: u8) -> u8
-    ensures { result ≡ (if is_known code then STATUS_CMD_FAILED else STATUS_CMD_UNKNOWN) }
-{
-    if is_known(code) {
-        STATUS_CMD_FAILED
-    } else {
-        STATUS_CMD_UNKNOWN
-    }
-}
-
-/// Replies to a body that is no command.
-fn not_read(body: &[u8], out: &mut Body)
-    ensures { out.new.items ≡ slice_index body.now 0
-        ∷ (if is_known (slice_index body.now 0) then STATUS_CMD_FAILED else STATUS_CMD_UNKNOWN) ∷ [] }
-{
-    let code = code_of(body);
-    answer_with(out, &[code, status_of(code)]);
-}
-
-/// Returns whether the polled output byte has the wanted value; poll index 0 polls nothing.
-fn is_polled(fields: &EnterProgmode, bytes: [u8; 4]) -> bool
-    requires { fields.now.poll_index ≤ 4 }
-    ensures { result ≡ is_polled fields.now.poll_value fields.now.poll_index bytes }
-{
-    fields.poll_index == 0 || bytes[usize::from(fields.poll_index) - 1] == fields.poll_value
-}
-
 fn is_paged(fields: &ProgramBlock<'_>) -> bool
     ensures { result ≡ is_paged fields.now }
 {
@@ -126,29 +89,6 @@ fn is_written(fields: &ProgramBlock<'_>) -> bool
     ensures { result ≡ is_written fields.now }
 {
     fields.mode & MODE_WRITE != 0
-}
-
-fn writes_page(fields: &ProgramBlock<'_>) -> bool
-    ensures { result ≡ writes_page fields.now }
-{
-    is_paged(fields) && is_written(fields)
-}
-
-fn flash_fits(fields: &ProgramBlock<'_>) -> bool
-    ensures value { result ≡ flash_fits fields.now }
-    ensures few { result ≡ true → length fields.now.bytes < 65536 }
-{
-    fields.count != 0
-        && fields.count % 2 == 0
-        && usize::from(fields.count) == fields.bytes.bytes().len()
-        && is_paged(fields)
-}
-
-fn eeprom_fits(fields: &ProgramBlock<'_>) -> bool
-    ensures value { result ≡ eeprom_fits fields.now }
-    ensures few { result ≡ true → length fields.now.bytes < 65536 }
-{
-    fields.count != 0 && usize::from(fields.count) == fields.bytes.bytes().len()
 }
 
 impl Programmer {
@@ -225,7 +165,10 @@ impl Programmer {
             return fail(out, CMD_ENTER_PROGMODE_ISP);
         }
         let bytes = self.chip.spi(fields.instruction);
-        if !is_polled(fields, bytes) {
+        let index = fields.poll_index;
+        // Poll index 0 polls nothing.
+        let is_polled = index == 0 || bytes[usize::from(index) - 1] == fields.poll_value;
+        if !is_polled {
             return fail(out, CMD_ENTER_PROGMODE_ISP);
         }
         self.mode = true;
@@ -298,27 +241,41 @@ impl Programmer {
     fn program_flash(&mut self, fields: &ProgramBlock<'_>, out: &mut Body)
         ensures { (out.new.items, self.new) ≡ program_flash fields.now self.old }
     {
-        if !self.mode || !flash_fits(fields) {
+        let count = fields.count;
+        let bytes = fields.bytes.bytes();
+        if !self.mode
+            || count == 0
+            || count % 2 != 0
+            || usize::from(count) != bytes.len()
+            || !is_paged(fields)
+        {
             return fail(out, CMD_PROGRAM_FLASH_ISP);
         }
         let block = self.block(fields.cmd1);
-        flash::load_page(&mut self.chip, block, fields.bytes.bytes());
+        flash::load_page(&mut self.chip, block, bytes);
         let page = self.block(fields.cmd2);
         flash::write_page(&mut self.chip, page, is_written(fields));
-        self.move_on(fields.count / 2);
+        self.move_on(count / 2);
         answer_with(out, &[CMD_PROGRAM_FLASH_ISP, STATUS_CMD_OK]);
     }
 
     fn program_eeprom(&mut self, fields: &ProgramBlock<'_>, out: &mut Body)
         ensures { (out.new.items, self.new) ≡ program_eeprom fields.now self.old }
     {
-        if !self.mode || !eeprom_fits(fields) {
+        let count = fields.count;
+        let bytes = fields.bytes.bytes();
+        if !self.mode || count == 0 || usize::from(count) != bytes.len() {
             return fail(out, CMD_PROGRAM_EEPROM_ISP);
         }
         let address = self.address;
-        eeprom::load_bytes(&mut self.chip, fields.cmd1, address, fields.bytes.bytes());
-        eeprom::write_page(&mut self.chip, fields.cmd2, address, writes_page(fields));
-        self.move_on(fields.count);
+        eeprom::load_bytes(&mut self.chip, fields.cmd1, address, bytes);
+        eeprom::write_page(
+            &mut self.chip,
+            fields.cmd2,
+            address,
+            is_paged(fields) && is_written(fields),
+        );
+        self.move_on(count);
         answer_with(out, &[CMD_PROGRAM_EEPROM_ISP, STATUS_CMD_OK]);
     }
 
@@ -417,7 +374,15 @@ impl Programmer {
     {
         match Command::read(body) {
             Some(command) => self.obey_command(&command, out),
-            None => not_read(body, out),
+            None => {
+                let code = body.first().copied().unwrap_or(0);
+                let status = if is_known(code) {
+                    STATUS_CMD_FAILED
+                } else {
+                    STATUS_CMD_UNKNOWN
+                };
+                answer_with(out, &[code, status]);
+            }
         }
     }
 }

@@ -1,6 +1,6 @@
 //! Serial programming instructions for an address.
 
-ghost use Rattle.std.specs.Prelude.{◌≡◌, ◌<◌, ◌≤◌};
+ghost use Rattle.std.specs.Prelude.{◌≡◌, ◌<◌};
 ghost use Rattle.stk_emu.specs.Programmer.{bit_31, at_address, word_at, byte_address, for_half, extension, sent_to};
 
 use avr_part::Chip;
@@ -24,8 +24,7 @@ pub(crate) fn for_half(command: u8, place: u16) -> u8
 /// Returns the address of the word that holds the byte at `place`.
 pub(crate) fn word_at(address: u32, place: u16) -> u32
     requires { address < bit_31 }
-    ensures value { result ≡ word_at address place }
-    ensures small { result < bit_31 }
+    ensures { result ≡ word_at address place }
 {
     (address + u32::from(place / 2)) % EXTENDED_ADDRESS
 }
@@ -33,8 +32,7 @@ pub(crate) fn word_at(address: u32, place: u16) -> u32
 /// Returns the address of the byte at `place`.
 pub(crate) fn byte_at(address: u32, place: u16) -> u32
     requires { address < bit_31 }
-    ensures value { result ≡ byte_address address place }
-    ensures small { result < bit_31 }
+    ensures { result ≡ byte_address address place }
 {
     (address + u32::from(place)) % EXTENDED_ADDRESS
 }

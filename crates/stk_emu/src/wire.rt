@@ -1,18 +1,16 @@
 //! The wire, frame by frame.
-ghost use Rattle.std.specs.Prelude.{◌≡◌, ◌*◌, ◌≤◌, ◌++◌, [], length, if◌then◌else◌};
+ghost use Rattle.std.specs.Prelude.{◌≡◌, ◌++◌, []};
 ghost use Rattle.stk_frame.specs.Frame.{frame};
-ghost use Rattle.stk_frame.specs.declared.protocol.TheConstants.{LARGEST_FRAME};
 ghost use Rattle.stk_frame.specs.Cut.{is_good, seq_of};
 ghost use Rattle.stk_frame.specs.Reader.{HoldsFrame, TellsEvent, frames_of_event};
 ghost use Rattle.stk_host.specs.Tape.{on_tape};
 ghost use Rattle.stk_emu.specs.Programmer.{fresh_programmer, restarted_programmer};
 ghost use Rattle.stk_emu.specs.Device.{device, refusal, answer_frame, after_frame};
-ghost use Rattle.stk_emu.specs.Lawful.{none_late};
 ghost use Rattle.stk_emu.specs.Waiting.{tape_in};
-ghost use Rattle.stk_emu.specs.Wire.{AreLawful, IsLawfulFate, fresh_wire, arrival, wire_behind, tape_of, wire_after, is_held, let_go, late_of, turn_of, back};
+ghost use Rattle.stk_emu.specs.Wire.{AreLawful, IsLawfulFate, fresh_wire, tape_of, wire_after, let_go, late_of, turn_of, back};
 ghost use Rattle.stk_emu.specs.Turn.{after_turn};
 
-use crate::arrival::{Arrival, Late, put_bytes, put_silence};
+use crate::arrival::{Arrival, Late, put_bytes};
 use crate::emulator::{Frame, answer, refuse};
 use crate::fate::Fate;
 use crate::programmer::Programmer;
@@ -45,26 +43,6 @@ impl Model for Wire {
     ghost invariant = { λ wire. AreLawful wire.fates.items };
 }
 
-/// Returns whether the replies that wait go on waiting.
-fn is_held(fate: &Fate) -> bool
-    ensures { result ≡ is_held fate.now }
-{
-    matches!(fate, Fate::HeldAnswer)
-}
-
-/// Puts the replies that wait into the empty `out`, unless they go on waiting.
-fn bring_late(fate: &Fate, late: &mut Late, out: &mut Arrival)
-    requires { out.old.items ≡ [] }
-    ensures items { tape_in out.new.items ≡ on_tape (let_go fate.now late.old) }
-    ensures len { length out.new.items ≤ 3 * LARGEST_FRAME }
-    ensures late { late.new ≡ (if is_held fate.now then late.old else none_late) }
-{
-    if !is_held(fate) {
-        late.put(out);
-        late.clear();
-    }
-}
-
 /// Passes the frame that the reader holds, with this fate. `out` becomes what it brings, after the replies that wait.
 fn pass_with(
     fate: &Fate,
@@ -85,25 +63,25 @@ fn pass_with(
     ensures late { late.new ≡ late_of fate.now (answer_frame device reader.now programmer.old) late.old }
 {
     let mut frame = Frame::new();
-    bring_late(fate, late, out);
+    late.bring(fate, out);
     match fate {
         Fate::Good => {
             answer(reader, good, programmer, &mut frame);
             put_bytes(out, frame.as_slice());
         }
-        Fate::LostCommand => put_silence(out),
+        Fate::LostCommand => out.push(None),
         Fate::LostAnswer => {
             answer(reader, good, programmer, &mut frame);
-            put_silence(out);
+            out.push(None);
         }
         Fate::LateAnswer | Fate::HeldAnswer => {
             answer(reader, good, programmer, &mut frame);
             late.hold(frame);
-            put_silence(out);
+            out.push(None);
         }
         Fate::Reset => {
             programmer.restart();
-            put_silence(out);
+            out.push(None);
         }
         Fate::CommandRefused => {
             refuse(reader, &mut frame);
@@ -112,7 +90,7 @@ fn pass_with(
         Fate::AnswerSpoiled(noise) => {
             answer(reader, good, programmer, &mut frame);
             put_bytes(out, noise.as_slice());
-            put_silence(out);
+            out.push(None);
         }
     }
 }
@@ -144,40 +122,6 @@ impl Wire {
         programmer.into_chip()
     }
 
-    /// Passes the frame that the reader holds: `out` becomes what it brings.
-    fn pass(&mut self, reader: &FrameReader, good: bool, out: &mut Arrival)
-        requires empty { out.old.items ≡ [] }
-        requires holds { HoldsFrame reader.now }
-        requires tells { is_good reader.now ≡ good }
-        ensures items { tape_in out.new.items ≡ arrival device reader.now self.old }
-        ensures wire { self.new ≡ wire_behind device reader.now self.old }
-    {
-        match self.fates.get(self.next) {
-            Some(fate) => {
-                pass_with(
-                    fate,
-                    &mut self.programmer,
-                    &mut self.late,
-                    reader,
-                    good,
-                    out,
-                );
-                self.next += 1;
-            }
-            None => {
-                let fate = Fate::Good;
-                pass_with(
-                    &fate,
-                    &mut self.programmer,
-                    &mut self.late,
-                    reader,
-                    good,
-                    out,
-                );
-            }
-        }
-    }
-
     /// Passes the frame that the event reports, if it reports one.
     pub fn pass_event(&mut self, reader: &FrameReader, event: Event, out: &mut Arrival)
         requires empty { out.old.items ≡ [] }
@@ -185,10 +129,18 @@ impl Wire {
         ensures items { tape_in out.new.items ≡ tape_of device (frames_of_event event reader.now) self.old }
         ensures wire { self.new ≡ wire_after device (frames_of_event event reader.now) self.old }
     {
-        match event {
-            Event::More => {}
-            Event::Frame => self.pass(reader, true, out),
-            Event::Spoiled => self.pass(reader, false, out),
+        let good = match event {
+            Event::More => return,
+            Event::Frame => true,
+            Event::Spoiled => false,
+        };
+        let programmer = &mut self.programmer;
+        match self.fates.get(self.next) {
+            Some(fate) => {
+                pass_with(fate, programmer, &mut self.late, reader, good, out);
+                self.next += 1;
+            }
+            None => pass_with(&Fate::Good, programmer, &mut self.late, reader, good, out),
         }
     }
 }

@@ -1,16 +1,14 @@
 //! A wire as a link.
 
-ghost use Rattle.std.specs.Prelude.{◌≡◌, ◌+◌, ◌<◌, ◌≤◌, ◌++◌, ◌∷◌, [], ℕ, List, length, take, drop, vec_len, vec_capacity, Some, None, IfOk, OnOk, OnErr};
-ghost use Rattle.stk_emu.specs.declared.arrival.TheConstants.{ROOM};
-ghost use Rattle.stk_host.specs.declared.link.Item.TheVariants as item;
-ghost use Rattle.stk_host.specs.Tape.{Tape, on_tape, bytes_of};
+ghost use Rattle.std.specs.Prelude.{◌≡◌, ◌+◌, ◌<◌, ◌≤◌, [], length, take, drop, IfOk, OnOk, OnErr};
+ghost use Rattle.stk_host.specs.Tape.{bytes_of};
 ghost use Rattle.stk_host.specs.Transcript as transcript;
-ghost use Rattle.ghosts.specs.Failures.{HasRisen};
+ghost use Rattle.ghosts.specs.Failures.{counted};
 ghost use Rattle.ghosts.specs.Stays.{Stays};
-ghost use Rattle.stk_host.specs.Transcript.{Sends, Receives, FitsBuffer, items_of};
+ghost use Rattle.stk_host.specs.Transcript.{Sends, Receives, items_of};
 ghost use Rattle.stk_emu.specs.Programmer.{fresh_programmer};
 ghost use Rattle.stk_emu.specs.Wire.{AreLawful, fresh_wire};
-ghost use Rattle.stk_emu.specs.Wired.{Start, wired_link, ComesOf, IsFresh, PassesBytes, PassesSome, IsNext, after_hearing};
+ghost use Rattle.stk_emu.specs.Wired.{Start, wired_link, ComesOf, IsFresh, PassesBytes, IsNext, after_hearing};
 
 use crate::arrival::{Arrival, ROOM, take_bytes};
 use crate::fate::Fate;
@@ -60,31 +58,6 @@ impl Model for Wired {
     ghost view = { wired_state };
 
     ghost invariant = { IsSoundWired };
-}
-
-/// Makes room for all that a frame can bring, and for a piece of `count` bytes sent.
-fn make_room(waits: &mut Vec<Option<u8>>, log: &mut Log, count: usize) -> Result<(), AllocError>
-    ensures waits { waits.new.items ≡ waits.old.items }
-    ensures transcript { log.new.transcript ≡ log.old.transcript }
-    ensures wait_room { OnOk result (vec_len waits.new + ROOM ≤ vec_capacity waits.new) }
-    ensures piece_room { OnOk result (0 < log.new.piece_room) }
-    ensures byte_room { OnOk result (count ≤ log.new.byte_room) }
-{
-    waits.reserve(ROOM)?;
-    log.reserve(count)?;
-    Ok(())
-}
-
-/// Keeps what a frame brought and what was sent, for which there is room.
-fn keep(waits: &mut Vec<Option<u8>>, log: &mut Log, brought: &Arrival, sent: &[u8])
-    requires wait_room { vec_len waits.old + ROOM ≤ vec_capacity waits.old }
-    requires piece_room { 0 < log.old.piece_room }
-    requires byte_room { length sent.now ≤ log.old.byte_room }
-    ensures waits { waits.new.items ≡ waits.old.items ++ brought.now.items }
-    ensures transcript { log.new.transcript ≡ log.old.transcript ++ transcript.Sent sent.now ∷ [] }
-{
-    let _ = waits.extend_from_slice(brought.as_slice());
-    log.say(sent);
 }
 
 /// Takes `count` of the items that wait.
@@ -214,70 +187,12 @@ impl Wired {
         self.log.heard()
     }
 
-    fn fail(&mut self)
-        ensures same { self.new ≡ record self.old { failures = self.new.failures } }
-        ensures counted { HasRisen self.old.failures self.new.failures }
-        ensures kept { self.old.failures ≤ self.new.failures }
+    /// Counts a failure.
+    fn fail(&mut self) -> LinkFault
+        ensures { self.new ≡ record self.old { failures = counted (self.old.failures + 1) } }
     {
         self.failures = self.failures.saturating_add(1);
-    }
-
-    /// Passes bytes up to the end of the first frame, and returns how many. If allocation fails, nothing changes.
-    fn pass(&mut self, bytes: &[u8]) -> Result<usize, AllocError>
-        ensures passes { IfOk result (λ n. PassesSome bytes.now self.old self.new n) }
-        ensures failures { self.new.failures ≡ self.old.failures }
-        ensures comes { IfOk result (λ n. Stays ComesOf self.old self.new) }
-        ensures err { OnErr result (self.new ≡ self.old) }
-    {
-        make_room(&mut self.waits, &mut self.log, bytes.len())?;
-        let (used, event) = self.reader.feed(bytes);
-        self.brought.clear();
-        self.wire.pass_event(&self.reader, event, &mut self.brought);
-        keep(
-            &mut self.waits,
-            &mut self.log,
-            &self.brought,
-            &bytes[..used],
-        );
-        Ok(used)
-    }
-
-    /// Receives what waits first, or a timeout if nothing waits. If allocation fails, nothing changes.
-    fn listen(&mut self, buffer: &mut [u8]) -> Result<Heard, AllocError>
-        requires { 0 < length buffer.old }
-        ensures within { IfOk result (λ heard. FitsBuffer heard (length buffer.new)) }
-        ensures heard { IfOk result (λ heard. self.new ≡ after_hearing (items_of heard buffer.new) self.old) }
-        ensures next { IfOk result (λ heard. IsNext (items_of heard buffer.new) self.old.waits) }
-        ensures err { OnErr result (self.new ≡ self.old) }
-    {
-        let count = take_bytes(&self.waits[self.at..], buffer);
-        if count == 0 {
-            self.hear_silence()?;
-            return Ok(Heard::Silence);
-        }
-        self.hear(&buffer[..count])?;
-        Ok(Heard::Bytes(count))
-    }
-
-    /// Receives these bytes, which wait first.
-    fn hear(&mut self, bytes: &[u8]) -> Result<(), AllocError>
-        requires { 0 < length bytes.now }
-        ensures ok { OnOk result (self.new ≡ after_hearing (on_tape bytes.now) self.old) }
-        ensures err { OnErr result (self.new ≡ self.old) }
-    {
-        self.log.hear(Heard::Bytes(bytes.len()), bytes)?;
-        self.at = consume(&mut self.waits, self.at, bytes.len());
-        Ok(())
-    }
-
-    /// Receives a timeout, whether one waits or not.
-    fn hear_silence(&mut self) -> Result<(), AllocError>
-        ensures ok { OnOk result (self.new ≡ after_hearing (item.Silence ∷ []) self.old) }
-        ensures err { OnErr result (self.new ≡ self.old) }
-    {
-        self.log.hear(Heard::Silence, &[])?;
-        self.at = consume(&mut self.waits, self.at, 1);
-        Ok(())
+        LinkFault::Failed
     }
 }
 
@@ -297,13 +212,18 @@ impl Link for Wired {
         // What passes stays what the fates say.
         ensures comes { Stays ComesOf self.old self.new }
     {
-        match self.pass(bytes) {
-            Ok(used) => Ok(used),
-            Err(_) => {
-                self.fail();
-                Err(LinkFault::Failed)
-            }
-        }
+        let Ok(()) = self.waits.reserve(ROOM) else {
+            return Err(self.fail());
+        };
+        let Ok(()) = self.log.reserve(bytes.len()) else {
+            return Err(self.fail());
+        };
+        let (used, event) = self.reader.feed(bytes);
+        self.brought.clear();
+        self.wire.pass_event(&self.reader, event, &mut self.brought);
+        let _there_is_room = self.waits.extend_from_slice(self.brought.as_slice());
+        self.log.say(&bytes[..used]);
+        Ok(used)
     }
 
     fn recv(&mut self, buffer: &mut [u8]) -> Result<Heard, LinkFault>
@@ -315,13 +235,17 @@ impl Link for Wired {
         ensures same { OnErr result (self.new ≡ record self.old { failures = self.new.failures }) }
         ensures comes { Stays ComesOf self.old self.new }
     {
-        match self.listen(buffer) {
-            Ok(heard) => Ok(heard),
-            Err(_) => {
-                self.fail();
-                Err(LinkFault::Failed)
-            }
-        }
+        let count = take_bytes(&self.waits[self.at..], buffer);
+        let heard = if count == 0 {
+            Heard::Silence
+        } else {
+            Heard::Bytes(count)
+        };
+        let Ok(()) = self.log.hear(heard, &buffer[..count]) else {
+            return Err(self.fail());
+        };
+        self.at = consume(&mut self.waits, self.at, count.max(1));
+        Ok(heard)
     }
 }
 

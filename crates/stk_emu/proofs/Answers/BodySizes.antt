@@ -23,7 +23,7 @@ when b x y f g = search rules
 either : (b : Bool) (x y : Response) → IsBody x.0 → IsBody y.0 → IsBody (if b then x else y).0
 either b x y f g = when b x y (λ e. f) g
 
-flash_length : (wide : Bool) (cmd address i n : ℕ) (chip : ChipState)
+pub flash_length : (wide : Bool) (cmd address i n : ℕ) (chip : ChipState)
     → length (flash_looks wide cmd address i n chip).0 ≡ n
 flash_length wide cmd address i zero chip = refl
 flash_length wide cmd address i (suc n) chip =
@@ -33,7 +33,7 @@ flash_length wide cmd address i (suc n) chip =
           (sent_to (extension wide (word_at address i)) chip)).1,
     )
 
-eeprom_length : (cmd address i n : ℕ) (chip : ChipState) → length (eeprom_looks cmd address i n chip).0 ≡ n
+pub eeprom_length : (cmd address i n : ℕ) (chip : ChipState) → length (eeprom_looks cmd address i n chip).0 ≡ n
 eeprom_length cmd address i zero chip = refl
 eeprom_length cmd address i (suc n) chip =
     ap suc (eeprom_length cmd address (suc i) n (spi_of (at_address cmd (byte_address address i) 0) chip).1)

@@ -6,7 +6,9 @@ use Rattle.std.proofs.lemmas.List.{take-append-drop, take_all}
 use Rattle.std.proofs.Math.Seq.{take-add}
 use Rattle.std.proofs.lemmas.List.Elements.{filter-append}
 use Rattle.stk_frame.specs.Cut.{cut, is_frame, is_good}
-use Rattle.stk_frame.specs.Reader.{MayHold, Fed}
+use Rattle.stk_frame.specs.declared.reader.Event.{Event}
+use Rattle.stk_frame.specs.declared.reader.Event.TheVariants.{Frame}
+use Rattle.stk_frame.specs.Reader.{MayHold, Fed, TellsEvent, frames_of_event}
 use Rattle.stk_frame.proofs.Cuts.{cut_append}
 
 -- no frames, so no good ones
@@ -27,27 +29,29 @@ fed_rest : (old new noise : List ℕ) (at used : ℕ) (fs : List (List ℕ))
 fed_rest old new noise at used fs fed = search (rules, take_all, length-drop)
 
 -- no good frame was found
-pub noise_next : (old new noise : List ℕ) (at used : ℕ) (fs : List (List ℕ))
-    → Fed old (take used (take (length noise - at) (drop at noise))) new fs → filter is_good fs ≡ []
+pub noise_next : (old new noise : List ℕ) (at used : ℕ) (event : Event)
+    → Fed old (take used (take (length noise - at) (drop at noise))) new (frames_of_event event new)
+    → TellsEvent event new → event ≢ Frame
     → MayHold old (take at noise) → filter is_good (cut (take at noise)) ≡ []
     → MayHold new (take (at + used) noise) × (filter is_good (cut (take (at + used) noise)) ≡ [])
-noise_next old new noise at used fs part bad stands none =
+noise_next old new noise at used event part tells bad stands none =
+    let fs = frames_of_event event new in
     let fed = fed_rest old new noise at used fs part in
     rw (take-add at used noise) (
       fed.stands (take at noise) stands,
-      good_fed old (take used (drop at noise)) new fs (take at noise) fed stands none ∙ bad,
+      good_fed old (take used (drop at noise)) new fs (take at noise) fed stands none ∙ (search rules),
     )
 
 -- a good frame was found
-pub good_next : (old new noise : List ℕ) (at used : ℕ) (fs : List (List ℕ))
-    → Fed old (take used (take (length noise - at) (drop at noise))) new fs → (fs ≡ new ∷ []) × (is_good new ≡ true)
+pub good_next : (old new noise : List ℕ) (at used : ℕ)
+    → Fed old (take used (take (length noise - at) (drop at noise))) new (new ∷ []) → is_good new ≡ true
     → MayHold old (take at noise) → filter is_good (cut (take at noise)) ≡ []
     → filter is_good (cut noise) ≢ []
-good_next old new noise at used fs part good stands none e =
+good_next old new noise at used part good stands none e =
     let prefix = take at noise ++ take used (drop at noise) in
     let here : filter is_good (cut prefix) ≡ new ∷ [] =
-    good_fed old (take used (drop at noise)) new fs (take at noise) (fed_rest old new noise at used fs part) stands none
-    ∙ (ap (filter is_good) good.0 ∙ cond-true (is_good new) (new ∷ []) [] good.1) in
+    good_fed old _ new (new ∷ []) (take at noise) (fed_rest old new noise at used (new ∷ []) part) stands none
+    ∙ cond-true (is_good new) (new ∷ []) [] good in
     let all : prefix ++ drop (at + used) noise ≡ noise =
     ap (λ x. x ++ drop (at + used) noise) (sym (take-add at used noise)) ∙ take-append-drop (at + used) noise in
     search (rules, cut_append, filter-append)

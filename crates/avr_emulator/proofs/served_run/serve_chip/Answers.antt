@@ -19,6 +19,6 @@ returns-clause-serves g c =
       fails = c.answer_all-served.ensures.failed;
       told = c.tell_end.ensures.told;
       rises = c.tell_end.ensures.follows;
-      saved = rw c.chip.ensures at c.save_served.ensures.saved;
-      follows = c.save_served.ensures.follows;
+      saved = rw (c.chip.ensures, c.status_of.ensures) at c.save_after.ensures.saved;
+      follows = c.save_after.ensures.follows;
     }

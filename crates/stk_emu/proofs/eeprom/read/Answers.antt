@@ -15,7 +15,7 @@ loop-place-preserved c = record {
         obeyed =
             c.spi-bytes.ensures
             ∙ ap (λ x. spi_of x c.loop-place.chip)
-            (c.at_address.ensures ∙ ap (λ at. at_address c.args.command at 0) c.byte_at-at.ensures.value);
+            (c.at_address.ensures ∙ ap (λ at. at_address c.args.command at 0) c.byte_at-at.ensures);
         put = c.push.ensures.items;
       });
   len = rw (c.push.ensures.items, length-append) (omega (arith, c.loop-place.invariant.len));

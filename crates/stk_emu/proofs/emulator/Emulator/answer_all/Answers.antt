@@ -1,14 +1,18 @@
-use Rattle.std.proofs.Common.{rules, [], arith, take_all}
+use Rattle.std.proofs.Common.{rules, [], ◌≡◌, ◌++◌, arith, take_all}
 use Rattle.std.proofs.lemmas.Result.{err_from_is_err_and}
 use Rattle.stk_host.proofs.Transcripts.Sending.{behind, part_fits}
-use Rattle.stk_emu.proofs.Answers.Texts.{appends_none, appends_on, appends_prefix, appends_fed, appends_all}
+use Rattle.stk_emu.proofs.Answers.Texts.{appends_none, appends_one, appends_on, appends_prefix, appends_fed, appends_all}
 use Rattle.stk_emu.proofs.emulator.Emulator.answer_all.Goals as goal
 
 pub loop-used-init : goal.loop-used-init
 loop-used-init c = record { within = omega arith; appends = appends_none c.args.self.now c.args.answers.now.items }
 
 pub loop-used-preserved : goal.loop-used-preserved
-loop-used-preserved c = search (rules, behind, part_fits, appends_on)
+loop-used-preserved c =
+    let put : c.extend_from_slice-there_is_room.new.self.items
+    ≡ c.loop-used.answers.items ++ c.feed-used.new.out.items = search rules in
+    let one = appends_one _ _ _ c.feed-used.new.out.items c.loop-used.answers.items _ c.feed-used.ensures.one put in
+    search (rules, behind, part_fits, appends_on)
 
 pub returns-clause-appends : goal.returns-clause-appends
 returns-clause-appends c = search (rules, take_all)
@@ -19,9 +23,9 @@ returns-clause-fed c = λ p text f. appends_fed _ _ _ _ _ p text (returns-clause
 pub returns-clause-all : goal.returns-clause-all
 returns-clause-all c = λ p text f e. appends_all _ _ _ _ _ p text [] (returns-clause-appends c) f e
 
-pub returns-in_err-used-clause-prefix : goal.returns-in_err-used-clause-prefix
-returns-in_err-used-clause-prefix c =
+pub returns-in_err-reserve-clause-prefix : goal.returns-in_err-reserve-clause-prefix
+returns-in_err-reserve-clause-prefix c =
     let p = err_from_is_err_and c.from_residual.result c.from_residual.ensures.1 in
     rw p.1
-    (rw (c.in_err-used.ensures.same, c.in_err-used.ensures.kept)
+    (rw c.in_err-reserve.ensures.items
     (appends_prefix c.args.bytes.now c.loop-used.used _ _ _ _ c.loop-used.invariant.appends c.loop-used-test.true))

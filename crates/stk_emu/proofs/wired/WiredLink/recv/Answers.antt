@@ -1,9 +1,26 @@
-use Rattle.std.proofs.Common.{subst, sym}
+use Rattle.std.proofs.lemmas.Grind.{common_steps}
+use Rattle.std.proofs.Common.{rules, arith, subst, sym}
+use Rattle.std.proofs.Math.Seq.{take-length}
+use Rattle.std.proofs.lemmas.List.{length-map}
 use Rattle.stk_emu.specs.Wired.{ComesOf}
-use Rattle.stk_emu.proofs.Wires.Kept.{keeps_hearing}
+use Rattle.stk_emu.proofs.Wires.Waiting.{left_on}
+use Rattle.stk_emu.proofs.Wires.Kept.{heard_state, keeps_hearing}
 use Rattle.stk_emu.proofs.wired.WiredLink.recv.Goals as goal
+use Rattle.stk_emu.proofs.wired.WiredLink.recv.Goals.{then-count-eq0, else-count-eq0}
 
-pub returns-in-Ok-clause-comes : goal.returns-in-Ok-clause-comes
-returns-in-Ok-clause-comes c = λ start keeps.
-    subst (ComesOf start) (sym c.in-Ok.ensures.heard)
-    (keeps_hearing c.args.self.now _ start.programmer start.fates c.in-Ok.ensures.next keeps)
+pub returns-clause-heard : goal.returns-clause-heard
+returns-clause-heard c = elim c.if-count-eq0.branch [
+  | then-count-eq0 w ↦
+      let ok = rw w.heard-is at c.in-Ok.ensures.ok in rw w.heard-is (search (rules, left_on, heard_state))
+  | else-count-eq0 w ↦
+      let ok = rw w.heard-is at c.in-Ok.ensures.ok in
+      rw w.heard-is (search (rules, take-length, length-map, left_on, heard_state))
+]
+
+pub returns-clause-next : goal.returns-clause-next
+returns-clause-next c = grind (arith, common_steps)
+
+pub returns-clause-comes : goal.returns-clause-comes
+returns-clause-comes c = λ start keeps.
+    subst (ComesOf start) (sym (returns-clause-heard c))
+    (keeps_hearing c.args.self.now _ start.programmer start.fates (returns-clause-next c) keeps)

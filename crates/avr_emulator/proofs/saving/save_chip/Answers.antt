@@ -9,7 +9,7 @@ use Rattle.avr_desk.proofs.Lines.Told.{failure_told}
 use Rattle.avr_desk.specs.Lines.{not_written_line}
 use Rattle.avr_desk.specs.Said.{Tells}
 use Rattle.avr_emulator.specs.Saving.{Saves}
-use Rattle.avr_emulator.proofs.saving.save_bytes.Goals as goal
+use Rattle.avr_emulator.proofs.saving.save_chip.Goals as goal
 
 -- the file was not replaced, or that was tried
 not_replaced : (old mid new : DeskState) (file bytes : Bytes) (status : ℕ) (fault : DeskFault)
@@ -17,5 +17,5 @@ not_replaced : (old mid new : DeskState) (file bytes : Bytes) (status : ℕ) (fa
     → status ≡ 1 → Tells (released mid) new (not_written_line file) → Saves old new file bytes (Err status)
 not_replaced old mid new file bytes status fault only kept counts one told = search (rules, failure_told)
 
-pub returns-in-Err-clause-saves : goal.returns-in-Err-clause-saves
-returns-in-Err-clause-saves g c = search (rules, not_replaced)
+pub returns-clause-saves : goal.returns-clause-saves
+returns-clause-saves g c = search (rules, not_replaced)

@@ -2,7 +2,7 @@ use Rattle.std.proofs.Common.{◌≡◌, ◌≤◌, ◌-◌, [], length, take}
 use Rattle.std.specs.Prelude.{filter}
 use Rattle.stk_frame.specs.Cut.{cut, is_good}
 use Rattle.stk_frame.specs.Reader.{MayHold}
-use Rattle.stk_emu.proofs.fate.has_good_frame.Given as goal
+use Rattle.stk_emu.proofs.fate.noise_is_lawful.Given as goal
 
 abbrev pub invariant-loop-at : goal.invariant-loop-at
 invariant-loop-at l = record {

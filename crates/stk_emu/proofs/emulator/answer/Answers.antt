@@ -1,7 +1,7 @@
 use Rattle.std.proofs.Common.{◌≡◌, ap, ◌∙◌}
 use Rattle.stk_emu.specs.Programmer.{obey}
 use Rattle.stk_emu.proofs.Answers.BodySizes.{obey_body}
-use Rattle.stk_emu.proofs.emulator.obey_frame.Goals as goal
+use Rattle.stk_emu.proofs.emulator.answer.Goals as goal
 
 pub put_frame-requires-clause-some : goal.put_frame-requires-clause-some
 put_frame-requires-clause-some c =

@@ -1,6 +1,6 @@
 use Rattle.std.proofs.Common.{rules}
 use Rattle.stk_emu.proofs.Wires.Waiting.{three_put}
-use Rattle.stk_emu.proofs.arrival.Late.put.Goals as goal
+use Rattle.stk_emu.proofs.arrival.Late.bring.Goals as goal
 
 pub returns-clause-items : goal.returns-clause-items
 returns-clause-items c = search (rules, three_put)

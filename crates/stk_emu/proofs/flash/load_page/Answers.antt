@@ -1,0 +1,24 @@
+use Rattle.std.proofs.Common.{◌≡◌, ◌<◌, ◌∙◌, length, arith}
+use Rattle.std.proofs.lemmas.Bool.Decides.{nat_tests}
+use Rattle.stk_emu.proofs.Memories.Blocks.{flash_load, flash_sent}
+use Rattle.stk_emu.proofs.Memories.BlocksAtOnce.{block_is_loads}
+use Rattle.stk_emu.proofs.flash.load_page.Goals as goal
+
+pub loop-i-preserved : goal.loop-i-preserved
+loop-i-preserved c =
+    let b = c.args.block in
+    flash_load b.wide b.command b.address c.loop-i.i c.args.bytes.now c.spi.result c.loop-i.chip
+    c.spi.new.self _ (omega arith) c.loop-i.invariant
+    (c.spi.ensures
+    ∙ flash_sent b.wide b.command b.address c.loop-i.i c.word_at-word.result c.for_half.result _
+    c.at_address.result c.loop-i.chip c.extend-in-loop-i.new.chip c.word_at-word.ensures c.for_half.ensures
+    c.at_address.ensures c.extend-in-loop-i.ensures)
+
+pub returns-then-load_block : goal.returns-then-load_block
+returns-then-load_block c =
+    let b = c.args.block in
+    let is : b.command ≡ 0x40 = grind (arith, nat_tests, c.if-block-eq-LOAD.true) in
+    let some : 0 < length c.args.bytes.now = grind (arith, nat_tests, c.is_empty.ensures, c.if-not-is_empty.true) in
+    block_is_loads b.wide b.command b.address c.word_at-last.result c.args.bytes.now c.args.chip.now
+    c.load_block.new.self c.extend.new.chip c.load_block.result is some c.word_at-last.ensures c.load_block.ensures
+    c.if-load_block.true c.extend.ensures

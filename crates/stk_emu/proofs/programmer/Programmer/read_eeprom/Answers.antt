@@ -1,0 +1,6 @@
+use Rattle.std.proofs.Common.{rules, length-append}
+use Rattle.stk_emu.proofs.Answers.BodySizes.{eeprom_length}
+use Rattle.stk_emu.proofs.programmer.Programmer.read_eeprom.Goals as goal
+
+pub push-requires : goal.push-requires
+push-requires c = search (rules, length-append, eeprom_length)
