@@ -4,7 +4,6 @@ use Rattle.std.proofs.lemmas.List.{append_cancel_left, length-append}
 use Rattle.avr_desk.specs.Places.{IsApart, IsHolding, IsNewName, Lasts, StandsFor, Still, Whole}
 use Rattle.avr_desk.specs.Record.{Bytes}
 use Rattle.avr_desk.specs.declared.replacing.Held.{Held}
-use Rattle.ghosts.specs.Stays.{Stays}
 
 module _ {S : Type 0} {locks : S → Bytes → Bytes → Type 0} {left_since : S → ℕ → Bytes → Option Bytes → Type 0}
     {moment : S → ℕ} where
@@ -24,6 +23,16 @@ module _ {S : Type 0} {locks : S → Bytes → Bytes → Type 0} {left_since : S
       → Lasts moment left_since name bytes a → Lasts moment left_since name bytes b
   still_lasts s bytes was = λ found h. was found (s.left found h)
 
+  -- three calls on a new file, and a look whether it has its name
+  pub filled : {a b c d e : S} → ((name by : Bytes) → Still locks left_since moment name by a b)
+      → ((name by : Bytes) → Still locks left_since moment name by b c)
+      → ((name by : Bytes) → Still locks left_since moment name by c d)
+      → ((name by : Bytes) → Still locks left_since moment name by d e) → (name by bytes : Bytes)
+      (first : ℕ × Option Bytes) → Whole locks left_since name by bytes first a
+      → Whole locks left_since name by bytes first e
+  filled p q r s name by bytes first was =
+      still_whole (still_on (still_on (still_on (p name by) (q name by)) (r name by)) (s name by)) bytes first was
+
 longer : (name more : Bytes) (first : ℕ) → name ≡ name ++ (first ∷ more) → ⊥
 longer name more first e = search (rules, length-append name (first ∷ more))
 
@@ -42,6 +51,16 @@ on_ok r p f = search rules
 
 module _ {S : Type 0} {locks : S → Bytes → Bytes → Type 0} {left_since : S → ℕ → Bytes → Option Bytes → Type 0}
     {moment : S → ℕ} where
+  -- what was left under a new name was removed, and a new file made there
+  pub made_beside : (target by new removed own : Bytes) {a b c d : S} → Still locks left_since moment target by a b
+      → IsNewName target new → StandsFor target by → removed ≡ new → own ≡ new
+      → ((name by : Bytes) → IsApart removed name by → Still locks left_since moment name by b c)
+      → ((name by : Bytes) → IsApart own name by → Still locks left_since moment name by c d)
+      → Still locks left_since moment target by a d
+  made_beside target by new removed own before is stands first second gone made =
+      let apart : IsApart new target by = new_apart target by new is stands in
+      still_on (still_on before (gone target by (search (rules, apart)))) (made target by (search (rules, apart)))
+
   -- a new file was made beside the target, whose name is `shown`
   pub made_on : (target shown by : Bytes) {a b : S} → shown ≡ target → StandsFor target by
       → ((by : Bytes) → StandsFor shown by → Still locks left_since moment shown by a b)
@@ -55,17 +74,6 @@ module _ {S : Type 0} {locks : S → Bytes → Bytes → Type 0} {left_since : S
   gone_on target shown by new own e same is stands gone =
       gone target by (subst (λ path. IsApart path target by) (sym same)
       (new_apart target by new (subst (λ name. IsNewName name new) e is) stands))
-
-module _ {S : Type 0} {locks : S → Bytes → Bytes → Type 0} {left_since : S → ℕ → Bytes → Option Bytes → Type 0} where
-  pub whole_at : (target shown by bytes : Bytes) {a b : S} → shown ≡ target
-      → Stays (Whole locks left_since shown by bytes) a b → Stays (Whole locks left_since target by bytes) a b
-  whole_at target shown by bytes {a = a} {b = b} e stays =
-      subst (λ name. Stays (Whole locks left_since name by bytes) a b) e stays
-
-  pub lasts_at : (moment : S → ℕ) (target shown by bytes : Bytes) (first : ℕ × Option Bytes) {a b : S} → shown ≡ target
-      → (Whole locks left_since shown by bytes first a → Lasts moment left_since shown bytes b)
-      → Whole locks left_since target by bytes first a → Lasts moment left_since target bytes b
-  lasts_at moment target shown by bytes first {a = a} {b = b} e lasts = search rules
 
 module _ {S L N : Type 0} {locks : S → Bytes → Bytes → Type 0} {was_at : L → Bytes → Type 0} where
   pub holding_on : {left_since : S → ℕ → Bytes → Option Bytes → Type 0} {moment : S → ℕ} {a b : S} (held : Held L N)

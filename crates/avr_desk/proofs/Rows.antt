@@ -82,7 +82,7 @@ output_of r = r.output
 
 pub no_end_before_a_fault : SendsTaken Output whole (showing nothing_kept 0 0)
     (showing (after_out end nothing_kept) 1 0) (Err Failed) → ⊥
-no_end_before_a_fault sent = (search rules)
+no_end_before_a_fault sent = search rules
 
 -- a line cut short though only a file failed
 pub no_line_cut_by_a_file : TellsLine whole [] (silent 0) (silent 1) → ⊥
@@ -97,13 +97,13 @@ pub no_message_in_the_output : SendsTaken Messages byte (showing nothing_kept 0 
 no_message_in_the_output sent = let e : byte ≡ [] = ap output_of sent in absurd (cc)
 
 pub no_other_bytes : AppendsPrefix (Some []) (Some end) whole → ⊥
-no_other_bytes (prefix, (back, is), took) = (search (rules, nat_tests))
+no_other_bytes (prefix, (back, is), took) = search (rules, nat_tests)
 
 -- a planned failure at a call that isn't due
 abbrev sound : Failing ℕ
 sound = record { inner = 0; due = 0; planned = 0; unsaid = 0 }
 
-pub no_plan_behind_success : FailsWhenDue File (Unit {0}) sound (record sound { planned = 1 }) done → ⊥
+pub no_plan_behind_success : FailsWhenDue File silent sound (record sound { planned = 1 }) (λ a b r. Unit {0}) done → ⊥
 no_plan_behind_success fails = let e : 1 ≡ 0 = fails.planned in omega (arith, e)
 
 -- and one at a file that is due, and is counted as unreported
@@ -113,7 +113,7 @@ failing = record { inner = 0; due = 1; planned = 0; unsaid = 0 }
 abbrev failed_unsaid : Failing ℕ
 failed_unsaid = record { inner = 0; due = 0; planned = 1; unsaid = 1 }
 
-pub no_file_is_unsaid_by_plan : FailsWhenDue File (Unit {0}) failing failed_unsaid failed → ⊥
+pub no_file_is_unsaid_by_plan : FailsWhenDue File silent failing failed_unsaid (λ a b r. Unit {0}) failed → ⊥
 no_file_is_unsaid_by_plan fails = let e : 1 ≡ 0 = fails.unsaid in omega (arith, e)
 
 -- ---- openings of a desk in memory that no file gives

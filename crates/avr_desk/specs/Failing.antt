@@ -16,12 +16,16 @@ pub record Failing (D : Type 0) : Type 0 where
   pub unsaid : ℕ
 
 -- what it shows: the inner desk's record, and its counts with the planned ones, each up to its end
-abbrev pub failing_state : {D : Type 0} → DeskState → Failing D → DeskState
-failing_state inner d = record {
-  kept = inner.kept;
-  failures = counted (inner.failures + d.planned);
-  unsaid = counted (inner.unsaid + d.unsaid);
+abbrev pub failing : {D : Type 0} → (D → DeskState) → Failing D → DeskState
+failing view d = record {
+  kept = (view d.inner).kept;
+  failures = counted ((view d.inner).failures + d.planned);
+  unsaid = counted ((view d.inner).unsaid + d.unsaid);
 }
+
+-- it comes of what its inner desk comes of
+abbrev pub inner_comes_of : {D Start : Type 0} → (Start → D → Type 0) → Start → Failing D → Type 0
+inner_comes_of comes_of start d = comes_of start d.inner
 
 -- a count of planned failures after the next call
 abbrev pub count_after : {D : Type 0} → Failing D → ℕ → ℕ
@@ -34,10 +38,10 @@ unsaid_after stream d = d.unsaid
 
 -- The due call for this stream fails, reaches nothing and is counted as planned. The inner desk takes any other call,
 -- and its counts hold.
-pub record FailsWhenDue {D T : Type 0} (stream : Stream) (PassedOn : Type 0) (old new : Failing D)
-    (r : Result T DeskFault) : Type 0 where
+pub record FailsWhenDue {D T : Type 0} (stream : Stream) (view : D → DeskState) (old new : Failing D)
+    (PassedOn : DeskState → DeskState → Result T DeskFault → Type 0) (r : Result T DeskFault) : Type 0 where
   pub due : old.due ≡ 1 → (r ≡ Err Failed) × (new.inner ≡ old.inner)
-  pub passed_on : old.due ≢ 1 → PassedOn
+  pub passed_on : old.due ≢ 1 → PassedOn (view old.inner) (view new.inner) r
   pub counted_down : new.due ≡ old.due - 1
   pub planned : new.planned ≡ count_after old old.planned
   pub unsaid : new.unsaid ≡ unsaid_after stream old

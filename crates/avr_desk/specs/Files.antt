@@ -30,13 +30,6 @@ ReadsFile name old new (Err Absent) = Passes (with_absent name) old new
 ReadsFile name old new (Err NotOpened) = new.kept ≡ old.kept
 ReadsFile name old new (Err fault) = (bytes : Bytes) × Passes (with_read name bytes false) old new
 
--- the same of an open file
-abbrev pub ReadsOpen : DeskState → DeskState → Result Contents FileFault → Type 0
-ReadsOpen old new (Ok c) = Passes (after_reading c.bytes c.ended) old new
-ReadsOpen old new (Err Absent) = ⊥
-ReadsOpen old new (Err NotOpened) = ⊥
-ReadsOpen old new (Err fault) = (bytes : Bytes) × Passes (after_reading bytes false) old new
-
 -- How reading a file breaks off: the same faults; if allocation failed, it perhaps gave all bytes.
 abbrev pub FileBreaks : Bytes → DeskState → DeskState → FileFault → Type 0
 FileBreaks name old new Absent = Passes (with_absent name) old new
@@ -57,9 +50,8 @@ IsWhole limit c =
 
 -- the counts of failures after a fault; a failed allocation is no failure of the desk
 abbrev pub FaultIsCounted : DeskState → DeskState → Result Contents FileFault → Type 0
-FaultIsCounted old new (Err NotOpened) = HasFailedAt File old new
-FaultIsCounted old new (Err NotRead) = HasFailedAt File old new
-FaultIsCounted old new r = HasSameCounts old new
+FaultIsCounted old new (Ok c) = HasSameCounts old new
+FaultIsCounted old new (Err fault) = IsCounted old new fault
 
 -- the counts never fall, and show whether the desk failed
 abbrev pub FaultCounts : DeskState → DeskState → Result Contents FileFault → Type 0

@@ -82,8 +82,5 @@ file_fault_line file fault = error (file_pieces file fault)
 abbrev pub too_long_line : Bytes → ℕ → Bytes
 too_long_line file limit = error (too_long_pieces file limit)
 
-abbrev pub not_created_line : Bytes → Bytes
-not_created_line file = error (not_created_pieces file)
-
 abbrev pub not_written_line : Bytes → Bytes
 not_written_line file = error (not_written_pieces file)

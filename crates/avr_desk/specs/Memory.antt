@@ -18,6 +18,10 @@ pub record MemDeskState : Type 0 where
 abbrev pub memory_state : MemDeskState → DeskState
 memory_state m = showing m.kept m.failures m.unsaid
 
+-- the first desk with this record and the failures of the second
+abbrev pub updated : Record → MemDeskState → MemDeskState → MemDeskState
+updated kept old new = record old { kept = kept; failures = new.failures }
+
 -- what was there to begin with: the standard input, and files
 pub record Stock : Type 0 where
   pub input : Bytes

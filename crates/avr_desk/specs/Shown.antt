@@ -35,6 +35,13 @@ pub record Shown (S F H I O E : Type 0) : Type 0 where
 abbrev pub shown_state : {S F H I O E : Type 0} → Shown S F H I O E → DeskState
 shown_state d = showing d.kept d.failures d.unsaid
 
+-- the first desk with the failures, the last error and the record of the second; and with what that has open
+abbrev pub logged : {S F H I O E : Type 0} → Shown S F H I O E → Shown S F H I O E → Shown S F H I O E
+logged old new = record old { failures = new.failures; last_error = new.last_error; kept = new.kept }
+
+abbrev pub moved : {S F H I O E : Type 0} → Shown S F H I O E → Shown S F H I O E → Shown S F H I O E
+moved old new = record (logged old new) { opened = new.opened }
+
 -- whether writes to the file go to the output
 abbrev pub to_output : {S F H I O E : Type 0} → Shown S F H I O E → Bool
 to_output d = is_output d.opened

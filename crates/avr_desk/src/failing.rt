@@ -1,11 +1,10 @@
 //! A desk that fails by plan, for tests of its callers.
-ghost use Rattle.std.specs.Prelude.{◌≡◌, ◌≤◌, ◌-◌, ◌==◌, length, IfOk, IfErr, MatchBool};
-ghost use Rattle.avr_desk.specs.Failing.{FailsWhenDue, count_after, failing_state};
+ghost use Rattle.std.specs.Prelude.{◌≡◌, ◌≤◌, ◌-◌, ◌==◌, length, IfOk};
+ghost use Rattle.avr_desk.specs.Failing.{FailsWhenDue, count_after, failing, inner_comes_of};
 ghost use Rattle.avr_desk.specs.Record.{Passes, after_open, after_create, after_hold, after_read, Replaces, released, HasOpen, is_to_read, is_to_write};
-ghost use Rattle.avr_desk.specs.Fault.{Counts, WriteCounts};
+ghost use Rattle.avr_desk.specs.Fault.{Counts, WriteCounts, IsCall};
 ghost use Rattle.avr_desk.specs.Stream.{SendsTaken};
 ghost use Rattle.avr_desk.specs.declared.stream.Stream.TheVariants.{File, Output, Messages};
-ghost use Rattle.ghosts.specs.Failures.{HasRisen};
 ghost use Rattle.ghosts.specs.Stays.{Stays};
 
 use crate::desk::{ChipDesk, Desk, DeskFault};
@@ -51,12 +50,9 @@ impl<D> FailingDesk<D> {
     /// Counts a call, and returns whether it is the one that fails.
     fn is_due(&mut self) -> bool
         ensures due { result ≡ (self.old.due == 1) }
-        ensures same { self.new ≡ record self.old {
-          due = self.old.due - 1;
-          planned = count_after self.old self.old.planned;
-        } }
-        ensures counts { MatchBool result ((self.old.planned ≤ self.new.planned)
-            × HasRisen self.old.planned self.new.planned) (self.new.planned ≡ self.old.planned) }
+        ensures same { self.new ≡ record self.old { due = self.old.due - 1; planned = self.new.planned } }
+        ensures planned { self.new.planned ≡ count_after self.old self.old.planned }
+        ensures rises { self.old.planned ≤ self.new.planned }
     {
         let due = self.due == 1;
         self.due = self.due.saturating_sub(1);
@@ -68,18 +64,16 @@ impl<D> FailingDesk<D> {
 }
 
 impl<D: Desk> Desk for FailingDesk<D> {
-    ghost view = { λ d. failing_state (D.view d.inner) d };
+    ghost view = { failing D.view };
 
     ghost Start = { D.Start };
 
-    ghost comes_of = { λ start d. D.comes_of start d.inner };
+    ghost comes_of = { inner_comes_of D.comes_of };
 
     fn open(&mut self, name: &str) -> Result<(), DeskFault>
         ensures kept { Passes (after_open name.now result) (D.view self.old.inner) (D.view self.new.inner) }
-        ensures counts { Counts File (failing_state (D.view self.old.inner) self.old)
-            (failing_state (D.view self.new.inner) self.new) result }
-        ensures when_due { FailsWhenDue File (Counts File (D.view self.old.inner) (D.view self.new.inner) result)
-            self.old self.new result }
+        ensures counts { Counts File (failing D.view self.old) (failing D.view self.new) result }
+        ensures when_due { FailsWhenDue File D.view self.old self.new (Counts File) result }
         ensures stays { Stays D.comes_of self.old.inner self.new.inner }
     {
         if self.is_due() {
@@ -90,12 +84,8 @@ impl<D: Desk> Desk for FailingDesk<D> {
 
     fn create(&mut self, name: &str) -> Result<(), DeskFault>
         ensures kept { Passes (after_create name.now result) (D.view self.old.inner) (D.view self.new.inner) }
-        ensures counts { Counts File (failing_state (D.view self.old.inner) self.old)
-            (failing_state (D.view self.new.inner) self.new) result }
-        ensures fault { IfErr result (λ e. e ≡ DeskFault.Failed) }
-        ensures when_due { FailsWhenDue File (Counts File (D.view self.old.inner) (D.view self.new.inner) result)
-            self.old self.new result }
-        ensures stays { Stays D.comes_of self.old.inner self.new.inner }
+        ensures call { IsCall (failing D.view) (inner_comes_of D.comes_of) (Counts File) self.old self.new result }
+        ensures when_due { FailsWhenDue File D.view self.old self.new (Counts File) result }
     {
         if self.is_due() {
             return Err(DeskFault::Failed);
@@ -107,12 +97,8 @@ impl<D: Desk> Desk for FailingDesk<D> {
         ensures bound { IfOk result (λ n. n ≤ length buf.new) }
         ensures kept { Passes (after_read buf.new result) (D.view self.old.inner) (D.view self.new.inner) }
         ensures has_file { HasOpen is_to_read (D.view self.old.inner) result }
-        ensures counts { Counts File (failing_state (D.view self.old.inner) self.old)
-            (failing_state (D.view self.new.inner) self.new) result }
-        ensures fault { IfErr result (λ e. e ≡ DeskFault.Failed) }
-        ensures when_due { FailsWhenDue File (Counts File (D.view self.old.inner) (D.view self.new.inner) result)
-            self.old self.new result }
-        ensures stays { Stays D.comes_of self.old.inner self.new.inner }
+        ensures call { IsCall (failing D.view) (inner_comes_of D.comes_of) (Counts File) self.old self.new result }
+        ensures when_due { FailsWhenDue File D.view self.old self.new (Counts File) result }
     {
         if self.is_due() {
             return Err(DeskFault::Failed);
@@ -124,12 +110,9 @@ impl<D: Desk> Desk for FailingDesk<D> {
         ensures bound { IfOk result (λ n. n ≤ length bytes.now) }
         ensures kept { SendsTaken File bytes.now (D.view self.old.inner) (D.view self.new.inner) result }
         ensures has_file { HasOpen is_to_write (D.view self.old.inner) result }
-        ensures counts { WriteCounts File bytes.now (failing_state (D.view self.old.inner) self.old)
-            (failing_state (D.view self.new.inner) self.new) result }
-        ensures fault { IfErr result (λ e. e ≡ DeskFault.Failed) }
-        ensures when_due { FailsWhenDue File (WriteCounts File bytes.now (D.view self.old.inner)
-            (D.view self.new.inner) result) self.old self.new result }
-        ensures stays { Stays D.comes_of self.old.inner self.new.inner }
+        ensures call { IsCall (failing D.view) (inner_comes_of D.comes_of)
+            (WriteCounts File bytes.now) self.old self.new result }
+        ensures when_due { FailsWhenDue File D.view self.old self.new (WriteCounts File bytes.now) result }
     {
         if self.is_due() {
             return Err(DeskFault::Failed);
@@ -140,12 +123,9 @@ impl<D: Desk> Desk for FailingDesk<D> {
     fn out(&mut self, bytes: &[u8]) -> Result<usize, DeskFault>
         ensures bound { IfOk result (λ n. n ≤ length bytes.now) }
         ensures kept { SendsTaken Output bytes.now (D.view self.old.inner) (D.view self.new.inner) result }
-        ensures counts { WriteCounts Output bytes.now (failing_state (D.view self.old.inner) self.old)
-            (failing_state (D.view self.new.inner) self.new) result }
-        ensures fault { IfErr result (λ e. e ≡ DeskFault.Failed) }
-        ensures when_due { FailsWhenDue Output (WriteCounts Output bytes.now (D.view self.old.inner)
-            (D.view self.new.inner) result) self.old self.new result }
-        ensures stays { Stays D.comes_of self.old.inner self.new.inner }
+        ensures call { IsCall (failing D.view) (inner_comes_of D.comes_of)
+            (WriteCounts Output bytes.now) self.old self.new result }
+        ensures when_due { FailsWhenDue Output D.view self.old self.new (WriteCounts Output bytes.now) result }
     {
         if self.is_due() {
             return Err(DeskFault::Failed);
@@ -156,12 +136,9 @@ impl<D: Desk> Desk for FailingDesk<D> {
     fn err(&mut self, bytes: &[u8]) -> Result<usize, DeskFault>
         ensures bound { IfOk result (λ n. n ≤ length bytes.now) }
         ensures kept { SendsTaken Messages bytes.now (D.view self.old.inner) (D.view self.new.inner) result }
-        ensures counts { WriteCounts Messages bytes.now (failing_state (D.view self.old.inner) self.old)
-            (failing_state (D.view self.new.inner) self.new) result }
-        ensures fault { IfErr result (λ e. e ≡ DeskFault.Failed) }
-        ensures when_due { FailsWhenDue Messages (WriteCounts Messages bytes.now (D.view self.old.inner)
-            (D.view self.new.inner) result) self.old self.new result }
-        ensures stays { Stays D.comes_of self.old.inner self.new.inner }
+        ensures call { IsCall (failing D.view) (inner_comes_of D.comes_of)
+            (WriteCounts Messages bytes.now) self.old self.new result }
+        ensures when_due { FailsWhenDue Messages D.view self.old self.new (WriteCounts Messages bytes.now) result }
     {
         if self.is_due() {
             self.unsaid = self.unsaid.saturating_add(1);
@@ -174,12 +151,8 @@ impl<D: Desk> Desk for FailingDesk<D> {
 impl<D: ChipDesk> ChipDesk for FailingDesk<D> {
     fn hold(&mut self, name: &str) -> Result<bool, DeskFault>
         ensures kept { Passes (after_hold name.now result) (D.view self.old.inner) (D.view self.new.inner) }
-        ensures counts { Counts File (failing_state (D.view self.old.inner) self.old)
-            (failing_state (D.view self.new.inner) self.new) result }
-        ensures fault { IfErr result (λ e. e ≡ DeskFault.Failed) }
-        ensures when_due { FailsWhenDue File (Counts File (D.view self.old.inner) (D.view self.new.inner) result)
-            self.old self.new result }
-        ensures stays { Stays D.comes_of self.old.inner self.new.inner }
+        ensures call { IsCall (failing D.view) (inner_comes_of D.comes_of) (Counts File) self.old self.new result }
+        ensures when_due { FailsWhenDue File D.view self.old self.new (Counts File) result }
     {
         if self.is_due() {
             return Err(DeskFault::Failed);
@@ -197,12 +170,8 @@ impl<D: ChipDesk> ChipDesk for FailingDesk<D> {
 
     fn replace(&mut self, name: &str, bytes: &[u8]) -> Result<(), DeskFault>
         ensures kept { Replaces name.now bytes.now result (D.view self.old.inner) (D.view self.new.inner) }
-        ensures counts { Counts File (failing_state (D.view self.old.inner) self.old)
-            (failing_state (D.view self.new.inner) self.new) result }
-        ensures fault { IfErr result (λ e. e ≡ DeskFault.Failed) }
-        ensures when_due { FailsWhenDue File (Counts File (D.view self.old.inner) (D.view self.new.inner) result)
-            self.old self.new result }
-        ensures stays { Stays D.comes_of self.old.inner self.new.inner }
+        ensures call { IsCall (failing D.view) (inner_comes_of D.comes_of) (Counts File) self.old self.new result }
+        ensures when_due { FailsWhenDue File D.view self.old self.new (Counts File) result }
     {
         if self.is_due() {
             return Err(DeskFault::Failed);

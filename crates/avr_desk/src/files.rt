@@ -1,6 +1,6 @@
 //! Reads a whole file over a desk.
 ghost use Rattle.std.specs.Prelude.{◌≡◌, IfOk};
-ghost use Rattle.avr_desk.specs.Files.{file_fault_number, FaultCounts, IsWhole, ReadsOpen, ReadsFile};
+ghost use Rattle.avr_desk.specs.Files.{file_fault_number, FaultCounts, IsWhole, ReadsFile};
 ghost use Rattle.ghosts.specs.Stays.{Stays};
 
 use crate::bytes::Bytes;
@@ -76,18 +76,10 @@ pub fn read_file<D: Desk>(
     ensures stays { Stays D.comes_of desk.old desk.new }
 {
     match desk.open(name) {
-        Ok(()) => read_open(alloc, desk, limit),
-        Err(DeskFault::NotFound) => Err(FileFault::Absent),
-        Err(DeskFault::Failed) => Err(FileFault::NotOpened),
+        Ok(()) => {}
+        Err(DeskFault::NotFound) => return Err(FileFault::Absent),
+        Err(DeskFault::Failed) => return Err(FileFault::NotOpened),
     }
-}
-
-fn read_open<D: Desk>(alloc: Global, desk: &mut D, limit: usize) -> Result<Contents, FileFault>
-    ensures kept { ReadsOpen (D.view desk.old) (D.view desk.new) result }
-    ensures whole { IfOk result (IsWhole limit) }
-    ensures counts { FaultCounts (D.view desk.old) (D.view desk.new) result }
-    ensures stays { Stays D.comes_of desk.old desk.new }
-{
     let mut bytes = Bytes::new(alloc);
     let mut piece = [0u8; PIECE];
     'pieces: while bytes.len() <= limit {

@@ -100,8 +100,7 @@ pub(crate) trait Folder {
 
     /// Locks a file. Returns `None` if another process has locked it.
     fn lock(&self, file: Self::Opened) -> io::Result<Option<Self::Locked>>
-        ensures shown { IfOk result (λ answer. IfSome answer (λ locked. (seen : Seen) → showed file seen
-            → shows locked seen)) };
+        ensures shown { IfOk result (λ found. IfSome found (λ it. (seen : Seen) → showed file seen → shows it seen)) };
 
     /// Returns whether this file is the one at the path.
     fn is_at(&mut self, file: &Self::Locked, path: &str) -> io::Result<bool>
@@ -193,8 +192,7 @@ pub(crate) fn lock_at<F: Folder>(
     ensures locks { IfOk result (λ tried. IfHolds tried (λ locked. F.locks folder.new path.now path.now)) }
     ensures there { IfOk result (λ tried. IfHolds tried (λ locked. F.has_name folder.new locked path.now)) }
     ensures was { IfOk result (λ tried. IfHolds tried (λ locked. F.was_at locked path.now)) }
-    ensures shown { IfOk result (λ tried. IfHolds tried (λ locked. (seen : Seen) → F.showed file seen
-        → F.shows locked seen)) }
+    ensures shown { IfOk result (λ tried. IfHolds tried (λ it. (seen : Seen) → F.showed file seen → F.shows it seen)) }
     ensures stays { (name by : Bytes) → Still F.locks F.left_since F.moment name by folder.old folder.new }
 {
     let Some(locked) = folder.lock(file)? else {
@@ -319,25 +317,8 @@ fn new_path(alloc: Global, target: &str, number: u64) -> io::Result<String>
     Ok(text)
 }
 
-/// Makes a new file beside `target`, and removes one that was left there. Returns `None` if another one is there.
-fn make_beside<F: Folder>(
-    folder: &mut F,
-    alloc: Global,
-    target: &str,
-    number: u64,
-    mode: u32,
-) -> io::Result<Option<F::New>>
-    ensures made { IfOk result (λ answer. IfSome answer (λ new. F.has new [] × IsNewName target.now (F.own_name new))) }
-    ensures stays { (by : Bytes) → StandsFor target.now by
-        → Still F.locks F.left_since F.moment target.now by folder.old folder.new }
-{
-    let path = new_path(alloc, target, number)?;
-    let _ = remove_left(folder, path.as_str());
-    folder.make(path.as_str(), mode)
-}
-
 /// Makes a new file beside `target` in place of `old`. It is named by a number of that, so that the next program finds
-/// what an ended one left.
+/// and removes what an ended one left.
 pub(crate) fn make_new<F: Folder>(
     folder: &mut F,
     alloc: Global,
@@ -351,67 +332,53 @@ pub(crate) fn make_new<F: Folder>(
     let number = old.as_ref().map_or(0, |old| old.number);
     let mode = first_mode(old.is_some());
     for turn in 0..ATTEMPTS {
-        let next = number.wrapping_add(u64::from(turn));
-        if let Some(new) = make_beside(folder, alloc, target, next, mode)? {
+        let path = new_path(alloc, target, number.wrapping_add(u64::from(turn)))?;
+        let _ = remove_left(folder, path.as_str());
+        if let Some(new) = folder.make(path.as_str(), mode)? {
             return Ok(new);
         }
     }
     Err(not_ours())
 }
 
-/// Puts the new file in place, which has its bytes on the disk. Returns false if another file is mounted at `target`.
-fn put_in_place<F: Folder>(
-    folder: &mut F,
-    new: &F::New,
-    target: &str,
-    step: Step,
-) -> io::Result<bool>
-    ensures whole { (by bytes : Bytes) → F.keeps new.now bytes
-        → Stays (Whole F.locks F.left_since target.now by bytes) folder.old folder.new }
-    ensures placed { IfOk result (λ placed. placed ≡ true → (bytes : Bytes) → F.keeps new.now bytes
-        → F.finds folder.new target.now bytes) }
-    ensures busy { IfOk result (λ placed. placed ≡ false → F.is_mounted target.now) }
-{
-    if !folder.look(new)? {
-        return Err(not_ours());
-    }
-    match folder.place(new, target, step) {
-        Ok(()) => {}
-        Err(error) if error.kind() == ErrorKind::ResourceBusy => return Ok(false),
-        Err(error) => return Err(error),
-    }
-    if !folder.is_placed(new, target)? {
-        return Err(not_ours());
-    }
-    Ok(true)
-}
-
-/// Writes the new file, puts it in place, and waits until it is on the disk under its name. Returns false if another
-/// file is mounted at `target`, which then has the old bytes.
+/// Writes the new file, puts it in place, and waits until it is on the disk under its name. If another file is mounted
+/// at `target`, the old one is written over instead. It then fails if there was none.
 pub(crate) fn fill_and_place<F: Folder>(
     folder: &mut F,
+    locked: &mut F::Locked,
     new: &mut F::New,
     target: &str,
     old: &Option<Seen>,
     step: Step,
     bytes: &[u8],
-) -> io::Result<bool>
-    ensures any_moment { (by : Bytes) → F.has new.old []
+) -> io::Result<()>
+    ensures any_moment { (by : Bytes) → (F.is_mounted target.now → ⊥) → F.has new.old []
         → Stays (Whole F.locks F.left_since target.now by bytes.now) folder.old folder.new }
-    ensures lasts { IfOk result (λ placed. placed ≡ true → (by : Bytes) → F.has new.old []
+    ensures lasts { OnOk result ((by : Bytes) → (F.is_mounted target.now → ⊥) → F.has new.old []
         → (first : ℕ × Option Bytes) → Whole F.locks F.left_since target.now by bytes.now first folder.old
         → Lasts F.moment F.left_since target.now bytes.now folder.new) }
-    ensures busy { IfOk result (λ placed. placed ≡ false → F.is_mounted target.now) }
     ensures named { F.own_name new.new ≡ F.own_name new.old }
 {
     folder.write(new, bytes)?;
     let permissions = folder.be_like(new, old)?;
     folder.sync(new)?;
-    if !put_in_place(folder, new, target, step)? {
-        return Ok(false);
+    if !folder.look(new)? {
+        return Err(not_ours());
+    }
+    match folder.place(new, target, step) {
+        Ok(()) => {}
+        Err(error) if error.kind() == ErrorKind::ResourceBusy => {
+            return match old {
+                Some(_) => folder.write_over(locked, bytes),
+                None => Err(error),
+            };
+        }
+        Err(error) => return Err(error),
+    }
+    if !folder.is_placed(new, target)? {
+        return Err(not_ours());
     }
     // The file is in place, even if its mark can't be removed.
     folder.unmark(new, permissions);
-    folder.sync_folder(target)?;
-    Ok(true)
+    folder.sync_folder(target)
 }

@@ -121,9 +121,8 @@ impl Kept {
 
     /// Closes the open file, adds `last` to the uses, and opens `next`.
     fn close_current(&mut self, last: Option<FileUse>, next: Open) -> Result<(), AllocError>
-        ensures { self.new ≡ (if is_ok result
-            then record self.old { uses = all_uses self.old ++ option_to_list last; current = next }
-            else self.old) }
+        ensures { self.new ≡ (if is_ok result then record self.old
+            { uses = all_uses self.old ++ option_to_list last; current = next } else self.old) }
     {
         self.uses.reserve(2)?;
         match mem::replace(&mut self.current, next) {

@@ -21,10 +21,8 @@ use std::io::Write;
 /// Every call over a [`crate::Desk`] promises the precondition, and so does all code made of such calls.
 pub fn what_a_desk_in_memory_gives_is_true(before: &MemDesk, after: &MemDesk)
     requires { Stays HoldsTrue before.now after.now }
-    ensures begins { (fresh : MemDeskState) → fresh.kept ≡ nothing_kept
-        → HoldsTrue (stock_of fresh) fresh }
-    ensures gives { (stock : Stock) → HoldsTrue stock before.now
-        → AreTrue stock [] (all_uses after.now.kept) }
+    ensures begins { (fresh : MemDeskState) → fresh.kept ≡ nothing_kept → HoldsTrue (stock_of fresh) fresh }
+    ensures gives { (stock : Stock) → HoldsTrue stock before.now → AreTrue stock [] (all_uses after.now.kept) }
 {}
 
 /// Whatever was done with a program's desk, its record is true. A writer's known bytes grew by what was sent to the

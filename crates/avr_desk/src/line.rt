@@ -1,13 +1,9 @@
 //! The lines of messages, piece by piece.
-ghost use Rattle.std.specs.Prelude.{◌≡◌, ◌<◌, ◌+◌, ◌∷◌, ◌++◌, [], length, OnOk, OnErr, IfOk, IfErr, decimal, map};
+ghost use Rattle.std.specs.Prelude.{◌≡◌, ◌<◌, ◌+◌, ◌∷◌, ◌++◌, [], length, OnOk, OnErr, IfOk, map};
 ghost use Rattle.byteorder.specs.Endian.{big_bytes};
-ghost use Rattle.avr_desk.specs.Fault.{Counts};
-ghost use Rattle.avr_desk.specs.Record.{Passes, after_err};
-ghost use Rattle.avr_desk.specs.Stream.{SendsPart};
+ghost use Rattle.avr_desk.specs.Fault.{Counts, IsCall};
 ghost use Rattle.avr_desk.specs.Lines.{digits, spaced_digits, text_of, line, information, warning, error};
-ghost use Rattle.std.specs.List.{concat};
 ghost use Rattle.avr_desk.specs.Said.{IsPrinted};
-ghost use Rattle.ghosts.specs.Stays.{Stays};
 
 use crate::desk::{Desk, DeskFault};
 use crate::stream::{Stream, write_all};
@@ -67,57 +63,21 @@ fn spaced(signature: [u8; 3]) -> [u8; 8]
     [a, b, b' ', c, d, b' ', e, f]
 }
 
-fn write_number<D: Desk>(desk: &mut D, number: u32) -> Result<(), DeskFault>
-    ensures all { OnOk result (Passes (after_err (decimal number)) (D.view desk.old) (D.view desk.new)) }
-    ensures part { OnErr result (SendsPart Stream.Messages (D.view desk.old) (D.view desk.new) (decimal number)) }
-    ensures counts { Counts Stream.Messages (D.view desk.old) (D.view desk.new) result }
-    ensures fault { IfErr result (λ e. e ≡ DeskFault.Failed) }
-    ensures stays { Stays D.comes_of desk.old desk.new }
-{
-    let mut buffer = itoa::Buffer::new();
-    write_all(desk, Stream::Messages, buffer.format(number).as_bytes())
-}
-
 /// Writes a piece to the messages.
-pub(crate) fn write_piece<D: Desk>(desk: &mut D, piece: &Piece<'_>) -> Result<(), DeskFault>
-    ensures all { OnOk result (Passes (after_err (text_of piece.now)) (D.view desk.old) (D.view desk.new)) }
-    ensures part { OnErr result (SendsPart Stream.Messages (D.view desk.old) (D.view desk.new) (text_of piece.now)) }
-    ensures counts { Counts Stream.Messages (D.view desk.old) (D.view desk.new) result }
-    ensures fault { IfErr result (λ e. e ≡ DeskFault.Failed) }
-    ensures stays { Stays D.comes_of desk.old desk.new }
+fn write_piece<D: Desk>(desk: &mut D, piece: &Piece<'_>) -> Result<(), DeskFault>
+    ensures printed { IsPrinted (D.view desk.old) (D.view desk.new) (text_of piece.now) result }
+    ensures call { IsCall D.view D.comes_of (Counts Stream.Messages) desk.old desk.new result }
 {
     match piece {
         Piece::Text(text) => write_all(desk, Stream::Messages, text.as_bytes()),
         Piece::Byte(byte) => write_all(desk, Stream::Messages, &digits(*byte)),
         Piece::Signature(bytes) => write_all(desk, Stream::Messages, &spaced(*bytes)),
         Piece::Address(address) => write_all(desk, Stream::Messages, &address_digits(*address)),
-        Piece::Number(number) => write_number(desk, *number),
+        Piece::Number(number) => {
+            let mut buffer = itoa::Buffer::new();
+            write_all(desk, Stream::Messages, buffer.format(*number).as_bytes())
+        }
     }
-}
-
-fn write_pieces<D: Desk>(desk: &mut D, pieces: &[Piece<'_>]) -> Result<(), DeskFault>
-    ensures all { OnOk result (Passes (after_err (concat (map text_of pieces.now))) (D.view desk.old)
-        (D.view desk.new)) }
-    ensures part { OnErr result (SendsPart Stream.Messages (D.view desk.old) (D.view desk.new)
-        (concat (map text_of pieces.now))) }
-    ensures counts { Counts Stream.Messages (D.view desk.old) (D.view desk.new) result }
-    ensures fault { IfErr result (λ e. e ≡ DeskFault.Failed) }
-    ensures stays { Stays D.comes_of desk.old desk.new }
-{
-    for piece in pieces {
-        write_piece(desk, piece)?;
-    }
-    Ok(())
-}
-
-fn end_line<D: Desk>(desk: &mut D) -> Result<(), DeskFault>
-    ensures all { OnOk result (Passes (after_err (10 ∷ [])) (D.view desk.old) (D.view desk.new)) }
-    ensures part { OnErr result (SendsPart Stream.Messages (D.view desk.old) (D.view desk.new) (10 ∷ [])) }
-    ensures counts { Counts Stream.Messages (D.view desk.old) (D.view desk.new) result }
-    ensures fault { IfErr result (λ e. e ≡ DeskFault.Failed) }
-    ensures stays { Stays D.comes_of desk.old desk.new }
-{
-    write_all(desk, Stream::Messages, b"\n")
 }
 
 /// Appends the text of a piece, unless there is no room for it.
@@ -150,28 +110,19 @@ fn gathered(mark: &str, pieces: &[Piece<'_>]) -> Result<Gathered, CapacityError>
     Ok(line)
 }
 
-fn print_by_pieces<D: Desk>(desk: &mut D, mark: &str, pieces: &[Piece<'_>]) -> Result<(), DeskFault>
-    ensures printed { IsPrinted (D.view desk.old) (D.view desk.new) (line mark.now (map text_of pieces.now)) result }
-    ensures counts { Counts Stream.Messages (D.view desk.old) (D.view desk.new) result }
-    ensures fault { IfErr result (λ e. e ≡ DeskFault.Failed) }
-    ensures stays { Stays D.comes_of desk.old desk.new }
-{
-    write_all(desk, Stream::Messages, mark.as_bytes())?;
-    write_pieces(desk, pieces)?;
-    end_line(desk)
-}
-
 /// Prints a line in one write, so that other programs' lines don't come in between. A longer one goes by pieces.
 fn print_line<D: Desk>(desk: &mut D, mark: &str, pieces: &[Piece<'_>]) -> Result<(), DeskFault>
     ensures printed { IsPrinted (D.view desk.old) (D.view desk.new) (line mark.now (map text_of pieces.now)) result }
-    ensures counts { Counts Stream.Messages (D.view desk.old) (D.view desk.new) result }
-    ensures fault { IfErr result (λ e. e ≡ DeskFault.Failed) }
-    ensures stays { Stays D.comes_of desk.old desk.new }
+    ensures call { IsCall D.view D.comes_of (Counts Stream.Messages) desk.old desk.new result }
 {
-    match gathered(mark, pieces) {
-        Ok(line) => write_all(desk, Stream::Messages, line.as_slice()),
-        Err(_) => print_by_pieces(desk, mark, pieces),
+    if let Ok(line) = gathered(mark, pieces) {
+        return write_all(desk, Stream::Messages, line.as_slice());
     }
+    write_all(desk, Stream::Messages, mark.as_bytes())?;
+    for piece in pieces {
+        write_piece(desk, piece)?;
+    }
+    write_all(desk, Stream::Messages, b"\n")
 }
 
 /// Prints a line of information to the desk's messages: `avrstk: `, the pieces and LF.
@@ -188,9 +139,7 @@ fn print_line<D: Desk>(desk: &mut D, mark: &str, pieces: &[Piece<'_>]) -> Result
 /// ```
 pub fn print_information<D: Desk>(desk: &mut D, pieces: &[Piece<'_>]) -> Result<(), DeskFault>
     ensures printed { IsPrinted (D.view desk.old) (D.view desk.new) (information (map text_of pieces.now)) result }
-    ensures counts { Counts Stream.Messages (D.view desk.old) (D.view desk.new) result }
-    ensures fault { IfErr result (λ e. e ≡ DeskFault.Failed) }
-    ensures stays { Stays D.comes_of desk.old desk.new }
+    ensures call { IsCall D.view D.comes_of (Counts Stream.Messages) desk.old desk.new result }
 {
     print_line(desk, "avrstk: ", pieces)
 }
@@ -208,9 +157,7 @@ pub fn print_information<D: Desk>(desk: &mut D, pieces: &[Piece<'_>]) -> Result<
 /// ```
 pub fn print_warning<D: Desk>(desk: &mut D, pieces: &[Piece<'_>]) -> Result<(), DeskFault>
     ensures printed { IsPrinted (D.view desk.old) (D.view desk.new) (warning (map text_of pieces.now)) result }
-    ensures counts { Counts Stream.Messages (D.view desk.old) (D.view desk.new) result }
-    ensures fault { IfErr result (λ e. e ≡ DeskFault.Failed) }
-    ensures stays { Stays D.comes_of desk.old desk.new }
+    ensures call { IsCall D.view D.comes_of (Counts Stream.Messages) desk.old desk.new result }
 {
     print_line(desk, "avrstk: warning: ", pieces)
 }
@@ -229,9 +176,7 @@ pub fn print_warning<D: Desk>(desk: &mut D, pieces: &[Piece<'_>]) -> Result<(), 
 /// ```
 pub fn print_error<D: Desk>(desk: &mut D, pieces: &[Piece<'_>]) -> Result<(), DeskFault>
     ensures printed { IsPrinted (D.view desk.old) (D.view desk.new) (error (map text_of pieces.now)) result }
-    ensures counts { Counts Stream.Messages (D.view desk.old) (D.view desk.new) result }
-    ensures fault { IfErr result (λ e. e ≡ DeskFault.Failed) }
-    ensures stays { Stays D.comes_of desk.old desk.new }
+    ensures call { IsCall D.view D.comes_of (Counts Stream.Messages) desk.old desk.new result }
 {
     print_line(desk, "avrstk: error: ", pieces)
 }

@@ -1,5 +1,5 @@
 //! A desk in memory.
-ghost use Rattle.std.specs.Prelude.{◌≡◌, ◌≤◌, ◌++◌, ◌∷◌, ◌==◌, ◌&&◌, [], min, take, drop, length, Some, None, IfOk, IfErr, OnOk, OnErr, is_ok, not, true, if◌then◌else◌};
+ghost use Rattle.std.specs.Prelude.{◌≡◌, ◌≤◌, ◌++◌, ◌∷◌, ◌==◌, ◌&&◌, [], min, take, drop, length, Some, None, IfOk, OnOk, OnErr, is_ok, not, true, if◌then◌else◌};
 ghost use Rattle.std.specs.Option.{option_copied};
 
 use crate::bytes::Bytes;
@@ -52,15 +52,6 @@ fn next_bytes(bytes: &[u8], at: usize, room: usize) -> &[u8]
     }
 }
 
-fn copy_prefix(bytes: &[u8], buf: &mut [u8]) -> usize
-    requires { length bytes.now ≤ length buf.old }
-    ensures count { result ≡ length bytes.now }
-    ensures prefix { take result buf.new ≡ bytes.now }
-{
-    buf[..bytes.len()].copy_from_slice(bytes);
-    bytes.len()
-}
-
 fn is_end(count: usize, room: usize) -> bool
     ensures { result ≡ (count == 0 && not (room == 0)) }
 {
@@ -70,8 +61,7 @@ fn is_end(count: usize, room: usize) -> bool
 impl MemDesk {
     ghost use Rattle.avr_desk.specs.Record.{nothing_kept};
     ghost use Rattle.ghosts.specs.Failures.{HasRisen};
-    ghost use Rattle.avr_desk.specs.Fault.{Follows, HasFailedToSay};
-    ghost use Rattle.avr_desk.specs.Memory.{contents, file_named, memory_state, stock_of};
+    ghost use Rattle.avr_desk.specs.Memory.{contents, file_named, stock_of};
     ghost use Rattle.avr_desk.specs.Record.{all_files};
 
     /// Creates a desk without files. Its standard input has these bytes, from the start each time `-` is opened.
@@ -134,8 +124,7 @@ impl MemDesk {
     /// Returns the bytes of a file: what was written since it was last created, else what was last put there.
     #[tactic(auto, using(crate::proofs::FileUses::Names::newest_append))]
     pub fn file(&self, name: &str) -> Option<&[u8]>
-        ensures { option_copied result
-            ≡ file_named name.now (stock_of self.now) (all_files self.now.kept) }
+        ensures { option_copied result ≡ file_named name.now (stock_of self.now) (all_files self.now.kept) }
     {
         let name = name.as_bytes();
         self.kept
@@ -183,22 +172,12 @@ impl MemDesk {
         self.failures = self.failures.saturating_add(1);
         DeskFault::Failed
     }
-
-    fn fail_to_say(&mut self) -> DeskFault
-        ensures fault { result ≡ DeskFault.Failed }
-        ensures same { self.new ≡ record self.old { failures = self.new.failures; unsaid = self.new.unsaid } }
-        ensures follows { Follows (memory_state self.old) (memory_state self.new) }
-        ensures counts { HasFailedToSay (memory_state self.old) (memory_state self.new) }
-    {
-        self.unsaid = self.unsaid.saturating_add(1);
-        self.fail()
-    }
 }
 
 impl Desk for MemDesk {
     ghost use Rattle.avr_desk.specs.Record.{after_open, after_create, after_read, after_write, after_out, after_err, bytes_taken, is_to_read, is_to_write};
-    ghost use Rattle.avr_desk.specs.Fault.{Counts, WriteCounts};
-    ghost use Rattle.avr_desk.specs.Memory.{contents, memory_state, Stock, unread_bytes};
+    ghost use Rattle.avr_desk.specs.Fault.{Counts, WriteCounts, IsCall};
+    ghost use Rattle.avr_desk.specs.Memory.{contents, updated, memory_state, Stock, unread_bytes};
     ghost use Rattle.avr_desk.specs.Truth.{HoldsTrue};
     ghost use Rattle.ghosts.specs.Stays.{Stays};
     ghost use Rattle.avr_desk.specs.declared.stream.Stream.TheVariants.{File, Output, Messages};
@@ -211,11 +190,8 @@ impl Desk for MemDesk {
 
     #[tactic(auto, using(crate::proofs::Desks::InMemory::same_true))]
     fn open(&mut self, name: &str) -> Result<(), DeskFault>
-        ensures kept { self.new ≡ record self.old {
-          kept = after_open name.now result self.old.kept;
-          failures = self.new.failures;
-          opened = self.new.opened;
-        } }
+        ensures kept { self.new ≡ record (updated (after_open name.now result self.old.kept) self.old self.new)
+            { opened = self.new.opened } }
         ensures found { OnOk result (contents name.now self.old ≡ Some self.new.opened) }
         ensures absent { result ≡ Err DeskFault.NotFound → contents name.now self.old ≡ None }
         ensures leaves { OnErr result (self.new.opened ≡ self.old.opened) }
@@ -248,13 +224,8 @@ impl Desk for MemDesk {
 
     #[tactic(auto, using(crate::proofs::Desks::InMemory::same_true))]
     fn create(&mut self, name: &str) -> Result<(), DeskFault>
-        ensures kept { self.new ≡ record self.old {
-          kept = after_create name.now result self.old.kept;
-          failures = self.new.failures;
-        } }
-        ensures counts { Counts File (memory_state self.old) (memory_state self.new) result }
-        ensures fault { IfErr result (λ e. e ≡ DeskFault.Failed) }
-        ensures stays { Stays HoldsTrue self.old self.new }
+        ensures kept { self.new ≡ updated (after_create name.now result self.old.kept) self.old self.new }
+        ensures call { IsCall memory_state HoldsTrue (Counts File) self.old self.new result }
     {
         let Ok(name) = Bytes::copied(self.alloc, name.as_bytes()) else {
             return Err(self.fail());
@@ -274,21 +245,17 @@ impl Desk for MemDesk {
     fn read(&mut self, buf: &mut [u8]) -> Result<usize, DeskFault>
         ensures count { IfOk result (λ n. n ≡ min (length buf.old) (length (unread_bytes self.old))) }
         ensures gives { IfOk result (λ n. take n buf.new ≡ take n (unread_bytes self.old)) }
-        ensures kept { self.new ≡ record self.old {
-          kept = after_read buf.new result self.old.kept;
-          failures = self.new.failures;
-        } }
+        ensures kept { self.new ≡ updated (after_read buf.new result self.old.kept) self.old self.new }
         ensures has_file { OnOk result (is_to_read self.old.kept.current ≡ true) }
-        ensures counts { Counts File (memory_state self.old) (memory_state self.new) result }
-        ensures fault { IfErr result (λ e. e ≡ DeskFault.Failed) }
-        ensures stays { Stays HoldsTrue self.old self.new }
+        ensures call { IsCall memory_state HoldsTrue (Counts File) self.old self.new result }
     {
         if !self.kept.is_reading() {
             return Err(self.fail());
         }
         let room = buf.len();
         let next = next_bytes(self.opened.as_slice(), self.kept.given().len(), room);
-        let count = copy_prefix(next, buf);
+        let count = next.len();
+        buf[..count].copy_from_slice(next);
         let ends = is_end(count, room);
         if self.kept.read_on(&buf[..count], ends).is_err() {
             return Err(self.fail());
@@ -299,14 +266,9 @@ impl Desk for MemDesk {
     #[tactic(auto, using(crate::proofs::Desks::InMemory::same_true, crate::proofs::Desks::InMemory::written_true))]
     fn write(&mut self, bytes: &[u8]) -> Result<usize, DeskFault>
         ensures all { IfOk result (λ n. n ≡ length bytes.now) }
-        ensures kept { self.new ≡ record self.old {
-          kept = after_write (bytes_taken bytes.now result) self.old.kept;
-          failures = self.new.failures;
-        } }
+        ensures kept { self.new ≡ updated (after_write (bytes_taken bytes.now result) self.old.kept) self.old self.new }
         ensures has_file { OnOk result (is_to_write self.old.kept.current ≡ true) }
-        ensures counts { WriteCounts File bytes.now (memory_state self.old) (memory_state self.new) result }
-        ensures fault { IfErr result (λ e. e ≡ DeskFault.Failed) }
-        ensures stays { Stays HoldsTrue self.old self.new }
+        ensures call { IsCall memory_state HoldsTrue (WriteCounts File bytes.now) self.old self.new result }
     {
         if !self.kept.is_writing() {
             return Err(self.fail());
@@ -320,13 +282,8 @@ impl Desk for MemDesk {
     #[tactic(auto, using(crate::proofs::Desks::InMemory::same_true))]
     fn out(&mut self, bytes: &[u8]) -> Result<usize, DeskFault>
         ensures all { IfOk result (λ n. n ≡ length bytes.now) }
-        ensures kept { self.new ≡ record self.old {
-          kept = after_out (bytes_taken bytes.now result) self.old.kept;
-          failures = self.new.failures;
-        } }
-        ensures counts { WriteCounts Output bytes.now (memory_state self.old) (memory_state self.new) result }
-        ensures fault { IfErr result (λ e. e ≡ DeskFault.Failed) }
-        ensures stays { Stays HoldsTrue self.old self.new }
+        ensures kept { self.new ≡ updated (after_out (bytes_taken bytes.now result) self.old.kept) self.old self.new }
+        ensures call { IsCall memory_state HoldsTrue (WriteCounts Output bytes.now) self.old self.new result }
     {
         if self.kept.print(bytes).is_err() {
             return Err(self.fail());
@@ -337,17 +294,13 @@ impl Desk for MemDesk {
     #[tactic(auto, using(crate::proofs::Desks::InMemory::same_true))]
     fn err(&mut self, bytes: &[u8]) -> Result<usize, DeskFault>
         ensures all { IfOk result (λ n. n ≡ length bytes.now) }
-        ensures kept { self.new ≡ record self.old {
-          kept = after_err (bytes_taken bytes.now result) self.old.kept;
-          failures = self.new.failures;
-          unsaid = self.new.unsaid;
-        } }
-        ensures counts { WriteCounts Messages bytes.now (memory_state self.old) (memory_state self.new) result }
-        ensures fault { IfErr result (λ e. e ≡ DeskFault.Failed) }
-        ensures stays { Stays HoldsTrue self.old self.new }
+        ensures kept { self.new ≡ record (updated (after_err (bytes_taken bytes.now result) self.old.kept) self.old
+            self.new) { unsaid = self.new.unsaid } }
+        ensures call { IsCall memory_state HoldsTrue (WriteCounts Messages bytes.now) self.old self.new result }
     {
         if self.kept.report(bytes).is_err() {
-            return Err(self.fail_to_say());
+            self.unsaid = self.unsaid.saturating_add(1);
+            return Err(self.fail());
         }
         Ok(bytes.len())
     }
@@ -355,8 +308,8 @@ impl Desk for MemDesk {
 
 impl ChipDesk for MemDesk {
     ghost use Rattle.avr_desk.specs.Record.{Replaces, after_hold, after_replace, with_none_held};
-    ghost use Rattle.avr_desk.specs.Fault.{Counts};
-    ghost use Rattle.avr_desk.specs.Memory.{memory_state};
+    ghost use Rattle.avr_desk.specs.Fault.{Counts, IsCall};
+    ghost use Rattle.avr_desk.specs.Memory.{updated, memory_state};
     ghost use Rattle.avr_desk.specs.Named.{holds};
     ghost use Rattle.avr_desk.specs.Truth.{HoldsTrue};
     ghost use Rattle.ghosts.specs.Stays.{Stays};
@@ -365,13 +318,8 @@ impl ChipDesk for MemDesk {
     #[tactic(auto, using(crate::proofs::Desks::InMemory::same_true))]
     fn hold(&mut self, name: &str) -> Result<bool, DeskFault>
         ensures free { IfOk result (λ b. b ≡ not (holds name.now self.old.kept)) }
-        ensures kept { self.new ≡ record self.old {
-          kept = after_hold name.now result self.old.kept;
-          failures = self.new.failures;
-        } }
-        ensures counts { Counts File (memory_state self.old) (memory_state self.new) result }
-        ensures fault { IfErr result (λ e. e ≡ DeskFault.Failed) }
-        ensures stays { Stays HoldsTrue self.old self.new }
+        ensures kept { self.new ≡ updated (after_hold name.now result self.old.kept) self.old self.new }
+        ensures call { IsCall memory_state HoldsTrue (Counts File) self.old self.new result }
     {
         let Ok(own_name) = Bytes::copied(self.alloc, name.as_bytes()) else {
             return Err(self.fail());
@@ -396,14 +344,9 @@ impl ChipDesk for MemDesk {
 
     #[tactic(auto, using(crate::proofs::Desks::InMemory::same_true))]
     fn replace(&mut self, name: &str, bytes: &[u8]) -> Result<(), DeskFault>
-        ensures kept { self.new ≡ record self.old {
-          kept = after_replace name.now bytes.now result self.old.kept;
-          failures = self.new.failures;
-        } }
+        ensures kept { self.new ≡ updated (after_replace name.now bytes.now result self.old.kept) self.old self.new }
         ensures replaces { Replaces name.now bytes.now result (memory_state self.old) (memory_state self.new) }
-        ensures counts { Counts File (memory_state self.old) (memory_state self.new) result }
-        ensures fault { IfErr result (λ e. e ≡ DeskFault.Failed) }
-        ensures stays { Stays HoldsTrue self.old self.new }
+        ensures call { IsCall memory_state HoldsTrue (Counts File) self.old self.new result }
     {
         let Ok(name) = Bytes::copied(self.alloc, name.as_bytes()) else {
             return Err(self.fail());

@@ -6,7 +6,7 @@
 //! The bytes are written to a new file beside the old one, which this program alone has made, opened and locked. Once
 //! it is on the disk, it is renamed. No other file is put in place, and one that no program here can have made is left
 //! alone.
-ghost use Rattle.std.specs.Prelude.{◌≡◌, ◌⊎◌, ◌++◌, ℕ, ⊤, [], IfOk, IfSome, Option, Some, OnErr, OnOk, bytes_eq, codes, string_bytes};
+ghost use Rattle.std.specs.Prelude.{◌≡◌, ◌⊎◌, ◌++◌, ℕ, ⊤, IfOk, IfSome, Option, Some, OnErr, OnOk, bytes_eq, string_bytes};
 ghost use Rattle.avr_desk.specs.Handles.{IsHeldBy};
 ghost use Rattle.avr_desk.specs.Journal.{Does, LeavesAlso, making};
 ghost use Rattle.avr_desk.specs.Places.{IfHolds, IsHolding, Lasts, StandsFor, Still, Whole};
@@ -146,13 +146,6 @@ fn with_ending(alloc: Global, path: &str, ending: &str) -> io::Result<String>
     Ok(text)
 }
 
-/// Returns the path of the file that is locked for one that is absent.
-fn lock_file_of(alloc: Global, target: &str) -> io::Result<String>
-    ensures { IfOk result (λ text. string_bytes text ≡ target.now ++ codes ".avrstk-new") }
-{
-    with_ending(alloc, target, ".avrstk-new")
-}
-
 /// Returns the path that a name leads to, following the links at its end. No file need be there.
 fn target_of<R: Files<File = File> + Alloc<A = Global>>(rt: &R, name: &str) -> io::Result<String> {
     let mut path = String::from_str(rt.alloc(), name)?;
@@ -257,25 +250,8 @@ fn make_nameless<F: Folder>(
     Ok(new)
 }
 
-/// Removes a spare name of the held file, or what an ended program left under it.
-fn clear<F: Folder>(
-    folder: &mut F,
-    alloc: Global,
-    held: &Held<F::Locked, F::New>,
-    ending: &str,
-) -> io::Result<()>
-    requires { F.was_at held.now.locked (string_bytes held.now.target) }
-    ensures stays { Still F.locks F.left_since F.moment (string_bytes held.now.target) (string_bytes held.now.target)
-        folder.old folder.new }
-{
-    let mut path = with_ending(alloc, held.target.as_str(), ".avrstk-")?;
-    path.push_str(ending)?;
-    remove_there(folder, &held.locked, path.as_str());
-    let _ = remove_left(folder, path.as_str());
-    Ok(())
-}
-
-/// Fails if no file can be made beside the held one. It removes what programs left that ended while it was absent.
+/// Fails if no file can be made beside the held one. It removes what programs left that ended while it was absent, and
+/// spare names of the held file.
 fn prepare<F: Folder>(
     folder: &mut F,
     alloc: Global,
@@ -286,8 +262,12 @@ fn prepare<F: Folder>(
 {
     let _ = make_nameless(folder, alloc, held)?;
     if held.beside.is_none() {
-        clear(folder, alloc, held, "000")?;
-        clear(folder, alloc, held, "new")?;
+        for ending in ["000", "new"] {
+            let mut path = with_ending(alloc, held.target.as_str(), ".avrstk-")?;
+            path.push_str(ending)?;
+            remove_there(folder, &held.locked, path.as_str());
+            let _ = remove_left(folder, path.as_str());
+        }
     }
     Ok(())
 }
@@ -310,7 +290,7 @@ fn try_beside<F: Folder>(
 ) -> io::Result<Tried<Held<F::Locked, F::New>>>
     ensures holds { IfOk result (λ tried. IfHolds tried (IsHolding F.locks F.was_at folder.new)) }
 {
-    let beside = lock_file_of(alloc, target.as_str())?;
+    let beside = with_ending(alloc, target.as_str(), ".avrstk-new")?;
     let Some(file) = open_or_make(folder, beside.as_str())? else {
         return Ok(Tried::Changed);
     };
@@ -391,45 +371,6 @@ fn next_step<F: Folder>(folder: &F, target: &str, old: &Option<Seen>) -> io::Res
     Ok(step_after(there.is_none(), is_held))
 }
 
-/// Writes these bytes over the held file, which can't be replaced because another one is mounted there. There must
-/// have been one.
-fn write_over<F: Folder>(
-    folder: &mut F,
-    held: &mut Held<F::Locked, F::New>,
-    bytes: &[u8],
-) -> io::Result<()>
-    ensures target { held.new.target ≡ held.old.target }
-{
-    if held.beside.is_some() {
-        return Err(io::Error::from(ErrorKind::ResourceBusy));
-    }
-    folder.write_over(&mut held.locked, bytes)
-}
-
-/// Writes the new file and puts it in place. If another file is mounted there, it is written over instead.
-fn put_by<F: Folder>(
-    folder: &mut F,
-    held: &mut Held<F::Locked, F::New>,
-    new: &mut F::New,
-    old: &Option<Seen>,
-    step: Step,
-    bytes: &[u8],
-) -> io::Result<()>
-    ensures any_moment { (by : Bytes) → (F.is_mounted (string_bytes held.old.target) → ⊥) → F.has new.old []
-        → Stays (Whole F.locks F.left_since (string_bytes held.old.target) by bytes.now) folder.old folder.new }
-    ensures lasts { OnOk result ((by : Bytes) → (F.is_mounted (string_bytes held.old.target) → ⊥) → F.has new.old []
-        → (first : ℕ × Option Bytes)
-        → Whole F.locks F.left_since (string_bytes held.old.target) by bytes.now first folder.old
-        → Lasts F.moment F.left_since (string_bytes held.old.target) bytes.now folder.new) }
-    ensures named { F.own_name new.new ≡ F.own_name new.old }
-{
-    if fill_and_place(folder, new, held.target.as_str(), old, step, bytes)? {
-        Ok(())
-    } else {
-        write_over(folder, held, bytes)
-    }
-}
-
 /// Puts a file of these bytes in place. It stays locked as long as the old one.
 fn put<F: Folder>(
     folder: &mut F,
@@ -451,7 +392,16 @@ fn put<F: Folder>(
     let old = old_of(folder, held)?;
     let step = next_step(folder, held.target.as_str(), &old)?;
     let mut new = make_new(folder, alloc, held.target.as_str(), &old)?;
-    let written = put_by(folder, held, &mut new, &old, step, bytes);
+    let target = held.target.as_str();
+    let written = fill_and_place(
+        folder,
+        &mut held.locked,
+        &mut new,
+        target,
+        &old,
+        step,
+        bytes,
+    );
     remove_new(folder, &new);
     held.placed = Some(new);
     written
@@ -711,22 +661,6 @@ impl Replacement {
     }
 }
 
-/// Replaces a file that is not held here.
-fn replace_at_once<R: FileSystem>(system: &mut R, name: &str, bytes: &[u8]) -> io::Result<()>
-    ensures put { OnOk result (R.replaced name.now bytes.now) }
-    ensures makes { OnOk result (Does R.did (making name.now) system.old system.new) }
-    ensures fails { OnErr result (Stays R.did system.old system.new) }
-    ensures leaves { LeavesAlso R.left name.now (λ found. R.began name.now found ⊎ (found ≡ Some bytes.now))
-        system.old system.new }
-{
-    let Some(mut hold) = system.hold_named(name)? else {
-        return Err(io::Error::from(ErrorKind::WouldBlock));
-    };
-    let put = system.put_held(&mut hold, bytes);
-    system.leave_held(hold);
-    put
-}
-
 /// Replaces the file of this name with these bytes, through `held` if that holds it.
 pub(crate) fn replace_named<R: FileSystem>(
     system: &mut R,
@@ -738,11 +672,17 @@ pub(crate) fn replace_named<R: FileSystem>(
     ensures makes { OnOk result (Does R.did (making name.now) system.old system.new) }
     ensures fails { OnErr result (Stays R.did system.old system.new) }
     ensures stays { (name : Option Bytes) → IsHeldBy R.FileSystem held.old name → IsHeldBy R.FileSystem held.new name }
-    ensures leaves { LeavesAlso R.left name.now (λ found. R.began name.now found ⊎ (found ≡ Some bytes.now))
-        system.old system.new }
+    ensures leaves { LeavesAlso R.left name.now (λ f. R.began name.now f ⊎ (f ≡ Some bytes.now)) system.old system.new }
 {
     match held {
         Some(hold) if system.is_held(hold, name) => system.put_held(hold, bytes),
-        _ => replace_at_once(system, name, bytes),
+        _ => {
+            let Some(mut own) = system.hold_named(name)? else {
+                return Err(io::Error::from(ErrorKind::WouldBlock));
+            };
+            let put = system.put_held(&mut own, bytes);
+            system.leave_held(own);
+            put
+        }
     }
 }

@@ -1,9 +1,8 @@
 //! Writes all bytes to one of the three streams of a desk.
-ghost use Rattle.std.specs.Prelude.{◌≡◌, ◌≤◌, length, IfOk, IfErr, OnOk, OnErr};
-ghost use Rattle.avr_desk.specs.Fault.{Counts, WriteCounts};
+ghost use Rattle.std.specs.Prelude.{◌≤◌, length, IfOk, OnOk, OnErr};
+ghost use Rattle.avr_desk.specs.Fault.{Counts, WriteCounts, IsCall};
 ghost use Rattle.avr_desk.specs.Record.{Passes};
 ghost use Rattle.avr_desk.specs.Stream.{SendsPart, SendsTaken, after_sent};
-ghost use Rattle.ghosts.specs.Stays.{Stays};
 
 use crate::desk::{Desk, DeskFault};
 
@@ -21,9 +20,7 @@ pub enum Stream {
 fn write_some<D: Desk>(desk: &mut D, stream: Stream, bytes: &[u8]) -> Result<usize, DeskFault>
     ensures bound { IfOk result (λ n. n ≤ length bytes.now) }
     ensures kept { SendsTaken stream bytes.now (D.view desk.old) (D.view desk.new) result }
-    ensures counts { WriteCounts stream bytes.now (D.view desk.old) (D.view desk.new) result }
-    ensures fault { IfErr result (λ e. e ≡ DeskFault.Failed) }
-    ensures stays { Stays D.comes_of desk.old desk.new }
+    ensures call { IsCall D.view D.comes_of (WriteCounts stream bytes.now) desk.old desk.new result }
 {
     match stream {
         Stream::File => desk.write(bytes),
@@ -48,9 +45,7 @@ fn write_some<D: Desk>(desk: &mut D, stream: Stream, bytes: &[u8]) -> Result<usi
 pub fn write_all<D: Desk>(desk: &mut D, stream: Stream, bytes: &[u8]) -> Result<(), DeskFault>
     ensures all { OnOk result (Passes (after_sent stream bytes.now) (D.view desk.old) (D.view desk.new)) }
     ensures part { OnErr result (SendsPart stream (D.view desk.old) (D.view desk.new) bytes.now) }
-    ensures counts { Counts stream (D.view desk.old) (D.view desk.new) result }
-    ensures fault { IfErr result (λ e. e ≡ DeskFault.Failed) }
-    ensures stays { Stays D.comes_of desk.old desk.new }
+    ensures call { IsCall D.view D.comes_of (Counts stream) desk.old desk.new result }
 {
     let mut at = 0;
     while at < bytes.len() {

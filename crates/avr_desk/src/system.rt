@@ -1,13 +1,12 @@
 //! The desk of a program: files and standard streams.
-ghost use Rattle.std.specs.Prelude.{◌≡◌, ◌<◌, ◌≤◌, length, take, IfOk, IfErr, OnOk, OnErr, true, false, [], None, Some};
-ghost use Rattle.std.specs.Io.KnownBytes.{Keeps, Appends, Consumes, IsAtEnd};
+ghost use Rattle.std.specs.Prelude.{◌≡◌, ◌<◌, ◌≤◌, length, take, IfOk, OnOk, OnErr, true, false, [], None, Some};
 ghost use Rattle.std.specs.IoError.{error_kind};
 ghost use Rattle.ghosts.specs.Failures.{HasRisen};
 ghost use Rattle.ghosts.specs.Stays.{Stays};
-ghost use Rattle.avr_desk.specs.Fault.{Counts, WriteCounts};
+ghost use Rattle.avr_desk.specs.Fault.{Counts, WriteCounts, IsCall};
 ghost use Rattle.avr_desk.specs.Journal.{Leaves, LeavesNoMore};
 ghost use Rattle.avr_desk.specs.Record.{HasOpen, Passes, after_open, after_create, after_hold, after_read, Replaces, released, is_to_read, is_to_write, nothing_kept, with_tried};
-ghost use Rattle.avr_desk.specs.Shown.{AppendsTaken, IsTrueSince, KeepsError, Shown, TakesTruly, shown_state, to_output, to_output_opened, to_output_created, to_output_replaced};
+ghost use Rattle.avr_desk.specs.Shown.{AppendsTaken, IsTrueSince, KeepsError, Shown, TakesTruly, logged, moved, shown_state, to_output, to_output_opened, to_output_created, to_output_replaced};
 ghost use Rattle.avr_desk.specs.Standing.{FileGives, FileGivesNone, IsClosed};
 ghost use Rattle.avr_desk.specs.Stream.{SendsTaken};
 ghost use Rattle.avr_desk.specs.declared.desk.DeskFault.TheVariants.{Failed};
@@ -126,13 +125,6 @@ fn write_through<W: Outlet>(
     Ok(count)
 }
 
-fn raise(count: &mut u64)
-    ensures rises { count.old ≤ count.new }
-    ensures counts { HasRisen count.old count.new }
-{
-    *count = count.saturating_add(1);
-}
-
 /// Counts a failure, and keeps the kind of its error.
 fn fail(failures: &mut u64, last: &mut Option<ErrorKind>, error: &io::Error) -> DeskFault
     ensures fault { result ≡ Failed }
@@ -140,7 +132,7 @@ fn fail(failures: &mut u64, last: &mut Option<ErrorKind>, error: &io::Error) -> 
     ensures counts { HasRisen failures.old failures.new }
     ensures kind { last.new ≡ Some (error_kind error.now) }
 {
-    raise(failures);
+    *failures = failures.saturating_add(1);
     *last = Some(error.kind());
     DeskFault::Failed
 }
@@ -203,17 +195,10 @@ impl<R: FileSystem + Drop, O: Outlet + Drop, E: Outlet + Drop> Desk for SystemDe
     fn open(&mut self, name: &str) -> Result<(), DeskFault>
         ensures kept { Passes (after_open name.now result) (shown_state self.old) (shown_state self.new) }
         ensures counts { Counts File (shown_state self.old) (shown_state self.new) result }
-        ensures quiet { self.new ≡ record self.old {
-          system = self.new.system;
-          failures = self.new.failures;
-          last_error = self.new.last_error;
-          opened = self.new.opened;
-          kept = self.new.kept;
-        } }
+        ensures quiet { self.new ≡ record (moved self.old self.new) { system = self.new.system } }
         ensures goes { to_output self.new ≡ to_output_opened result (to_output self.old) }
         ensures error { KeepsError self.old.last_error self.new.last_error result }
-        ensures stays { Stays (IsTrueSince R.FileSystem R.File.Read R.File.Write R.Input.Read O.Write E.Write)
-            self.old self.new }
+        ensures stays { Stays ⟦<SystemDesk<R, O, E> as Desk>⟧.comes_of self.old self.new }
     {
         if name == "-" {
             let input = self.system.input();
@@ -238,19 +223,11 @@ impl<R: FileSystem + Drop, O: Outlet + Drop, E: Outlet + Drop> Desk for SystemDe
 
     fn create(&mut self, name: &str) -> Result<(), DeskFault>
         ensures kept { Passes (after_create name.now result) (shown_state self.old) (shown_state self.new) }
-        ensures counts { Counts File (shown_state self.old) (shown_state self.new) result }
-        ensures fault { IfErr result (λ e. e ≡ Failed) }
-        ensures quiet { self.new ≡ record self.old {
-          system = self.new.system;
-          failures = self.new.failures;
-          last_error = self.new.last_error;
-          opened = self.new.opened;
-          kept = self.new.kept;
-        } }
+        ensures call { IsCall shown_state ⟦<SystemDesk<R, O, E> as Desk>⟧.comes_of
+            (Counts File) self.old self.new result }
+        ensures quiet { self.new ≡ record (moved self.old self.new) { system = self.new.system } }
         ensures goes { to_output self.new ≡ to_output_created name.now result (to_output self.old) }
         ensures error { KeepsError self.old.last_error self.new.last_error result }
-        ensures stays { Stays (IsTrueSince R.FileSystem R.File.Read R.File.Write R.Input.Read O.Write E.Write)
-            self.old self.new }
     {
         if name == "-" {
             open_next(&mut self.system, &mut self.opened, OpenFile::Output);
@@ -271,18 +248,11 @@ impl<R: FileSystem + Drop, O: Outlet + Drop, E: Outlet + Drop> Desk for SystemDe
         ensures bound { IfOk result (λ n. n ≤ length buf.new) }
         ensures kept { Passes (after_read buf.new result) (shown_state self.old) (shown_state self.new) }
         ensures has_file { HasOpen is_to_read (shown_state self.old) result }
-        ensures counts { Counts File (shown_state self.old) (shown_state self.new) result }
-        ensures fault { IfErr result (λ e. e ≡ Failed) }
-        ensures quiet { self.new ≡ record self.old {
-          failures = self.new.failures;
-          last_error = self.new.last_error;
-          opened = self.new.opened;
-          kept = self.new.kept;
-        } }
+        ensures call { IsCall shown_state ⟦<SystemDesk<R, O, E> as Desk>⟧.comes_of
+            (Counts File) self.old self.new result }
+        ensures quiet { self.new ≡ moved self.old self.new }
         ensures goes { to_output self.new ≡ to_output self.old }
         ensures error { KeepsError self.old.last_error self.new.last_error result }
-        ensures stays { Stays (IsTrueSince R.FileSystem R.File.Read R.File.Write R.Input.Read O.Write E.Write)
-            self.old self.new }
     {
         match read_opened(&mut self.opened, buf) {
             Ok(count) => {
@@ -297,25 +267,17 @@ impl<R: FileSystem + Drop, O: Outlet + Drop, E: Outlet + Drop> Desk for SystemDe
         ensures bound { IfOk result (λ n. n ≤ length bytes.now) }
         ensures shown { SendsTaken File bytes.now (shown_state self.old) (shown_state self.new) result }
         ensures has_file { HasOpen is_to_write (shown_state self.old) result }
-        ensures counts { WriteCounts File bytes.now (shown_state self.old) (shown_state self.new) result }
-        ensures fault { IfErr result (λ e. e ≡ Failed) }
+        ensures call { IsCall shown_state ⟦<SystemDesk<R, O, E> as Desk>⟧.comes_of
+            (WriteCounts File bytes.now) self.old self.new result }
         ensures output { to_output self.old ≡ true → AppendsTaken (O.contents self.old.output)
             (O.contents self.new.output) bytes.now result }
         ensures truly { to_output self.old ≡ true → TakesTruly File bytes.now (O.contents self.old.output)
             (O.contents self.new.output) self.old.kept self.new.kept result }
         ensures flushed { to_output self.old ≡ true → OnOk result (O.is_out self.new.output) }
         ensures elsewhere { to_output self.old ≡ false → self.new.output ≡ self.old.output }
-        ensures quiet { self.new ≡ record self.old {
-          output = self.new.output;
-          failures = self.new.failures;
-          last_error = self.new.last_error;
-          opened = self.new.opened;
-          kept = self.new.kept;
-        } }
+        ensures quiet { self.new ≡ record (moved self.old self.new) { output = self.new.output } }
         ensures goes { to_output self.new ≡ to_output self.old }
         ensures error { KeepsError self.old.last_error self.new.last_error result }
-        ensures stays { Stays (IsTrueSince R.FileSystem R.File.Read R.File.Write R.Input.Read O.Write E.Write)
-            self.old self.new }
     {
         match &mut self.opened {
             OpenFile::ToWrite(file) => match write_some(file, bytes) {
@@ -344,21 +306,14 @@ impl<R: FileSystem + Drop, O: Outlet + Drop, E: Outlet + Drop> Desk for SystemDe
     fn out(&mut self, bytes: &[u8]) -> Result<usize, DeskFault>
         ensures bound { IfOk result (λ n. n ≤ length bytes.now) }
         ensures shown { SendsTaken Output bytes.now (shown_state self.old) (shown_state self.new) result }
-        ensures counts { WriteCounts Output bytes.now (shown_state self.old) (shown_state self.new) result }
-        ensures fault { IfErr result (λ e. e ≡ Failed) }
+        ensures call { IsCall shown_state ⟦<SystemDesk<R, O, E> as Desk>⟧.comes_of
+            (WriteCounts Output bytes.now) self.old self.new result }
         ensures output { AppendsTaken (O.contents self.old.output) (O.contents self.new.output) bytes.now result }
         ensures truly { TakesTruly Output bytes.now (O.contents self.old.output) (O.contents self.new.output)
             self.old.kept self.new.kept result }
         ensures flushed { OnOk result (O.is_out self.new.output) }
-        ensures quiet { self.new ≡ record self.old {
-          output = self.new.output;
-          failures = self.new.failures;
-          last_error = self.new.last_error;
-          kept = self.new.kept;
-        } }
+        ensures quiet { self.new ≡ record (logged self.old self.new) { output = self.new.output } }
         ensures error { KeepsError self.old.last_error self.new.last_error result }
-        ensures stays { Stays (IsTrueSince R.FileSystem R.File.Read R.File.Write R.Input.Read O.Write E.Write)
-            self.old self.new }
     {
         match write_through(&mut self.output, Stream::Output, bytes, &mut self.journal) {
             Ok(count) => Ok(count),
@@ -369,22 +324,15 @@ impl<R: FileSystem + Drop, O: Outlet + Drop, E: Outlet + Drop> Desk for SystemDe
     fn err(&mut self, bytes: &[u8]) -> Result<usize, DeskFault>
         ensures bound { IfOk result (λ n. n ≤ length bytes.now) }
         ensures shown { SendsTaken Messages bytes.now (shown_state self.old) (shown_state self.new) result }
-        ensures counts { WriteCounts Messages bytes.now (shown_state self.old) (shown_state self.new) result }
-        ensures fault { IfErr result (λ e. e ≡ Failed) }
+        ensures call { IsCall shown_state ⟦<SystemDesk<R, O, E> as Desk>⟧.comes_of
+            (WriteCounts Messages bytes.now) self.old self.new result }
         ensures messages { AppendsTaken (E.contents self.old.messages) (E.contents self.new.messages) bytes.now result }
         ensures truly { TakesTruly Messages bytes.now (E.contents self.old.messages) (E.contents self.new.messages)
             self.old.kept self.new.kept result }
         ensures flushed { OnOk result (E.is_out self.new.messages) }
-        ensures quiet { self.new ≡ record self.old {
-          messages = self.new.messages;
-          failures = self.new.failures;
-          last_error = self.new.last_error;
-          unsaid = self.new.unsaid;
-          kept = self.new.kept;
-        } }
+        ensures quiet { self.new ≡ record (logged self.old self.new)
+            { messages = self.new.messages; unsaid = self.new.unsaid } }
         ensures error { KeepsError self.old.last_error self.new.last_error result }
-        ensures stays { Stays (IsTrueSince R.FileSystem R.File.Read R.File.Write R.Input.Read O.Write E.Write)
-            self.old self.new }
     {
         match write_through(
             &mut self.messages,
@@ -394,7 +342,7 @@ impl<R: FileSystem + Drop, O: Outlet + Drop, E: Outlet + Drop> Desk for SystemDe
         ) {
             Ok(count) => Ok(count),
             Err(error) => {
-                raise(&mut self.unsaid);
+                self.unsaid = self.unsaid.saturating_add(1);
                 Err(fail(&mut self.failures, &mut self.last_error, &error))
             }
         }
@@ -404,18 +352,11 @@ impl<R: FileSystem + Drop, O: Outlet + Drop, E: Outlet + Drop> Desk for SystemDe
 impl<R: FileSystem + Drop, O: Outlet + Drop, E: Outlet + Drop> ChipDesk for SystemDesk<R, O, E> {
     fn hold(&mut self, name: &str) -> Result<bool, DeskFault>
         ensures kept { Passes (after_hold name.now result) (shown_state self.old) (shown_state self.new) }
-        ensures counts { Counts File (shown_state self.old) (shown_state self.new) result }
-        ensures fault { IfErr result (λ e. e ≡ Failed) }
-        ensures quiet { self.new ≡ record self.old {
-          system = self.new.system;
-          failures = self.new.failures;
-          last_error = self.new.last_error;
-          hold = self.new.hold;
-          kept = self.new.kept;
-        } }
+        ensures call { IsCall shown_state ⟦<SystemDesk<R, O, E> as Desk>⟧.comes_of
+            (Counts File) self.old self.new result }
+        ensures quiet { self.new ≡ record (logged self.old self.new)
+            { system = self.new.system; hold = self.new.hold } }
         ensures error { KeepsError self.old.last_error self.new.last_error result }
-        ensures stays { Stays (IsTrueSince R.FileSystem R.File.Read R.File.Write R.Input.Read O.Write E.Write)
-            self.old self.new }
     {
         match self.system.hold_named(name) {
             Ok(Some(hold)) => {
@@ -435,8 +376,7 @@ impl<R: FileSystem + Drop, O: Outlet + Drop, E: Outlet + Drop> ChipDesk for Syst
     fn release(&mut self)
         ensures released { shown_state self.new ≡ released (shown_state self.old) }
         ensures quiet { self.new ≡ record self.old { system = self.new.system; hold = None; kept = self.new.kept } }
-        ensures stays { Stays (IsTrueSince R.FileSystem R.File.Read R.File.Write R.Input.Read O.Write E.Write)
-            self.old self.new }
+        ensures stays { Stays ⟦<SystemDesk<R, O, E> as Desk>⟧.comes_of self.old self.new }
     {
         self.leave_replacement();
         self.journal = self.journal.then(&Call::Released);
@@ -446,20 +386,11 @@ impl<R: FileSystem + Drop, O: Outlet + Drop, E: Outlet + Drop> ChipDesk for Syst
         ensures kept { Replaces name.now bytes.now result (shown_state self.old) (shown_state self.new) }
         ensures tried { OnErr result (Passes (with_tried name.now bytes.now) (shown_state self.old)
             (shown_state self.new)) }
-        ensures counts { Counts File (shown_state self.old) (shown_state self.new) result }
-        ensures fault { IfErr result (λ e. e ≡ Failed) }
-        ensures quiet { self.new ≡ record self.old {
-          system = self.new.system;
-          failures = self.new.failures;
-          last_error = self.new.last_error;
-          opened = self.new.opened;
-          hold = self.new.hold;
-          kept = self.new.kept;
-        } }
+        ensures call { IsCall shown_state ⟦<SystemDesk<R, O, E> as Desk>⟧.comes_of
+            (Counts File) self.old self.new result }
+        ensures quiet { self.new ≡ record (moved self.old self.new) { system = self.new.system; hold = self.new.hold } }
         ensures goes { to_output self.new ≡ to_output_replaced result (to_output self.old) }
         ensures error { KeepsError self.old.last_error self.new.last_error result }
-        ensures stays { Stays (IsTrueSince R.FileSystem R.File.Read R.File.Write R.Input.Read O.Write E.Write)
-            self.old self.new }
     {
         match replace_named(&mut self.system, &mut self.replacement, name, bytes) {
             Ok(()) => {

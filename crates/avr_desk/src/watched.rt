@@ -1,7 +1,7 @@
 //! A desk with a watcher of its calls, such as a window that shows a run's progress.
-ghost use Rattle.std.specs.Prelude.{◌≡◌, ◌≤◌, length, IfOk, IfErr};
+ghost use Rattle.std.specs.Prelude.{◌≡◌, ◌≤◌, length, IfOk};
 ghost use Rattle.avr_desk.specs.Record.{Passes, after_open, after_create, after_hold, after_read, Replaces, released, HasOpen, is_to_read, is_to_write};
-ghost use Rattle.avr_desk.specs.Fault.{Counts, WriteCounts};
+ghost use Rattle.avr_desk.specs.Fault.{Counts, WriteCounts, IsCall};
 ghost use Rattle.avr_desk.specs.Stream.{SendsTaken};
 ghost use Rattle.avr_desk.specs.declared.stream.Stream.TheVariants.{File, Output, Messages};
 ghost use Rattle.avr_desk.specs.Watching.{ToldOfDesk, Opened, Created, Held, Released, Replaced, Read, Wrote, desk_told};
@@ -87,9 +87,7 @@ impl<D: Desk, W: WatchDesk> Desk for WatchedDesk<D, W> {
 
     fn create(&mut self, name: &str) -> Result<(), DeskFault>
         ensures kept { Passes (after_create name.now result) (D.view self.old.desk) (D.view self.new.desk) }
-        ensures counts { Counts File (D.view self.old.desk) (D.view self.new.desk) result }
-        ensures fault { IfErr result (λ e. e ≡ DeskFault.Failed) }
-        ensures stays { Stays D.comes_of self.old.desk self.new.desk }
+        ensures call { IsCall D.view D.comes_of (Counts File) self.old.desk self.new.desk result }
         ensures told { W.after (Created name.now result) self.old.watcher self.new.watcher }
     {
         let answer = self.desk.create(name);
@@ -101,9 +99,7 @@ impl<D: Desk, W: WatchDesk> Desk for WatchedDesk<D, W> {
         ensures bound { IfOk result (λ n. n ≤ length buf.new) }
         ensures kept { Passes (after_read buf.new result) (D.view self.old.desk) (D.view self.new.desk) }
         ensures has_file { HasOpen is_to_read (D.view self.old.desk) result }
-        ensures counts { Counts File (D.view self.old.desk) (D.view self.new.desk) result }
-        ensures fault { IfErr result (λ e. e ≡ DeskFault.Failed) }
-        ensures stays { Stays D.comes_of self.old.desk self.new.desk }
+        ensures call { IsCall D.view D.comes_of (Counts File) self.old.desk self.new.desk result }
         ensures told { W.after (Read buf.new result) self.old.watcher self.new.watcher }
     {
         let answer = self.desk.read(buf);
@@ -115,9 +111,7 @@ impl<D: Desk, W: WatchDesk> Desk for WatchedDesk<D, W> {
         ensures bound { IfOk result (λ n. n ≤ length bytes.now) }
         ensures kept { SendsTaken File bytes.now (D.view self.old.desk) (D.view self.new.desk) result }
         ensures has_file { HasOpen is_to_write (D.view self.old.desk) result }
-        ensures counts { WriteCounts File bytes.now (D.view self.old.desk) (D.view self.new.desk) result }
-        ensures fault { IfErr result (λ e. e ≡ DeskFault.Failed) }
-        ensures stays { Stays D.comes_of self.old.desk self.new.desk }
+        ensures call { IsCall D.view D.comes_of (WriteCounts File bytes.now) self.old.desk self.new.desk result }
         ensures told { W.after (Wrote File bytes.now result) self.old.watcher self.new.watcher }
     {
         let answer = self.desk.write(bytes);
@@ -129,9 +123,7 @@ impl<D: Desk, W: WatchDesk> Desk for WatchedDesk<D, W> {
     fn out(&mut self, bytes: &[u8]) -> Result<usize, DeskFault>
         ensures bound { IfOk result (λ n. n ≤ length bytes.now) }
         ensures kept { SendsTaken Output bytes.now (D.view self.old.desk) (D.view self.new.desk) result }
-        ensures counts { WriteCounts Output bytes.now (D.view self.old.desk) (D.view self.new.desk) result }
-        ensures fault { IfErr result (λ e. e ≡ DeskFault.Failed) }
-        ensures stays { Stays D.comes_of self.old.desk self.new.desk }
+        ensures call { IsCall D.view D.comes_of (WriteCounts Output bytes.now) self.old.desk self.new.desk result }
         ensures told { W.after (Wrote Output bytes.now result) self.old.watcher self.new.watcher }
     {
         let answer = self.desk.out(bytes);
@@ -143,9 +135,7 @@ impl<D: Desk, W: WatchDesk> Desk for WatchedDesk<D, W> {
     fn err(&mut self, bytes: &[u8]) -> Result<usize, DeskFault>
         ensures bound { IfOk result (λ n. n ≤ length bytes.now) }
         ensures kept { SendsTaken Messages bytes.now (D.view self.old.desk) (D.view self.new.desk) result }
-        ensures counts { WriteCounts Messages bytes.now (D.view self.old.desk) (D.view self.new.desk) result }
-        ensures fault { IfErr result (λ e. e ≡ DeskFault.Failed) }
-        ensures stays { Stays D.comes_of self.old.desk self.new.desk }
+        ensures call { IsCall D.view D.comes_of (WriteCounts Messages bytes.now) self.old.desk self.new.desk result }
         ensures told { W.after (Wrote Messages bytes.now result) self.old.watcher self.new.watcher }
     {
         let answer = self.desk.err(bytes);
@@ -158,9 +148,7 @@ impl<D: Desk, W: WatchDesk> Desk for WatchedDesk<D, W> {
 impl<D: ChipDesk, W: WatchDesk> ChipDesk for WatchedDesk<D, W> {
     fn hold(&mut self, name: &str) -> Result<bool, DeskFault>
         ensures kept { Passes (after_hold name.now result) (D.view self.old.desk) (D.view self.new.desk) }
-        ensures counts { Counts File (D.view self.old.desk) (D.view self.new.desk) result }
-        ensures fault { IfErr result (λ e. e ≡ DeskFault.Failed) }
-        ensures stays { Stays D.comes_of self.old.desk self.new.desk }
+        ensures call { IsCall D.view D.comes_of (Counts File) self.old.desk self.new.desk result }
         ensures told { W.after (Held name.now result) self.old.watcher self.new.watcher }
     {
         let answer = self.desk.hold(name);
@@ -179,9 +167,7 @@ impl<D: ChipDesk, W: WatchDesk> ChipDesk for WatchedDesk<D, W> {
 
     fn replace(&mut self, name: &str, bytes: &[u8]) -> Result<(), DeskFault>
         ensures kept { Replaces name.now bytes.now result (D.view self.old.desk) (D.view self.new.desk) }
-        ensures counts { Counts File (D.view self.old.desk) (D.view self.new.desk) result }
-        ensures fault { IfErr result (λ e. e ≡ DeskFault.Failed) }
-        ensures stays { Stays D.comes_of self.old.desk self.new.desk }
+        ensures call { IsCall D.view D.comes_of (Counts File) self.old.desk self.new.desk result }
         ensures told { W.after (Replaced name.now bytes.now result) self.old.watcher self.new.watcher }
     {
         let answer = self.desk.replace(name, bytes);

@@ -5,7 +5,7 @@ use Rattle.avr_desk.specs.Fault.{HasSameCounts}
 use Rattle.avr_desk.specs.Files.{after_reading, with_read, FileBreaks, IsCounted, IsWhole}
 use Rattle.avr_desk.specs.Record.{DeskState, Passes, Bytes}
 use Rattle.avr_desk.specs.declared.files.FileFault.{FileFault}
-use Rattle.avr_desk.specs.declared.files.FileFault.TheVariants.{Absent, NotOpened, NotRead, Memory}
+use Rattle.avr_desk.specs.declared.files.FileFault.TheVariants.{NotRead}
 use Rattle.avr_records.specs.declared.kind.Ending.{Ending}
 use Rattle.avr_records.specs.declared.kind.Found.{Found}
 use Rattle.avr_plan.specs.ImageFile.{Given, file_within, image_within}
@@ -55,27 +55,6 @@ abbrev pub RestIsRead : ℕ → Found → ℕ → Bytes → DeskState → DeskSt
 RestIsRead limit found size before old new (Ok good) = ReadsRest limit found size before old new (Ok good)
 RestIsRead limit found size before old new (Err (Image bad)) = ReadsRest limit found size before old new (Err bad)
 RestIsRead limit found size before old new (Err (File fault)) = (fault ≡ NotRead) × IsReadInPart old new
-
--- The open file was read to its end or past the limit, and is this.
-pub record ReadsOpenImage (limit : ℕ) (format : Format) (size : ℕ) (old new : DeskState)
-    (given : Given) : Type 0 where
-  pub bytes : Bytes
-  pub ended : Bool
-  pub kept : Passes (after_reading bytes ended) old new
-  pub whole : IsWhole limit (record { bytes = bytes; ended = ended })
-  pub gives : given ≡ image_within limit format bytes size
-
--- An open file is never missing and never fails to open.
-abbrev pub OpenBreaks : DeskState → DeskState → FileFault → Type 0
-OpenBreaks old new Absent = ⊥
-OpenBreaks old new NotOpened = ⊥
-OpenBreaks old new NotRead = IsReadInPart old new
-OpenBreaks old new Memory = (bytes : Bytes) × (ended : Bool) × Passes (after_reading bytes ended) old new
-
-abbrev pub OpenIsRead : ℕ → Format → ℕ → DeskState → DeskState → ImageOrFault → Type 0
-OpenIsRead limit format size old new (Ok good) = ReadsOpenImage limit format size old new (Ok good)
-OpenIsRead limit format size old new (Err (Image bad)) = ReadsOpenImage limit format size old new (Err bad)
-OpenIsRead limit format size old new (Err (File fault)) = OpenBreaks old new fault
 
 -- The file was opened and read to its end or past the limit, and is this.
 pub record ReadsImage (limit : ℕ) (format : Format) (size : ℕ) (name : Bytes) (old new : DeskState)

@@ -1,13 +1,12 @@
 //! Reads an image file over a desk: in pieces to its end, or past the limit, and judges it only then.
-ghost use Rattle.std.specs.Prelude.{◌≡◌, ◌+◌, ◌<◌, ◌≤◌, ◌^◌, ℕ, IfErr, OnOk, length};
+ghost use Rattle.std.specs.Prelude.{◌≡◌, ◌+◌, ◌<◌, ◌^◌, ℕ, IfErr, OnOk, length};
 ghost use Rattle.avr_desk.specs.Fault.{Follows, HasSameCounts};
 ghost use Rattle.avr_desk.specs.Record.{DeskState, Bytes};
 ghost use Rattle.avr_records.specs.declared.kind.Found.{Found as AnyFound};
-ghost use Rattle.avr_records.specs.declared.detection.TheConstants.{FIRST_BYTES};
 ghost use Rattle.avr_plan.specs.Faults.{read_fault_number};
 ghost use Rattle.avr_plan.specs.ImageFile.{kind_of, whole_file};
 ghost use Rattle.avr_desk.specs.Files.{IsCounted};
-ghost use Rattle.avr_plan.specs.ImageReading.{IsGiven, FirstBytesAreRead, RestIsRead, OpenIsRead, ImageIsRead, IsCountedRead};
+ghost use Rattle.avr_plan.specs.ImageReading.{IsGiven, FirstBytesAreRead, RestIsRead, ImageIsRead, IsCountedRead};
 ghost use Rattle.avr_plan.specs.Intake.{Takes, fed_count};
 ghost use Rattle.ghosts.specs.Stays.{Stays};
 
@@ -113,8 +112,7 @@ fn read_rest<D: Desk>(
 ) -> Result<(Image, Ending), ReadFault>
     requires { fed_count intake + left < 2 ^ 31 }
     ensures read { (limit : ℕ) (found : AnyFound) (size : ℕ) (before : Bytes) → Takes found size intake before
-        → length before + left ≡ limit
-        → RestIsRead limit found size before (D.view desk.old) (D.view desk.new) result }
+        → length before + left ≡ limit → RestIsRead limit found size before (D.view desk.old) (D.view desk.new) result }
     ensures follows { Follows (D.view desk.old) (D.view desk.new) }
     ensures counted { IfErr result (IsCountedRead (D.view desk.old) (D.view desk.new)) }
     ensures sound { OnOk result (HasSameCounts (D.view desk.old) (D.view desk.new)) }
@@ -134,37 +132,6 @@ fn read_rest<D: Desk>(
         intake = intake.fed(&piece[..count]);
         left -= count;
     }
-}
-
-/// Reads the open file, of at most `limit` bytes.
-fn read_open<D: Desk>(
-    alloc: Global,
-    desk: &mut D,
-    format: Format,
-    size: u32,
-    limit: usize,
-) -> Result<(Image, Ending), ReadFault>
-    requires prefix { FIRST_BYTES ≤ limit }
-    requires most { limit < 2 ^ 31 }
-    ensures read { OpenIsRead limit format size (D.view desk.old) (D.view desk.new) result }
-    ensures follows { Follows (D.view desk.old) (D.view desk.new) }
-    ensures counted { IfErr result (IsCountedRead (D.view desk.old) (D.view desk.new)) }
-    ensures sound { OnOk result (HasSameCounts (D.view desk.old) (D.view desk.new)) }
-    ensures stays { Stays D.comes_of desk.old desk.new }
-{
-    let prefix = match read_first_bytes(desk) {
-        Ok(prefix) => prefix,
-        Err(fault) => return Err(ReadFault::File(fault)),
-    };
-    let bytes = prefix.bytes.as_slice();
-    let intake = match Intake::new(alloc, file_kind(format, bytes), size) {
-        Ok(intake) => intake.fed(bytes),
-        Err(fault) => return Err(ReadFault::File(fault)),
-    };
-    if prefix.ended {
-        return finish(intake);
-    }
-    read_rest(desk, intake, limit - bytes.len())
 }
 
 /// Reads an image file for a memory of `size` bytes. The file is opened and read to its end, or until more than
@@ -203,8 +170,21 @@ pub fn read_image<D: Desk>(
     ensures stays { Stays D.comes_of desk.old desk.new }
 {
     match desk.open(name) {
-        Ok(()) => read_open(alloc, desk, format, size, LARGEST_IMAGE_FILE),
-        Err(DeskFault::NotFound) => Err(ReadFault::File(FileFault::Absent)),
-        Err(DeskFault::Failed) => Err(ReadFault::File(FileFault::NotOpened)),
+        Ok(()) => {}
+        Err(DeskFault::NotFound) => return Err(ReadFault::File(FileFault::Absent)),
+        Err(DeskFault::Failed) => return Err(ReadFault::File(FileFault::NotOpened)),
     }
+    let prefix = match read_first_bytes(desk) {
+        Ok(prefix) => prefix,
+        Err(fault) => return Err(ReadFault::File(fault)),
+    };
+    let bytes = prefix.bytes.as_slice();
+    let intake = match Intake::new(alloc, file_kind(format, bytes), size) {
+        Ok(intake) => intake.fed(bytes),
+        Err(fault) => return Err(ReadFault::File(fault)),
+    };
+    if prefix.ended {
+        return finish(intake);
+    }
+    read_rest(desk, intake, LARGEST_IMAGE_FILE - bytes.len())
 }

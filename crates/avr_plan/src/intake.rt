@@ -1,5 +1,5 @@
 //! Makes an image from the bytes of a file as they come, or reports why they are no image.
-ghost use Rattle.std.specs.Prelude.{◌≡◌, ◌+◌, ◌<◌, ◌≤◌, ◌^◌, ◌++◌, ℕ, List, [], Ok, Err, length, MatchResult};
+ghost use Rattle.std.specs.Prelude.{◌≡◌, ◌+◌, ◌<◌, ◌≤◌, ◌^◌, ◌++◌, ℕ, [], length, MatchResult};
 ghost use Rattle.avr_plan.specs.Faults.{bad_file_number};
 ghost use Rattle.avr_desk.specs.Record.{Bytes};
 ghost use Rattle.avr_records.specs.declared.kind.Found.{Found as AnyFound};
@@ -61,16 +61,6 @@ fn record_intake(alloc: Global, kind: Kind, size: u32) -> Result<Intake, FileFau
     }
 }
 
-fn raw_intake(alloc: Global, size: u32) -> Result<Intake, FileFault>
-    ensures { MatchResult result (λ intake. Takes Found.Raw size intake [] × (fed_count intake ≡ 0))
-        (λ fault. fault ≡ FileFault.Memory) }
-{
-    match RawReader::new(alloc, size) {
-        Ok(reader) => Ok(Intake::Raw(reader)),
-        Err(_) => Err(FileFault::Memory),
-    }
-}
-
 /// Returns the fault of a file that is too long and has this fault in its first bytes.
 fn in_long_file(fault: BadFile) -> BadFile
     ensures { result ≡ in_long_file fault }
@@ -90,7 +80,10 @@ impl Intake {
             Found::Ihex => record_intake(alloc, Kind::Ihex, size),
             Found::Srec => record_intake(alloc, Kind::Srec, size),
             Found::Elf => Ok(Intake::Faulty(BadFile::Elf)),
-            Found::Raw => raw_intake(alloc, size),
+            Found::Raw => match RawReader::new(alloc, size) {
+                Ok(reader) => Ok(Intake::Raw(reader)),
+                Err(_) => Err(FileFault::Memory),
+            },
         }
     }
 

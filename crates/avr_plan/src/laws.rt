@@ -1,5 +1,5 @@
 //! Laws of planning, over the definitions alone; no code.
-ghost use Rattle.std.specs.Prelude.{◌≡◌, ◌++◌, ℕ, List, [], All, Some, Err};
+ghost use Rattle.std.specs.Prelude.{◌≡◌, ◌++◌, ℕ, List, [], All, Err};
 ghost use Rattle.avr_cli.specs.declared.settings.Settings.{Settings};
 ghost use Rattle.ghosts.specs.Failures.{HasStood};
 ghost use Rattle.avr_desk.specs.Record.{Record, showing, Bytes};

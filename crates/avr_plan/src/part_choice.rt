@@ -1,6 +1,6 @@
 //! The part: reads and judges the part file, and looks the part up.
-ghost use Rattle.std.specs.Prelude.{◌≡◌, false, [], Some, None, Ok, IfErr};
-ghost use Rattle.avr_plan.specs.PlanFaults.{LastTold, TellsPartsFault, part_file_fault_line, with_status};
+ghost use Rattle.std.specs.Prelude.{◌≡◌, false, [], None, Ok, IfErr};
+ghost use Rattle.avr_plan.specs.PlanFaults.{TellsPartsFault, with_status};
 ghost use Rattle.avr_plan.specs.Planning.{LacksPart, parts_stage, part_stage};
 ghost use Rattle.avr_desk.specs.Playing.{AtStart, Goes};
 ghost use Rattle.ghosts.specs.Stays.{Stays};
@@ -8,39 +8,11 @@ ghost use Rattle.ghosts.specs.Stays.{Stays};
 use crate::messages::{no_part_message, part_file_message};
 use crate::plan_fault::PartsFault;
 use avr_cli::Text;
-use avr_desk::{Desk, FileFault, file_message, read_file, refuse, too_long_message};
-use avr_part::{Part, PartFault, Parts, parse_part_file};
+use avr_desk::{Desk, file_message, read_file, refuse, too_long_message};
+use avr_part::{Part, Parts, parse_part_file};
 use std::alloc::Global;
 
 const LARGEST_PART_FILE: usize = 65_536;
-
-fn file_parts<D: Desk>(alloc: Global, desk: &mut D, file: &str) -> Result<Parts, PartsFault>
-    ensures goes { Goes (AtStart false) (parts_stage (Some file.now)) (D.view desk.old) (D.view desk.new)
-        (with_status result) }
-    ensures told { IfErr result (λ fault. LastTold (part_file_fault_line file.now fault)
-        (D.view desk.old) (D.view desk.new)) }
-    ensures stays { Stays D.comes_of desk.old desk.new }
-{
-    let contents = match read_file(alloc, desk, file, LARGEST_PART_FILE) {
-        Ok(contents) => contents,
-        Err(fault) => {
-            refuse(desk, &file_message(file, fault));
-            return Err(PartsFault::File(fault));
-        }
-    };
-    if !contents.ended {
-        refuse(desk, &too_long_message(file, LARGEST_PART_FILE as u32));
-        return Err(PartsFault::TooLong);
-    }
-    match parse_part_file(alloc, contents.bytes.as_slice()) {
-        Ok(parts) => Ok(parts),
-        Err(refused) => {
-            let fault = refused.fault();
-            refuse(desk, &part_file_message(file, fault));
-            Err(PartsFault::Parts(fault))
-        }
-    }
-}
 
 /// Returns the parts of the part file, or an empty list if no file is given.
 ///
@@ -59,9 +31,28 @@ pub fn given_parts<D: Desk>(
     ensures none { file.now ≡ None → (result ≡ Ok []) × (D.view desk.new ≡ D.view desk.old) }
     ensures stays { Stays D.comes_of desk.old desk.new }
 {
-    match file {
-        Some(file) => file_parts(alloc, desk, file.as_str()),
-        None => Ok(Parts::none()),
+    let Some(file) = file else {
+        return Ok(Parts::none());
+    };
+    let file = file.as_str();
+    let contents = match read_file(alloc, desk, file, LARGEST_PART_FILE) {
+        Ok(contents) => contents,
+        Err(fault) => {
+            refuse(desk, &file_message(file, fault));
+            return Err(PartsFault::File(fault));
+        }
+    };
+    if !contents.ended {
+        refuse(desk, &too_long_message(file, LARGEST_PART_FILE as u32));
+        return Err(PartsFault::TooLong);
+    }
+    match parse_part_file(alloc, contents.bytes.as_slice()) {
+        Ok(parts) => Ok(parts),
+        Err(refused) => {
+            let fault = refused.fault();
+            refuse(desk, &part_file_message(file, fault));
+            Err(PartsFault::Parts(fault))
+        }
     }
 }
 

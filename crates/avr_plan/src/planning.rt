@@ -1,10 +1,8 @@
 //! Makes the plan of a run: reads and judges all that it needs, before any frame is sent.
 ghost use Rattle.std.specs.Prelude.{◌≡◌, ◌<◌, [], None, All, IfOk, IfErr, IsOk, OnOk, vec_len, vec_capacity};
-ghost use Rattle.avr_cli.specs.declared.settings.Switches.{Switches as AnySwitches};
-ghost use Rattle.avr_part.specs.Part.{Part as PartData};
 ghost use Rattle.avr_plan.specs.Plan.{IsFitted};
 ghost use Rattle.avr_plan.specs.PlanFaults.{TellsPlanFault, TellsTaskFault, TellsTasksFault, with_status};
-ghost use Rattle.avr_plan.specs.Planning.{LacksPart, task_stage, op_stage, write_stage, tasks_stage, planned};
+ghost use Rattle.avr_plan.specs.Planning.{LacksPart, task_stage, tasks_stage, planned};
 ghost use Rattle.avr_plan.specs.Taking.{AtUpdate, AtTask, op_takes_memory};
 ghost use Rattle.avr_desk.specs.Playing.{AtStart, Goes};
 ghost use Rattle.ghosts.specs.Stays.{Stays};
@@ -19,88 +17,6 @@ use avr_desk::{Desk, memory_message, refuse};
 use avr_part::Part;
 use std::alloc::Global;
 
-fn write_task<D: Desk>(
-    alloc: Global,
-    desk: &mut D,
-    tasks: &mut Vec<Task>,
-    switches: Switches,
-    part: &Part,
-    update: &Update,
-) -> Result<Task, TaskFault>
-    ensures goes { Goes (AtStart (op_takes_memory update.now Op.Write))
-        (write_stage switches part.now update.now) (D.view desk.old) (D.view desk.new)
-        (with_status result) }
-    ensures told { IfErr result (TellsTaskFault update.now (D.view desk.old) (D.view desk.new)) }
-    ensures fitted { IfOk result (IsFitted part.now) }
-    ensures same { tasks.new.items ≡ tasks.old.items }
-    ensures room { OnOk result (vec_len tasks.new < vec_capacity tasks.new) }
-    ensures stays { Stays D.comes_of desk.old desk.new }
-{
-    if !update.memory.writable() {
-        refuse(desk, &read_only_message(update.memory));
-        return Err(TaskFault::ReadOnly);
-    }
-    match update_image(alloc, desk, tasks, switches, part, update) {
-        Ok(image) => Ok(Task::Write(update.memory, image)),
-        Err(fault) => Err(fault),
-    }
-}
-
-fn verify_task<D: Desk>(
-    alloc: Global,
-    desk: &mut D,
-    tasks: &mut Vec<Task>,
-    switches: Switches,
-    part: &Part,
-    update: &Update,
-) -> Result<Task, TaskFault>
-    ensures goes { Goes (AtStart (op_takes_memory update.now Op.Verify))
-        (op_stage switches part.now update.now Op.Verify) (D.view desk.old) (D.view desk.new)
-        (with_status result) }
-    ensures told { IfErr result (TellsTaskFault update.now (D.view desk.old) (D.view desk.new)) }
-    ensures fitted { IfOk result (IsFitted part.now) }
-    ensures same { tasks.new.items ≡ tasks.old.items }
-    ensures room { OnOk result (vec_len tasks.new < vec_capacity tasks.new) }
-    ensures stays { Stays D.comes_of desk.old desk.new }
-{
-    match update_image(alloc, desk, tasks, switches, part, update) {
-        Ok(image) => Ok(Task::Verify(update.memory, image)),
-        Err(fault) => Err(fault),
-    }
-}
-
-fn read_task<D: Desk>(
-    alloc: Global,
-    desk: &mut D,
-    tasks: &mut Vec<Task>,
-    update: &Update,
-) -> Result<Task, TaskFault>
-    ensures goes { (switches : AnySwitches) (part : PartData) → Goes (AtStart (op_takes_memory update.now Op.Read))
-        (op_stage switches part update.now Op.Read) (D.view desk.old) (D.view desk.new)
-        (with_status result) }
-    ensures told { IfErr result (TellsTaskFault update.now (D.view desk.old) (D.view desk.new)) }
-    ensures fitted { IfOk result (λ task. (part : PartData) → IsFitted part task) }
-    ensures same { tasks.new.items ≡ tasks.old.items }
-    ensures room { OnOk result (vec_len tasks.new < vec_capacity tasks.new) }
-    ensures stays { Stays D.comes_of desk.old desk.new }
-{
-    if tasks.reserve(1).is_err() {
-        refuse(desk, &memory_message());
-        return Err(TaskFault::Memory);
-    }
-    match Text::new(alloc, update.file.as_str()) {
-        Ok(file) => Ok(Task::Read {
-            memory: update.memory,
-            format: update.format,
-            file,
-        }),
-        Err(_) => {
-            refuse(desk, &memory_message());
-            Err(TaskFault::Memory)
-        }
-    }
-}
-
 /// Returns the task of an update, and makes room for it in `tasks`.
 fn update_task<D: Desk>(
     alloc: Global,
@@ -110,9 +26,8 @@ fn update_task<D: Desk>(
     part: &Part,
     update: &Update,
 ) -> Result<Task, TaskFault>
-    ensures goes { Goes (AtStart (op_takes_memory update.now update.now.op))
-        (task_stage switches part.now update.now) (D.view desk.old) (D.view desk.new)
-        (with_status result) }
+    ensures goes { Goes (AtStart (op_takes_memory update.now update.now.op)) (task_stage switches part.now update.now)
+        (D.view desk.old) (D.view desk.new) (with_status result) }
     ensures told { IfErr result (TellsTaskFault update.now (D.view desk.old) (D.view desk.new)) }
     ensures fitted { IfOk result (IsFitted part.now) }
     ensures same { tasks.new.items ≡ tasks.old.items }
@@ -120,9 +35,33 @@ fn update_task<D: Desk>(
     ensures stays { Stays D.comes_of desk.old desk.new }
 {
     match update.op {
-        Op::Write => write_task(alloc, desk, tasks, switches, part, update),
-        Op::Verify => verify_task(alloc, desk, tasks, switches, part, update),
-        Op::Read => read_task(alloc, desk, tasks, update),
+        Op::Write => {
+            if !update.memory.writable() {
+                refuse(desk, &read_only_message(update.memory));
+                return Err(TaskFault::ReadOnly);
+            }
+            let image = update_image(alloc, desk, tasks, switches, part, update)?;
+            Ok(Task::Write(update.memory, image))
+        }
+        Op::Verify => {
+            let image = update_image(alloc, desk, tasks, switches, part, update)?;
+            Ok(Task::Verify(update.memory, image))
+        }
+        Op::Read => {
+            if tasks.reserve(1).is_err() {
+                refuse(desk, &memory_message());
+                return Err(TaskFault::Memory);
+            }
+            let Ok(file) = Text::new(alloc, update.file.as_str()) else {
+                refuse(desk, &memory_message());
+                return Err(TaskFault::Memory);
+            };
+            Ok(Task::Read {
+                memory: update.memory,
+                format: update.format,
+                file,
+            })
+        }
     }
 }
 

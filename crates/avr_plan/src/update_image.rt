@@ -1,10 +1,9 @@
 //! The image of an update, from a file or from values on the command line.
-ghost use Rattle.std.specs.Prelude.{◌≡◌, ◌<◌, true, false, length, IfErr, IfOk, OnOk, vec_len, vec_capacity};
-ghost use Rattle.avr_cli.specs.declared.settings.Switches.{Switches as AnySwitches};
+ghost use Rattle.std.specs.Prelude.{◌≡◌, ◌<◌, false, length, IfErr, IfOk, OnOk, vec_len, vec_capacity};
 ghost use Rattle.avr_part.specs.Part.{size_of};
 ghost use Rattle.avr_cli.specs.declared.update.Update.{Update as AnyUpdate};
 ghost use Rattle.avr_plan.specs.PlanFaults.{TellsTaskFault, with_status};
-ghost use Rattle.avr_plan.specs.Planning.{is_warned, warning_says, file_image_stage, image_stage, update_image as update_image_stage};
+ghost use Rattle.avr_plan.specs.Planning.{is_warned, warning_says, file_image_stage, update_image as update_image_stage};
 ghost use Rattle.avr_plan.specs.Taking.{has_values};
 ghost use Rattle.avr_desk.specs.Playing.{AtStart, Goes};
 ghost use Rattle.avr_desk.specs.Stage.{output_stage};
@@ -17,7 +16,7 @@ use crate::planned::Task;
 use avr_cli::{Format, Switches, Update};
 use avr_desk::{Desk, Piece, memory_message, print_warning, refuse};
 use avr_image::{Image, parse_immediate};
-use avr_part::{Mem, Part};
+use avr_part::Part;
 use avr_records::Ending;
 use std::alloc::Global;
 
@@ -90,38 +89,6 @@ fn file_image<D: Desk>(
     }
 }
 
-/// Makes room for the task, and reads the image of values on the command line.
-fn values_image<D: Desk>(
-    alloc: Global,
-    desk: &mut D,
-    tasks: &mut Vec<Task>,
-    memory: Mem,
-    text: &str,
-    size: u32,
-) -> Result<Image, TaskFault>
-    ensures goes { (switches : AnySwitches) → Goes (AtStart true)
-        (image_stage switches memory size text.now Format.Immediate) (D.view desk.old) (D.view desk.new)
-        (with_status result) }
-    ensures told { (update : AnyUpdate) → update.memory ≡ memory
-        → IfErr result (TellsTaskFault update (D.view desk.old) (D.view desk.new)) }
-    ensures sized { IfOk result (λ image. length image ≡ size) }
-    ensures same { tasks.new.items ≡ tasks.old.items }
-    ensures room { OnOk result (vec_len tasks.new < vec_capacity tasks.new) }
-    ensures stays { Stays D.comes_of desk.old desk.new }
-{
-    if tasks.reserve(1).is_err() {
-        refuse(desk, &memory_message());
-        return Err(TaskFault::Memory);
-    }
-    match parse_immediate(alloc, text, size) {
-        Ok(image) => Ok(image),
-        Err(fault) => {
-            refuse(desk, &values_message(memory, fault));
-            Err(TaskFault::Values(fault))
-        }
-    }
-}
-
 /// Reads the image of an update, and makes room for its task in `tasks`. For values, allocation fails before anything
 /// is printed; for a file, while it is read.
 pub(crate) fn update_image<D: Desk>(
@@ -142,8 +109,18 @@ pub(crate) fn update_image<D: Desk>(
 {
     let size = part.size_of(update.memory);
     let text = update.file.as_str();
-    match update.format {
-        Format::Immediate => values_image(alloc, desk, tasks, update.memory, text, size),
-        format => file_image(alloc, desk, tasks, switches, text, format, size),
+    let Format::Immediate = update.format else {
+        return file_image(alloc, desk, tasks, switches, text, update.format, size);
+    };
+    if tasks.reserve(1).is_err() {
+        refuse(desk, &memory_message());
+        return Err(TaskFault::Memory);
+    }
+    match parse_immediate(alloc, text, size) {
+        Ok(image) => Ok(image),
+        Err(fault) => {
+            refuse(desk, &values_message(update.memory, fault));
+            Err(TaskFault::Values(fault))
+        }
     }
 }

@@ -15,8 +15,7 @@ use Rattle.avr_session.specs.Stopping.{IsPlayed}
 
 abbrev pub outcome_status : Outcome → ℕ
 outcome_status outcome.Done = 0
-outcome_status (outcome.Faulty fault) = 1
-outcome_status outcome.Stopped = 1
+outcome_status _ = 1
 
 abbrev pub EndWith : Bytes → Bytes → Type 0
 EndWith line messages = (before : Bytes) × (messages ≡ before ++ line)
@@ -33,10 +32,9 @@ ComesTo plan old new outcome.Stopped = StopsSession plan old new
 
 -- If a fault ended the session, the fault's line is the last one reported.
 abbrev pub EndsTold : Part → DeskState → Result ⊤ End → Type 0
-EndsTold part view (Ok done) = ⊤
 EndsTold part view (Err (ends.Faulty fault)) = EndWith (fault_line part fault) view.kept.messages
 EndsTold part view (Err (ends.Over fault)) = EndWith (fault_line part fault) view.kept.messages
-EndsTold part view (Err ends.Stopped) = ⊤
+EndsTold part view result = ⊤
 
 abbrev pub outcome_of : Result ⊤ End → Outcome
 outcome_of (Ok done) = outcome.Done

@@ -2,20 +2,16 @@
 use Rattle.std.specs.Prelude.{Bool, true, false, ◌≡◌, ◌≤◌, List, Result, Ok, Err, ⊤}
 use Rattle.std.specs.List.{list_any}
 use Rattle.avr_desk.specs.Fault.{Follows}
-use Rattle.avr_desk.specs.Record.{DeskState}
-use Rattle.avr_desk.specs.declared.desk.DeskFault.{DeskFault}
 use Rattle.avr_plan.specs.Plan.{Plan}
 use Rattle.stk_host.specs.Dialog.{Dialog}
 use Rattle.stk_host.specs.Play.{Progress}
 use Rattle.stk_host.specs.State.{HostState}
 use Rattle.avr_desk.specs.Said.{OutputEvent}
-use Rattle.avr_session.specs.declared.ending.End.{End}
 use Rattle.avr_session.specs.Standing.{Standing, Fine}
-use Rattle.avr_session.specs.Actions.{Action, action_takes_memory}
-use Rattle.avr_session.specs.Concluding.{HostServes, conclusion}
+use Rattle.avr_session.specs.Actions.{Action, action_takes_memory, actions, takes_memory}
+use Rattle.avr_session.specs.Concluding.{HostServes}
 use Rattle.avr_session.specs.Runs.{Devices, Lacking, Terms, untold, Ran, BrokeOff}
-use Rattle.avr_session.specs.Reporting.{PrintStops, Reports}
-use Rattle.avr_session.specs.Session.{actions_dialog}
+use Rattle.avr_session.specs.Session.{actions_dialog, ending, playing}
 use Rattle.avr_session.specs.Taking.{AtOnce, AtTaking}
 
 abbrev pub is_told : Standing → Bool
@@ -37,21 +33,26 @@ pub record PerformsBehind (terms : Terms) (Lacks : Lacking) (dialog : Dialog Out
   pub link : old.link.failures ≤ new.link.failures
   pub desk : Follows old.desk new.desk
 
--- The same, if no fault was reported before, and the action allocates at its start or never.
-abbrev pub Performs : Bool → Dialog OutputEvent Standing → HostState → HostState → Devices → Devices
-    → Result Standing ⊤ → Type 0
-Performs takes dialog host_old host_new old new result =
-    PerformsBehind (untold takes) (AtOnce takes) dialog host_old host_new old new result
+-- A part of a run, between these states of the host and the devices.
+abbrev pub Performing : Type 1
+Performing = HostState → HostState → Devices → Devices → Result Standing ⊤ → Type 0
 
--- These actions of a plan were done in order, up to the first fault. Allocation can fail only at an action that
--- allocates.
-abbrev pub Does : Plan → List Action → HostState → HostState → Devices → Devices → Result Standing ⊤ → Type 0
-Does plan actions host_old host_new old new result =
+-- An action before which no fault was reported, and which allocates at its start or never.
+abbrev pub Performs : Bool → Dialog OutputEvent Standing → Performing
+Performs takes dialog = PerformsBehind (untold takes) (AtOnce takes) dialog
+
+-- These actions of a plan, in order, up to the first fault. Allocation can fail only at an action that allocates.
+abbrev pub PlanDoes : Plan → List Action → Performing
+PlanDoes plan actions =
     PerformsBehind (untold (list_any action_takes_memory actions)) (AtTaking plan.part plan.switches actions)
-    (actions_dialog plan.part plan.switches actions) host_old host_new old new result
+    (actions_dialog plan.part plan.switches actions)
 
--- These events were output in place of an action.
-pub record LeavesOut (outputs : List OutputEvent) (old new : DeskState) (result : Result ⊤ End) : Type 0 where
-  pub told : Result ⊤ DeskFault
-  pub reports : Reports PrintStops old new outputs told
-  pub result_is : result ≡ conclusion {A = ⊤} (Ok tt) told
+-- The end of a session that is in this state after its actions.
+abbrev pub EndsSession : Plan → Standing → Performing
+EndsSession plan standing = PerformsBehind (record { takes = false; was_told = is_told standing }) (AtOnce false)
+    (ending plan.part plan.switches standing)
+
+-- A whole session.
+abbrev pub PlaysSession : Plan → Performing
+PlaysSession plan =
+    PerformsBehind (untold (takes_memory plan)) (AtTaking plan.part plan.switches (actions plan)) (playing plan)

@@ -5,7 +5,9 @@ use Rattle.avr_desk.specs.Fault.{Follows, HasSameCounts}
 use Rattle.avr_desk.specs.Record.{DeskState, Passes, after_err, Bytes}
 use Rattle.avr_desk.specs.Said.{OutputEvent, TellsFailure, after_all}
 use Rattle.stk_host.specs.Dialog.{Said}
+use Rattle.avr_desk.specs.declared.desk.Desk.{Ghosts}
 use Rattle.avr_desk.specs.declared.desk.DeskFault.{DeskFault}
+use Rattle.ghosts.specs.Stays.{Stays}
 use Rattle.avr_session.specs.Runs.{Cause, OfFile, OfPrinting, FileTrouble, cause_line, StopsAt}
 
 -- Only a failure of the desk stops output.
@@ -40,9 +42,8 @@ abbrev pub SaysOrStops : (DeskState → DeskState → Cause → Bytes → Type 0
 SaysOrStops By old new outputs (Ok done) = Passes (after_all outputs) old new × HasSameCounts old new
 SaysOrStops By old new outputs (Err _) = SaidSome By old new outputs
 
-pub record Reports (By : DeskState → DeskState → Cause → Bytes
-    → Type 0) (old new : DeskState) (outputs : List OutputEvent)
-    (result : Result ⊤ DeskFault) : Type 0 where
+pub record Reports (By : DeskState → DeskState → Cause → Bytes → Type 0) (old new : DeskState)
+    (outputs : List OutputEvent) (result : Result ⊤ DeskFault) : Type 0 where
   pub says : SaysOrStops By old new outputs result
   pub follows : Follows old new
 
@@ -50,6 +51,15 @@ pub record Reports (By : DeskState → DeskState → Cause → Bytes
 abbrev pub PrintStops : DeskState → DeskState → Cause → Bytes → Type 0
 PrintStops old new OfPrinting told = desk.HasFailedToSay old new × (told ≡ [])
 PrintStops old new cause told = ⊥
+
+-- At a desk these events were reported, or such a cause stopped them.
+pub record Outputs {D : Type 0} (desk : Ghosts D) (By : DeskState → DeskState → Cause → Bytes → Type 0)
+    (outputs : List OutputEvent) (old new : D) (result : Result ⊤ DeskFault) : Type 0 where
+  pub reports : Reports By (desk.view old) (desk.view new) outputs result
+  pub stays : Stays desk.comes_of old new
+
+abbrev pub Prints : {D : Type 0} → Ghosts D → List OutputEvent → D → D → Result ⊤ DeskFault → Type 0
+Prints desk outputs old new result = Outputs desk PrintStops outputs old new result
 
 -- The desk failed at a file, and this was reported.
 abbrev pub FileStops : DeskState → DeskState → Bytes → FileTrouble → Bytes → Type 0

@@ -22,8 +22,7 @@ RunsSession plan old new status =
 
 abbrev pub StopsSession : Plan → Devices → Devices → Type 0
 StopsSession plan old new =
-    BrokeOff (session plan) start old new (untold (takes_memory plan))
-    (AtTaking plan.part plan.switches (actions plan))
+    BrokeOff (session plan) start old new (untold (takes_memory plan)) (AtTaking plan.part plan.switches (actions plan))
 
 -- A plan was made from what the files gave, up to `between`, and then this holds.
 pub record WithPlan (settings : Settings) (old : DeskState) (Then : Plan → DeskState → Type 0) : Type 0 where

@@ -108,8 +108,7 @@ abbrev pub HasCome : Bool → Devices → Devices → Cause → Type 0
 HasCome takes old then OfSending = link.HasFailed old.link then.link × HasSameCounts old.desk then.desk
 HasCome takes old then OfListening = link.HasFailed old.link then.link × HasSameCounts old.desk then.desk
 HasCome takes old then OfMemory = (takes ≡ true) × NoneFailed old then
-HasCome takes old then OfPrinting =
-    desk.HasFailedToSay old.desk then.desk × (then.link.failures ≡ old.link.failures)
+HasCome takes old then OfPrinting = desk.HasFailedToSay old.desk then.desk × (then.link.failures ≡ old.link.failures)
 HasCome takes old then cause = HasFailedAt File old.desk then.desk × (then.link.failures ≡ old.link.failures)
 
 -- The cause's line was reported. After a fault's line only the link or the printing can fail, and nothing more is

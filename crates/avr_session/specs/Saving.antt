@@ -1,22 +1,24 @@
 -- Bytes written to a file or to standard output: for contracts inside this crate.
-use Rattle.std.specs.Prelude.{◌≡◌, ◌++◌, Result, Ok, Err, ⊤}
-use Rattle.avr_desk.specs.Fault.{HasSameCounts}
+use Rattle.std.specs.Prelude.{◌≡◌, Result, Ok, Err, IfErr, OnErr, OnOk, ⊤}
+use Rattle.avr_desk.specs.Fault.{Counts, HasSameCounts}
 use Rattle.avr_desk.specs.Record.{DeskState, Passes, after_err, Bytes}
 use Rattle.avr_desk.specs.Stream.{SendsPart, after_sent}
 use Rattle.avr_desk.specs.declared.stream.Stream.{Stream}
-use Rattle.avr_desk.specs.declared.stream.Stream.TheVariants.{Messages}
 use Rattle.avr_session.specs.Runs.{Cause, OfFile, NotCreated, NotWritten}
 use Rattle.avr_session.specs.Reporting.{FileStops}
+use Rattle.avr_desk.specs.declared.desk.Desk.{Ghosts}
 use Rattle.avr_desk.specs.declared.desk.DeskFault.{DeskFault}
+use Rattle.avr_desk.specs.declared.desk.DeskFault.TheVariants.{Failed}
+use Rattle.ghosts.specs.Stays.{Stays}
 
-abbrev pub IsForData : Stream → Type 0
-IsForData Messages = ⊥
-IsForData stream = Unit {0}
-
--- The bytes before those that wait were sent.
-abbrev pub SendsPrefix : Stream → DeskState → DeskState → Bytes → Bytes → Type 0
-SendsPrefix stream old new bytes waiting =
-    (sent : Bytes) × (bytes ≡ sent ++ waiting) × Passes (after_sent stream sent) old new
+-- All of the text went there, or a prefix of it and a call failed.
+pub record SendsText {D : Type 0} (desk : Ghosts D) (stream : Stream) (text : Bytes) (old new : D)
+    (result : Result ⊤ DeskFault) : Type 0 where
+  pub all : OnOk result (Passes (after_sent stream text) (desk.view old) (desk.view new))
+  pub part : OnErr result (SendsPart stream (desk.view old) (desk.view new) text)
+  pub counts : Counts stream (desk.view old) (desk.view new) result
+  pub fault : IfErr result (λ fault. fault ≡ Failed)
+  pub stays : Stays desk.comes_of old new
 
 -- The desk failed at creating or writing this file, and this was reported.
 abbrev pub SaveStops : Bytes → DeskState → DeskState → Cause → Bytes → Type 0

@@ -91,8 +91,7 @@ abbrev pub written_says : ℕ → Part → Mem → List (Option ℕ) → Result 
 written_says quiet part mem image = fault_or part (λ _. bytes_say quiet mem (byte_count image) (done_text Written))
 
 abbrev pub verified_says : ℕ → Part → Mem → List (Option ℕ) → Result ⊤ HostFault → List OutputEvent
-verified_says quiet part mem image = fault_or part
-    (λ _. bytes_say quiet mem (byte_count image) (done_text Verified))
+verified_says quiet part mem image = fault_or part (λ _. bytes_say quiet mem (byte_count image) (done_text Verified))
 
 abbrev pub closed_says : ℕ → Part → Result ⊤ HostFault → List OutputEvent
 closed_says quiet part = fault_or part (λ _. informs quiet (codes "done" ∷ []))

@@ -17,8 +17,7 @@ AtOnce takes before during shown = (takes ≡ true) × (shown ≡ [])
 
 -- An action that allocates is next, and what happened so far is the whole run of the actions before it.
 pub record AtTaking (part : Part) (switches : Switches) (actions : List Action) (before : Progress)
-    (during : Transcript)
-    (shown : List (Event OutputEvent)) : Type 0 where
+    (during : Transcript) (shown : List (Event OutputEvent)) : Type 0 where
   pub done : List Action
   pub due : Action
   pub more : List Action

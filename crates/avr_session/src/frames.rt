@@ -1,11 +1,10 @@
 //! Counts the frames of a plan, so that a caller can show a session's progress.
-ghost use Rattle.std.specs.Prelude.{◌≡◌, ◌≤◌, ◌<◌, ◌/◌, ◌^◌, ◌-◌, min};
-ghost use Rattle.avr_part.specs.Part.{Part as AnyPart};
-ghost use Rattle.avr_session.specs.Actions.{erase_actions, task_actions};
+ghost use Rattle.std.specs.Prelude.{◌≡◌, ◌≤◌, ◌^◌, ◌-◌, min};
+ghost use Rattle.avr_session.specs.Actions.{task_actions};
 ghost use Rattle.avr_session.specs.PlanSteps.{actions_steps, run_steps};
 ghost use Rattle.stk_host.specs.Bound.{commands_in};
 ghost use Rattle.stk_host.specs.ReadSteps.{read_steps};
-ghost use Rattle.stk_host.specs.WriteSteps.{page_steps, run_steps_at, write_steps};
+ghost use Rattle.stk_host.specs.WriteSteps.{write_steps};
 
 use crate::performing::is_erase_due;
 use avr_cli::Switches;
@@ -34,49 +33,35 @@ fn read_frames(part: &Part, mem: Mem) -> u64
     }
 }
 
-/// Returns 2 if the image holds a byte in this page of flash, otherwise 0.
-fn page_frames(part: &Part, image: &Image, page: u32) -> u64
-    requires { page < part.now.flash_size / part.now.flash_page }
-    ensures value { result ≡ commands_in (page_steps part.now image.now page) }
-    ensures few { result ≤ 2 }
-{
-    let size = part.page_of(Mem::Flash);
-    if image.holds_any(page * size, size) {
-        2
-    } else {
-        0
-    }
-}
-
+/// Two frames write a page, if the image holds a byte in it.
 fn flash_frames(part: &Part, image: &Image) -> u64
     ensures value { result ≡ commands_in (write_steps part.now Mem.Flash image.now) }
     ensures few { result ≤ 2 ^ 20 }
 {
-    let pages = part.size_of(Mem::Flash) / part.page_of(Mem::Flash);
+    let size = part.page_of(Mem::Flash);
+    let pages = part.size_of(Mem::Flash) / size;
     let mut count = 0;
     for page in 0..pages {
-        count += page_frames(part, image, page);
+        if image.holds_any(page * size, size) {
+            count += 2;
+        }
     }
     count
 }
 
-/// Returns 2 if a run of the image's bytes begins at this address of EEPROM, otherwise 0.
-fn run_frames(part: &Part, image: &Image, addr: u32) -> u64
-    ensures value { result ≡ commands_in (run_steps_at part.now image.now addr) }
-    ensures few { result ≤ 2 }
-{
-    let size = part.page_of(Mem::Eeprom);
-    let begins = image.get(addr).is_some() && (addr % size == 0 || image.get(addr - 1).is_none());
-    if begins { 2 } else { 0 }
-}
-
+/// Two frames write a run of bytes within a page.
 fn eeprom_frames(part: &Part, image: &Image) -> u64
     ensures value { result ≡ commands_in (write_steps part.now Mem.Eeprom image.now) }
     ensures few { result ≤ 2 ^ 20 }
 {
+    let size = part.page_of(Mem::Eeprom);
     let mut count = 0;
     for addr in 0..part.size_of(Mem::Eeprom) {
-        count += run_frames(part, image, addr);
+        let begins = image.get(addr).is_some()
+            && (addr % size == 0 || image.get(addr - 1).is_none());
+        if begins {
+            count += 2;
+        }
     }
     count
 }
@@ -104,14 +89,6 @@ fn task_frames(switches: Switches, part: &Part, task: &Task) -> u64
     }
 }
 
-fn erase_frames(switches: Switches, tasks: &[Task]) -> u64
-    ensures value { (part : AnyPart) →
-        result ≡ commands_in (actions_steps part (erase_actions switches tasks.now)) }
-    ensures few { result ≤ 1 }
-{
-    u64::from(!switches.dry && is_erase_due(switches, tasks))
-}
-
 /// Returns how many frames a session of `plan` sends over a link that loses nothing, or `u64::MAX` if they are more.
 ///
 /// A session sends fewer frames if a fault ends it, such as a byte that differs. Over a link that loses frames it
@@ -130,7 +107,8 @@ pub fn frame_count(plan: &Plan) -> u64
 {
     let switches = plan.switches();
     let tasks = plan.tasks();
-    let mut count = OPENING + CLOSING + erase_frames(switches, tasks);
+    let erases = !switches.dry && is_erase_due(switches, tasks);
+    let mut count = OPENING + CLOSING + u64::from(erases);
     for task in tasks {
         count = count.saturating_add(task_frames(switches, plan.part(), task));
     }

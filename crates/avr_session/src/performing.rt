@@ -4,12 +4,9 @@ ghost use Rattle.std.specs.Prelude.{◌≡◌, ◌∷◌, ◌≤◌, [], None, l
 ghost use Rattle.std.specs.List.{list_any};
 ghost use Rattle.avr_part.specs.Part.{size_of};
 ghost use Rattle.avr_plan.specs.Plan.{IsFitted};
-ghost use Rattle.avr_session.specs.Actions.{TheErase, TheWrite, OpenSession, EraseChip, WriteImage, CompareImage, SaveMemory, writes_flash, is_erase_due, erase_actions, read_back_actions, write_actions, task_actions, tasks_actions};
-ghost use Rattle.avr_session.specs.Held.{Keeps, SessionDoes, TellsLast};
-ghost use Rattle.avr_session.specs.Performing.{LeavesOut};
+ghost use Rattle.avr_session.specs.Actions.{OpenSession, WriteImage, CompareImage, SaveMemory, writes_flash, is_erase_due, erase_actions, write_actions, task_actions, tasks_actions};
+ghost use Rattle.avr_session.specs.Held.{Does, IsReady};
 ghost use Rattle.avr_session.specs.Runs.{start};
-ghost use Rattle.avr_session.specs.Session.{left_out_says};
-ghost use Rattle.ghosts.specs.Stays.{Stays};
 
 use crate::ending::{End, conclude};
 use crate::reports::{Done, report_bytes, report_erased, report_image, report_opening, warn};
@@ -21,14 +18,6 @@ use avr_part::Mem;
 use avr_plan::{Plan, Task};
 use std::alloc::Global;
 use stk_host::{Host, Link};
-
-fn leave_out_erase<D: Desk>(desk: &mut D, quiet: u8) -> Result<(), End>
-    ensures leaves_out { LeavesOut (left_out_says quiet TheErase) (D.view desk.old) (D.view desk.new) result }
-    ensures stays { Stays D.comes_of desk.old desk.new }
-{
-    let warned = warn(desk, quiet, &[Piece::Text("chip not erased because of -n")]);
-    conclude(&Ok(()), warned)
-}
 
 fn writes_flash(task: &Task) -> bool
     ensures { result ≡ writes_flash task.now }
@@ -47,16 +36,6 @@ pub(crate) fn is_erase_due(switches: Switches, tasks: &[Task]) -> bool
     ensures { result ≡ is_erase_due switches tasks.now }
 {
     switches.erase || (any_writes_flash(tasks) && !switches.keep_flash)
-}
-
-fn leave_out_write<D: Desk>(desk: &mut D, plan: &Plan, mem: Mem, image: &Image) -> Result<(), End>
-    ensures leaves_out { LeavesOut (left_out_says plan.now.switches.quiet (TheWrite mem image.now))
-        (D.view desk.old) (D.view desk.new) result }
-    ensures stays { Stays D.comes_of desk.old desk.new }
-{
-    let quiet = plan.switches().quiet;
-    let said = report_bytes(desk, quiet, mem, image.len(), Done::NotWritten);
-    conclude(&Ok(()), said)
 }
 
 /// A session of a plan over a link, reported at a desk.
@@ -91,11 +70,8 @@ impl<'a, D: Desk, L: Link> Session<'a, D, L> {
     }
 
     pub(crate) fn open(&mut self) -> Result<(), End>
-        requires sound { self.old.host.broken ≡ None }
-        requires part { self.old.host.part ≡ self.old.plan.now.part }
-        ensures performs { SessionDoes L.view D.view (OpenSession ∷ []) self.old self.new result }
-        ensures keeps { Keeps L.comes_of D.comes_of self.old self.new }
-        ensures told { TellsLast D.view self.new result }
+        requires { IsReady self.old }
+        ensures { Does L.Link D.Desk (OpenSession ∷ []) self.old self.new result }
     {
         let switches = self.plan.switches();
         let opened = self.host.open(self.link, switches.force);
@@ -103,45 +79,33 @@ impl<'a, D: Desk, L: Link> Session<'a, D, L> {
         conclude(&opened, reported)
     }
 
-    fn erase(&mut self) -> Result<(), End>
-        requires sound { self.old.host.broken ≡ None }
-        ensures performs { SessionDoes L.view D.view (EraseChip ∷ []) self.old self.new result }
-        ensures keeps { Keeps L.comes_of D.comes_of self.old self.new }
-        ensures told { TellsLast D.view self.new result }
-    {
-        let erased = self.host.erase(self.link);
-        let reported = report_erased(self.desk, self.plan, &erased);
-        conclude(&erased, reported)
-    }
-
     /// Erases the chip if an erase is due; a dry run skips it.
     pub(crate) fn erase_if_due(&mut self) -> Result<(), End>
-        requires sound { self.old.host.broken ≡ None }
-        ensures performs { SessionDoes L.view D.view
-            (erase_actions self.old.plan.now.switches self.old.plan.now.tasks) self.old self.new result }
-        ensures keeps { Keeps L.comes_of D.comes_of self.old self.new }
-        ensures told { TellsLast D.view self.new result }
+        requires { self.old.host.broken ≡ None }
+        ensures { Does L.Link D.Desk (erase_actions self.old.plan.now.switches self.old.plan.now.tasks)
+            self.old self.new result }
     {
         let switches = self.plan.switches();
         if switches.dry {
             if switches.erase {
-                return leave_out_erase(self.desk, switches.quiet);
+                let pieces = [Piece::Text("chip not erased because of -n")];
+                let warned = warn(self.desk, switches.quiet, &pieces);
+                return conclude(&Ok(()), warned);
             }
             return Ok(());
         }
         if is_erase_due(switches, self.plan.tasks()) {
-            return self.erase();
+            let erased = self.host.erase(self.link);
+            let reported = report_erased(self.desk, self.plan, &erased);
+            return conclude(&erased, reported);
         }
         Ok(())
     }
 
     fn verify(&mut self, mem: Mem, image: &Image) -> Result<(), End>
-        requires sound { self.old.host.broken ≡ None }
-        requires part { self.old.host.part ≡ self.old.plan.now.part }
+        requires ready { IsReady self.old }
         requires fits { length image.now ≤ size_of mem self.old.plan.now.part }
-        ensures performs { SessionDoes L.view D.view (CompareImage mem image.now ∷ []) self.old self.new result }
-        ensures keeps { Keeps L.comes_of D.comes_of self.old self.new }
-        ensures told { TellsLast D.view self.new result }
+        ensures { Does L.Link D.Desk (CompareImage mem image.now ∷ []) self.old self.new result }
     {
         let verified = self.host.verify(self.alloc, self.link, mem, image);
         let reported = report_image(self.desk, self.plan, Done::Verified, mem, image, &verified);
@@ -149,58 +113,37 @@ impl<'a, D: Desk, L: Link> Session<'a, D, L> {
     }
 
     fn write(&mut self, mem: Mem, image: &Image) -> Result<(), End>
-        requires sound { self.old.host.broken ≡ None }
-        requires part { self.old.host.part ≡ self.old.plan.now.part }
+        requires ready { IsReady self.old }
         requires fits { length image.now ≤ size_of mem self.old.plan.now.part }
-        ensures performs { SessionDoes L.view D.view (WriteImage mem image.now ∷ []) self.old self.new result }
-        ensures keeps { Keeps L.comes_of D.comes_of self.old self.new }
-        ensures told { TellsLast D.view self.new result }
+        ensures { Does L.Link D.Desk (WriteImage mem image.now ∷ []) self.old self.new result }
     {
         let written = self.host.write(self.link, mem, image);
         let reported = report_image(self.desk, self.plan, Done::Written, mem, image, &written);
         conclude(&written, reported)
     }
 
-    /// Reads back what was written, unless verifying is off.
-    fn read_back(&mut self, mem: Mem, image: &Image) -> Result<(), End>
-        requires sound { self.old.host.broken ≡ None }
-        requires part { self.old.host.part ≡ self.old.plan.now.part }
+    /// Writes an image, and reads it back unless verifying is off; a dry run skips both.
+    fn write_and_verify(&mut self, mem: Mem, image: &Image) -> Result<(), End>
+        requires ready { IsReady self.old }
         requires fits { length image.now ≤ size_of mem self.old.plan.now.part }
-        ensures performs { SessionDoes L.view D.view
-            (read_back_actions self.old.plan.now.switches mem image.now) self.old self.new result }
-        ensures keeps { Keeps L.comes_of D.comes_of self.old self.new }
-        ensures told { TellsLast D.view self.new result }
+        ensures { Does L.Link D.Desk (write_actions self.old.plan.now.switches mem image.now) self.old self.new result }
     {
+        if self.plan.switches().dry {
+            let quiet = self.plan.switches().quiet;
+            let said = report_bytes(self.desk, quiet, mem, image.len(), Done::NotWritten);
+            return conclude(&Ok(()), said);
+        }
+        self.write(mem, image)?;
         if self.plan.switches().no_verify {
             return Ok(());
         }
         self.verify(mem, image)
     }
 
-    /// Writes an image and reads it back; a dry run skips both.
-    fn write_and_verify(&mut self, mem: Mem, image: &Image) -> Result<(), End>
-        requires sound { self.old.host.broken ≡ None }
-        requires part { self.old.host.part ≡ self.old.plan.now.part }
-        requires fits { length image.now ≤ size_of mem self.old.plan.now.part }
-        ensures performs { SessionDoes L.view D.view
-            (write_actions self.old.plan.now.switches mem image.now) self.old self.new result }
-        ensures keeps { Keeps L.comes_of D.comes_of self.old self.new }
-        ensures told { TellsLast D.view self.new result }
-    {
-        if self.plan.switches().dry {
-            return leave_out_write(self.desk, self.plan, mem, image);
-        }
-        self.write(mem, image)?;
-        self.read_back(mem, image)
-    }
-
     fn read(&mut self, mem: Mem, target: Target<'_>) -> Result<(), End>
-        requires sound { self.old.host.broken ≡ None }
-        requires part { self.old.host.part ≡ self.old.plan.now.part }
-        ensures performs { SessionDoes L.view D.view
-            (SaveMemory mem target.entry.format target.entry.file.now ∷ []) self.old self.new result }
-        ensures keeps { Keeps L.comes_of D.comes_of self.old self.new }
-        ensures told { TellsLast D.view self.new result }
+        requires { IsReady self.old }
+        ensures { Does L.Link D.Desk (SaveMemory mem target.entry.format target.entry.file.now ∷ [])
+            self.old self.new result }
     {
         let mut bytes = Vec::new(self.alloc);
         let outcome = self.host.read(self.link, mem, &mut bytes);
@@ -216,13 +159,9 @@ impl<'a, D: Desk, L: Link> Session<'a, D, L> {
     }
 
     fn perform(&mut self, task: &Task) -> Result<(), End>
-        requires sound { self.old.host.broken ≡ None }
-        requires part { self.old.host.part ≡ self.old.plan.now.part }
+        requires ready { IsReady self.old }
         requires fits { IsFitted self.old.plan.now.part task.now }
-        ensures performs { SessionDoes L.view D.view
-            (task_actions self.old.plan.now.switches task.now) self.old self.new result }
-        ensures keeps { Keeps L.comes_of D.comes_of self.old self.new }
-        ensures told { TellsLast D.view self.new result }
+        ensures { Does L.Link D.Desk (task_actions self.old.plan.now.switches task.now) self.old self.new result }
     {
         match task {
             Task::Write(mem, image) => self.write_and_verify(*mem, image),
@@ -243,13 +182,9 @@ impl<'a, D: Desk, L: Link> Session<'a, D, L> {
 
     /// Does the tasks in order, up to the first fault.
     pub(crate) fn perform_all(&mut self, tasks: &[Task]) -> Result<(), End>
-        requires sound { self.old.host.broken ≡ None }
-        requires part { self.old.host.part ≡ self.old.plan.now.part }
+        requires ready { IsReady self.old }
         requires fits { All (IsFitted self.old.plan.now.part) tasks.now }
-        ensures performs { SessionDoes L.view D.view
-            (tasks_actions self.old.plan.now.switches tasks.now) self.old self.new result }
-        ensures keeps { Keeps L.comes_of D.comes_of self.old self.new }
-        ensures told { TellsLast D.view self.new result }
+        ensures { Does L.Link D.Desk (tasks_actions self.old.plan.now.switches tasks.now) self.old self.new result }
     {
         match tasks {
             [] => Ok(()),

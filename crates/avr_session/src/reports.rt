@@ -1,15 +1,14 @@
 //! What a session reports.
-ghost use Rattle.std.specs.Prelude.{◌≡◌, ◌∷◌, [], map, Ok, Err};
-ghost use Rattle.avr_desk.specs.Lines.{text_of, error};
+ghost use Rattle.std.specs.Prelude.{◌≡◌, ◌∷◌, [], map};
+ghost use Rattle.avr_desk.specs.Lines.{text_of};
 ghost use Rattle.avr_desk.specs.Said.{Line};
 ghost use Rattle.avr_image.specs.Image.{byte_count};
 ghost use Rattle.avr_session.specs.Lines.{informs, warns, fault_line};
-ghost use Rattle.avr_session.specs.Reporting.{Reports, PrintStops};
+ghost use Rattle.avr_session.specs.Reporting.{Prints};
 ghost use Rattle.avr_session.specs.Session.{done_text, fault_or, bytes_say, signature_says, warns_of_signature, opening_says, erased_says, closed_says};
-ghost use Rattle.ghosts.specs.Stays.{Stays};
 
 use crate::messages::{fault_message, other_signature_message};
-use avr_desk::{Desk, DeskFault, Message, Piece, print_error, print_information, print_warning};
+use avr_desk::{Desk, DeskFault, Piece, print_error, print_information, print_warning};
 use avr_image::Image;
 use avr_part::{Mem, Part};
 use avr_plan::Plan;
@@ -43,9 +42,7 @@ pub(crate) fn inform<D: Desk>(
     quiet: u8,
     pieces: &[Piece<'_>],
 ) -> Result<(), DeskFault>
-    ensures reports { Reports PrintStops (D.view desk.old) (D.view desk.new)
-        (informs quiet (map text_of pieces.now)) result }
-    ensures stays { Stays D.comes_of desk.old desk.new }
+    ensures { Prints D.Desk (informs quiet (map text_of pieces.now)) desk.old desk.new result }
 {
     if quiet > 0 {
         return Ok(());
@@ -55,21 +52,12 @@ pub(crate) fn inform<D: Desk>(
 
 /// Prints a warning, unless `quiet` is 2 or more.
 pub(crate) fn warn<D: Desk>(desk: &mut D, quiet: u8, pieces: &[Piece<'_>]) -> Result<(), DeskFault>
-    ensures reports { Reports PrintStops (D.view desk.old) (D.view desk.new)
-        (warns quiet (map text_of pieces.now)) result }
-    ensures stays { Stays D.comes_of desk.old desk.new }
+    ensures { Prints D.Desk (warns quiet (map text_of pieces.now)) desk.old desk.new result }
 {
     if quiet > 1 {
         return Ok(());
     }
     print_warning(desk, pieces)
-}
-
-pub(crate) fn tell<D: Desk>(desk: &mut D, message: &Message<'_>) -> Result<(), DeskFault>
-    ensures reports { Reports PrintStops (D.view desk.old) (D.view desk.new) (Line (error message.now) ∷ []) result }
-    ensures stays { Stays D.comes_of desk.old desk.new }
-{
-    print_error(desk, message.pieces())
 }
 
 /// Prints what was done with how many bytes of a memory.
@@ -80,9 +68,7 @@ pub(crate) fn report_bytes<D: Desk>(
     count: u32,
     done: Done,
 ) -> Result<(), DeskFault>
-    ensures reports { Reports PrintStops (D.view desk.old) (D.view desk.new)
-        (bytes_say quiet mem count (done_text done)) result }
-    ensures stays { Stays D.comes_of desk.old desk.new }
+    ensures { Prints D.Desk (bytes_say quiet mem count (done_text done)) desk.old desk.new result }
 {
     let pieces = [
         Piece::Text(mem.name()),
@@ -99,16 +85,14 @@ pub(crate) fn tell_fault<D: Desk>(
     part: &Part,
     fault: HostFault,
 ) -> Result<(), DeskFault>
-    ensures reports { Reports PrintStops (D.view desk.old) (D.view desk.new)
-        (Line (fault_line part.now fault) ∷ []) result }
-    ensures stays { Stays D.comes_of desk.old desk.new }
+    ensures { Prints D.Desk (Line (fault_line part.now fault) ∷ []) desk.old desk.new result }
 {
-    tell(desk, &fault_message(part, fault))
+    let message = fault_message(part, fault);
+    print_error(desk, message.pieces())
 }
 
 fn report_found<D: Desk>(desk: &mut D, quiet: u8, found: [u8; 3]) -> Result<(), DeskFault>
-    ensures reports { Reports PrintStops (D.view desk.old) (D.view desk.new) (signature_says quiet found) result }
-    ensures stays { Stays D.comes_of desk.old desk.new }
+    ensures { Prints D.Desk (signature_says quiet found) desk.old desk.new result }
 {
     let pieces = [Piece::Text("device signature = "), Piece::Signature(found)];
     inform(desk, quiet, &pieces)
@@ -120,9 +104,7 @@ fn warn_of_signature<D: Desk>(
     part: &Part,
     found: [u8; 3],
 ) -> Result<(), DeskFault>
-    ensures reports { Reports PrintStops (D.view desk.old) (D.view desk.new)
-        (warns_of_signature quiet part.now found) result }
-    ensures stays { Stays D.comes_of desk.old desk.new }
+    ensures { Prints D.Desk (warns_of_signature quiet part.now found) desk.old desk.new result }
 {
     if found == part.signature() {
         Ok(())
@@ -132,49 +114,24 @@ fn warn_of_signature<D: Desk>(
     }
 }
 
-/// Prints the signature that was accepted, with a warning if it isn't the part's.
-fn report_taken<D: Desk>(
-    desk: &mut D,
-    quiet: u8,
-    part: &Part,
-    found: [u8; 3],
-) -> Result<(), DeskFault>
-    ensures reports { Reports PrintStops (D.view desk.old) (D.view desk.new)
-        (opening_says quiet part.now (Ok found)) result }
-    ensures stays { Stays D.comes_of desk.old desk.new }
-{
-    report_found(desk, quiet, found)?;
-    warn_of_signature(desk, quiet, part, found)
-}
-
-/// Prints the signature that was refused, and the error.
-fn report_refused<D: Desk>(
-    desk: &mut D,
-    quiet: u8,
-    part: &Part,
-    found: [u8; 3],
-) -> Result<(), DeskFault>
-    ensures reports { Reports PrintStops (D.view desk.old) (D.view desk.new)
-        (opening_says quiet part.now (Err (HostFault.WrongSignature found))) result }
-    ensures stays { Stays D.comes_of desk.old desk.new }
-{
-    report_found(desk, quiet, found)?;
-    tell_fault(desk, part, HostFault::WrongSignature(found))
-}
-
+/// Prints the signature, with a warning or the error if it isn't the part's, or the fault of opening.
 pub(crate) fn report_opening<D: Desk>(
     desk: &mut D,
     plan: &Plan,
     opened: &Result<[u8; 3], HostFault>,
 ) -> Result<(), DeskFault>
-    ensures reports { Reports PrintStops (D.view desk.old) (D.view desk.new)
-        (opening_says plan.now.switches.quiet plan.now.part opened.now) result }
-    ensures stays { Stays D.comes_of desk.old desk.new }
+    ensures { Prints D.Desk (opening_says plan.now.switches.quiet plan.now.part opened.now) desk.old desk.new result }
 {
     let quiet = plan.switches().quiet;
     match opened {
-        Ok(found) => report_taken(desk, quiet, plan.part(), *found),
-        Err(HostFault::WrongSignature(found)) => report_refused(desk, quiet, plan.part(), *found),
+        Ok(found) => {
+            report_found(desk, quiet, *found)?;
+            warn_of_signature(desk, quiet, plan.part(), *found)
+        }
+        Err(HostFault::WrongSignature(found)) => {
+            report_found(desk, quiet, *found)?;
+            tell_fault(desk, plan.part(), HostFault::WrongSignature(*found))
+        }
         Err(fault) => tell_fault(desk, plan.part(), *fault),
     }
 }
@@ -184,9 +141,7 @@ pub(crate) fn report_erased<D: Desk>(
     plan: &Plan,
     erased: &Result<(), HostFault>,
 ) -> Result<(), DeskFault>
-    ensures reports { Reports PrintStops (D.view desk.old) (D.view desk.new)
-        (erased_says plan.now.switches.quiet plan.now.part erased.now) result }
-    ensures stays { Stays D.comes_of desk.old desk.new }
+    ensures { Prints D.Desk (erased_says plan.now.switches.quiet plan.now.part erased.now) desk.old desk.new result }
 {
     match erased {
         Ok(()) => inform(desk, plan.switches().quiet, &[Piece::Text("chip erased")]),
@@ -203,10 +158,8 @@ pub(crate) fn report_image<D: Desk>(
     image: &Image,
     outcome: &Result<(), HostFault>,
 ) -> Result<(), DeskFault>
-    ensures reports { Reports PrintStops (D.view desk.old) (D.view desk.new)
-        (fault_or plan.now.part (λ _. bytes_say plan.now.switches.quiet mem (byte_count image.now) (done_text done))
-        outcome.now) result }
-    ensures stays { Stays D.comes_of desk.old desk.new }
+    ensures { Prints D.Desk (fault_or plan.now.part (λ _. bytes_say plan.now.switches.quiet mem (byte_count image.now)
+        (done_text done)) outcome.now) desk.old desk.new result }
 {
     match outcome {
         Ok(()) => report_bytes(desk, plan.switches().quiet, mem, image.len(), done),
@@ -220,9 +173,7 @@ pub(crate) fn report_closing<D: Desk>(
     plan: &Plan,
     closed: &Result<(), HostFault>,
 ) -> Result<(), DeskFault>
-    ensures reports { Reports PrintStops (D.view desk.old) (D.view desk.new)
-        (closed_says plan.now.switches.quiet plan.now.part closed.now) result }
-    ensures stays { Stays D.comes_of desk.old desk.new }
+    ensures { Prints D.Desk (closed_says plan.now.switches.quiet plan.now.part closed.now) desk.old desk.new result }
 {
     match closed {
         Ok(()) => inform(desk, plan.switches().quiet, &[Piece::Text("done")]),

@@ -1,19 +1,16 @@
 //! Saves what was read of a memory.
-ghost use Rattle.std.specs.Prelude.{◌≡◌, ◌∷◌, ◌≤◌, ◌<◌, ◌^◌, [], length, IfErr, OnOk, OnErr};
-ghost use Rattle.avr_desk.specs.Fault.{Counts, Follows};
-ghost use Rattle.avr_desk.specs.Record.{Passes};
-ghost use Rattle.avr_desk.specs.Said.{Creates, Writes};
-ghost use Rattle.avr_desk.specs.Stream.{SendsPart, after_sent};
+ghost use Rattle.std.specs.Prelude.{◌≡◌, ◌≤◌, ◌<◌, ◌^◌, length};
+ghost use Rattle.avr_desk.specs.Fault.{Follows};
 ghost use Rattle.avr_session.specs.FileText.{file_text};
-ghost use Rattle.avr_session.specs.Reporting.{Reports, DeskStops, ReadStops};
-ghost use Rattle.avr_session.specs.Saving.{IsForData, SaveStops, WritesAll};
+ghost use Rattle.avr_session.specs.Reporting.{Outputs, ReadStops};
+ghost use Rattle.avr_session.specs.Saving.{SaveStops, SendsText, WritesAll};
 ghost use Rattle.avr_session.specs.Session.{saving_says, kept_of, read_says, fault_or};
 ghost use Rattle.stk_host.specs.Calls.{given_or_fault};
 ghost use Rattle.ghosts.specs.Stays.{Stays};
 
 use crate::file_text::{trimmed, write_text};
 use crate::reports::{Done, report_bytes, tell_fault};
-use avr_cli::{Format, Switches};
+use avr_cli::Format;
 use avr_desk::{Desk, DeskFault, Stream, not_created_message, not_written_message, refuse};
 use avr_part::Mem;
 use avr_plan::Plan;
@@ -26,19 +23,6 @@ pub(crate) struct Target<'a> {
     pub(crate) format: Format,
 }
 
-/// Waits until the file just written is on the disk, by an empty write. It does nothing for standard output.
-fn finish<D: Desk>(desk: &mut D, stream: Stream) -> Result<(), DeskFault>
-    ensures none { Passes (after_sent stream []) (D.view desk.old) (D.view desk.new) }
-    ensures counts { Counts stream (D.view desk.old) (D.view desk.new) result }
-    ensures fault { IfErr result (λ e. e ≡ DeskFault.Failed) }
-    ensures stays { Stays D.comes_of desk.old desk.new }
-{
-    if let Stream::File = stream {
-        desk.write(&[])?;
-    }
-    Ok(())
-}
-
 /// Writes these bytes as text in a format, and waits until a file is on the disk. After a fault a prefix of the text was
 /// written, maybe all of it.
 fn write_whole<D: Desk>(
@@ -48,15 +32,14 @@ fn write_whole<D: Desk>(
     bytes: &[u8],
 ) -> Result<(), DeskFault>
     requires { length bytes.now ≤ 2 ^ 32 }
-    ensures all { OnOk result
-        (Passes (after_sent stream (file_text format bytes.now)) (D.view desk.old) (D.view desk.new)) }
-    ensures part { OnErr result (SendsPart stream (D.view desk.old) (D.view desk.new) (file_text format bytes.now)) }
-    ensures counts { Counts stream (D.view desk.old) (D.view desk.new) result }
-    ensures fault { IfErr result (λ e. e ≡ DeskFault.Failed) }
-    ensures stays { Stays D.comes_of desk.old desk.new }
+    ensures { SendsText D.Desk stream (file_text format bytes.now) desk.old desk.new result }
 {
     write_text(desk, stream, format, bytes)?;
-    finish(desk, stream)
+    if let Stream::File = stream {
+        // an empty write waits until the file is on the disk
+        desk.write(&[])?;
+    }
+    Ok(())
 }
 
 /// Writes these bytes in the target's format to the file just created, or to standard output.
@@ -67,7 +50,7 @@ fn write_file<D: Desk>(
     bytes: &[u8],
 ) -> Result<(), DeskFault>
     requires short { length bytes.now ≤ 2 ^ 32 }
-    requires written { IsForData stream }
+    requires written { stream ≡ Stream.Messages → ⊥ }
     ensures writes { WritesAll stream target.entry.file.now (D.view desk.old) (D.view desk.new)
         (file_text target.entry.format bytes.now) result }
     ensures follows { Follows (D.view desk.old) (D.view desk.new) }
@@ -82,32 +65,21 @@ fn write_file<D: Desk>(
     }
 }
 
-fn create_file<D: Desk>(desk: &mut D, target: Target<'_>, bytes: &[u8]) -> Result<(), DeskFault>
+/// Saves bytes in the target's format, in its file or on standard output.
+pub(crate) fn save<D: Desk>(desk: &mut D, target: Target<'_>, bytes: &[u8]) -> Result<(), DeskFault>
     requires { length bytes.now ≤ 2 ^ 32 }
-    ensures reports { Reports (SaveStops target.entry.file.now) (D.view desk.old) (D.view desk.new)
-        (Creates target.entry.file.now ∷ Writes (file_text target.entry.format bytes.now) ∷ []) result }
-    ensures stays { Stays D.comes_of desk.old desk.new }
+    ensures { Outputs D.Desk (SaveStops target.entry.file.now)
+        (saving_says target.entry.file.now (file_text target.entry.format bytes.now)) desk.old desk.new result }
 {
+    if target.file == "-" {
+        return write_file(desk, Stream::Output, target, bytes);
+    }
     match desk.create(target.file) {
         Ok(()) => write_file(desk, Stream::File, target, bytes),
         Err(fault) => {
             refuse(desk, &not_created_message(target.file));
             Err(fault)
         }
-    }
-}
-
-/// Saves bytes in the target's format, in its file or on standard output.
-pub(crate) fn save<D: Desk>(desk: &mut D, target: Target<'_>, bytes: &[u8]) -> Result<(), DeskFault>
-    requires { length bytes.now ≤ 2 ^ 32 }
-    ensures reports { Reports (SaveStops target.entry.file.now) (D.view desk.old) (D.view desk.new)
-        (saving_says target.entry.file.now (file_text target.entry.format bytes.now)) result }
-    ensures stays { Stays D.comes_of desk.old desk.new }
-{
-    if target.file == "-" {
-        write_file(desk, Stream::Output, target, bytes)
-    } else {
-        create_file(desk, target, bytes)
     }
 }
 
@@ -121,24 +93,7 @@ fn kept_of(mem: Mem, all: bool, bytes: &[u8]) -> &[u8]
     }
 }
 
-/// Saves what was read of a memory, and reports it.
-fn report_bytes_read<D: Desk>(
-    desk: &mut D,
-    switches: Switches,
-    mem: Mem,
-    target: Target<'_>,
-    bytes: &[u8],
-) -> Result<(), DeskFault>
-    requires { length bytes.now < 2 ^ 32 }
-    ensures reports { Reports DeskStops (D.view desk.old) (D.view desk.new)
-        (read_says switches mem target.entry.format target.entry.file.now bytes.now) result }
-    ensures stays { Stays D.comes_of desk.old desk.new }
-{
-    let kept = kept_of(mem, switches.all, bytes);
-    save(desk, target, kept)?;
-    report_bytes(desk, switches.quiet, mem, kept.len() as u32, Done::Read)
-}
-
+/// Saves what was read of a memory and reports it, or reports the fault.
 pub(crate) fn report_read<D: Desk>(
     desk: &mut D,
     plan: &Plan,
@@ -148,13 +103,16 @@ pub(crate) fn report_read<D: Desk>(
     outcome: &Result<(), HostFault>,
 ) -> Result<(), DeskFault>
     requires { length bytes.now < 2 ^ 32 }
-    ensures reports { Reports (ReadStops outcome.now) (D.view desk.old) (D.view desk.new)
-        (fault_or plan.now.part (read_says plan.now.switches mem target.entry.format target.entry.file.now)
-        (given_or_fault bytes.now outcome.now)) result }
-    ensures stays { Stays D.comes_of desk.old desk.new }
+    ensures { Outputs D.Desk (ReadStops outcome.now) (fault_or plan.now.part (read_says plan.now.switches mem
+        target.entry.format target.entry.file.now) (given_or_fault bytes.now outcome.now)) desk.old desk.new result }
 {
     match outcome {
-        Ok(()) => report_bytes_read(desk, plan.switches(), mem, target, bytes),
+        Ok(()) => {
+            let switches = plan.switches();
+            let kept = kept_of(mem, switches.all, bytes);
+            save(desk, target, kept)?;
+            report_bytes(desk, switches.quiet, mem, kept.len() as u32, Done::Read)
+        }
         Err(fault) => tell_fault(desk, plan.part(), *fault),
     }
 }

@@ -1,17 +1,14 @@
 //! The session of a plan, over a link and at a desk; and a run, from settings to status.
-ghost use Rattle.std.specs.Prelude.{◌≡◌, None, Err, true, false};
+ghost use Rattle.std.specs.Prelude.{◌≡◌, None, Err};
 ghost use Rattle.avr_desk.specs.Fault.{Follows};
 ghost use Rattle.avr_session.specs.Standing.{Fine, Faulty};
-ghost use Rattle.avr_session.specs.Actions.{actions, takes_memory};
-ghost use Rattle.avr_session.specs.Concluding.{stands};
-ghost use Rattle.avr_session.specs.Held.{Keeps, SessionDoes, TellsLast, shown};
-ghost use Rattle.avr_session.specs.Outcomes.{ComesTo};
-ghost use Rattle.avr_session.specs.Performing.{Performs, PerformsBehind};
-ghost use Rattle.avr_session.specs.Runs.{devices, start, untold};
-ghost use Rattle.avr_session.specs.Session.{ending, playing};
+ghost use Rattle.avr_session.specs.Actions.{actions};
+ghost use Rattle.avr_session.specs.Held.{Does, IsReady, Proceeds};
+ghost use Rattle.avr_session.specs.Outcomes.{ComesTo, EndsTold};
+ghost use Rattle.avr_session.specs.Performing.{EndsSession, PlaysSession};
+ghost use Rattle.avr_session.specs.Runs.{devices};
 ghost use Rattle.ghosts.specs.Stays.{Stays};
 ghost use Rattle.avr_session.specs.Run.{RunsBetween, RunsSession};
-ghost use Rattle.avr_session.specs.Taking.{AtOnce, AtTaking};
 
 use crate::ending::{End, conclude};
 use crate::outcome::{Outcome, outcome_of};
@@ -26,11 +23,8 @@ use stk_host::{HostFault, Link};
 impl<'a, D: Desk, L: Link> Session<'a, D, L> {
     /// Does all that the plan asks for: opens a session, erases the chip if an erase is due, and does the tasks.
     fn work(&mut self) -> Result<(), End>
-        requires sound { self.old.host.broken ≡ None }
-        requires part { self.old.host.part ≡ self.old.plan.now.part }
-        ensures performs { SessionDoes L.view D.view (actions self.old.plan.now) self.old self.new result }
-        ensures keeps { Keeps L.comes_of D.comes_of self.old self.new }
-        ensures told { TellsLast D.view self.new result }
+        requires { IsReady self.old }
+        ensures { Does L.Link D.Desk (actions self.old.plan.now) self.old self.new result }
     {
         self.open()?;
         self.erase_if_due()?;
@@ -40,11 +34,7 @@ impl<'a, D: Desk, L: Link> Session<'a, D, L> {
     /// Closes a session without a fault.
     fn close(&mut self) -> Result<(), End>
         requires { self.old.host.broken ≡ None }
-        ensures performs { Performs false (ending self.old.plan.now.part self.old.plan.now.switches Fine)
-            self.old.host self.new.host (shown L.view D.view self.old) (shown L.view D.view self.new)
-            (stands result) }
-        ensures keeps { Keeps L.comes_of D.comes_of self.old self.new }
-        ensures told { TellsLast D.view self.new result }
+        ensures { Proceeds L.Link D.Desk (EndsSession self.old.plan.now Fine) self.old self.new result }
     {
         let closed = self.host.close(self.link);
         let reported = report_closing(self.desk, self.plan, &closed);
@@ -54,12 +44,8 @@ impl<'a, D: Desk, L: Link> Session<'a, D, L> {
     /// Leaves programming mode after this fault was reported; a second fault is not reported.
     fn leave(&mut self, fault: HostFault) -> End
         requires serves { self.old.host.broken ≡ None }
-        requires told { TellsLast D.view self.old (Err (End.Faulty fault)) }
-        ensures performs { PerformsBehind (record { takes = false; was_told = true }) (AtOnce false)
-            (ending self.old.plan.now.part self.old.plan.now.switches Faulty) self.old.host self.new.host
-            (shown L.view D.view self.old) (shown L.view D.view self.new) (stands (Err result)) }
-        ensures keeps { Keeps L.comes_of D.comes_of self.old self.new }
-        ensures told { TellsLast D.view self.new (Err result) }
+        requires told { EndsTold self.old.plan.now.part (D.view self.old.desk.now) (Err (End.Faulty fault)) }
+        ensures { Proceeds L.Link D.Desk (EndsSession self.old.plan.now Faulty) self.old self.new (Err result) }
     {
         let closed = self.host.close(self.link);
         match conclude(&closed, Ok(())) {
@@ -71,14 +57,8 @@ impl<'a, D: Desk, L: Link> Session<'a, D, L> {
     }
 
     fn play(&mut self) -> Result<(), End>
-        requires sound { self.old.host.broken ≡ None }
-        requires part { self.old.host.part ≡ self.old.plan.now.part }
-        ensures performs { PerformsBehind (untold (takes_memory self.old.plan.now))
-            (AtTaking self.old.plan.now.part self.old.plan.now.switches (actions self.old.plan.now))
-            (playing self.old.plan.now) self.old.host self.new.host
-            (shown L.view D.view self.old) (shown L.view D.view self.new) (stands result) }
-        ensures keeps { Keeps L.comes_of D.comes_of self.old self.new }
-        ensures told { TellsLast D.view self.new result }
+        requires { IsReady self.old }
+        ensures { Proceeds L.Link D.Desk (PlaysSession self.old.plan.now) self.old self.new result }
     {
         match self.work() {
             Ok(()) => self.close(),
@@ -86,19 +66,6 @@ impl<'a, D: Desk, L: Link> Session<'a, D, L> {
             Err(End::Over(fault)) => Err(End::Over(fault)),
             Err(End::Stopped) => Err(End::Stopped),
         }
-    }
-
-    fn drive(&mut self) -> Outcome
-        requires sound { self.old.host.broken ≡ None }
-        requires part { self.old.host.part ≡ self.old.plan.now.part }
-        requires first { self.old.host.progress ≡ start }
-        ensures comes_to { ComesTo self.old.plan.now (shown L.view D.view self.old) (shown L.view D.view self.new)
-            result }
-        ensures follows { Follows (D.view self.old.desk.now) (D.view self.new.desk.now) }
-        ensures keeps { Keeps L.comes_of D.comes_of self.old self.new }
-    {
-        let played = self.play();
-        outcome_of(played)
     }
 }
 
@@ -135,7 +102,7 @@ pub fn drive_outcome<D: Desk, L: Link>(
     ensures stays { Stays D.comes_of desk.old desk.new }
 {
     let mut session = Session::new(alloc, plan, desk, link);
-    session.drive()
+    outcome_of(session.play())
 }
 
 /// Runs the session of a plan as [`drive_outcome`] does, and returns the status: 0 if there was no fault, otherwise

@@ -1,5 +1,4 @@
--- in the order in which to read: counts, devices that keep coming of their beginning, and walks of ghost structs
-pub mod Failures
+-- in the order in which to read: devices that keep coming of their beginning, and walks of ghost structs
 pub mod Rows
 pub mod Staying
 pub mod Walks

@@ -2,7 +2,6 @@
 use Rattle.std.proofs.Common.{◌≡◌, ◌∙◌, sym, ap, subst, refl, arith, ℕ, ◌==◌, ◌&&◌, ◌||◌, not, Bool, true, false, List, [], ◌∷◌, ◌++◌, append_assoc, append-nil, take, drop, length, Some, None, if◌then◌else◌, rules}
 use Rattle.std.proofs.Math.Seq.{drop-append_seam}
 use Rattle.std.proofs.lemmas.Bool.Decides.{nat_tests}
-use Rattle.std.proofs.lemmas.Grind.{common_steps}
 use Rattle.std.proofs.lemmas.List.{take-append-drop}
 use Rattle.ghosts.specs.Stays.{Stays}
 use Rattle.avr_desk.specs.Files.{after_reading}
@@ -124,9 +123,6 @@ module _ (old new : MemDeskState) (ends : Bool) (n room : ℕ) (whole gave next 
   given : next ≡ take room (unread_bytes old)
   given = grind (arith, nat_tests)
 
-  nothing_left : (behind : Bytes) → length behind ≡ 0 → behind ≡ []
-  nothing_left behind none = grind (arith, common_steps)
-
   at_end : (behind : Bytes) → unread_bytes old ≡ behind → (n == 0 && not (room == 0)) ≡ true → behind ≡ []
   at_end behind rest end = grind (arith, nat_tests)
 
@@ -138,7 +134,7 @@ module _ (old new : MemDeskState) (ends : Bool) (n room : ℕ) (whole gave next 
       record {
         unread = drop room is.unread;
         whole = search (rules, take-append-drop, append_assoc);
-        ends = (search rules);
+        ends = search rules;
       }
 
   pub read_true : (ok : Bool) → new.kept ≡ (if ok then after_reading piece ends old.kept else old.kept)

@@ -1,13 +1,13 @@
 -- A desk over two writers and the files of a system, call after call: what it keeps of them stays true.
-use Rattle.std.proofs.Common.{◌≡◌, ◌⊎◌, ◌∙◌, inl, inr, sym, ap, subst, refl, arith, ℕ, ◌==◌, ◌&&◌, ◌||◌, not, Bool, true, false, List, [], ◌∷◌, ◌++◌, append_assoc, append-nil, take, Option, None, Some, rules}
+use Rattle.std.proofs.Common.{◌≡◌, ◌⊎◌, ◌∙◌, inl, inr, sym, ap, subst, refl, arith, ℕ, ◌==◌, ◌&&◌, ◌||◌, not, true, false, List, [], ◌∷◌, ◌++◌, append_assoc, append-nil, take, Option, None, Some, rules}
 use Rattle.std.proofs.KnownBytes.{Appends-nil, Consumes-nil}
-use Rattle.avr_desk.specs.Record.{Bytes, Record, all_files, all_uses, file_of, is_nil, noted, nothing_kept, read_on, use_of, with_absent, with_open, with_replaced, with_tried, after_write}
+use Rattle.avr_desk.specs.Record.{Bytes, Record, all_files, all_uses, is_nil, nothing_kept, read_on, use_of, with_absent, with_open, with_replaced, with_tried, after_write}
 use Rattle.avr_desk.specs.declared.record.Open.TheVariants.{ToRead, ToWrite}
 use Rattle.std.proofs.lemmas.Bool.{or_parts}
 use Rattle.std.proofs.lemmas.Bool.Decides.{nat_tests}
 use Rattle.std.proofs.lemmas.Grind.{common_steps}
 use Rattle.std.proofs.lemmas.List.Elements.{All-append, All-cons, All-nil, Contains-append_left, Contains-push}
-use Rattle.std.specs.Io.KnownBytes.{Appends, IsAtEnd}
+use Rattle.std.specs.Io.KnownBytes.{Appends}
 use Rattle.std.specs.List.{All, Contains}
 use Rattle.std.specs.declared.io.ErrorKind.{ErrorKind}
 use Rattle.std.specs.declared.io.Read.{Ghosts as Reads}
@@ -49,9 +49,6 @@ same_dash_behind : (files one other : List Writing) → has_dash one ≡ has_das
 same_dash_behind [] one other same = same
 same_dash_behind (file ∷ files) one other same = grind (arith, nat_tests, same_dash_behind files one other same)
 
-noted_files : (bytes : Bytes) (ends : Bool) (o : Open) → file_of (noted bytes ends o) ≡ file_of o
-noted_files bytes ends y = grind (arith, nat_tests)
-
 written_dashes : (bytes : Bytes) (r : Record) → has_dash (all_files (after_write bytes r)) ≡ has_dash (all_files r)
 written_dashes bytes r = grind (arith, nat_tests, same_dash_behind)
 
@@ -60,11 +57,6 @@ written_dashes bytes r = grind (arith, nat_tests, same_dash_behind)
 module _ {H : Type 0} (reads : Reads H) where
   given_none : (h : H) (name : Bytes) → HasGiven reads h h (record { name = name; bytes = []; ended = false })
   given_none h name = record { gave = Consumes-nil (reads.remaining h); ends = λ e. absurd (cc) }
-
-  -- a read of no bytes into a non-empty buffer is one at the end
-  end_seen : (old new : H) (buf : Bytes) (n : ℕ) → GivesBytes reads old new buf n
-      → (n == 0 && not (is_nil buf)) ≡ true → IsAtEnd (reads.remaining new)
-  end_seen old new buf n gives end = grind (arith, nat_tests)
 
   given_more : (first old new : H) (x : Reading) (buf : Bytes) (n : ℕ) → HasGiven reads first old x
       → GivesBytes reads old new buf n
@@ -171,7 +163,7 @@ module _ {S F I H O E : Type 0} (system : Ghosts S F I H) (reads : Reads F) (wri
   from_inside {inside = inside} {new = new} is then = search (rules, append_assoc)
 
   pub from_now : {now new : Desk} → Since now new → Stays Since now new
-  from_now {now = now} {new = new} then = λ start first. (search (rules, append_assoc))
+  from_now {now = now} {new = new} then = λ start first. search (rules, append_assoc)
 
   -- a desk after a call that sent nothing
   abbrev Next : Desk → S → ℕ → ℕ → Option ErrorKind → OpenFile F I → Option H → Record → Desk

@@ -1,14 +1,14 @@
 -- Pieces of a line, written one after another.
 use Rattle.std.proofs.lemmas.Grind.{common_steps}
 use Rattle.std.proofs.lemmas.Bool.Decides.{nat_tests}
-use Rattle.std.proofs.Common.{◌≡◌, ap, refl, subst, arith, ℕ, ◌+◌, List, [], ◌∷◌, ◌++◌, append_assoc, append-nil, take, drop, length, map, get_or, ◌<◌, OnOk, OnErr, Result, Ok, Err}
+use Rattle.std.proofs.Common.{◌≡◌, ap, refl, subst, arith, ℕ, ◌+◌, List, [], ◌∷◌, ◌++◌, append_assoc, append-nil, take, drop, length, map, get_or, ◌<◌, ◌≤◌, OnOk, OnErr, Result, Ok, Err}
 use Rattle.std.specs.List.{concat}
-use Rattle.std.proofs.lemmas.List.{drop_more, length-append, take-append-drop}
+use Rattle.std.proofs.lemmas.List.{drop_more, length-append, take-append-drop, take_all}
 use Rattle.avr_desk.specs.Record.{Record, after_err, showing}
 use Rattle.avr_desk.specs.Stream.{SendsPart}
 use Rattle.avr_desk.specs.declared.stream.Stream.TheVariants.{Messages}
 use Rattle.avr_desk.specs.declared.desk.DeskFault.{DeskFault}
-use Rattle.avr_desk.proofs.Lines.SentBytes.{sent_next, sent_next_part}
+use Rattle.avr_desk.proofs.Lines.SentBytes.{sent_next_part}
 use Rattle.avr_desk.specs.Lines.{line, text_of}
 use Rattle.avr_desk.specs.Said.{IsPrinted}
 use Rattle.avr_desk.specs.declared.line.Piece.{Piece}
@@ -51,14 +51,26 @@ line_longer mark so_far ps i d room within is over =
       length-append it after,
     )
 
--- the end of a line after its mark and its text, without the counts
-pub line_ends : (old first then new : Record) (mark text : List ℕ) (result : Result (Unit {0}) DeskFault)
-    → first ≡ after_err mark old → then ≡ after_err text first
+-- a part of the ith piece was sent after the mark and the pieces before; without the counts
+pub line_breaks : (old now new : Record) (mark : List ℕ) (ps : List Piece) (i : ℕ) (d : Piece) → i < length ps
+    → now ≡ after_err (mark ++ all_text (take i ps)) old
+    → SendsPart Messages (showing now 0 0) (showing new 0 0) (text_of (get_or ps i d))
+    → SendsPart Messages (showing old 0 0) (showing new 0 0) (line mark (map text_of ps))
+line_breaks old now new mark ps i d within sent part =
+    subst (SendsPart Messages (showing old 0 0) (showing new 0 0))
+    (grind (arith, nat_tests, append_assoc, all_text_at ps i d within))
+    (sent_next_part Messages old now new (mark ++ all_text (take i ps)) (text_of (get_or ps i d))
+    (all_text (drop (i + 1) ps) ++ 10 ∷ []) sent part)
+
+-- the end of a line after its mark and its pieces, without the counts
+pub line_ends : (old then new : Record) (mark : List ℕ) (ps : List Piece) (i : ℕ) (result : Result (Unit {0}) DeskFault)
+    → length ps ≤ i → then ≡ after_err (mark ++ all_text (take i ps)) old
     → OnOk result (new ≡ after_err (10 ∷ []) then)
     → OnErr result (SendsPart Messages (showing then 0 0) (showing new 0 0) (10 ∷ []))
-    → IsPrinted (showing old 0 0) (showing new 0 0) (mark ++ (text ++ 10 ∷ [])) result
-line_ends old first then new mark text (Ok done) e f all part = grind (arith, common_steps)
-line_ends old first then new mark text (Err fault) e f all part =
-    subst (SendsPart Messages (showing old 0 0) (showing new 0 0)) (append_assoc mark text (10 ∷ []))
-    (sent_next_part Messages old then new (mark ++ text) (10 ∷ []) [] (sent_next Messages old first then mark text e f)
-    part)
+    → IsPrinted (showing old 0 0) (showing new 0 0) (line mark (map text_of ps)) result
+line_ends old then new mark ps i (Ok done) past sent all part =
+    grind (arith, common_steps, append_assoc, take_all i ps past)
+line_ends old then new mark ps i (Err fault) past sent all part =
+    subst (SendsPart Messages (showing old 0 0) (showing new 0 0))
+    (grind (arith, common_steps, append_assoc, take_all i ps past))
+    (sent_next_part Messages old then new (mark ++ all_text (take i ps)) (10 ∷ []) [] sent part)

@@ -1,8 +1,7 @@
 -- Lines that were reported, whole or in part.
 use Rattle.std.proofs.lemmas.Bool.Decides.{nat_tests}
-use Rattle.std.proofs.Common.{◌≡◌, ℕ, arith, List, refl, ◌∙◌, subst, Result, Ok, Err, IfErr, rules}
+use Rattle.std.proofs.Common.{◌≡◌, ℕ, arith, List, refl, ◌∙◌, Result, Ok, Err, IfErr, rules}
 use Rattle.std.proofs.lemmas.List.{take-append-drop}
-use Rattle.ghosts.specs.Failures.{HasRisen}
 use Rattle.avr_desk.specs.Fault.{Counts, Follows, HasFailedAt, HasFailedToSay, HasSameCounts}
 use Rattle.avr_desk.specs.Record.{DeskState}
 use Rattle.avr_desk.specs.declared.desk.DeskFault.{DeskFault}
@@ -30,10 +29,6 @@ same_on a b c first then = (then.0 ∙ first.0, then.1 ∙ first.1)
 pub follows_same : (a b : DeskState) → HasSameCounts a b → Follows a b
 follows_same a b same = (omega (arith, same.0), omega (arith, same.1))
 
--- a failure at the file, or at the messages, is also the first since any time after which none was counted
-pub failed_since : (a b c : DeskState) → HasSameCounts a b → HasFailedAt File b c → HasFailedAt File a c
-failed_since a b c same failed = (subst (λ n. HasRisen n c.failures) same.0 failed.0, failed.1 ∙ same.1)
-
 pub unsaid_since : (a b c : DeskState) → HasSameCounts a b → HasFailedToSay b c → HasFailedToSay a c
 unsaid_since a b c same failed = grind (arith, nat_tests)
 
@@ -50,10 +45,6 @@ pub tells_line : (old new : DeskState) (line : List ℕ) (printed : Result (Unit
 tells_line old new line (Ok done) is counts only = grind (arith, nat_tests)
 tells_line old new line (Err NotFound) is counts only = cc
 tells_line old new line (Err Failed) is counts only = grind (arith, nat_tests, take-append-drop is.0 line)
-
-pub failure_since : (line told : List ℕ) (a b c : DeskState) → HasSameCounts a b → TellsFailure line told b c
-    → TellsFailure line told a c
-failure_since line told a b c first failure = grind (arith, nat_tests)
 
 -- The desk failed, and this was reported from then on.
 pub failure_told : (old mid new : DeskState) (line : List ℕ) → Follows old mid → HasFailedAt File old mid

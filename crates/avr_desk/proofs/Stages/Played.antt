@@ -40,7 +40,7 @@ rest_more : {A B : Type 0} (p : StageResult A) (go_on : A → Stage B) (whole : 
     (more : List Opening)
     → Rest p whole break more
     → Rest (going_on p.says p.left go_on p.answer) whole break more
-rest_more p go_on whole break more rest = (search (rules, nat_tests, append_assoc))
+rest_more p go_on whole break more rest = search (rules, nat_tests, append_assoc)
 
 pub went_went : {A B : Type 0} (stage : Stage A) (go_on : A → Stage B) (old mid new : DeskState) (a : A)
     (answer : StageAnswer B)
@@ -175,13 +175,8 @@ goes_output_part taking old new line fault part is counts = (
   refl,
   inr (broke_here taking (output_stage (Line line ∷ [])) old new (InLine line) (take part.0 line) tt
       (λ more. ([], refl))
-      ((drop part.0 line, take-append-drop part.0 line), (search rules)) part.2 counts.0),
+      ((drop part.0 line, take-append-drop part.0 line), search rules) part.2 counts.0),
 )
-
--- the result, made into another
-pub went_into : {A B : Type 0} (stage : Stage A) (f : A → B) (old new : DeskState) (a : A) → Went stage old new (Made a)
-    → Went (stage >>= λ x. verdict_stage (Ok (f x))) old new (Made (f a))
-went_into stage f old new a went = search rules
 
 -- however a stage goes, the counts of failures never fall
 pub goes_follows : {A : Type 0} (taking : Taking) (stage : Stage A) (old new : DeskState) (result : Result A ℕ)

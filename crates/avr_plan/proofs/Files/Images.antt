@@ -11,7 +11,7 @@ use Rattle.avr_desk.specs.declared.files.FileFault.TheVariants.{NotRead}
 use Rattle.avr_records.specs.Detect.{kind_of_file}
 use Rattle.avr_records.specs.declared.kind.Found.{Found}
 use Rattle.avr_plan.specs.ImageFile.{Given, whole_file, long_file, kind_of}
-use Rattle.avr_plan.specs.ImageReading.{Going, ImageOrFault, ReadsRest, RestIsRead, ReadsOpenImage, OpenIsRead, ImageIsRead, IsGiven}
+use Rattle.avr_plan.specs.ImageReading.{Going, ImageOrFault, ReadsRest, RestIsRead, ReadsImage, ImageIsRead, IsGiven}
 use Rattle.avr_plan.specs.Intake.{Takes}
 use Rattle.avr_plan.specs.declared.intake.BadFile.{BadFile}
 use Rattle.avr_plan.specs.declared.image_file.ReadFault.TheVariants.{File, Image}
@@ -76,31 +76,29 @@ pub kind-prefix : (format : Format) (prefix more : Bytes) → length prefix ≡ 
 kind-prefix format prefix more len = search (rules, detected-prefix)
 
 -- the prefix, then the rest
-open_rest : (limit : ℕ) (format : Format) (size : ℕ) (prefix : Bytes) (old now new : DeskState) (given : Given)
-    → Passes (after_reading prefix false) old now
+open_rest : (limit : ℕ) (format : Format) (size : ℕ) (name prefix : Bytes) (old mid now new : DeskState)
+    (given : Given) → Passes (after_open name (Ok tt)) old mid → Passes (after_reading prefix false) mid now
     → length prefix ≡ 1024 → ReadsRest limit (kind_of format prefix) size prefix now new given
-    → ReadsOpenImage limit format size old new given
-open_rest limit format size prefix old now new given first len rest = record {
+    → ReadsImage limit format size name old new given
+open_rest limit format size name prefix old mid now new given opened first len rest = record {
   bytes = prefix ++ rest.bytes;
   ended = rest.ended;
-  kept = read_next old.kept now.kept new.kept prefix rest.bytes rest.ended first rest.kept;
+  kept = read_next mid.kept now.kept new.kept prefix rest.bytes rest.ended first rest.kept
+      ∙ ap (after_reading (prefix ++ rest.bytes) rest.ended) opened;
   whole = rest.whole;
   gives = search (rules, kind-prefix);
 }
 
-pub open_is_rest : (limit : ℕ) (format : Format) (size : ℕ) (prefix : Bytes) (old now new : DeskState)
-    (result : ImageOrFault)
-    → Passes (after_reading prefix false) old now
+pub image_is_rest : (limit : ℕ) (format : Format) (size : ℕ) (name prefix : Bytes) (old mid now new : DeskState)
+    (result : ImageOrFault) → Passes (after_open name (Ok tt)) old mid → Passes (after_reading prefix false) mid now
     → length prefix ≡ 1024 → RestIsRead limit (kind_of format prefix) size prefix now new result
-    → OpenIsRead limit format size old new result
-open_is_rest limit format size prefix old now new (Ok good) first len rest = search (rules, open_rest)
-open_is_rest limit format size prefix old now new (Err (Image bad)) first len rest = search (rules, open_rest)
-open_is_rest limit format size prefix old now new (Err (File NotRead)) first len rest =
-    (prefix ++ rest.1.0, read_next old.kept now.kept new.kept prefix rest.1.0 false first rest.1.1)
-open_is_rest limit format size prefix old now new (Err (File fault)) first len rest = cc rest.0
-
-pub image_is_open : (limit : ℕ) (format : Format) (size : ℕ) (name : Bytes) (old now new : DeskState)
-    (result : ImageOrFault)
-    → Passes (after_open name (Ok tt)) old now
-    → OpenIsRead limit format size now new result → ImageIsRead limit format size name old new result
-image_is_open limit format size name old now new result opened reads = search rules
+    → ImageIsRead limit format size name old new result
+image_is_rest limit format size name prefix old mid now new (Ok good) opened first len rest = search (rules, open_rest)
+image_is_rest limit format size name prefix old mid now new (Err (Image bad)) opened first len rest =
+    search (rules, open_rest)
+image_is_rest limit format size name prefix old mid now new (Err (File NotRead)) opened first len rest = (
+  prefix ++ rest.1.0,
+  read_next mid.kept now.kept new.kept prefix rest.1.0 false first rest.1.1
+      ∙ ap (after_reading (prefix ++ rest.1.0) false) opened,
+)
+image_is_rest limit format size name prefix old mid now new (Err (File fault)) opened first len rest = cc rest.0

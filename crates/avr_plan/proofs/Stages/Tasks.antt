@@ -36,15 +36,7 @@ module _ (switches : Switches) (memory : Mem) (size size' : ℕ) (file file' : B
   pub goes_of_file : (format ≡ Immediate → ⊥)
       → Goes (AtStart false) (file_image_stage switches file format size) old new result
       → Goes (AtStart (has_values format)) (image_stage switches memory size' file' format) old new result
-  goes_of_file other goes =
-      goes_of_same false (search rules) (search (rules, file_stage-is))
-
-  pub goes_of_values : format ≡ Immediate
-      → Goes (AtStart true) (image_stage switches memory size file Immediate) old new result
-      → Goes (AtStart (has_values format)) (image_stage switches memory size' file' format) old new result
-  goes_of_values is goes =
-      goes_of_same true (ap has_values is)
-      (subst (λ f. Goes (AtStart true) (image_stage switches memory size file f) old new result) (sym is) goes)
+  goes_of_file other goes = goes_of_same false (search rules) (search (rules, file_stage-is))
 
 abbrev writes : Switches → Part → Update → Stage Task
 writes switches part u = update_image switches part u >>= λ image. verdict_stage (Ok (Write u.memory image))

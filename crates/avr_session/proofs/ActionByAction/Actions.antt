@@ -3,9 +3,9 @@ use Rattle.std.proofs.Common.{◌≡◌, List, [], ◌∷◌, ◌++◌, refl, ru
 use Rattle.avr_cli.specs.declared.settings.Switches.{Switches}
 use Rattle.avr_desk.specs.Said.{OutputEvent}
 use Rattle.avr_part.specs.Part.{Part}
-use Rattle.stk_host.specs.Dialog.{Dialog, Done, ◌>>=◌}
+use Rattle.stk_host.specs.Dialog.{Dialog, ◌>>=◌}
 use Rattle.stk_host.proofs.Dialogs.Bound.{bind_same, bind_done, bind_assoc}
-use Rattle.avr_session.specs.Standing.{Standing, Fine}
+use Rattle.avr_session.specs.Standing.{Standing}
 use Rattle.avr_session.specs.Actions.{Action}
 use Rattle.avr_session.specs.Session.{unless_fault, action_dialog, actions_dialog}
 

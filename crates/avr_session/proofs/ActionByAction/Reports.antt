@@ -4,15 +4,16 @@ use Rattle.std.proofs.Common.{◌≡◌, ◌≤◌, ℕ, arith, List, [], ◌∷
 use Rattle.std.proofs.lemmas.Bool.Decides.{nat_tests}
 use Rattle.avr_desk.specs.Record.{Record, DeskState, Passes, after_err}
 use Rattle.avr_desk.specs.Fault.{Counts, Follows, HasFailedAt, HasFailedToSay, HasSameCounts}
+use Rattle.avr_desk.specs.declared.desk.Desk.{Ghosts}
 use Rattle.avr_desk.specs.declared.desk.DeskFault.{DeskFault}
 use Rattle.avr_desk.specs.declared.desk.DeskFault.TheVariants.{Failed}
 use Rattle.avr_desk.specs.declared.stream.Stream.TheVariants.{File, Messages}
 use Rattle.stk_host.specs.Dialog.{outputs}
 use Rattle.avr_desk.specs.Said.{OutputEvent, Line, IsPrefixOf, IsPrinted, Tells, after_all}
 use Rattle.avr_desk.proofs.Stages.Outputs.{kept_append}
-use Rattle.avr_desk.proofs.Lines.Told.{failure_since, follows_on, same_on, unsaid_since}
+use Rattle.avr_desk.proofs.Lines.Told.{follows_on, same_on, unsaid_since}
 use Rattle.avr_session.specs.Runs.{cause_line, Cause, OfFile, OfPrinting, FileTrouble}
-use Rattle.avr_session.specs.Reporting.{SaysPrefix, SaidSome, SaysOrStops, Reports, PrintStops, FileStops, DeskStops}
+use Rattle.avr_session.specs.Reporting.{SaysPrefix, SaidSome, SaysOrStops, Reports, Outputs, PrintStops, Prints, FileStops, DeskStops}
 use Rattle.avr_session.specs.Saving.{SaveStops}
 use Rattle.avr_session.proofs.Runs.Stops.{outputs_by, line_part, prefix_behind, prefix_of}
 
@@ -40,24 +41,37 @@ said_then : (By : DeskState → DeskState → Cause → List ℕ
 said_then By old mid new first more (Ok done) why was then = search (rules, kept_append, same_on)
 said_then By old mid new first more (Err _) why was then = search (rules, prefix_behind)
 
--- one report, then another
-pub reports_then : (old mid new : DeskState) (first more : List OutputEvent) {done : Unit {0}}
-    (result : Result (Unit {0}) DeskFault) → Reports PrintStops old mid first (Ok done)
-    → Reports PrintStops mid new more result → Reports PrintStops old new (first ++ more) result
-reports_then old mid new first more result was then = search (rules, said_then, follows_on)
+module _ {D : Type 0} (desk : Ghosts D) (first more : List OutputEvent) where
+  -- one report, then another
+  pub reports_then : {old mid new : D} {done : Unit {0}} (result : Result (Unit {0}) DeskFault)
+      → Prints desk first old mid (Ok done) → Prints desk more mid new result
+      → Prints desk (first ++ more) old new result
+  reports_then {old = old} {mid = mid} {new = new} result was then = record {
+    reports = search (rules, said_then, follows_on);
+    stays = λ start of. then.stays start (was.stays start of);
+  }
 
--- something is saved, then a line is printed
-pub saves_then : (old mid new : DeskState) (file : List ℕ) (first more : List OutputEvent) {done : Unit {0}}
-    (result : Result (Unit {0}) DeskFault) → Reports (SaveStops file) old mid first (Ok done)
-    → Reports PrintStops mid new more result → Reports DeskStops old new (first ++ more) result
-saves_then old mid new file first more result was then = search (rules, said_then, unsaid_since, follows_on)
+  -- something is saved, then a line is printed
+  pub saves_then : {old mid new : D} (file : List ℕ) {done : Unit {0}} (result : Result (Unit {0}) DeskFault)
+      → Outputs desk (SaveStops file) first old mid (Ok done) → Prints desk more mid new result
+      → Outputs desk DeskStops (first ++ more) old new result
+  saves_then {old = old} {mid = mid} {new = new} file result was then = record {
+    reports = search (rules, said_then, unsaid_since, follows_on);
+    stays = λ start of. then.stays start (was.stays start of);
+  }
 
--- the first report was the last
-pub reports_until : (By Then : DeskState → DeskState → Cause → List ℕ → Type 0) {old new : DeskState}
-    (first more : List OutputEvent) (fault : DeskFault)
-    → ((cause : Cause) (told : List ℕ) → By old new cause told → Then old new cause told)
-    → Reports By old new first (Err fault) → Reports Then old new (first ++ more) (Err fault)
-reports_until By Then first more fault why was = grind (arith, common_steps, prefix_of)
+  -- the first report was the last
+  pub reports_until : (By Then : DeskState → DeskState → Cause → List ℕ → Type 0) {old new : D} (fault : DeskFault)
+      → ((cause : Cause) (told : List ℕ) → By (desk.view old) (desk.view new) cause told
+      → Then (desk.view old) (desk.view new) cause told)
+      → Outputs desk By first old new (Err fault) → Outputs desk Then (first ++ more) old new (Err fault)
+  reports_until By Then fault why was =
+      let reports = was.reports in
+      record { reports = grind (arith, common_steps, prefix_of); stays = was.stays }
+
+  pub prints_until : {old new : D} (fault : DeskFault) → Prints desk first old new (Err fault)
+      → Prints desk (first ++ more) old new (Err fault)
+  prints_until fault was = reports_until PrintStops PrintStops fault (λ cause told stops. stops) was
 
 -- a prefix of one line was printed
 

@@ -1,23 +1,20 @@
 -- Files that are created and written.
-use Rattle.std.proofs.lemmas.Grind.{common_steps}
-use Rattle.std.proofs.Common.{◌≡◌, ℕ, true, List, [], ◌∷◌, map, bytes_eq, codes, Result, Ok, Err, OnOk, OnErr, ◌∙◌, refl, rules, arith, append-nil}
-use Rattle.std.proofs.Math.Seq.{take-length}
+use Rattle.std.proofs.Common.{◌≡◌, ℕ, true, List, [], ◌∷◌, map, bytes_eq, codes, Result, Ok, Err, ◌∙◌, refl, rules}
 use Rattle.std.proofs.lemmas.Slice.Eq.{bytes_eq-Decides}
-use Rattle.avr_desk.specs.Record.{DeskState, Record, Passes, after_create}
+use Rattle.avr_desk.specs.Record.{DeskState, Passes, after_create}
 use Rattle.avr_desk.specs.Fault.{Counts, Follows, HasFailedAt, HasSameCounts}
-use Rattle.avr_desk.specs.Stream.{SendsPart, after_sent}
+use Rattle.avr_desk.specs.Stream.{SendsPart}
 use Rattle.avr_desk.specs.declared.stream.Stream.{Stream}
-use Rattle.avr_desk.specs.declared.stream.Stream.TheVariants.{File, Output}
+use Rattle.avr_desk.specs.declared.stream.Stream.TheVariants.{File, Output, Messages}
 use Rattle.avr_desk.specs.declared.desk.DeskFault.{DeskFault}
 use Rattle.stk_host.specs.Dialog.{Said}
 use Rattle.avr_desk.specs.Said.{OutputEvent, Creates, Writes, Outs, Tells, after_all}
-use Rattle.avr_desk.proofs.Lines.SentBytes.{sent_next}
 use Rattle.avr_desk.proofs.Stages.Outputs.{kept_none}
 use Rattle.avr_desk.proofs.Lines.Told.{follows_on}
 use Rattle.avr_session.specs.Runs.{Cause, OfFile, NotCreated, NotWritten, cause_line}
 use Rattle.avr_session.specs.Reporting.{SaysPrefix, SaysOrStops, Reports, DeskStops}
 use Rattle.avr_session.specs.Session.{saving_says}
-use Rattle.avr_session.specs.Saving.{IsForData, SaveStops, WritesSome, WritesAll}
+use Rattle.avr_session.specs.Saving.{SaveStops, WritesSome, WritesAll}
 use Rattle.avr_session.proofs.Runs.Stops.{file_part, output_part}
 
 pub not_created : (old new : DeskState) (file : List ℕ) (result : Result (Unit {0}) DeskFault) (fault : DeskFault)
@@ -38,19 +35,6 @@ not_created old new file (Err other) fault more is kept = record {
 pub save_is_desk : (file : List ℕ) (before now : DeskState) (cause : Cause) (told : List ℕ)
     → SaveStops file before now cause told → DeskStops before now cause told
 save_is_desk file before now cause told stops = search rules
-
-pub sent_whole : (s : Stream) (old now new : Record) (text : List ℕ) (r : Result (Unit {0}) DeskFault)
-    → now ≡ after_sent s text old → new ≡ after_sent s [] now → OnOk r (new ≡ after_sent s text old)
-sent_whole s old now new text r first then = search (rules, sent_next, append-nil)
-
-pub sent_whole_part : (s : Stream) (old now new : DeskState) (text : List ℕ) (r : Result (Unit {0}) DeskFault)
-    → Passes (after_sent s text) old now → Passes (after_sent s []) now new → OnErr r (SendsPart s old new text)
-sent_whole_part s old now new text r first then = grind (arith, common_steps, sent_next, append-nil, take-length)
-
--- calls before that failed not
-pub counted_on : (s : Stream) (old now new : DeskState) (r : Result (Unit {0}) DeskFault) → HasSameCounts old now
-    → Counts s now new r → Counts s old new r
-counted_on s old now new r same counts = search rules
 
 -- a file was created, and its bytes were written, or a prefix of them
 text_then : (old mid new : DeskState) (file text : List ℕ) (result : Result (Unit {0}) DeskFault)
@@ -80,7 +64,7 @@ pub saved_out : (old new : DeskState) (file text : List ℕ) (result : Result (U
 saved_out old new file text result same writes follows = search (rules, put_out, bytes_eq-Decides)
 
 -- a stream that fails during writing fails as a file
-pub failed_at_file : (stream : Stream) (old new : DeskState) → IsForData stream → HasFailedAt stream old new
+pub failed_at_file : (stream : Stream) (old new : DeskState) → (stream ≡ Messages → ⊥) → HasFailedAt stream old new
     → HasFailedAt File old new
 failed_at_file stream old new written failed = search rules
 

@@ -19,7 +19,7 @@ use Rattle.stk_host.proofs.Transcripts.InDialogs.{followed, played_bind}
 use Rattle.stk_host.proofs.Transcripts.Laws.{heard_append}
 use Rattle.stk_host.specs.Calls.{Calls, given_or_fault}
 use Rattle.stk_host.specs.Dialog.{Dialog, Done, ◌>>=◌, played, outputs}
-use Rattle.avr_desk.specs.Said.{OutputEvent, Tells}
+use Rattle.avr_desk.specs.Said.{OutputEvent, Line, Tells}
 use Rattle.avr_plan.specs.Plan.{Plan}
 use Rattle.avr_plan.specs.declared.planned.Task.{Task}
 use Rattle.avr_session.specs.Standing.{Standing, Fine, Over}
@@ -27,19 +27,21 @@ use Rattle.avr_session.specs.declared.ending.End.{End}
 use Rattle.avr_session.specs.declared.ending.End.TheVariants as ends
 use Rattle.avr_session.specs.Actions.{Action, action_takes_memory, actions, takes_memory}
 use Rattle.avr_session.specs.Concluding.{HostServes, conclusion, stands}
-use Rattle.avr_session.specs.Session.{says, standing, reported, unless_fault, fault_or, action_dialog, actions_dialog, ending, playing, session, status_of}
+use Rattle.avr_session.specs.Lines.{fault_line}
+use Rattle.avr_session.specs.Outcomes.{EndsTold}
+use Rattle.avr_session.specs.Session.{says, standing, reported, unless_fault, fault_or, action_dialog, actions_dialog, ending, session, status_of}
 use Rattle.avr_session.specs.Runs.{Cause, OfPrinting, cause_line, tells_fault, Devices, devices, start, Terms, untold, TellsCause, StopsBehind, Lacking, Ran}
 use Rattle.avr_session.specs.Reporting.{DeskStops, PrintStops, ReadStops, Reports}
 use Rattle.avr_session.specs.Run.{StopsSession}
 use Rattle.avr_session.specs.Stopping.{IsPlayed}
 use Rattle.avr_session.specs.Taking.{AtOnce, AtTaking}
-use Rattle.avr_session.specs.Performing.{is_told, PerformsBehind, Performs, Does, LeavesOut, Runs}
+use Rattle.avr_session.specs.Performing.{is_told, PerformsBehind, Performs, PlanDoes, EndsSession, PlaysSession, Runs}
 use Rattle.avr_desk.proofs.Stages.Outputs.{kept_none}
 use Rattle.avr_desk.proofs.Lines.Told.{follows_here, same_here}
 use Rattle.avr_session.proofs.Runs.Calls.{none_failed_here, came_here, came_said, came_part, ran_from, ran_on, stops_in, broke_on, broke_part, broke_output, LacksLater, StopsReport, ToldBy}
 use Rattle.avr_session.proofs.ActionByAction.FaultsTold.{Foretells, foretold, prefix_tells_none, actions_foretells}
 use Rattle.avr_session.proofs.ActionByAction.Actions.{actions_dialog-one, actions_dialog-append}
-use Rattle.avr_session.proofs.ActionByAction.Operations.{Stop, cause_at, StopsAs, StopsOver, operation_runs, stop_come, told_of}
+use Rattle.avr_session.proofs.ActionByAction.Operations.{Stop, fault_at, cause_at, StopsAs, StopsOver, operation_runs, stop_come, told_of}
 
 -- a desk that failed in printing stops the run, whatever was reported
 printing_tells : (flag : Bool) (told : List ℕ) (d : DeskState) → told ≡ [] → TellsCause flag OfPrinting told d d
@@ -104,10 +106,17 @@ left_out_runs takes outputs m o d e (Err _) reports = search (rules, broke_outpu
 
 -- output in place of an action
 pub left_out_performs : (takes : Bool) (outputs : List OutputEvent) {host : HostState} {o : LinkState} {d e : DeskState}
-    (result : Result (Unit {0}) End) → host.broken ≡ None → LeavesOut outputs d e result
+    {told : Result (Unit {0}) DeskFault} (result : Result (Unit {0}) End) → host.broken ≡ None
+    → Reports PrintStops d e outputs told → result ≡ conclusion {A = Unit {0}} (Ok tt) told
     → Performs takes (says outputs (Done Fine)) host host (devices o d) (devices o e) (stands result)
-left_out_performs takes outputs {host = host} {o = o} {d = d} {e = e} result sound leaves =
+left_out_performs takes outputs {host = host} {o = o} {d = d} {e = e} result sound reports is =
     search (rules, left_out_runs)
+
+-- and its end reports no fault
+pub ends_untold : (part : Part) (view : DeskState) (told : Result (Unit {0}) DeskFault) {result : Result (Unit {0}) End}
+    → result ≡ conclusion {A = Unit {0}} (Ok tt) told → EndsTold part view result
+ends_untold part view (Ok done) is = rw is tt
+ends_untold part view (Err _) is = rw is tt
 
 -- nothing
 pub nothing_performs : {terms : Terms} {L : Lacking} (standing : Standing) (host : HostState) (o : Devices)
@@ -199,7 +208,7 @@ taking_then part s xs ys {m = m} {n = n} ran during shown at =
 
 -- none
 pub does_nothing : (plan : Plan) (host : HostState) (o : Devices) → host.broken ≡ None
-    → Does plan [] host host o o (Ok Fine)
+    → PlanDoes plan [] host host o o (Ok Fine)
 does_nothing plan host o sound = nothing_performs Fine host o sound
 
 -- the same action, by the other places that may allocate
@@ -216,15 +225,28 @@ performs_lacking {dialog = dialog} {x = x} {o = o} lack (Err stopped) done = per
 -- one
 pub does_one : (plan : Plan) (action : Action) {x y : HostState} {o p : Devices} {result : Result Standing (Unit {0})}
     → Performs (action_takes_memory action) (action_dialog plan.part plan.switches action) x y o p result
-    → Does plan (action ∷ []) x y o p result
+    → PlanDoes plan (action ∷ []) x y o p result
 does_one plan action {x = x} {y = y} {o = o} {p = p} {result = result} done =
     search (rules, or-false, actions_dialog-one, performs_lacking, taking_one)
 
 -- the same actions, in another form
 pub does_same : (plan : Plan) (xs ys : List Action) {x y : HostState} {o p : Devices}
     {result : Result Standing (Unit {0})}
-    → xs ≡ ys → Does plan xs x y o p result → Does plan ys x y o p result
+    → xs ≡ ys → PlanDoes plan xs x y o p result → PlanDoes plan ys x y o p result
 does_same plan xs ys {x = x} {y = y} {o = o} {p = p} {result = result} same done = search rules
+
+-- one that is an operation of the host, and the print about its outcome
+pub does_printed : (plan : Plan) (action : Action) {A : Type 0} {a b : Dialog ⊥ (Result A HostFault)}
+    (outcome_says : Result A HostFault → List OutputEvent) {x y : HostState} {o p : LinkState} {d e : DeskState}
+    {outcome : Result A HostFault} {told : Result (Unit {0}) DeskFault} {result : Result (Unit {0}) End}
+    → action_dialog plan.part plan.switches action ≡ reported b outcome_says
+    → ((stop : Stop) → outcome_says (Err (fault_at stop)) ≡ Line (fault_line plan.part (fault_at stop)) ∷ [])
+    → x.broken ≡ None → a ≡ b → Calls (action_takes_memory action) a x y o p outcome
+    → Reports PrintStops d e (outcome_says outcome) told → result ≡ conclusion outcome told
+    → PlanDoes plan (action ∷ []) x y (devices o d) (devices p e) (stands result)
+does_printed plan action {b = b} outcome_says dialog line sound same calls reports is =
+    does_one plan action (rw dialog (operation_performs b outcome_says reports (action_takes_memory action)
+    (print_stops_report _ _ reports) (told_of plan.part outcome_says line reports) sound (calls_of same calls) is))
 
 -- these, and others after them
 module _ (plan : Plan) (xs ys : List Action) where
@@ -233,13 +255,13 @@ module _ (plan : Plan) (xs ys : List Action) where
       (AtTaking plan.part plan.switches (xs ++ ys))
       (actions_dialog plan.part plan.switches xs
       >>= unless_fault (actions_dialog plan.part plan.switches ys)) x y o p result
-      → Does plan (xs ++ ys) x y o p result
+      → PlanDoes plan (xs ++ ys) x y o p result
   does_both {x = x} {y = y} {o = o} {p = p} {result = result} done =
       search (rules, list_any-append, actions_dialog-append)
 
   -- both
   pub does_then : {x y z : HostState} {o p q : Devices} (result : Result Standing (Unit {0}))
-      → Does plan xs x y o p (Ok Fine) → Does plan ys y z p q result → Does plan (xs ++ ys) x z o q result
+      → PlanDoes plan xs x y o p (Ok Fine) → PlanDoes plan ys y z p q result → PlanDoes plan (xs ++ ys) x z o q result
   does_then result done rest =
       does_both (performs_on {K = AtTaking plan.part plan.switches xs}
       (list_any action_takes_memory xs || list_any action_takes_memory ys) Fine
@@ -249,8 +271,8 @@ module _ (plan : Plan) (xs ys : List Action) where
       (actions_foretells plan.part plan.switches xs) (taking_then plan.part plan.switches xs ys done.runs) rest)
 
   -- the others are skipped
-  pub does_last : {x y : HostState} {o p : Devices} (end : End) → Does plan xs x y o p (stands (Err end))
-      → Does plan (xs ++ ys) x y o p (stands (Err end))
+  pub does_last : {x y : HostState} {o p : Devices} (end : End) → PlanDoes plan xs x y o p (stands (Err end))
+      → PlanDoes plan (xs ++ ys) x y o p (stands (Err end))
   does_last {x = x} end done = search (rules, does_both, performs_last, taking_prefix)
 
 -- a read, whose data are in a vector
@@ -333,11 +355,8 @@ quietly_over {y = y} {p = p} standing done =
 
 -- a session in this state after its actions ends like this
 pub ends_so : (plan : Plan) (standing : Standing) {x y z : HostState} {o p q : Devices}
-    (result : Result Standing (Unit {0})) → Does plan (actions plan) x y o p (Ok standing)
-    → PerformsBehind (record { takes = false; was_told = is_told standing }) (AtOnce false)
-    (ending plan.part plan.switches standing) y z p q result
-    → PerformsBehind (untold (takes_memory plan)) (AtTaking plan.part plan.switches (actions plan)) (playing plan) x z o
-    q result
+    (result : Result Standing (Unit {0})) → PlanDoes plan (actions plan) x y o p (Ok standing)
+    → EndsSession plan standing y z p q result → PlaysSession plan x z o q result
 ends_so plan standing result done rest =
     performs_on (takes_memory plan) standing done false (ending plan.part plan.switches) result (λ e. absurd (cc))
     (actions_foretells plan.part plan.switches (actions plan)) (λ during shown never. let e = never.0 in absurd (cc))
@@ -345,17 +364,13 @@ ends_so plan standing result done rest =
 
 -- a whole session, run to its status, or stopped in this state
 pub session_played : (plan : Plan) {x y : HostState} {o p : Devices} (standing : Standing) → x.progress ≡ start
-    → PerformsBehind (untold (takes_memory plan)) (AtTaking plan.part plan.switches (actions plan)) (playing plan) x y o
-    p (Ok standing)
-    → IsPlayed (session plan) o p (status_of standing)
+    → PlaysSession plan x y o p (Ok standing) → IsPlayed (session plan) o p (status_of standing)
 unfolding session
 session_played plan {x = x} {y = y} {o = o} {p = p} standing first done =
     let ran = ran_on (came_part (λ standing. Done (status_of standing)) done.runs)
     (ran_from (came_here (Done (status_of standing)) y.progress p)) in search rules
 
 pub session_stopped : (plan : Plan) {x y : HostState} {o p : Devices} (stopped : Unit {0}) → x.progress ≡ start
-    → PerformsBehind (untold (takes_memory plan)) (AtTaking plan.part plan.switches (actions plan)) (playing plan) x y o
-    p (Err stopped)
-    → StopsSession plan o p
+    → PlaysSession plan x y o p (Err stopped) → StopsSession plan o p
 unfolding session
 session_stopped plan {o = o} {p = p} stopped first done = search (rules, broke_part)

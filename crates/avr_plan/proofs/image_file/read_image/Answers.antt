@@ -1,5 +1,14 @@
-use Rattle.avr_plan.proofs.Files.Images.{image_is_open}
+use Rattle.std.proofs.Common.{[], rules}
+use Rattle.avr_plan.specs.declared.image_file.TheConstants.{LARGEST_IMAGE_FILE}
+use Rattle.avr_plan.proofs.Files.Images.{image_is_rest}
 use Rattle.avr_plan.proofs.image_file.read_image.Goals as goal
 
-pub returns-in-Ok-clause-read : goal.returns-in-Ok-clause-read
-returns-in-Ok-clause-read g c = image_is_open _ _ _ _ _ _ _ _ c.in-Ok.ensures.kept c.read_open.ensures.read
+pub returns-clause-read : goal.returns-clause-read
+returns-clause-read g c =
+    let takes = rw (c.file_kind.ensures, c.as_slice-bytes.ensures.value)
+    at (c.fed-intake.ensures.takes c.file_kind.result c.args.size [] c.in-Ok-new.ensures.0) in
+    let first = rw c.if-prefix.false at c.in-Ok-read_first_bytes.ensures.kept.kept in
+    let len = rw c.if-prefix.false at c.in-Ok-read_first_bytes.ensures.kept.enough in
+    image_is_rest LARGEST_IMAGE_FILE _ c.args.size _ _ (g.D.Desk.view c.args.desk.now) (g.D.Desk.view c.open.new.self)
+    (g.D.Desk.view c.read_first_bytes.new.desk) _ _ c.in-Ok.ensures.kept first len
+    (c.read_rest.ensures.read LARGEST_IMAGE_FILE _ c.args.size _ takes (search rules))

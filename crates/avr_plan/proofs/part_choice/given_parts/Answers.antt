@@ -1,6 +1,43 @@
-use Rattle.std.proofs.Common.{refl, Ok, []}
+use Rattle.std.proofs.Common.{refl, Ok, [], false, rules}
+use Rattle.avr_desk.specs.Playing.{AtStart}
+use Rattle.avr_plan.specs.declared.part_choice.TheConstants.{LARGEST_PART_FILE}
+use Rattle.avr_plan.proofs.Stages.Parts.{went_parts, goes_bad_parts, goes_long_parts}
+use Rattle.avr_desk.proofs.Stages.Files.{goes_file_fault}
+use Rattle.avr_desk.proofs.Stages.Openings.{breaks_as, counted_as}
 use Rattle.avr_desk.proofs.Stages.Played.{went_settled}
+use Rattle.avr_plan.specs.Planning.{judged_parts}
 use Rattle.avr_plan.proofs.part_choice.given_parts.Goals as goal
 
-pub returns-in-None-clause-goes : goal.returns-in-None-clause-goes
-returns-in-None-clause-goes g c = rw (c.in-None.is, c.none.ensures) (went_settled (Ok []) [] _ refl)
+pub returns-in_default-clause-goes : goal.returns-in_default-clause-goes
+returns-in_default-clause-goes g c = rw (c.in_default.is, c.none.ensures) (went_settled (Ok []) [] _ refl)
+
+pub returns-in-Err-clause-goes : goal.returns-in-Err-clause-goes
+returns-in-Err-clause-goes g c =
+    rw (c.in-Some.is, ← c.as_str-file.ensures) (goes_file_fault (AtStart false) _ LARGEST_PART_FILE (judged_parts _)
+    _ _ _ _ _ (breaks_as _ _ _ _ c.in-Err.ensures.kept) c.in-Err.ensures.counts.0
+    (counted_as _ _ _ _ _ c.in-Err.ensures.counts) refl (rw c.file_message.ensures at c.refuse.ensures.told))
+
+pub returns-then-not-contents-clause-goes : goal.returns-then-not-contents-clause-goes
+returns-then-not-contents-clause-goes g c =
+    rw (c.in-Some.is, ← c.as_str-file.ensures) (goes_long_parts _ _ _ _ _ _ _ c.in-Ok.ensures.kept
+    c.in-Ok.ensures.whole c.if-not-contents.true c.in-Ok.ensures.counts.1 refl
+    (rw c.too_long_message.ensures at c.refuse-then-not-contents.ensures.told))
+
+pub returns-in-Ok-parse_part_file-clause-goes : goal.returns-in-Ok-parse_part_file-clause-goes
+returns-in-Ok-parse_part_file-clause-goes g c =
+    let gives = rw (c.as_slice.ensures, c.in-Ok-parse_part_file.is) at c.parse_part_file.ensures.reads in
+    rw (c.in-Some.is, ← c.as_str-file.ensures)
+    (search (rules, went_parts, c.in-Ok.ensures.kept, c.in-Ok.ensures.whole, c.in-Ok.ensures.counts))
+
+pub returns-clause-goes : goal.returns-clause-goes
+returns-clause-goes g c =
+    let gives = rw (c.as_slice.ensures, c.in-Err-parse_part_file.is) at c.parse_part_file.ensures.reads in
+    let told = rw (c.part_file_message.ensures, c.fault-fault.ensures)
+    at c.refuse-in-Err-parse_part_file.ensures.told in
+    rw (c.in-Some.is, ← c.as_str-file.ensures) (goes_bad_parts _ _ _ _ _ _ 1 _ c.in-Ok.ensures.kept
+    c.in-Ok.ensures.whole c.if-not-contents.false c.in-Ok.ensures.counts.1 gives refl told)
+
+pub returns-then-not-contents-clause-told : goal.returns-then-not-contents-clause-told
+returns-then-not-contents-clause-told g c =
+    let told = rw (c.too_long_message.ensures, c.as_str-file.ensures) at c.refuse-then-not-contents.ensures.told in
+    rw c.in-Some.is (search rules)

@@ -8,7 +8,7 @@ returns-then-not-warns-clause-goes g c = rw (← c.if-not-warns.ensures) (went_s
 
 pub returns-in-Ok-clause-goes : goal.returns-in-Ok-clause-goes
 returns-in-Ok-clause-goes g c = rw (← c.if-not-warns.ensures)
-    (went_output _ _ (no_end_line c.args.file.now) c.in-Ok.ensures.printed c.in-Ok.ensures.counts.1)
+    (went_output _ _ (no_end_line c.args.file.now) c.in-Ok.ensures.printed c.in-Ok.ensures.call.counts.1)
 
 pub returns-in-Err-clause-goes : goal.returns-in-Err-clause-goes
 returns-in-Err-clause-goes g c = search (rules, goes_output_part)

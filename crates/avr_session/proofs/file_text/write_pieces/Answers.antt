@@ -1,11 +1,14 @@
-use Rattle.std.proofs.Common.{◌∙◌, ap, sym, subst, refl, arith, ◌≡◌, ◌<◌, ℕ, List, [], ◌∷◌, ◌++◌, length, append_assoc, append-nil, Result, Ok, Err, IsOk, OnOk, OnErr, IsTrue, Bool, true, false, rules}
+use Rattle.std.proofs.Common.{◌∙◌, ap, sym, subst, refl, arith, ◌≡◌, ◌<◌, ◌≤◌, ◌+◌, ℕ, List, [], ◌∷◌, ◌++◌, length, append_assoc, append-nil, Result, Ok, Err, IsOk, OnOk, OnErr, IsTrue, Bool, true, false, rules}
 use Rattle.std.proofs.lemmas.Result.{err_from_is_err_and}
-use Rattle.avr_desk.specs.Record.{Record, showing}
+use Rattle.avr_desk.specs.Fault.{HasSameCounts}
+use Rattle.avr_desk.specs.Record.{Passes, Record, showing}
 use Rattle.avr_desk.specs.Stream.{after_sent, SendsPart}
 use Rattle.avr_desk.specs.declared.desk.DeskFault.{DeskFault}
 use Rattle.avr_desk.specs.declared.stream.Stream.{Stream}
-use Rattle.avr_desk.proofs.Lines.SentBytes.{sent_next, sent_next_part}
+use Rattle.avr_desk.proofs.Lines.SentBytes.{sent_next, sent_next_part, sent_none}
+use Rattle.ghosts.specs.Stays.{Stays}
 use Rattle.avr_session.proofs.file_text.write_pieces.Goals as goal
+use Rattle.avr_session.proofs.file_text.write_pieces.Goals.{then-len-remaining_capacity+in_ok-write_all, else-len-remaining_capacity}
 
 none_left : (xs : List ℕ) (more : Bool) → more ≡ false → (0 < length xs → IsTrue more) → xs ≡ []
 none_left [] more is ends = refl
@@ -42,43 +45,50 @@ part_sent s old now new done waiting text (Err fault) is before part =
 pub pieces-preserved : goal.pieces-preserved
 pieces-preserved g c =
     let i = c.pieces.invariant.sent in
-    let w = c.in_ok-make_room.ensures.sent in
+    let j = c.if-len-remaining_capacity in
+    let view = g.D.Desk.view in
+    let w : (sent : List ℕ) × ((c.pieces.waiting.items ≡ sent ++ j.waiting.items)
+    × Passes (after_sent c.args.stream sent) (view c.pieces.desk) (view j.desk)
+    × HasSameCounts (view c.pieces.desk) (view j.desk) × Stays g.D.Desk.comes_of c.pieces.desk j.desk
+    × (length j.waiting.items + length c.next_piece.new.out.items ≤ 4096)) = elim j.branch [
+      | then-len-remaining_capacity+in_ok-write_all w ↦ rw (w.desk-is, w.waiting-is, w.clear.ensures)
+          (c.pieces.waiting.items, search (rules, append-nil, w.as_slice.ensures.value, w.in_ok-write_all.ensures))
+      | else-len-remaining_capacity w ↦ rw (w.desk-is, w.waiting-is) ([], search (rules, sent_none))
+    ] in
     let put = put_whole c.try_extend_from_slice.result
-    (c.try_extend_from_slice.ensures.variant.1
-    (rw c.as_slice.ensures.value (omega (arith, c.in_ok-make_room.ensures.room, c.len.ensures.value))))
-    c.try_extend_from_slice.ensures.ok in
+    (c.try_extend_from_slice.ensures.variant.1 (rw c.as_slice-in-pieces.ensures.value w.1.4)) c.try_extend_from_slice.ensures.ok in
     record {
       sent = (
         i.0 ++ w.0,
-        behind _ i.0 c.pieces.waiting.items c.next_piece.new.out.items _ w.0 c.make_room.new.waiting.items _ _ i.1
-            c.next_piece.ensures.joined w.1 (rw c.as_slice.ensures.value at put),
-        sent_next c.args.stream _ _ _ i.0 w.0 i.2 w.2,
+        behind _ i.0 c.pieces.waiting.items c.next_piece.new.out.items _ w.0 j.waiting.items _ _ i.1
+            c.next_piece.ensures.joined w.1.0 (rw c.as_slice-in-pieces.ensures.value at put),
+        sent_next c.args.stream _ _ _ i.0 w.0 i.2 w.1.1,
       );
-      counted = (
-        c.in_ok-make_room.ensures.counts.1.0 ∙ c.pieces.invariant.counted.0,
-        c.in_ok-make_room.ensures.counts.1.1 ∙ c.pieces.invariant.counted.1,
-      );
-      stays = λ start of. c.in_ok-make_room.ensures.stays start (c.pieces.invariant.stays start of);
+      counted = (w.1.2.0 ∙ c.pieces.invariant.counted.0, w.1.2.1 ∙ c.pieces.invariant.counted.1);
+      stays = λ start of. w.1.3 start (c.pieces.invariant.stays start of);
     }
 
-pub returns-in_err-make_room-clause-part : goal.returns-in_err-make_room-clause-part
-returns-in_err-make_room-clause-part g c =
+pub returns-in_err-write_all : goal.returns-in_err-write_all
+returns-in_err-write_all g c =
     let p = err_from_is_err_and c.from_residual.result c.from_residual.ensures.1 in
     let i = c.pieces.invariant.sent in
-    rw p.1 (subst (SendsPart c.args.stream (g.D.Desk.view c.args.desk.now) (g.D.Desk.view c.make_room.new.desk))
-    (sym i.1)
-    (sent_next_part c.args.stream _ _ _ i.0 c.pieces.waiting.items (g.P.Pieces.rest c.pieces.text) i.2
-    c.in_err-make_room.ensures.part))
+    let part = subst (SendsPart c.args.stream (g.D.Desk.view c.args.desk.now) (g.D.Desk.view c.write_all.new.desk))
+    (sym i.1) (sent_next_part c.args.stream _ _ _ i.0 c.pieces.waiting.items (g.P.Pieces.rest c.pieces.text) i.2
+    (rw c.as_slice.ensures.value at c.in_err-write_all.ensures.part)) in
+    rw (p.1, p.2) (search rules)
 
-pub returns-clause-all : goal.returns-clause-all
-returns-clause-all g c = search (rules, none_left, all_sent, append-nil)
-
-pub returns-clause-part : goal.returns-clause-part
-returns-clause-part g c =
+pub returns : goal.returns
+returns g c =
     let i = c.pieces.invariant.sent in
     let none = none_left (g.P.Pieces.rest c.pieces.text) c.next_piece.result c.pieces-test.false
     c.next_piece.ensures.ends.1 in
     let waits = c.pieces.waiting.items in
-    part_sent c.args.stream _ _ _ i.0 waits _ c.write_all.result
-    (i.1 ∙ ap (λ (xs : List ℕ). i.0 ++ xs) (ap (λ (xs : List ℕ). waits ++ xs) none ∙ append-nil waits)) i.2
-    (rw (← c.as_slice-rest.ensures.value) c.write_all.ensures.part)
+    record {
+      all = search (rules, none_left, all_sent, append-nil);
+      part = part_sent c.args.stream _ _ _ i.0 waits _ c.write_all-2.result
+          (i.1 ∙ ap (λ (xs : List ℕ). i.0 ++ xs) (ap (λ (xs : List ℕ). waits ++ xs) none ∙ append-nil waits)) i.2
+          (rw (← c.as_slice-rest.ensures.value) c.write_all-2.ensures.part);
+      counts = search rules;
+      fault = c.write_all-2.ensures.call.fault;
+      stays = λ start of. c.write_all-2.ensures.call.stays start (c.pieces.invariant.stays start of);
+    }

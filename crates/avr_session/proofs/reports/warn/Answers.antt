@@ -2,5 +2,5 @@ use Rattle.std.proofs.Common.{rules}
 use Rattle.avr_session.proofs.ActionByAction.Reports.{reports_line, not_lt}
 use Rattle.avr_session.proofs.reports.warn.Goals as goal
 
-pub returns-clause-reports : goal.returns-clause-reports
-returns-clause-reports g c = search (rules, not_lt, reports_line)
+pub returns : goal.returns
+returns g c = search (rules, not_lt, reports_line)

@@ -1,9 +1,39 @@
-use Rattle.std.proofs.Common.{◌∙◌, sym}
+use Rattle.std.proofs.Common.{◌∙◌, sym, [], ◌∷◌, refl, rules}
+use Rattle.avr_desk.specs.Said.{Writes}
+use Rattle.avr_desk.specs.declared.stream.Stream.TheVariants.{File}
+use Rattle.avr_desk.proofs.Lines.Told.{failed_by, follows_on}
 use Rattle.avr_session.specs.FileText.{file_text}
-use Rattle.avr_session.proofs.ActionByAction.Saves.{saved_out}
+use Rattle.avr_session.specs.Runs.{NotCreated, cause_line}
+use Rattle.avr_session.specs.Saving.{SaveStops}
+use Rattle.avr_session.proofs.ActionByAction.Reports.{file_stops}
+use Rattle.avr_session.proofs.ActionByAction.Saves.{saved_out, not_created, created_then}
 use Rattle.avr_session.proofs.saving.save.Goals as goal
 
-pub returns-then-eq-clause-reports : goal.returns-then-eq-clause-reports
-returns-then-eq-clause-reports g c =
-    saved_out _ _ c.args.target.file.now (file_text c.args.target.format c.args.bytes.now) c.write_file.result
-    (sym c.eq.ensures ∙ c.if-eq.true) c.write_file.ensures.writes c.write_file.ensures.follows
+pub returns-then-eq : goal.returns-then-eq
+returns-then-eq g c =
+    let reports = saved_out _ _ c.args.target.file.now (file_text c.args.target.format c.args.bytes.now)
+    c.write_file.result (sym c.eq.ensures ∙ c.if-eq.true) c.write_file.ensures.writes c.write_file.ensures.follows in
+    search rules
+
+pub returns-in-Ok : goal.returns-in-Ok
+returns-in-Ok g c =
+    let reports = created_then _ (g.D.Desk.view c.create.new.self) _ c.args.target.file.now
+    (file_text c.args.target.format c.args.bytes.now) c.create.result c.write_file-in-Ok.result c.in-Ok.is
+    c.create.ensures.kept c.create.ensures.call.counts
+    c.write_file-in-Ok.ensures.follows c.write_file-in-Ok.ensures.writes in
+    rw (sym c.eq.ensures ∙ c.if-eq.false) (search rules)
+
+pub returns-in-Err : goal.returns-in-Err
+unfolding cause_line
+returns-in-Err g c =
+    let failed = failed_by File (g.D.Desk.view c.args.desk.now) (g.D.Desk.view c.create.new.self) c.create.result _
+    c.in-Err.is c.create.ensures.call.fault c.create.ensures.call.counts in
+    let says = file_stops (SaveStops c.args.target.file.now) _ (g.D.Desk.view c.create.new.self) _ _
+    c.args.target.file.now NotCreated
+    (not_created _ _ c.args.target.file.now c.create.result _
+    (Writes (file_text c.args.target.format c.args.bytes.now) ∷ []) c.in-Err.is c.create.ensures.kept)
+    failed c.create.ensures.call.counts.0 (λ told stops. (refl, stops))
+    (rw c.not_created_message.ensures at c.refuse.ensures.told) in
+    let follows = follows_on (g.D.Desk.view c.args.desk.now) (g.D.Desk.view c.create.new.self)
+    (g.D.Desk.view c.refuse.new.desk) c.create.ensures.call.counts.0 c.refuse.ensures.told.follows in
+    rw (sym c.eq.ensures ∙ c.if-eq.false) (search rules)

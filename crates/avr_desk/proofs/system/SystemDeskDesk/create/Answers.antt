@@ -1,13 +1,22 @@
+use Rattle.std.proofs.Common.{rules}
 use Rattle.avr_desk.proofs.Desks.TwoWriters.{created_true, from_inside, output_true}
 use Rattle.avr_desk.proofs.system.SystemDeskDesk.create.Goals as goal
 
-pub returns-then-eq-clause-stays : goal.returns-then-eq-clause-stays
-returns-then-eq-clause-stays g c = from_inside _ _ _ _ _ _ c.self.view_is
-    (output_true _ _ _ _ _ _ c.open_next.ensures.opened c.as_bytes.ensures.value c.if-eq.ensures c.then-self-inside.ensures
-    c.open_next.ensures.closed c.open_next.ensures.did c.open_next.ensures.keeps)
+pub returns-then-eq-clause-call : goal.returns-then-eq-clause-call
+returns-then-eq-clause-call g c = record {
+  counts = search rules;
+  fault = search rules;
+  stays = from_inside _ _ _ _ _ _ c.self.view_is
+      (output_true _ _ _ _ _ _ c.open_next.ensures.opened c.as_bytes.ensures.value c.if-eq.ensures c.then-self-inside.ensures
+      c.open_next.ensures.closed c.open_next.ensures.did c.open_next.ensures.keeps);
+}
 
-pub returns-in-Ok-clause-stays : goal.returns-in-Ok-clause-stays
-returns-in-Ok-clause-stays g c = from_inside _ _ _ _ _ _ c.self.view_is
-    (created_true _ _ _ _ _ _ c.open_next-in-Ok.ensures.opened c.as_bytes-in-Ok.ensures.value c.if-eq.ensures c.in-Ok.ensures.named
-    c.then-self-inside-in-Ok.ensures c.open_next-in-Ok.ensures.closed c.in-Ok.ensures.creates
-    c.open_next-in-Ok.ensures.did c.create_named.ensures.keeps c.open_next-in-Ok.ensures.keeps)
+pub returns-in-Ok-clause-call : goal.returns-in-Ok-clause-call
+returns-in-Ok-clause-call g c = record {
+  counts = search rules;
+  fault = search rules;
+  stays = from_inside _ _ _ _ _ _ c.self.view_is
+      (created_true _ _ _ _ _ _ c.open_next-in-Ok.ensures.opened c.as_bytes-in-Ok.ensures.value c.if-eq.ensures c.in-Ok.ensures.named
+      c.then-self-inside-in-Ok.ensures c.open_next-in-Ok.ensures.closed c.in-Ok.ensures.creates
+      c.open_next-in-Ok.ensures.did c.create_named.ensures.keeps c.open_next-in-Ok.ensures.keeps);
+}

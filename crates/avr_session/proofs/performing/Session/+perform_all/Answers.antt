@@ -3,12 +3,12 @@ use Rattle.std.proofs.lemmas.Result.{err_from_is_err_and}
 use Rattle.avr_session.proofs.ActionByAction.Sequences.{does_nothing, does_then, does_last, first_task, no_task, tasks_behind}
 use Rattle.avr_session.proofs.performing.Session.+perform_all.Goals as goal
 
-pub returns-in-empty-clause-performs : goal.returns-in-empty-clause-performs
-returns-in-empty-clause-performs g t c =
-    rw (← no_task c.args.tasks.now c.in-empty.len_below) (does_nothing c.args.self.now.plan.now _ _ c.requires.sound)
+pub returns-in-empty : goal.returns-in-empty
+returns-in-empty g t c =
+    rw (← no_task c.args.tasks.now c.in-empty.len_below) (search (rules, does_nothing))
 
-pub returns-in_err-perform-in-len1-up-clause-performs : goal.returns-in_err-perform-in-len1-up-clause-performs
-returns-in_err-perform-in-len1-up-clause-performs g t c = search (rules, err_from_is_err_and, first_task, does_last)
+pub returns-in_err-perform-in-len1-up : goal.returns-in_err-perform-in-len1-up
+returns-in_err-perform-in-len1-up g t c = search (rules, err_from_is_err_and, first_task, does_last)
 
-pub returns-in_ok-perform-in-len1-up-clause-performs : goal.returns-in_ok-perform-in-len1-up-clause-performs
-returns-in_ok-perform-in-len1-up-clause-performs g t c = search (rules, first_task, does_then, tasks_behind)
+pub returns-in_ok-perform-in-len1-up : goal.returns-in_ok-perform-in-len1-up
+returns-in_ok-perform-in-len1-up g t c = search (rules, first_task, does_then, tasks_behind)

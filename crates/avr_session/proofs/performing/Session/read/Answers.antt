@@ -1,4 +1,4 @@
-use Rattle.std.proofs.Common.{ap, sym, ◌∙◌, true}
+use Rattle.std.proofs.Common.{ap, sym, ◌∙◌, true, rules}
 use Rattle.stk_host.specs.Operations.{reading}
 use Rattle.avr_session.specs.Actions.{SaveMemory}
 use Rattle.avr_session.specs.Session.{fault_or, read_says}
@@ -9,19 +9,20 @@ use Rattle.avr_session.proofs.performing.Session.read.Goals as goal
 pub report_read-reported-requires : goal.report_read-reported-requires
 report_read-reported-requires g c = rw c.as_slice.ensures.value c.read-outcome.ensures.short
 
-pub returns-clause-performs : goal.returns-clause-performs
-returns-clause-performs g c =
-    let part = c.args.self.now.plan.now.part in
-    let s = c.args.self.now.plan.now.switches in
+pub returns : goal.returns
+returns g c =
+    let plan = c.args.self.now.plan.now in
+    let mem = c.args.mem in
     let format = c.args.target.format in
     let file = c.args.target.file.now in
     let items = c.read-outcome.new.out.items in
-    let operation = reading part c.args.mem in
-    let good = read_says s c.args.mem format file in
+    let good = read_says plan.switches mem format file in
     let reports = rw c.as_slice.ensures.value at c.report_read-reported.ensures.reports in
-    does_one c.args.self.now.plan.now (SaveMemory c.args.mem format file)
-    (operation_performs operation (fault_or part good) reports true
-    (read_stops_report part good items (read_none s c.args.mem format file items) c.read-outcome.result _ _ reports)
-    (given_told items good part c.read-outcome.result reports) c.requires.sound
-    (calls_of (ap (λ part. reading part c.args.mem) c.requires.part) c.read-outcome.ensures.calls)
-    (c.conclude.ensures ∙ sym (given_concluded items c.read-outcome.result c.report_read-reported.result)))
+    let does = does_one plan (SaveMemory mem format file)
+    (operation_performs (reading plan.part mem) (fault_or plan.part good) reports true
+    (read_stops_report plan.part good items (read_none plan.switches mem format file items) c.read-outcome.result _ _
+    reports)
+    (given_told items good plan.part c.read-outcome.result reports) c.requires.0
+    (calls_of (ap (λ part. reading part mem) c.requires.1) c.read-outcome.ensures.calls)
+    (c.conclude.ensures ∙ sym (given_concluded items c.read-outcome.result c.report_read-reported.result))) in
+    search rules

@@ -1,0 +1,8 @@
+use Rattle.avr_desk.proofs.Desks.Held.{put_and_left}
+use Rattle.avr_desk.proofs.replacing.replace_named.Goals as goal
+
+pub returns-in-Some-2-clause-makes : goal.returns-in-Some-2-clause-makes
+returns-in-Some-2-clause-makes g c = put_and_left g.R.FileSystem.did _ c.args.name.now _
+    (rw c.in-Some-2.is at c.in_ok-own-in_default.ensures.locks)
+    (rw c.in-Some-2.is at c.in_ok-own-in_default.ensures.held)
+    c.put_held-put.ensures.makes c.leave_held.ensures.leaves
