@@ -1,17 +1,34 @@
--- What waits to be received, as it is kept: bytes, and None for a timeout.
-use Rattle.std.specs.Prelude.{ℕ, List, ◌∷◌, map, Option, Some, None}
-use Rattle.stk_host.specs.declared.link.Item.{Item}
-use Rattle.stk_host.specs.declared.link.Item.TheVariants.{Byte, Silence}
-use Rattle.stk_host.specs.Tape.{Tape}
+-- What waits to be received, as it is kept: bytes, and the places of the timeouts between them.
+use Rattle.std.specs.Prelude.{ℕ, List, [], ◌∷◌, ◌++◌, ◌+◌, ◌*◌, ◌-◌, ◌<◌, ◌≤◌, take, drop}
+use Rattle.stk_frame.specs.declared.protocol.TheConstants.{LARGEST_FRAME}
+use Rattle.stk_emu.specs.declared.fate.TheConstants.{LARGEST_NOISE}
+use Rattle.stk_host.specs.declared.link.Item.TheVariants.{Silence}
+use Rattle.stk_host.specs.Tape.{Tape, on_tape}
 
-abbrev pub item_of : Option ℕ → Item
-item_of (Some b) = Byte b
-item_of None = Silence
+-- The items that wait, and the room for more bytes and for more timeouts.
+pub record Waiting : Type 0 where
+  pub tape : Tape
+  pub byte_room : ℕ
+  pub timeout_room : ℕ
 
-abbrev pub tape_in : List (Option ℕ) → Tape
-tape_in = map item_of
+-- There is room for what one frame brings: three late replies and noise, and a timeout.
+pub record HasRoom (waiting : Waiting) : Type 0 where
+  pub bytes : 3 * LARGEST_FRAME + LARGEST_NOISE ≤ waiting.byte_room
+  pub timeout : 0 < waiting.timeout_room
 
--- There is no leading byte.
-abbrev pub BeginsSilent : List (Option ℕ) → Type 0
-BeginsSilent (Some b ∷ items) = ⊥
-BeginsSilent _ = Unit {0}
+-- The bytes from the place `at` on, and a timeout before the byte at each of these places.
+abbrev pub tape_in : ℕ → List ℕ → List ℕ → Tape
+tape_in at bytes [] = on_tape (drop at bytes)
+tape_in at bytes (place ∷ places) =
+    on_tape (take (place - at) (drop at bytes)) ++ Silence ∷ tape_in place bytes places
+
+-- The places never fall, and lie between `at` and `count`.
+abbrev pub AreWithin : ℕ → List ℕ → ℕ → Type 0
+AreWithin at [] count = Unit {0}
+AreWithin at (place ∷ places) count = (at ≤ place) × (place ≤ count) × AreWithin place places count
+
+-- Nothing waits, or a timeout is next.
+abbrev pub BeginsSilent : Tape → Type 0
+BeginsSilent [] = Unit {0}
+BeginsSilent (Silence ∷ tape) = Unit {0}
+BeginsSilent (other ∷ tape) = ⊥

@@ -1,50 +1,134 @@
-//! What a frame brings, and the replies that wait: bytes, and a `None` for each timeout.
-ghost use Rattle.std.specs.Prelude.{◌≡◌, ◌+◌, ◌*◌, ◌<◌, ◌≤◌, ◌++◌, [], length, take, if◌then◌else◌};
-ghost use Rattle.stk_emu.specs.declared.arrival.TheConstants.{ROOM};
+//! What a frame brings, and the replies that wait.
+ghost use Rattle.std.specs.Prelude.{◌≡◌, ◌+◌, ◌*◌, ◌<◌, ◌≤◌, ◌++◌, [], ◌∷◌, length, take, drop, max, if◌then◌else◌, OnOk};
 ghost use Rattle.stk_frame.specs.declared.protocol.TheConstants.{LARGEST_FRAME};
-ghost use Rattle.stk_host.specs.Tape.{on_tape};
-ghost use Rattle.stk_emu.specs.Waiting.{tape_in, BeginsSilent};
+ghost use Rattle.stk_host.specs.declared.link.Item.TheVariants.{Silence};
+ghost use Rattle.stk_host.specs.Tape.{on_tape, bytes_in};
+ghost use Rattle.stk_emu.specs.Waiting.{BeginsSilent, HasRoom};
 ghost use Rattle.stk_emu.specs.Lawful.{none_late, behind_late};
 ghost use Rattle.stk_emu.specs.Wire.{let_go, is_held};
 
 use crate::emulator::Frame;
 use crate::fate::{Fate, LARGEST_NOISE};
-use arrayvec::ArrayVec;
+use std::alloc::{AllocError, Global};
+use std::collections::VecDeque;
 use std::marker::Model;
 use std::mem;
 use stk_frame::LARGEST_FRAME;
 
-/// Room for all that one frame can bring: three late replies, noise, and a timeout.
-pub(crate) const ROOM: usize = 3 * LARGEST_FRAME + LARGEST_NOISE + 1;
+/// The most bytes that one frame can bring: three late replies and noise.
+const ROOM: usize = 3 * LARGEST_FRAME + LARGEST_NOISE;
 
-pub(crate) type Arrival = ArrayVec<Option<u8>, ROOM>;
-
-pub(crate) fn put_bytes(arrival: &mut Arrival, bytes: &[u8])
-    requires { length arrival.old.items + length bytes.now ≤ ROOM }
-    ensures items { tape_in arrival.new.items ≡ tape_in arrival.old.items ++ on_tape bytes.now }
-    ensures len { length arrival.new.items ≡ length arrival.old.items + length bytes.now }
-{
-    for byte in bytes {
-        arrival.push(Some(*byte));
-    }
+/// What waits to be received: bytes, and a timeout before the byte at each of these places.
+#[derive(Drop)]
+pub(crate) struct Arrivals {
+    bytes: Vec<u8>,
+    /// The bytes before this place were received.
+    at: usize,
+    timeouts: VecDeque<usize>,
 }
 
-/// Copies the leading bytes of the items into the buffer, and returns how many.
-pub(crate) fn take_bytes(items: &[Option<u8>], buffer: &mut [u8]) -> usize
-    ensures within { result ≤ length buffer.new }
-    ensures taken { on_tape (take result buffer.new) ≡ take result (tape_in items.now) }
-    ensures inside { result ≤ length items.now }
-    ensures some { 0 < length buffer.old → result ≡ 0 → BeginsSilent items.now }
-{
-    let mut count = 0;
-    while count < buffer.len() && count < items.len() {
-        let Some(byte) = items[count] else {
-            return count;
-        };
-        buffer[count] = byte;
-        count += 1;
+impl Model for Arrivals {
+    ghost use Rattle.std.specs.Prelude.{◌≤◌, ◌-◌, length, vec_len, vec_capacity};
+    ghost use Rattle.std.specs.VecDeque.{deque_len, deque_capacity};
+    ghost use Rattle.stk_emu.specs.Waiting.{Waiting, AreWithin, tape_in};
+
+    ghost Value = { Waiting };
+
+    ghost view = { λ arrivals. record {
+      tape = tape_in arrivals.at arrivals.bytes.items arrivals.timeouts.items;
+      byte_room = vec_capacity arrivals.bytes - vec_len arrivals.bytes;
+      timeout_room = deque_capacity arrivals.timeouts - deque_len arrivals.timeouts;
+    } };
+
+    ghost invariant = { λ arrivals. (arrivals.at ≤ length arrivals.bytes.items)
+        × AreWithin arrivals.at arrivals.timeouts.items (length arrivals.bytes.items) };
+}
+
+impl Arrivals {
+    pub fn new(alloc: Global) -> Arrivals
+        ensures { result.tape ≡ [] }
+    {
+        Arrivals {
+            bytes: Vec::new(alloc),
+            at: 0,
+            timeouts: VecDeque::new(alloc),
+        }
     }
-    count
+
+    /// Begins anew at the front of the room if nothing waits.
+    fn rewind(&mut self)
+        ensures { self.new.tape ≡ self.old.tape }
+    {
+        if self.at == self.bytes.len() && self.timeouts.is_empty() {
+            self.bytes.clear();
+            self.at = 0;
+        }
+    }
+
+    /// Makes room for what one frame brings.
+    pub fn reserve(&mut self) -> Result<(), AllocError>
+        ensures tape { self.new.tape ≡ self.old.tape }
+        ensures room { OnOk result (HasRoom self.new) }
+    {
+        self.rewind();
+        self.bytes.reserve(ROOM)?;
+        self.timeouts.reserve(1)?;
+        Ok(())
+    }
+
+    pub fn put(&mut self, bytes: &[u8])
+        requires { length bytes.now ≤ self.old.byte_room }
+        ensures tape { self.new.tape ≡ self.old.tape ++ on_tape bytes.now }
+        ensures byte_room { self.old.byte_room ≤ self.new.byte_room + length bytes.now }
+        ensures timeout_room { self.new.timeout_room ≡ self.old.timeout_room }
+    {
+        let _there_is_room = self.bytes.extend_from_slice(bytes);
+    }
+
+    pub fn put_timeout(&mut self)
+        requires { 0 < self.old.timeout_room }
+        ensures { self.new.tape ≡ self.old.tape ++ Silence ∷ [] }
+    {
+        self.timeouts.push_back_reserved(self.bytes.len());
+    }
+
+    /// Returns the bytes before the first timeout.
+    fn leading(&self) -> &[u8]
+        ensures bytes { result.now ≡ bytes_in self.now.tape }
+        ensures silent { result.now ≡ [] → BeginsSilent self.now.tape }
+    {
+        let bytes = &self.bytes[self.at..];
+        match self.timeouts.front() {
+            Some(place) => &bytes[..*place - self.at],
+            None => bytes,
+        }
+    }
+
+    /// Copies leading bytes into the buffer, and returns how many.
+    pub fn copy_to(&self, buffer: &mut [u8]) -> usize
+        ensures within { result ≤ length buffer.new }
+        ensures taken { on_tape (take result buffer.new) ≡ take result self.now.tape }
+        ensures inside { result ≤ length (bytes_in self.now.tape) }
+        ensures some { 0 < length buffer.old → result ≡ 0 → BeginsSilent self.now.tape }
+    {
+        let leading = self.leading();
+        let count = leading.len().min(buffer.len());
+        buffer[..count].copy_from_slice(&leading[..count]);
+        count
+    }
+
+    /// Drops this many leading bytes. If there is none, it drops the leading timeout.
+    pub fn drop_next(&mut self, count: usize)
+        requires inside { count ≤ length (bytes_in self.old.tape) }
+        requires silent { count ≡ 0 → BeginsSilent self.old.tape }
+        ensures { self.new.tape ≡ drop (max 1 count) self.old.tape }
+    {
+        if count == 0 {
+            self.timeouts.pop_front();
+        } else {
+            self.at += count;
+        }
+    }
 }
 
 /// The last three replies that wait, in order; an absent one is empty.
@@ -86,19 +170,20 @@ impl Late {
         self.first = mem::replace(&mut self.second, third);
     }
 
-    /// Puts all that wait into the empty `out`, unless this fate of a frame lets them go on waiting.
-    pub fn bring(&mut self, fate: &Fate, out: &mut Arrival)
-        requires { out.old.items ≡ [] }
-        ensures items { tape_in out.new.items ≡ on_tape (let_go fate.now self.old) }
-        ensures len { length out.new.items ≤ 3 * LARGEST_FRAME }
+    /// Puts all that wait into `out`, unless this fate of a frame lets them go on waiting.
+    pub fn bring(&mut self, fate: &Fate, out: &mut Arrivals)
+        requires { HasRoom out.old }
+        ensures tape { out.new.tape ≡ out.old.tape ++ on_tape (let_go fate.now self.old) }
+        ensures bytes { out.old.byte_room ≤ out.new.byte_room + 3 * LARGEST_FRAME }
+        ensures timeouts { out.new.timeout_room ≡ out.old.timeout_room }
         ensures late { self.new ≡ (if is_held fate.now then self.old else none_late) }
     {
         if matches!(fate, Fate::HeldAnswer) {
             return;
         }
-        put_bytes(out, self.first.as_slice());
-        put_bytes(out, self.second.as_slice());
-        put_bytes(out, self.third.as_slice());
+        out.put(self.first.as_slice());
+        out.put(self.second.as_slice());
+        out.put(self.third.as_slice());
         self.first.clear();
         self.second.clear();
         self.third.clear();

@@ -1,16 +1,16 @@
 //! The wire, frame by frame.
-ghost use Rattle.std.specs.Prelude.{◌≡◌, ◌++◌, []};
+ghost use Rattle.std.specs.Prelude.{◌≡◌, ◌++◌};
 ghost use Rattle.stk_frame.specs.Frame.{frame};
 ghost use Rattle.stk_frame.specs.Cut.{is_good, seq_of};
 ghost use Rattle.stk_frame.specs.Reader.{HoldsFrame, TellsEvent, frames_of_event};
 ghost use Rattle.stk_host.specs.Tape.{on_tape};
 ghost use Rattle.stk_emu.specs.Programmer.{fresh_programmer, restarted_programmer};
 ghost use Rattle.stk_emu.specs.Device.{device, refusal, answer_frame, after_frame};
-ghost use Rattle.stk_emu.specs.Waiting.{tape_in};
+ghost use Rattle.stk_emu.specs.Waiting.{HasRoom};
 ghost use Rattle.stk_emu.specs.Wire.{AreLawful, IsLawfulFate, fresh_wire, tape_of, wire_after, let_go, late_of, turn_of, back};
 ghost use Rattle.stk_emu.specs.Turn.{after_turn};
 
-use crate::arrival::{Arrival, Late, put_bytes};
+use crate::arrival::{Arrivals, Late};
 use crate::emulator::{Frame, answer, refuse};
 use crate::fate::Fate;
 use crate::programmer::Programmer;
@@ -43,21 +43,21 @@ impl Model for Wire {
     ghost invariant = { λ wire. AreLawful wire.fates.items };
 }
 
-/// Passes the frame that the reader holds, with this fate. `out` becomes what it brings, after the replies that wait.
+/// Passes the frame that the reader holds, with this fate. Puts what it brings into `out`, behind the late replies.
 fn pass_with(
     fate: &Fate,
     programmer: &mut Programmer,
     late: &mut Late,
     reader: &FrameReader,
     good: bool,
-    out: &mut Arrival,
+    out: &mut Arrivals,
 )
-    requires empty { out.old.items ≡ [] }
+    requires room { HasRoom out.old }
     requires lawful { IsLawfulFate fate.now }
     requires holds { HoldsFrame reader.now }
     requires tells { is_good reader.now ≡ good }
-    ensures items { tape_in out.new.items ≡ on_tape (let_go fate.now late.old)
-        ++ back fate.now (answer_frame device reader.now programmer.old) (frame (seq_of reader.now) refusal) }
+    ensures tape { out.new.tape ≡ out.old.tape ++ (on_tape (let_go fate.now late.old)
+        ++ back fate.now (answer_frame device reader.now programmer.old) (frame (seq_of reader.now) refusal)) }
     ensures programmer { programmer.new ≡ after_turn (turn_of fate.now) (after_frame device reader.now programmer.old)
         programmer.old restarted_programmer }
     ensures late { late.new ≡ late_of fate.now (answer_frame device reader.now programmer.old) late.old }
@@ -67,30 +67,30 @@ fn pass_with(
     match fate {
         Fate::Good => {
             answer(reader, good, programmer, &mut frame);
-            put_bytes(out, frame.as_slice());
+            out.put(frame.as_slice());
         }
-        Fate::LostCommand => out.push(None),
+        Fate::LostCommand => out.put_timeout(),
         Fate::LostAnswer => {
             answer(reader, good, programmer, &mut frame);
-            out.push(None);
+            out.put_timeout();
         }
         Fate::LateAnswer | Fate::HeldAnswer => {
             answer(reader, good, programmer, &mut frame);
             late.hold(frame);
-            out.push(None);
+            out.put_timeout();
         }
         Fate::Reset => {
             programmer.restart();
-            out.push(None);
+            out.put_timeout();
         }
         Fate::CommandRefused => {
             refuse(reader, &mut frame);
-            put_bytes(out, frame.as_slice());
+            out.put(frame.as_slice());
         }
         Fate::AnswerSpoiled(noise) => {
             answer(reader, good, programmer, &mut frame);
-            put_bytes(out, noise.as_slice());
-            out.push(None);
+            out.put(noise.as_slice());
+            out.put_timeout();
         }
     }
 }
@@ -123,10 +123,10 @@ impl Wire {
     }
 
     /// Passes the frame that the event reports, if it reports one.
-    pub fn pass_event(&mut self, reader: &FrameReader, event: Event, out: &mut Arrival)
-        requires empty { out.old.items ≡ [] }
+    pub fn pass_event(&mut self, reader: &FrameReader, event: Event, out: &mut Arrivals)
+        requires room { HasRoom out.old }
         requires tells { TellsEvent event reader.now }
-        ensures items { tape_in out.new.items ≡ tape_of device (frames_of_event event reader.now) self.old }
+        ensures tape { out.new.tape ≡ out.old.tape ++ tape_of device (frames_of_event event reader.now) self.old }
         ensures wire { self.new ≡ wire_after device (frames_of_event event reader.now) self.old }
     {
         let good = match event {

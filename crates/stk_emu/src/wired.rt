@@ -10,7 +10,7 @@ ghost use Rattle.stk_emu.specs.Programmer.{fresh_programmer};
 ghost use Rattle.stk_emu.specs.Wire.{AreLawful, fresh_wire};
 ghost use Rattle.stk_emu.specs.Wired.{Start, wired_link, ComesOf, IsFresh, PassesBytes, IsNext, after_hearing};
 
-use crate::arrival::{Arrival, ROOM, take_bytes};
+use crate::arrival::Arrivals;
 use crate::fate::Fate;
 use crate::fates::Fates;
 use crate::wire::Wire;
@@ -40,10 +40,7 @@ use stk_host::{Heard, Link, LinkFault, Log};
 pub struct Wired {
     reader: FrameReader,
     wire: Wire,
-    waits: Vec<Option<u8>>,
-    at: usize,
-    /// What the current frame brings: a field, so that its room is made once.
-    brought: Arrival,
+    waits: Arrivals,
     log: Log,
     failures: u64,
 }
@@ -53,24 +50,13 @@ impl Model for Wired {
 
     ghost Value = { WiredState };
 
-    ghost use Rattle.stk_emu.specs.WiredInside.{wired_state, IsSoundWired};
-
-    ghost view = { wired_state };
-
-    ghost invariant = { IsSoundWired };
-}
-
-/// Takes `count` of the items that wait.
-fn consume(waits: &mut Vec<Option<u8>>, at: usize, count: usize) -> usize
-    ensures left { drop result waits.new.items ≡ drop count (drop at waits.old.items) }
-    ensures inside { result ≤ length waits.new.items }
-{
-    let at = at.saturating_add(count);
-    if at < waits.len() {
-        return at;
-    }
-    waits.clear();
-    0
+    ghost view = { λ wired. record {
+      held = wired.reader;
+      wire = wired.wire;
+      waits = wired.waits.tape;
+      transcript = wired.log.transcript;
+      failures = wired.failures;
+    } };
 }
 
 impl Wired {
@@ -97,9 +83,7 @@ impl Wired {
         Wired {
             reader: FrameReader::new(),
             wire: Wire::new(chip, fates),
-            waits: Vec::new(alloc),
-            at: 0,
-            brought: Arrival::new(),
+            waits: Arrivals::new(alloc),
             log: Log::new(alloc),
             failures: 0,
         }
@@ -189,7 +173,8 @@ impl Wired {
 
     /// Counts a failure.
     fn fail(&mut self) -> LinkFault
-        ensures { self.new ≡ record self.old { failures = counted (self.old.failures + 1) } }
+        ensures fails { self.new ≡ record self.old { failures = counted (self.old.failures + 1) } }
+        ensures counted { self.old.failures ≤ self.new.failures }
     {
         self.failures = self.failures.saturating_add(1);
         LinkFault::Failed
@@ -212,16 +197,14 @@ impl Link for Wired {
         // What passes stays what the fates say.
         ensures comes { Stays ComesOf self.old self.new }
     {
-        let Ok(()) = self.waits.reserve(ROOM) else {
+        let Ok(()) = self.waits.reserve() else {
             return Err(self.fail());
         };
         let Ok(()) = self.log.reserve(bytes.len()) else {
             return Err(self.fail());
         };
         let (used, event) = self.reader.feed(bytes);
-        self.brought.clear();
-        self.wire.pass_event(&self.reader, event, &mut self.brought);
-        let _there_is_room = self.waits.extend_from_slice(self.brought.as_slice());
+        self.wire.pass_event(&self.reader, event, &mut self.waits);
         self.log.say(&bytes[..used]);
         Ok(used)
     }
@@ -235,7 +218,7 @@ impl Link for Wired {
         ensures same { OnErr result (self.new ≡ record self.old { failures = self.new.failures }) }
         ensures comes { Stays ComesOf self.old self.new }
     {
-        let count = take_bytes(&self.waits[self.at..], buffer);
+        let count = self.waits.copy_to(buffer);
         let heard = if count == 0 {
             Heard::Silence
         } else {
@@ -244,7 +227,7 @@ impl Link for Wired {
         let Ok(()) = self.log.hear(heard, &buffer[..count]) else {
             return Err(self.fail());
         };
-        self.at = consume(&mut self.waits, self.at, count.max(1));
+        self.waits.drop_next(count);
         Ok(heard)
     }
 }

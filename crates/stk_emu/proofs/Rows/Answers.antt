@@ -12,7 +12,7 @@ use Rattle.stk_emu.specs.declared.arrival.TheConstants.{ROOM}
 
 -- the most bytes that a request reads, the most noise on a link at a time, and the room for all that one frame can
 -- bring: three late answers, noise and a timeout
-pub limits : (LARGEST_READ ≡ 272) × (LARGEST_NOISE ≡ 2048) × (ROOM ≡ 2892)
+pub limits : (LARGEST_READ ≡ 272) × (LARGEST_NOISE ≡ 2048) × (ROOM ≡ 2891)
 limits = (refl, refl, refl)
 
 abbrev pub small : Part

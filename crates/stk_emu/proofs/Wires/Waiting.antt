@@ -1,39 +1,153 @@
--- Items that wait.
-use Rattle.std.proofs.Common.{◌≡◌, ℕ, zero, suc, ◌+◌, ◌<◌, ◌≤◌, List, [], ◌∷◌, ◌++◌, length, get_or, take, drop, refl, ap, sym, ◌∙◌, Option, Some, None, append_assoc, rules}
-use Rattle.std.proofs.Math.ListN.{set}
-use Rattle.std.proofs.lemmas.List.{take_more, take_more_set, map_push, map-append, drop-map, drop-append-le, length-map}
-use Rattle.stk_host.specs.declared.link.Item.TheVariants.{Byte, Silence}
-use Rattle.stk_host.specs.Tape.{Tape, on_tape}
+-- What waits, as it is kept.
+use Rattle.std.proofs.Common.{◌≡◌, ℕ, zero, suc, ◌+◌, ◌-◌, ◌<◌, ◌≤◌, List, [], ◌∷◌, ◌++◌, length, take, drop, slice_index_or, refl, ap, sym, ◌∙◌, append_assoc, arith, rules, length-drop}
+use Rattle.std.proofs.lemmas.List.{length-take, map-append, drop-map, drop-append-le, take-append-le, drop-drop, drop-take, take_rest, length-map, drop_all}
+use Rattle.stk_host.specs.declared.link.Item.TheVariants.{Byte, Silence, End}
+use Rattle.stk_host.specs.Tape.{Tape, on_tape, bytes_in}
 use Rattle.stk_host.proofs.Tapes.Answers.{on_tape_append}
-use Rattle.stk_emu.specs.Waiting.{item_of, tape_in}
+use Rattle.stk_emu.specs.Waiting.{tape_in, AreWithin, BeginsSilent}
+use Rattle.stk_emu.specs.Wired.{IsNext}
+
+-- the bytes at the front of a tape
+bytes_before : (xs : List ℕ) (tape : Tape) → bytes_in (on_tape xs ++ Silence ∷ tape) ≡ xs
+bytes_before [] tape = refl
+bytes_before (x ∷ xs) tape = ap (λ ys. x ∷ ys) (bytes_before xs tape)
+
+bytes_all : (xs : List ℕ) → bytes_in (on_tape xs) ≡ xs
+bytes_all [] = refl
+bytes_all (x ∷ xs) = ap (λ ys. x ∷ ys) (bytes_all xs)
+
+pub bytes_taken : (tape : Tape) (n : ℕ) → n ≤ length (bytes_in tape) → on_tape (take n (bytes_in tape)) ≡ take n tape
+bytes_taken tape zero le = refl
+bytes_taken [] (suc n) le = absurd (omega (arith, le))
+bytes_taken (Byte b ∷ tape) (suc n) le = ap (λ ys. Byte b ∷ ys) (bytes_taken tape n (omega (arith, le)))
+bytes_taken (Silence ∷ tape) (suc n) le = absurd (omega (arith, le))
+bytes_taken (End ∷ tape) (suc n) le = absurd (omega (arith, le))
+
+-- the places of the timeouts
+pub within_more : (at n m : ℕ) (places : List ℕ) → AreWithin at places n → n ≤ m → AreWithin at places m
+within_more at n m [] w le = w
+within_more at n m (place ∷ places) w le = (w.0, omega (arith, w.1, le), within_more place n m places w.2 le)
+
+pub within_last : (at n : ℕ) (places : List ℕ) → at ≤ n → AreWithin at places n → AreWithin at (places ++ n ∷ []) n
+within_last at n [] le w = (le, omega arith, w)
+within_last at n (place ∷ places) le w = (w.0, w.1, within_last place n places w.1 w.2)
+
+within_from : (at place n : ℕ) (places : List ℕ) → at ≤ place → AreWithin place places n → AreWithin at places n
+within_from at place n [] le w = w
+within_from at place n (next ∷ places) le w = (omega (arith, le, w.0), w.1, w.2)
+
+pub within_next : (at n : ℕ) (places : List ℕ) → AreWithin at places n → AreWithin at (drop 1 places) n
+within_next at n [] w = w
+within_next at n (place ∷ places) w = within_from at place n places w.0 w.2
+
+-- more bytes wait
+pub bytes_put : (at : ℕ) (bytes more places : List ℕ) → at ≤ length bytes → AreWithin at places (length bytes)
+    → tape_in at (bytes ++ more) places ≡ tape_in at bytes places ++ on_tape more
+bytes_put at bytes more [] le w = search (rules, drop-append-le, map-append)
+bytes_put at bytes more (place ∷ places) le w =
+    let few : place - at ≤ length (drop at bytes) = rw (length-drop at bytes) (omega (arith, w.1)) in
+    rw (
+      drop-append-le at bytes more le,
+      take-append-le (place - at) (drop at bytes) more few,
+      bytes_put place bytes more places w.1 w.2,
+    )
+    (sym (append_assoc (on_tape (take (place - at) (drop at bytes))) (Silence ∷ tape_in place bytes places) (on_tape more)))
+
+-- one more timeout waits
+pub timeout_put : (at : ℕ) (bytes places : List ℕ) → AreWithin at places (length bytes)
+    → tape_in at bytes (places ++ length bytes ∷ []) ≡ tape_in at bytes places ++ Silence ∷ []
+timeout_put at bytes [] w = rw (take_rest bytes at, drop_all (length bytes) bytes (omega arith)) refl
+timeout_put at bytes (place ∷ places) w =
+    rw (timeout_put place bytes places w.2)
+    (sym (append_assoc (on_tape (take (place - at) (drop at bytes))) (Silence ∷ tape_in place bytes places) (Silence ∷ [])))
+
+-- bytes are received
+pub bytes_dropped : (at count : ℕ) (bytes places : List ℕ) → count ≤ length (bytes_in (tape_in at bytes places))
+    → tape_in (at + count) bytes places ≡ drop count (tape_in at bytes places)
+bytes_dropped at count bytes [] le = sym (drop-map Byte count (drop at bytes) ∙ ap on_tape (drop-drop count at bytes))
+bytes_dropped at count bytes (place ∷ places) le =
+    let xs = take (place - at) (drop at bytes) in
+    let here : count ≤ length xs = rw (bytes_before xs (tape_in place bytes places)) at le in
+    let size = length-take (place - at) (drop at bytes) in
+    let is : place - at ≡ count + (place - (at + count)) = omega (arith, here, size) in
+    let left : drop count xs ≡ take (place - (at + count)) (drop (at + count) bytes) =
+    rw (is, drop-take count (place - (at + count)) (drop at bytes), drop-drop count at bytes) refl in
+    sym (drop-append-le count (on_tape xs) (Silence ∷ tape_in place bytes places) (rw (length-map xs Byte) here)
+    ∙ ap (λ t. t ++ Silence ∷ tape_in place bytes places) (drop-map Byte count xs ∙ ap on_tape left))
+
+pub at_dropped : (at count : ℕ) (bytes places : List ℕ) → at ≤ length bytes → AreWithin at places (length bytes)
+    → count ≤ length (bytes_in (tape_in at bytes places)) → at + count ≤ length bytes
+at_dropped at count bytes [] from w le =
+    let few : count ≤ length (drop at bytes) = rw (bytes_all (drop at bytes)) at le in
+    omega (arith, few, length-drop at bytes, from)
+at_dropped at count bytes (place ∷ places) from w le =
+    let few : count ≤ length (take (place - at) (drop at bytes)) =
+    rw (bytes_before (take (place - at) (drop at bytes)) (tape_in place bytes places)) at le in
+    omega (arith, few, length-take (place - at) (drop at bytes), w.0, w.1)
+
+pub within_dropped : (at count : ℕ) (bytes places : List ℕ) → AreWithin at places (length bytes)
+    → count ≤ length (bytes_in (tape_in at bytes places)) → AreWithin (at + count) places (length bytes)
+within_dropped at count bytes [] w le = w
+within_dropped at count bytes (place ∷ places) w le =
+    let few : count ≤ length (take (place - at) (drop at bytes)) =
+    rw (bytes_before (take (place - at) (drop at bytes)) (tape_in place bytes places)) at le in
+    (omega (arith, few, length-take (place - at) (drop at bytes), w.0), w.1, w.2)
+
+-- a timeout is received, or nothing waits
+silent_before : (xs : List ℕ) (tape : Tape) → BeginsSilent (on_tape xs ++ Silence ∷ tape) → xs ≡ []
+silent_before [] tape s = refl
+silent_before (x ∷ xs) tape s = absurd s
+
+silent_all : (xs : List ℕ) → BeginsSilent (on_tape xs) → xs ≡ []
+silent_all [] s = refl
+silent_all (x ∷ xs) s = absurd s
+
+pub timeout_dropped : (at : ℕ) (bytes places : List ℕ) → AreWithin at places (length bytes)
+    → BeginsSilent (tape_in at bytes places) → tape_in at bytes (drop 1 places) ≡ drop 1 (tape_in at bytes places)
+timeout_dropped at bytes [] w silent = rw (silent_all (drop at bytes) silent) refl
+timeout_dropped at bytes (place ∷ places) w silent =
+    let none = silent_before (take (place - at) (drop at bytes)) (tape_in place bytes places) silent in
+    let is : place ≡ at =
+    omega (arith, w.0, w.1, ap length none, length-take (place - at) (drop at bytes), length-drop at bytes) in
+    rw (none, is) refl
+
+-- what is next
+pub next_place : (at place : ℕ) (bytes places : List ℕ) → 0 < length places → place ≡ slice_index_or places 0 place
+    → bytes_in (tape_in at bytes places) ≡ take (place - at) (drop at bytes)
+next_place at place bytes [] some is = absurd (omega (arith, some))
+next_place at place bytes (first ∷ places) some is =
+    rw is (bytes_before (take (first - at) (drop at bytes)) (tape_in first bytes places))
+
+pub place_within : (at place n : ℕ) (places : List ℕ) → 0 < length places → place ≡ slice_index_or places 0 place
+    → AreWithin at places n → (at ≤ place) × (place ≤ n)
+place_within at place n [] some is w = absurd (omega (arith, some))
+place_within at place n (first ∷ places) some is w = rw is (w.0, w.1)
+
+pub no_place : (at : ℕ) (bytes places : List ℕ) → length places ≡ 0
+    → bytes_in (tape_in at bytes places) ≡ drop at bytes
+no_place at bytes [] none = bytes_all (drop at bytes)
+no_place at bytes (first ∷ places) none = absurd (omega (arith, none))
+
+-- nothing waits
+pub none_wait : (at : ℕ) (bytes cleared places : List ℕ) → length places ≡ 0 → at ≡ length bytes → cleared ≡ []
+    → tape_in 0 cleared places ≡ tape_in at bytes places
+none_wait at bytes cleared [] none is empty = rw (empty, drop_all at bytes (omega (arith, is))) refl
+none_wait at bytes cleared (first ∷ places) none is empty = absurd (omega (arith, none))
 
 -- three pieces of bytes, put one after another
-pub three_put : (t x y z : Tape) (a b c : List ℕ) → t ≡ [] → x ≡ t ++ on_tape a → y ≡ x ++ on_tape b
-    → z ≡ y ++ on_tape c → z ≡ on_tape (a ++ (b ++ c))
-three_put t x y z a b c e f g h = search (rules, on_tape_append, append_assoc)
+pub three_put : (t x y z : Tape) (a b c : List ℕ) → x ≡ t ++ on_tape a → y ≡ x ++ on_tape b → z ≡ y ++ on_tape c
+    → z ≡ t ++ on_tape (a ++ (b ++ c))
+three_put t x y z a b c f g h = search (rules, on_tape_append, append_assoc)
 
-item_at : (items : List (Option ℕ)) (i : ℕ) → get_or (tape_in items) i Silence ≡ item_of (get_or items i None)
-item_at [] i = refl
-item_at (x ∷ items) zero = refl
-item_at (x ∷ items) (suc i) = item_at items i
+-- a timeout is next, or nothing waits
+pub silence_next : (waits : Tape) → BeginsSilent waits → IsNext (Silence ∷ []) waits
+silence_next [] silent = refl
+silence_next (Silence ∷ waits) silent = (omega arith, refl)
+silence_next (Byte b ∷ waits) silent = absurd silent
+silence_next (End ∷ waits) silent = absurd silent
 
--- one more byte is taken
-pub taken_next : (items : List (Option ℕ)) (buffer : List ℕ) (count b : ℕ) → count < length buffer
-    → count < length items → get_or items count None ≡ Some b
-    → on_tape (take count buffer) ≡ take count (tape_in items)
-    → on_tape (take (count + 1) (set buffer count b)) ≡ take (count + 1) (tape_in items)
-taken_next items buffer count b h k is taken =
-    let inside : count < length (tape_in items) = rw (length-map items item_of) k in
-    rw (take_more_set buffer count b h, map_push Byte (take count buffer) b, taken)
-    (rw (take_more (tape_in items) count Silence inside, item_at items count, is) refl)
-
--- what is left after the first `count` are received
-pub left_on : (items old : List (Option ℕ)) (at next count : ℕ) → drop next items ≡ drop count (drop at old)
-    → tape_in (drop next items) ≡ drop count (tape_in (drop at old))
-left_on items old at next count e = ap tape_in e ∙ sym (drop-map item_of count (drop at old))
-
--- more items wait, after those that waited
-pub grown : (waits new brought : List (Option ℕ)) (at : ℕ) (tape : Tape) → at ≤ length waits → new ≡ waits ++ brought
-    → tape_in brought ≡ tape
-    → tape_in (drop at new) ≡ tape_in (drop at waits) ++ tape
-grown waits new brought at tape le is brings = search (rules, drop-append-le, map-append)
+-- bytes are next
+pub bytes_next : (waits items : Tape) (n : ℕ) → 0 < n → n ≤ length (bytes_in waits) → length items ≡ n
+    → items ≡ take n waits → IsNext items waits
+bytes_next [] items n some le size is = absurd (omega (arith, some, le))
+bytes_next (item ∷ waits) items n some le size is = (rw size some, rw size is)

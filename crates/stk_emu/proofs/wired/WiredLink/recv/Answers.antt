@@ -1,9 +1,8 @@
-use Rattle.std.proofs.lemmas.Grind.{common_steps}
-use Rattle.std.proofs.Common.{rules, arith, subst, sym}
+use Rattle.std.proofs.Common.{rules, subst, sym}
 use Rattle.std.proofs.Math.Seq.{take-length}
 use Rattle.std.proofs.lemmas.List.{length-map}
 use Rattle.stk_emu.specs.Wired.{ComesOf}
-use Rattle.stk_emu.proofs.Wires.Waiting.{left_on}
+use Rattle.stk_emu.proofs.Wires.Waiting.{silence_next, bytes_next}
 use Rattle.stk_emu.proofs.Wires.Kept.{heard_state, keeps_hearing}
 use Rattle.stk_emu.proofs.wired.WiredLink.recv.Goals as goal
 use Rattle.stk_emu.proofs.wired.WiredLink.recv.Goals.{then-count-eq0, else-count-eq0}
@@ -11,14 +10,17 @@ use Rattle.stk_emu.proofs.wired.WiredLink.recv.Goals.{then-count-eq0, else-count
 pub returns-clause-heard : goal.returns-clause-heard
 returns-clause-heard c = elim c.if-count-eq0.branch [
   | then-count-eq0 w ↦
-      let ok = rw w.heard-is at c.in-Ok.ensures.ok in rw w.heard-is (search (rules, left_on, heard_state))
+      let ok = rw w.heard-is at c.in-Ok.ensures.ok in rw w.heard-is (search (rules, heard_state))
   | else-count-eq0 w ↦
       let ok = rw w.heard-is at c.in-Ok.ensures.ok in
-      rw w.heard-is (search (rules, take-length, length-map, left_on, heard_state))
+      rw w.heard-is (search (rules, take-length, length-map, heard_state))
 ]
 
 pub returns-clause-next : goal.returns-clause-next
-returns-clause-next c = grind (arith, common_steps)
+returns-clause-next c = elim c.if-count-eq0.branch [
+  | then-count-eq0 w ↦ rw w.heard-is (search (rules, silence_next))
+  | else-count-eq0 w ↦ rw w.heard-is (search (rules, length-map, bytes_next))
+]
 
 pub returns-clause-comes : goal.returns-clause-comes
 returns-clause-comes c = λ start keeps.

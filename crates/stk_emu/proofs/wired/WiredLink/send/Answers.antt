@@ -1,12 +1,8 @@
-use Rattle.std.proofs.Common.{take, length-append, rules}
+use Rattle.std.proofs.Common.{take, rules}
 use Rattle.stk_frame.specs.Reader.{frames_of_event}
 use Rattle.stk_emu.proofs.Answers.Texts.{found_frames}
-use Rattle.stk_emu.proofs.Wires.Waiting.{grown}
 use Rattle.stk_emu.proofs.Wires.Kept.{keeps_passing}
 use Rattle.stk_emu.proofs.wired.WiredLink.send.Goals as goal
-
-pub invariant_of-self-2 : goal.invariant_of-self-2
-invariant_of-self-2 c = search (rules, length-append)
 
 pub returns-clause-passes : goal.returns-clause-passes
 returns-clause-passes c =
@@ -14,8 +10,7 @@ returns-clause-passes c =
       found = frames_of_event c.feed-used.result.1 c.feed-used.new.self;
       are_frames = found_frames c.feed-used.result.1 c.feed-used.new.self c.feed-used.ensures.tells;
       fed = c.feed-used.ensures.fed;
-      waits = grown c.self.inside.waits.items _ c.pass_event.new.out.items c.self.inside.at _ c.self.invariant.at
-          (search rules) c.pass_event.ensures.items;
+      waits = search rules;
       wire = c.pass_event.ensures.wire;
       transcript = search rules;
     })

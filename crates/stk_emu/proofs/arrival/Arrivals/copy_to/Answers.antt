@@ -1,0 +1,12 @@
+use Rattle.std.proofs.Common.{◌≡◌, ◌++◌, rules, take, drop, ap, ◌∙◌}
+use Rattle.std.proofs.lemmas.List.{take_at}
+use Rattle.stk_host.specs.Tape.{on_tape, bytes_in}
+use Rattle.stk_emu.proofs.Wires.Waiting.{bytes_taken}
+use Rattle.stk_emu.proofs.arrival.Arrivals.copy_to.Goals as goal
+
+pub returns-clause-taken : goal.returns-clause-taken
+returns-clause-taken c =
+    let n = c.min-count.result in
+    let copied : take n (c.copy_from_slice.new.self ++ drop n c.args.buffer.now) ≡ take n (bytes_in c.args.self.now.tape) =
+    search (rules, take_at) in
+    ap on_tape copied ∙ bytes_taken c.args.self.now.tape n (search rules)
