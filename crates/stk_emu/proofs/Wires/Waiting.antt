@@ -46,20 +46,21 @@ pub bytes_put : (at : ℕ) (bytes more places : List ℕ) → at ≤ length byte
 bytes_put at bytes more [] le w = search (rules, drop-append-le, map-append)
 bytes_put at bytes more (place ∷ places) le w =
     let few : place - at ≤ length (drop at bytes) = rw (length-drop at bytes) (omega (arith, w.1)) in
+    let next = on_tape (take (place - at) (drop at bytes)) in
     rw (
       drop-append-le at bytes more le,
       take-append-le (place - at) (drop at bytes) more few,
       bytes_put place bytes more places w.1 w.2,
     )
-    (sym (append_assoc (on_tape (take (place - at) (drop at bytes))) (Silence ∷ tape_in place bytes places) (on_tape more)))
+    (sym (append_assoc next (Silence ∷ tape_in place bytes places) (on_tape more)))
 
 -- one more timeout waits
 pub timeout_put : (at : ℕ) (bytes places : List ℕ) → AreWithin at places (length bytes)
     → tape_in at bytes (places ++ length bytes ∷ []) ≡ tape_in at bytes places ++ Silence ∷ []
 timeout_put at bytes [] w = rw (take_rest bytes at, drop_all (length bytes) bytes (omega arith)) refl
 timeout_put at bytes (place ∷ places) w =
-    rw (timeout_put place bytes places w.2)
-    (sym (append_assoc (on_tape (take (place - at) (drop at bytes))) (Silence ∷ tape_in place bytes places) (Silence ∷ [])))
+    let next = on_tape (take (place - at) (drop at bytes)) in
+    rw (timeout_put place bytes places w.2) (sym (append_assoc next (Silence ∷ tape_in place bytes places) (Silence ∷ [])))
 
 -- bytes are received
 pub bytes_dropped : (at count : ℕ) (bytes places : List ℕ) → count ≤ length (bytes_in (tape_in at bytes places))

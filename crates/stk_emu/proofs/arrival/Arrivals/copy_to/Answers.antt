@@ -7,6 +7,7 @@ use Rattle.stk_emu.proofs.arrival.Arrivals.copy_to.Goals as goal
 pub returns-clause-taken : goal.returns-clause-taken
 returns-clause-taken c =
     let n = c.min-count.result in
-    let copied : take n (c.copy_from_slice.new.self ++ drop n c.args.buffer.now) ≡ take n (bytes_in c.args.self.now.tape) =
+    let waits = c.args.self.now.tape in
+    let copied : take n (c.copy_from_slice.new.self ++ drop n c.args.buffer.now) ≡ take n (bytes_in waits) =
     search (rules, take_at) in
-    ap on_tape copied ∙ bytes_taken c.args.self.now.tape n (search rules)
+    ap on_tape copied ∙ bytes_taken waits n (search rules)
