@@ -188,11 +188,15 @@ if [ -z "$session" ] && [ -d "$top/crates/avrstk_session" ]; then
     echo "avrstk_session, which avrstk-serve needs, is not beside $built"
 fi
 front=$(mktemp)
-{
-    cat "$top/tools/hint.sh"
-    # shellcheck disable=SC2016
-    printf '\nrun "$(dirname "$(readlink -f "$0")")/../lib/avrstk/avrstk" "$@"\n'
-} >"$front"
+cat "$top/tools/hint.sh" - >"$front" <<'END'
+
+# (to find the program, no other one is started unless this file is a link)
+self=$0
+[ ! -L "$self" ] || self=$(readlink -f "$self")
+folder=${self%/*}
+[ "$folder" != "$self" ] || folder=.
+run "$folder/../lib/avrstk/avrstk" "$@"
+END
 add 755 "$built" lib/avrstk/avrstk
 [ -z "$session" ] || add 755 "$session" lib/avrstk/avrstk_session
 add 755 "$front" bin/avrstk

@@ -45,6 +45,17 @@ impl Loads {
     }
 }
 
+/// ANDs each byte of the page into the bytes from `start` on.
+// (a slice, since a loop over a vector loads its pointer anew for each byte)
+fn and_bytes(bytes: &mut [u8], start: usize, page: &[u8])
+    requires { start + length page.now ≤ length bytes.old }
+    ensures { Becomes AreBytes (map_indexed (byte_and_page start page.now) bytes.old) (length bytes.old) bytes.new }
+{
+    for (i, byte) in page.iter().enumerate() {
+        bytes[start + i] &= *byte;
+    }
+}
+
 #[derive(Drop)]
 pub struct Memory {
     bytes: Vec<u8>,
@@ -103,9 +114,7 @@ impl Memory {
         requires { start + length page.now ≤ length self.old }
         ensures { Becomes AreBytes (map_indexed (byte_and_page start page.now) self.old) (length self.old) self.new }
     {
-        for (i, byte) in page.iter().enumerate() {
-            self.bytes[start + i] &= *byte;
-        }
+        and_bytes(self.bytes.as_mut_slice(), start, page);
     }
 
     /// Overwrites the bytes from `start` on with the loaded ones.
