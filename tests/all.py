@@ -236,6 +236,13 @@ def start_unproved(lanes, names):
     return lambda: [built.result(), *(done for it in begun for done in it.result())]
 
 
+def say_what_lacks():
+    """Prints which packages are not installed, before anything runs: checks that need them are left out."""
+    lacking = subprocess.run([TOP / "tests/tools.sh", "--lacking"], capture_output=True, text=True).stdout.strip()
+    if lacking:
+        say([f"{lacking}: checks that need them are left out; ./test --tools installs them"])
+
+
 def few():
     """Runs the quick scripts, one per processor."""
     with ThreadPoolExecutor(LANES) as lanes:
@@ -312,6 +319,7 @@ def summary(done, checks=None):
 
 
 def main(words):
+    say_what_lacks()
     if words == ["--all"]:
         say([machine()])
         return summary(*everything())
