@@ -6,9 +6,9 @@
     tests/all.py --all       proves everything (rt ci); beside it runs the scripts that need no proved program and, once
                              the program is proved, all scripts with it
 
-A script's output is printed when the script has ended. All steps run even if one fails; the status is then 1. Some
-scripts measure timeouts, so a script that failed beside others is run once more alone. That run counts, and the summary
-names it. The summary has each step's status, minutes, processor seconds and last line, the lines that report failures,
+A script's output is printed when the script has ended. All steps run even if one fails; the status is then 1. A script
+in which only cases failed that measure time is run once more alone. Then that run counts, and the summary names it; at
+most two scripts are run again. The summary has each step's status, minutes, processor seconds and last line, the lines that report failures,
 and how the mutants were refused. It lists checks that were left out because a tool isn't installed (`./test --tools`
 installs the tools); with NEED_ALL=1 in the environment these are failures. --all also prints the processor seconds of
 each crate's checks, and of the whole as a ratio to those of stk_frame's first check: this ratio is the same on a slow
@@ -27,6 +27,7 @@ from concurrent.futures import ThreadPoolExecutor
 from dataclasses import dataclass
 from pathlib import Path
 
+from cases import LATE
 from checks import Checks
 
 TOP = Path(__file__).resolve().parent.parent
@@ -42,11 +43,11 @@ SOURCES = ("rattle names", "rattle tests", "rattle programs", "rattle refused", 
 # scripts over the library for C, which takes minutes to prove and build, so that only --all runs them
 LIBRARY = ("from_c", "others")
 # scripts that take seconds
-SHORT = ("bad_lines", "made_frames", "manual", "programmer")
+SHORT = ("bad_lines", "made_frames", "manual")
 # scripts that ./test runs with the unproved program; the longest first
 QUICK = ("serial", "parts", "avrdude", "runs", "chips", "package", "serve", "recipes", "why", "claims", "lines", "hostile", *SHORT)
 # those that --all runs with both programs: two compilers made what these compare byte for byte
-BOTH = ("runs", "lines", "programmer")
+BOTH = ("runs", "lines")
 # scripts that --all runs with the proved program; the longest first
 PROGRAM = ("faults", "cuts_and_stalls", "mega", "vendor proof", "calls", *QUICK)
 
@@ -71,6 +72,10 @@ PROVED_LINE = re.compile(r"rt: (\w+) (?:proved|is kept)\b")
 # the crate whose first check is the measure of a machine, and the whole in such checks that --all may take
 MEASURE = "stk_frame"
 MOST = 70
+
+# how many scripts may be run again, and what their names then end with
+AGAIN = " (again, alone)"
+MOST_AGAIN = 2
 
 # rt's line for a refused mutant, and the kinds of refusal; the first match counts. rt cuts a line after 160 characters,
 # so these words may be incomplete
@@ -149,13 +154,14 @@ def script(name, kind="", before=(), **environment):
     command = [*before, *command]
     once = lambda again="": run(f"{kind}{name}{again}", command, PYTHONUNBUFFERED="1", **environment)
     done = once()
-    done.again = lambda: once(" (again, alone)")
+    done.again = lambda: once(AGAIN)
     return done
 
 
 def settled(done):
-    """Returns the outcome of all steps. Each failed script is run again alone."""
-    return [it.again() if it.status and it.again else it for it in done]
+    """Returns the outcome of all steps. The first scripts that failed only at measuring time are run again alone."""
+    late = [it for it in done if it.status == LATE and it.again][:MOST_AGAIN]
+    return [it.again() if it in late else it for it in done]
 
 
 def build():
@@ -230,6 +236,13 @@ def start_unproved(lanes, names):
     return lambda: [built.result(), *(done for it in begun for done in it.result())]
 
 
+def say_what_lacks():
+    """Prints which packages are not installed, before anything runs: checks that need them are left out."""
+    lacking = subprocess.run([TOP / "tests/tools.sh", "--lacking"], capture_output=True, text=True).stdout.strip()
+    if lacking:
+        say([f"{lacking}: checks that need them are left out; ./test --tools installs them"])
+
+
 def few():
     """Runs the quick scripts, one per processor."""
     with ThreadPoolExecutor(LANES) as lanes:
@@ -295,6 +308,8 @@ def summary(done, checks=None):
         print(f"mutants: {len(refused)} refused, of these {told}")
     left = [line for it in done for line in it.left_out()]
     print(f"left out because a tool isn't installed: {len(left) or 'nothing'}", *left, sep="\n    ")
+    again = [it.what for it in done if it.what.endswith(AGAIN)]
+    print(f"scripts that were run again, at most {MOST_AGAIN}: {', '.join(again) or 'none'}")
     wrong = sum(it.status != 0 for it in done)
     took = f"{(time.monotonic() - BEGUN) / 60:.0f} minutes on {LANES} processors, {sum(it.processor for it in done):.0f} s of one"
     print(f"{len(done)} steps in {took}; {wrong} of them failed")
@@ -304,6 +319,7 @@ def summary(done, checks=None):
 
 
 def main(words):
+    say_what_lacks()
     if words == ["--all"]:
         say([machine()])
         return summary(*everything())

@@ -216,4 +216,4 @@ def all_of(name):
 CASES = {name: lambda name=name: all_of(name) for name in PARTS}
 
 if __name__ == "__main__":
-    sys.exit(run_cases(CASES, __doc__))
+    sys.exit(run_cases(CASES, __doc__, timed=CASES))

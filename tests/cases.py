@@ -17,6 +17,9 @@ passed = 0
 failed = 0
 left = 0
 
+# the status of a script in which only cases failed that measure time: on a busy machine it may be made again
+LATE = 75
+
 # the most seconds that a script waits for an expected event. It ends a hang, and is long enough for a machine that stops
 # for minutes; nothing is measured by it
 PATIENCE = 600
@@ -74,20 +77,23 @@ def chosen(cases):
     return [it for it in cases if it in given] if given else list(cases)
 
 
-def run_cases(cases, doc):
+def run_cases(cases, doc, timed=()):
     """Runs all cases, or those named on the command line, and returns the status. If a name is unknown, prints the
-    script's own help and the names of all cases. A case that raises an exception has failed; the others still run."""
+    script's own help and the names of all cases. A case that raises an exception has failed; the others still run. The
+    `timed` cases measure time, or wait for a time that the program measures."""
     if set(sys.argv[1:]) - set(cases):
         print(doc.strip(), "", "Cases:", *(f"    {it}" for it in cases), sep="\n")
         return 2
+    wrong = set()
     for name in chosen(cases):
-        before = passed
+        before, failed_before = passed, failed
         try:
             cases[name]()
         except (Exception, SystemExit):
             see(name, False, traceback.format_exc().strip())
         print(f"{passed - before:6} seen: {name}", flush=True)
-    return ended()
+        wrong |= {name} if failed > failed_before else set()
+    return ended() and (LATE if wrong and wrong <= set(timed) else 1)
 
 
 def ended():

@@ -671,5 +671,7 @@ CASES = named(
 )
 
 
+TIMED = ["a_silence_is_a_second_without_a_byte", "standard_streams_that_do_not_block", "standard_streams_that_block", "no_answer"]
+
 if __name__ == "__main__":
-    sys.exit(run_cases(CASES, __doc__))
+    sys.exit(run_cases(CASES, __doc__, timed=TIMED))

@@ -219,4 +219,4 @@ CASES = named(cuts, stalls, lags)
 
 
 if __name__ == "__main__":
-    sys.exit(run_cases(CASES, __doc__))
+    sys.exit(run_cases(CASES, __doc__, timed=CASES))

@@ -313,4 +313,4 @@ CASES = named(
 )
 
 if __name__ == "__main__":
-    sys.exit(run_cases(CASES, __doc__))
+    sys.exit(run_cases(CASES, __doc__, timed=["nothing_is_read"]))

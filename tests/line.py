@@ -3,6 +3,7 @@
 import socket
 import struct
 import threading
+import time
 
 from cases import PATIENCE
 from program import Server
@@ -87,20 +88,25 @@ class FrontOfAnswers(Peer):
 class BadLine(Peer):
     """A link to an emulated programmer that the tool serves. `fates` maps frame numbers, from 1, to what goes wrong: a
     `lost command` never arrives, a `lost answer` drops the reply, and a `late answer` sends it just before the next reply.
-    A `spoiled command` or `spoiled answer` has a wrong last byte, which is the XOR."""
+    A `spoiled command` or `spoiled answer` has a wrong last byte, which is the XOR. `is_late` is true if the tool waited
+    for a good reply about as long as for a lost one."""
+
+    # the tool waits for a second
+    WAITED = 0.9
 
     def __init__(self, room, fates, part="m328p"):
-        self.fates = fates
+        self.fates, self.is_late = fates, False
         self.server = Server(room, part=part)
         super().__init__()
 
     def serve(self, caller):
         with self.server.call() as programmer:
             answers = frames_of(programmer)
-            late = b""
+            late, fate, came = b"", "good", time.monotonic()
             for frame in frames_of(caller):
+                self.is_late |= fate == "good" and time.monotonic() - came > self.WAITED
                 self.heard.append(frame)
-                fate = self.fates.get(len(self.heard), "good")
+                fate, came = self.fates.get(len(self.heard), "good"), time.monotonic()
                 if fate == "lost command":
                     continue
                 programmer.sendall(spoiled(frame) if fate == "spoiled command" else frame)
@@ -110,6 +116,7 @@ class BadLine(Peer):
                 elif fate != "lost answer":
                     caller.sendall(late + (spoiled(answer) if fate == "spoiled answer" else answer))
                     late = b""
+            self.is_late |= fate == "good" and time.monotonic() - came > self.WAITED
 
     def end(self):
         """Returns what was received, once the emulated programmer has saved its chip."""

@@ -27,16 +27,16 @@ ERASED = [SIGNATURE, "chip erased"]
 IMAGE_LIMIT = 4_194_304
 PART_FILE_LIMIT = 65_536
 
-# lines there that no row here causes, and the scripts that do
+# lines there that no row here causes, and the tests that have their texts
 ELSEWHERE = {
-    "error: out of memory": "tests/faults.py refuses each request for memory",
-    "error: too many reads": "reported after 16,777,216 reads, by the contract of the call that serves",
-    "error: link cannot be read": "tests/hostile.py gives a folder for a line",
-    "error: link cannot be written": "tests/hostile.py gives a full output",
-    "error: FILE: cannot be created": "tests/hostile.py names missing folders",
-    "error: FILE: cannot be written": "tests/hostile.py names a full device",
-    "error: FILE: cannot be read": "tests/hostile.py names folders",
-    "error: FILE: in use by another run": "tests/chips.py has runs at once",
+    "error: out of memory": "faults.py",
+    "error: too many reads": "rattle/served_runs.rs",
+    "error: link cannot be read": "hostile.py",
+    "error: link cannot be written": "hostile.py",
+    "error: FILE: cannot be created": "hostile.py",
+    "error: FILE: cannot be written": "hostile.py",
+    "error: FILE: cannot be read": "hostile.py",
+    "error: FILE: in use by another run": "chips.py",
 }
 
 # words that each option's text has in the help
@@ -422,7 +422,10 @@ def each_line_was_met():
     for row in table.splitlines()[2:]:
         if row.startswith("|"):
             for line in alternatives(re.findall(r"`([^`]+)`", row.split("|")[1])):
-                if line not in ELSEWHERE:
+                if line in ELSEWHERE:
+                    end = line.split(": ")[-1]
+                    see(f"{ELSEWHERE[line]} has `{end}`", end in (TOP / "tests" / ELSEWHERE[line]).read_text())
+                else:
                     see(f"the line `{line}` was met", any(re.fullmatch(pattern(line), it) for it in met))
 
 
@@ -468,4 +471,4 @@ CASES = named(
 )
 
 if __name__ == "__main__":
-    sys.exit(run_cases(CASES, __doc__))
+    sys.exit(run_cases(CASES, __doc__, timed=["a_silence_is_a_second"]))

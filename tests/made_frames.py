@@ -195,4 +195,4 @@ CASES = named(
 
 
 if __name__ == "__main__":
-    sys.exit(run_cases(CASES, __doc__))
+    sys.exit(run_cases(CASES, __doc__, timed=CASES))

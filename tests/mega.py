@@ -243,7 +243,7 @@ def main():
     if missing:
         leave_out("the bootloader of a board on simavr", f"{' and '.join(missing)} is not installed")
         return run_cases({}, __doc__)
-    return run_cases(CASES, __doc__)
+    return run_cases(CASES, __doc__, timed=CASES)
 
 
 if __name__ == "__main__":

@@ -6,7 +6,6 @@ over bad links are made at the same time, because each timeout takes a second.
     tests/runs.py [CASE ..]        needs a built program (program.py)
 """
 
-import itertools
 import sys
 from concurrent.futures import ThreadPoolExecutor
 from dataclasses import dataclass, field
@@ -40,7 +39,7 @@ class Run:
     part: str = "m328p"
     files: dict = field(default_factory=dict)
     before: dict | None = None
-    after: dict | None = field(default_factory=dict)
+    after: dict = field(default_factory=dict)
     written: dict = field(default_factory=dict)
     fates: dict = field(default_factory=dict)
     sent: list | None = None
@@ -112,7 +111,7 @@ def wanted_of(run):
 
 def look(room, label, run, found, chip_file):
     same(label, found, wanted_of(run))
-    wanted = None if run.after is None else chip_with(run.after, size_of(run.part))
+    wanted = chip_with(run.after, size_of(run.part))
     see(f"{label}: the chip", room.read(chip_file) == wanted, f"{chip_file} is not the chip that is wanted")
     for name, content in run.written.items():
         same(f"{label}: {name}", room.read(name), content)
@@ -124,18 +123,15 @@ def over_emulator(label, run):
 
 
 def played_over_line(room, run):
-    """Makes a run over a link. Returns its outcome, and the frames that it sent."""
+    """Makes a run over a link. Returns its outcome, and the link."""
     prepare(room, run, "served.bin")
     peer = BadLine(room, run.fates, run.part)
     found = room.run(["-P", f"net:127.0.0.1:{peer.port}", "-p", run.part, *run.words])
-    return found, peer.end()
+    return found, peer
 
 
 def look_over_line(room, label, run, found, sent):
-    """Checks a run over a link. If it sends no frame, the served emulator saves its chip unchanged."""
-    if run.after is None:
-        same(f"{label}: nothing is sent", sent, [])
-        return
+    """Checks a run over a link."""
     look(room, f"{label}, over a line", run, found, "served.bin")
     if run.sent is not None:
         same(f"{label}: the number of frames", len(sent), len(run.sent))
@@ -143,7 +139,8 @@ def look_over_line(room, label, run, found, sent):
 
 
 def over_line(label, run):
-    look_over_line(room, label, run, *played_over_line(room, run))
+    found, peer = played_over_line(room, run)
+    look_over_line(room, label, run, found, peer.end())
 
 
 def session(*said):
@@ -387,46 +384,6 @@ MEMORIES = {
     ),
 }
 
-# ---- part files
-
-OWN_PART = """[parts.x1]
-signature = "1E950F"
-flash_size = 32768
-flash_page = 128
-eeprom_size = 1024
-eeprom_page = 4
-eesave_bit = 3
-"""
-
-PARTS = {
-    "a part of one's own, and options without effect": Run(
-        ["-b", "115200", "-v", "--parts", "p.toml"], session(), part="x1", files={"p.toml": OWN_PART.encode()}
-    ),
-}
-
-# ---- a refused run sends nothing, and creates no file
-
-
-def refusal(words, told, part="m328p", **files):
-    """Returns a run that would read a fuse first."""
-    files = {name.replace("_", "."): text.encode() for name, text in files.items()}
-    words = ["-U", "lfuse:r:out.h:h", *words]
-    return Run(words, [f"error: {told}"], 1, part=part, files=files, after=None, written={"out.h": None})
-
-
-REFUSALS = {
-    "a missing file": refusal(["-U", "flash:w:missing.hex"], "missing.hex: cannot be opened"),
-    "a bad record": refusal(["-U", "flash:w:a.hex"], "a.hex: line 1: bad checksum", a_hex=":0400000001020304F3\n:00000001FF\n"),
-    "a record past the end": refusal(
-        ["-U", "flash:w:a.hex"], "a.hex: line 2: address 00020000 out of range", a_hex=":020000040002F8\n:0100000055AA\n:00000001FF\n"
-    ),
-    "a signature": refusal(["-U", "lfuse:w:0xE2:m", "-U", "signature:w:1:m"], "signature is read-only"),
-    "a part that lacks a field": refusal(
-        ["--parts", "p.toml"], "p.toml: eeprom_page is missing", "x1", p_toml=OWN_PART.replace("eeprom_page = 4\n", "")
-    ),
-    "no such part": refusal([], "no part x1", "x1"),
-}
-
 # ---- links that lose and delay frames
 
 PATTERN = bytes(place % 256 for place in range(1024))
@@ -513,56 +470,27 @@ BAD_LINES = {
 }
 
 
-# ---- links at the limit: of any seven frames in a row at most three fail, or one more
-
-WAYS = ["lost command", "lost answer", "late answer", "spoiled command", "spoiled answer"]
-IMAGE = bytes.fromhex("102132435465768798A9BACBDCEDFE0F")
-PLAIN = "no frame goes wrong"
-
-
-def fates_at(places, count):
-    """Returns the fates of 96 frames: of each `count` frames those at these places fail, each way in turn."""
-    return {n + 1: WAYS[n // 3 % len(WAYS)] for n in range(96) if n % count in places}
-
-
-def at_edge(fates, said=None, status=0, after=None):
-    return Run(
-        ["-V", "-U", "eeprom:w:some.bin:r", "-U", "lfuse:w:0x62:m", "-U", "lfuse:v:0x62:m"],
-        said or session("eeprom: 16 bytes written", "lfuse: 1 bytes written", "lfuse: 1 bytes verified"),
-        status,
-        files={"some.bin": IMAGE},
-        after={EEPROM: IMAGE, LFUSE: 0x62} if after is None else after,
-        fates=fates,
-    )
-
-
-FEW_BAD = {f"frames {places} of seven go wrong": at_edge(fates_at(places, 7)) for places in itertools.combinations(range(7), 3)}
-
-MANY_BAD = {
-    "frames (0, 1, 2, 3) of seven go wrong": at_edge(fates_at([0, 1, 2, 3], 7), ["error: no answer"], 1, {}),
-    "each second frame goes wrong": at_edge(fates_at([1, 3, 5, 7], 8), [SIGNATURE, "error: no answer"], 1, {EEPROM: IMAGE[:4]}),
-}
-
-
-ALL_BAD = {PLAIN: at_edge({}), **BAD_LINES, **FEW_BAD, **MANY_BAD}
-
 # The number of runs over bad links at a time. On a busy machine a good reply may come after the timeout, which makes
-# another bad frame. A run with a wrong outcome is made again, with fewer beside it.
+# another bad frame. Only such a run is made again, with fewer beside it, and at most this many are.
 AT_ONCE = [24, 6, 1]
+MOST_AGAIN = 3
 
-# the runs made: the room of each, its outcome, and the frames that it sent
+# the runs made: the room of each, its outcome, the frames that it sent, and whether a good reply came too late
 made = {}
 
 
 def make(labels):
     """Makes these runs over bad links."""
+    again = []
     for at_once in AT_ONCE:
         with ThreadPoolExecutor(at_once) as pool:
             made.update(zip(labels, pool.map(made_over_bad_line, labels)))
-        labels = [it for it in labels if not is_as_wanted(ALL_BAD[it], *made[it][1:])]
+        labels = [it for it in labels if made[it][-1] and not is_as_wanted(BAD_LINES[it], *made[it][1:3])]
+        again += labels
         if not labels:
-            return
-        print(f"of {at_once} at once otherwise than they should be: {', '.join(labels)}", flush=True)
+            break
+        print(f"made again, since a good reply came too late with {at_once} at once: {', '.join(labels)}", flush=True)
+    see(f"at most {MOST_AGAIN} runs are made again", len(again) <= MOST_AGAIN, f"{len(again)}: {', '.join(again)}")
 
 
 def is_as_wanted(run, found, sent):
@@ -572,19 +500,16 @@ def is_as_wanted(run, found, sent):
 def over_bad_line(label):
     """Checks a run over a bad link. The first call makes all chosen runs."""
     if not made:
-        make([PLAIN, *(it for it in ALL_BAD if it in chosen(CASES) and it != PLAIN)])
-    its_room, found, sent = made[label]
-    look_over_line(its_room, label, ALL_BAD[label], found, sent)
-    if label in FEW_BAD:
-        # all goes as without bad frames, except for the retried frames
-        frames = len(made[PLAIN][-1])
-        see(f"{label}: more frames", len(sent) > frames, f"{len(sent)}, and {frames} where {PLAIN}")
+        make([it for it in BAD_LINES if it in chosen(CASES)])
+    its_room, found, sent, _ = made[label]
+    look_over_line(its_room, label, BAD_LINES[label], found, sent)
 
 
 def made_over_bad_line(label):
     """Makes a run over a bad link, in its own room."""
     its_room = Room()
-    return its_room, *played_over_line(its_room, ALL_BAD[label])
+    found, peer = played_over_line(its_room, BAD_LINES[label])
+    return its_room, found, peer.end(), peer.is_late
 
 
 def over_both(label, run):
@@ -602,9 +527,9 @@ def record_ends():
 
 
 CASES = {
-    **{label: lambda it=(label, run): over_both(*it) for label, run in (FUSES | MEMORIES | REFUSALS | PARTS).items()},
+    **{label: lambda it=(label, run): over_both(*it) for label, run in (FUSES | MEMORIES).items()},
     "the ends of record files": record_ends,
-    **{label: lambda it=label: over_bad_line(it) for label in ALL_BAD},
+    **{label: lambda it=label: over_bad_line(it) for label in BAD_LINES},
 }
 
 if __name__ == "__main__":

@@ -1,5 +1,6 @@
 #!/usr/bin/env bash
-# Installs the Debian packages of the tools that the scripts compare with, if this is root and apt-get is installed.
+# Installs the Debian packages of the tools that the scripts compare with, if this is root and apt-get is installed. With
+# --lacking it only prints those that are not installed.
 set -u
 packages=(
     gcc libc6-dev avrdude srecord gcc-avr binutils-avr avr-libc python3-intelhex simavr libsimavr-dev libelf-dev
@@ -11,7 +12,8 @@ for it in "${packages[@]}"; do
     dpkg-query -W -f '${Status}\n' "$it" 2>/dev/null | grep -q '^install ok installed$' || lacking+=("$it")
 done
 [ ${#lacking[@]} -gt 0 ] || exit 0
-echo "missing: ${lacking[*]}"
+echo "not installed: ${lacking[*]}"
+[ "${1:-}" != --lacking ] || exit 0
 if [ "$(id -u)" != 0 ] || ! command -v apt-get >/dev/null; then
     echo "nothing was installed: that needs root and apt-get"
     exit 0

@@ -78,7 +78,7 @@ def frames_are_sent():
 
 
 def main():
-    return run_cases(named(table_is_printed, frames_are_sent), __doc__)
+    return run_cases(named(table_is_printed, frames_are_sent), __doc__, timed=["frames_are_sent"])
 
 
 if __name__ == "__main__":
