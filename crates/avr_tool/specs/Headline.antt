@@ -2,11 +2,13 @@
 -- that its `use` names. Sections 1 to 3 hold over any link, section 4 over a wire to the emulated programmer that
 -- forges no frame. Beside this page are specs/Program (from a command line), avr_emulator's specs/Emulated (over a
 -- chip file) and specs/InMemory (from bytes to bytes). docs/PROOFS.md lists what is not proved.
-use Rattle.std.specs.Prelude.{ℕ, ◌≡◌, ◌≤◌, ◌⊎◌, List, [], ◌∷◌, ◌++◌, map, length, Some, None}
+use Rattle.std.specs.Prelude.{ℕ, ◌≡◌, ◌≤◌, ◌⊎◌, List, [], ◌∷◌, ◌++◌, map, length, Option, Some, None}
 use Rattle.avr_cli.specs.declared.settings.Settings.{Settings}
-use Rattle.avr_desk.specs.Record.{DeskState, Passes}
+use Rattle.avr_desk.specs.Record.{DeskState, Passes, Bytes, after_err}
 use Rattle.avr_desk.specs.declared.record.Opening.{Opening}
-use Rattle.avr_desk.specs.Said.{OutputEvent, Line, SaidPart, after_all}
+use Rattle.avr_desk.specs.declared.record.Opening.TheVariants.{Found}
+use Rattle.avr_desk.specs.declared.record.Reading.{Reading}
+use Rattle.avr_desk.specs.Said.{OutputEvent, Opens, Line, SaidPart, after_all}
 use Rattle.avr_plan.specs.Plan.{Plan}
 use Rattle.avr_plan.specs.Planning.{LacksPart, planned}
 use Rattle.avr_plan.specs.Taking.{AtUpdate}
@@ -82,16 +84,25 @@ abbrev pub IsStopped : Settings → Devices → Devices → ℕ → Type 0
 IsStopped settings before now status =
     (StoppedPlaying settings before now ⊎ StoppedPlanning settings before now) × (status ≡ 1)
 
--- What a stopped run did is a prefix of the run over what was received; only the last event may be incomplete.
+-- a file that was open when planning stopped, with what had been read of it
+abbrev pub opened : Option Reading → List OutputEvent
+opened None = []
+opened (Some reading) = Opens (Found reading) ∷ []
+
+-- What a stopped run did is a prefix of the run over what was received; only the last event may be incomplete. The desk
+-- did the output among it, then perhaps read part of the next file, then was told `told`; and nothing else.
 pub record IsPrefixOfRun (settings : Settings) (before now : Devices) : Type 0 where
   pub openings : List Opening
   pub during : Transcript
   pub shown : List (Event OutputEvent)
+  pub begun : Option Reading
+  pub told : Bytes
   pub prefix : (later : List Opening) → IsPrefixOfEvents SaidPart shown
       (run settings (openings ++ later) (heard during)).events
   pub in_turn : (later : List Opening) → IsInTurn (planned settings (openings ++ later)).answer during
   pub all_sent : bytes_sent shown ≡ sent during
   pub grows : Grows before.link.transcript during now.link.transcript
+  pub kept : Passes (λ r. after_err told (after_all (outputs shown ++ opened begun) r)) before.desk now.desk
 
 -- ---- 4. From settings to the bytes of the chip, over a fresh wire (stk_emu's `IsFresh`)
 

@@ -1,14 +1,15 @@
 -- Planning and session as one run.
-use Rattle.std.proofs.Common.{◌≡◌, ℕ, ◌⊎◌, inl, inr, List, [], ◌∷◌, ◌++◌, map, refl, sym, ap, ◌∙◌, subst, arith, append_assoc, rules}
+use Rattle.std.proofs.Common.{◌≡◌, ℕ, ◌⊎◌, inl, inr, List, [], ◌∷◌, ◌++◌, map, Option, Some, None, false, refl, sym, ap, ◌∙◌, subst, arith, append_assoc, append-nil, rules}
 use Rattle.avr_cli.specs.declared.settings.Settings.{Settings}
 use Rattle.avr_desk.specs.Fault.{Follows}
-use Rattle.avr_desk.specs.Record.{DeskState}
+use Rattle.avr_desk.specs.Record.{DeskState, Record, Bytes, after_err}
+use Rattle.avr_desk.specs.declared.record.Reading.{Reading}
 use Rattle.avr_desk.specs.Said.{OutputEvent, Line, SaidPart, after_all}
-use Rattle.avr_desk.proofs.Stages.Outputs.{kept_append}
+use Rattle.avr_desk.proofs.Stages.Outputs.{kept_append, after_append}
 use Rattle.avr_desk.proofs.Lines.Told.{follows_on, follows_same, same_on}
 use Rattle.avr_plan.specs.Plan.{Plan}
 use Rattle.avr_plan.specs.Planning.{planned}
-use Rattle.avr_desk.specs.Playing.{Went, WentRefused}
+use Rattle.avr_desk.specs.Playing.{Went, WentRefused, Break, InLine, NotOpened, NotRead, NoMemory, NoMemoryFor, last_done}
 use Rattle.avr_desk.specs.Stage.{Made, StageResult}
 use Rattle.stk_host.specs.Dialog.{Event, Played, Said, behind, bytes_sent, outputs}
 use Rattle.stk_host.specs.Transcript.{LinkState, heard, Grows}
@@ -19,7 +20,7 @@ use Rattle.avr_session.specs.Run.{RunsSession, RunsSettings, StopsSession}
 use Rattle.avr_session.specs.Runs.{Devices, devices}
 use Rattle.avr_session.specs.Session.{session}
 use Rattle.avr_session.specs.Stopping.{IsPlayed}
-use Rattle.avr_tool.specs.Headline.{run, after_answer, IsInTurn, IsRun, IsPrefixOfRun, StoppedPlaying, StoppedPlanning, IsStopped}
+use Rattle.avr_tool.specs.Headline.{run, after_answer, IsInTurn, IsRun, IsPrefixOfRun, opened, StoppedPlaying, StoppedPlanning, IsStopped}
 
 pub said_outputs : (says : List OutputEvent) (events : List (Event OutputEvent))
     → outputs (map Said says ++ events) ≡ says ++ outputs events
@@ -120,17 +121,31 @@ behind_prefix : (says : List OutputEvent) {shown events : List (Event OutputEven
 behind_prefix says f =
     search (rules, append_assoc (map Said says) f.whole f.begun, append_assoc (map Said says) f.whole f.later)
 
+-- all that the desk did, in planning and then in the session
+shown_kept : (says : List OutputEvent) (shown : List (Event OutputEvent)) (told : Bytes) (r s t : Record)
+    → s ≡ after_all says r → t ≡ after_err told (after_all (outputs shown) s)
+    → t ≡ after_err told (after_all (outputs (map Said says ++ shown) ++ []) r)
+shown_kept says shown told r s t first then =
+    then ∙ ap (λ k. after_err told (after_all (outputs shown) k)) first
+    ∙ ap (after_err told) (sym (after_append says (outputs shown) r))
+    ∙ ap (λ done. after_err told (after_all done r))
+        (sym (append-nil (outputs (map Said says ++ shown)) ∙ said_outputs says shown))
+
 -- a stop in the session
 stopped_prefix : (settings : Settings) (x y : Devices) → StoppedPlaying settings x y → IsPrefixOfRun settings x y
 stopped_prefix settings x y stopped = record {
   openings = stopped.made.passed;
   during = stopped.then_is.during;
   shown = map Said stopped.made.says ++ stopped.then_is.shown;
+  begun = None;
+  told = stopped.then_is.told;
   prefix = search (rules, behind_prefix);
   in_turn = λ later. subst (λ answer. IsInTurn answer stopped.then_is.during)
       (sym (answered (stopped.made.comes later))) stopped.then_is.breaks.in_turn;
   all_sent = said_bytes stopped.made.says stopped.then_is.shown ∙ stopped.then_is.breaks.all_sent;
   grows = stopped.then_is.grows;
+  kept = shown_kept stopped.made.says stopped.then_is.shown stopped.then_is.told x.desk.kept stopped.between.kept
+      y.desk.kept stopped.made.kept stopped.then_is.kept;
 }
 
 said_append : (whole later : List OutputEvent) (events : List (Event OutputEvent))
@@ -138,17 +153,45 @@ said_append : (whole later : List OutputEvent) (events : List (Event OutputEvent
 said_append [] later events = refl
 said_append (output ∷ whole) later events = ap (λ rest. Said output ∷ rest) (said_append whole later events)
 
+abbrev begun_of : Break → Option Reading
+begun_of (NotRead name bytes) = Some (record { name = name; bytes = bytes; ended = false })
+begun_of (NoMemoryFor reading) = Some reading
+begun_of (InLine line) = None
+begun_of (NotOpened name) = None
+begun_of NoMemory = None
+
+last_is : (break : Break) (told : Bytes) → last_done break told ≡ opened (begun_of break) ++ Line told ∷ []
+last_is (NotRead name bytes) told = refl
+last_is (NoMemoryFor reading) told = refl
+last_is (InLine line) told = refl
+last_is (NotOpened name) told = refl
+last_is NoMemory told = refl
+
+broken_kept : (whole : List OutputEvent) (break : Break) (told : Bytes) (r t : Record)
+    → t ≡ after_all (whole ++ last_done break told) r
+    → t ≡ after_err told (after_all (outputs (map Said whole ++ []) ++ opened (begun_of break)) r)
+broken_kept whole break told r t kept =
+    kept ∙ ap (λ last. after_all (whole ++ last) r) (last_is break told)
+    ∙ ap (λ done. after_all done r) (sym (append_assoc whole (opened (begun_of break)) (Line told ∷ [])))
+    ∙ after_append (whole ++ opened (begun_of break)) (Line told ∷ []) r
+    ∙ ap (λ done. after_err told (after_all (done ++ opened (begun_of break)) r))
+        (sym (said_outputs whole [] ∙ append-nil whole))
+
 -- a stop in planning
 planned_prefix : (settings : Settings) (x y : Devices) → StoppedPlanning settings x y → IsPrefixOfRun settings x y
 planned_prefix settings x y stopped = record {
   openings = stopped.broke.passed;
   during = [];
   shown = map Said stopped.broke.whole ++ [];
+  begun = begun_of stopped.broke.break;
+  told = stopped.broke.told;
   prefix = search (rules, said_append);
   in_turn = λ later. search rules;
   all_sent = said_bytes stopped.broke.whole [];
   grows = subst (λ (l : LinkState). Grows x.link.transcript [] l.transcript) (sym stopped.same)
       (grows_none x.link.transcript);
+  kept = broken_kept stopped.broke.whole stopped.broke.break stopped.broke.told x.desk.kept y.desk.kept
+      stopped.broke.kept;
 }
 
 pub stop_prefix : (settings : Settings) (x y : Devices) (status : ℕ) → IsStopped settings x y status
