@@ -1,8 +1,9 @@
 #!/usr/bin/env python3
-"""Shows what the theorem doesn't cover: a link that forges a frame. The link loses, changes and repeats nothing, but pauses
+"""Shows what the theorem doesn't cover. One link forges a frame. It loses, changes and repeats nothing, but pauses
 once inside a reply. That reply carries bytes of the chip that look like replies to the retried commands. The verified run
 ends with status 0, but the chip has another byte than the image. A second link damages one byte, the size of a frame, and
-forges no frame: the programmer takes the following bytes as the rest of that frame, and the run ends with an error.
+forges no frame: the programmer takes the following bytes as the rest of that frame, and the run ends with an error. A
+third one brings a reply of an earlier run, and a chip has less flash than its part is said to have.
 
     tests/made_frames.py       needs a built program (program.py)
 """
@@ -13,7 +14,7 @@ import threading
 import time
 
 from cases import PATIENCE, named, run_cases, see
-from line import frames_of
+from line import Peer, frames_of
 from program import Room, Server, frame, lines, xor
 
 room = Room()
@@ -21,6 +22,8 @@ room = Room()
 SIGNATURE = "device signature = 1E 93 0B"
 # an ATtiny85's bytes of flash, and of EEPROM, fuses and lock together
 FLASH, REST = 8_192, 512 + 4
+# the place of the low fuse in a chip file
+LFUSE = FLASH + 512
 # the most seconds that a paused link waits for the caller to send again; a caller does after its timeout of a second
 PAUSE = 30
 # the byte that the image has at address 0
@@ -185,12 +188,87 @@ def a_spoiled_size_swallows_frames():
     see("and the chip is as it was", flash == content)
 
 
+# an ATtiny85 with twice its flash
+TWICE = """[parts.t85]
+signature = "1E930B"
+flash_size = 16384
+flash_page = 64
+eeprom_size = 512
+eeprom_page = 4
+eesave_bit = 3
+"""
+
+
+def with_lfuse(value):
+    """Returns an erased ATtiny85 with this low fuse."""
+    chip = bytearray(b"\xff" * (FLASH + REST))
+    chip[LFUSE] = value
+    return bytes(chip)
+
+
+class Keeps(Peer):
+    """A link that keeps the reply to frame 6. Given one of an earlier run, it loses frame 6 and brings that instead."""
+
+    def __init__(self, chip, earlier=None):
+        self.kept, self.earlier = None, earlier
+        room.put("chip.bin", chip)
+        self.server = Server(room, "chip.bin", "t85")
+        super().__init__()
+
+    def serve(self, caller):
+        with self.server.call() as programmer:
+            replies = frames_of(programmer)
+            for it in frames_of(caller):
+                if it[1] == 6 and self.earlier:
+                    caller.sendall(self.earlier)
+                    continue
+                programmer.sendall(it)
+                reply = next(replies)
+                if it[1] == 6:
+                    self.kept = reply
+                else:
+                    caller.sendall(reply)
+
+    def run(self, *words):
+        """Returns the status and messages of a run over this link, and the low fuse after it."""
+        status, _, messages = room.run(["-p", "t85", "-P", f"net:127.0.0.1:{self.port}", *words])
+        self.end()
+        self.server.end()
+        return status, messages, (room.read("chip.bin") or b"")[LFUSE]
+
+
+def a_reply_of_an_earlier_run_is_taken():
+    """Frame 6 reads the fuse. Its reply in the first run says 62, and is late: it comes in the second run."""
+    told = lines(SIGNATURE, "lfuse: 1 bytes verified", "done")
+    first = Keeps(with_lfuse(0x62))
+    see("the first run reads the fuse again", first.run("-U", "lfuse:v:0x62:m") == (0, told, 0x62))
+    found = Keeps(with_lfuse(0xE2), first.kept).run("-U", "lfuse:v:0x62:m")
+    see("the second one takes the old reply: status 0, and another fuse", found == (0, told, 0xE2), found)
+
+
+def a_part_with_too_much_flash():
+    """A part file gives an ATtiny85 twice its flash. A verified write of two equal halves ends with status 0."""
+    flash = bytes((place * 37 + 11) % 256 for place in range(FLASH))
+    room.clear()
+    room.put("image.bin", flash + flash)
+    room.put("part.toml", TWICE.encode())
+    server = Server(room, "chip.bin", "t85")
+    words = ["--parts", "part.toml", "-p", "t85", "-P", f"net:127.0.0.1:{server.port}", "-U", "flash:w:image.bin:r"]
+    status, _, messages = room.run(words)
+    server.end()
+    told = lines(SIGNATURE, "chip erased", f"flash: {2 * FLASH} bytes written", f"flash: {2 * FLASH} bytes verified", "done")
+    see("twice the flash: status 0 and `verified`", (status, messages) == (0, told), (status, messages))
+    see("and the chip has half of the image", (room.read("chip.bin") or b"")[:FLASH] == flash)
+
+
 CASES = named(
     a_comparison_is_wrong,
     a_verified_write_is_wrong,
     a_read_is_wrong,
     without_a_pause_all_is_seen,
     a_spoiled_size_swallows_frames,
+    a_reply_of_an_earlier_run_is_taken,
+    a_part_with_too_much_flash,
 )
 
 

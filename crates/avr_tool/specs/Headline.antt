@@ -2,18 +2,21 @@
 -- that its `use` names. Sections 1 to 3 hold over any link, section 4 over a wire to the emulated programmer that
 -- forges no frame. Beside this page are specs/Program (from a command line), avr_emulator's specs/Emulated (over a
 -- chip file) and specs/InMemory (from bytes to bytes). docs/PROOFS.md lists what is not proved.
-use Rattle.std.specs.Prelude.{ℕ, ◌≡◌, ◌≤◌, ◌⊎◌, List, [], ◌∷◌, ◌++◌, map, length, Some, None}
+use Rattle.std.specs.Prelude.{ℕ, ◌≡◌, ◌≤◌, ◌⊎◌, inl, inr, List, [], ◌∷◌, ◌++◌, map, length, Some, None}
 use Rattle.avr_cli.specs.declared.settings.Settings.{Settings}
-use Rattle.avr_desk.specs.Record.{DeskState, Passes}
+use Rattle.avr_desk.specs.Record.{DeskState, Passes, Bytes, after_err}
 use Rattle.avr_desk.specs.declared.record.Opening.{Opening}
-use Rattle.avr_desk.specs.Said.{OutputEvent, Line, SaidPart, after_all}
+use Rattle.avr_desk.specs.declared.record.Opening.TheVariants.{Found}
+use Rattle.avr_desk.specs.Lines.{memory_line, not_opened_line, not_read_line}
+use Rattle.avr_desk.specs.Playing.{Break, InLine, NotOpened, NotRead, NoMemory, NoMemoryFor, part_read}
+use Rattle.avr_desk.specs.Said.{OutputEvent, Opens, Line, SaidPart, IsPrefixOf, after_all}
 use Rattle.avr_plan.specs.Plan.{Plan}
 use Rattle.avr_plan.specs.Planning.{LacksPart, planned}
 use Rattle.avr_plan.specs.Taking.{AtUpdate}
 use Rattle.avr_desk.specs.Playing.{StageBrokeOff}
 use Rattle.avr_desk.specs.Stage.{StageAnswer, Made, Refused, Unread}
 use Rattle.avr_session.specs.Run.{LacksPlan, RunsSession, StopsSession, WithPlan}
-use Rattle.avr_session.specs.Runs.{Devices, devices, start, NoneFailed}
+use Rattle.avr_session.specs.Runs.{Devices, devices, start, Cause, NoneFailed, cause_line}
 use Rattle.avr_session.specs.Session.{session}
 use Rattle.avr_laws.specs.AnyLine.{OverAnyLine, wire_and_desk}
 use Rattle.stk_emu.specs.Wired.{WiredState}
@@ -82,16 +85,40 @@ abbrev pub IsStopped : Settings → Devices → Devices → ℕ → Type 0
 IsStopped settings before now status =
     (StoppedPlaying settings before now ⊎ StoppedPlanning settings before now) × (status ≡ 1)
 
--- What a stopped run did is a prefix of the run over what was received; only the last event may be incomplete.
+-- The line that reports why a run stopped: a cause in the session, or a break in planning.
+abbrev pub stop_line : Cause ⊎ Break → Bytes
+stop_line (inl cause) = cause_line cause
+stop_line (inr (InLine line)) = line
+stop_line (inr (NotOpened name)) = not_opened_line name
+stop_line (inr (NotRead name bytes)) = not_read_line name
+stop_line (inr NoMemory) = memory_line
+stop_line (inr (NoMemoryFor reading)) = memory_line
+
+-- The file of which a part was read when planning broke off.
+abbrev pub opened_at : Cause ⊎ Break → List OutputEvent
+opened_at (inl cause) = []
+opened_at (inr (InLine line)) = []
+opened_at (inr (NotOpened name)) = []
+opened_at (inr (NotRead name bytes)) = part_read name bytes ∷ []
+opened_at (inr NoMemory) = []
+opened_at (inr (NoMemoryFor reading)) = Opens (Found reading) ∷ []
+
+-- What a stopped run did is a prefix of the run over what was received; only the last event may be incomplete. At the
+-- desk this was done, then perhaps a part of the next file was read, then the line of the reason was reported, or a
+-- prefix of it; and nothing else.
 pub record IsPrefixOfRun (settings : Settings) (before now : Devices) : Type 0 where
   pub openings : List Opening
   pub during : Transcript
   pub shown : List (Event OutputEvent)
+  pub reason : Cause ⊎ Break
+  pub told : Bytes
   pub prefix : (later : List Opening) → IsPrefixOfEvents SaidPart shown
       (run settings (openings ++ later) (heard during)).events
   pub in_turn : (later : List Opening) → IsInTurn (planned settings (openings ++ later)).answer during
   pub all_sent : bytes_sent shown ≡ sent during
   pub grows : Grows before.link.transcript during now.link.transcript
+  pub told_part : IsPrefixOf told (stop_line reason)
+  pub kept : Passes (λ r. after_err told (after_all (outputs shown ++ opened_at reason) r)) before.desk now.desk
 
 -- ---- 4. From settings to the bytes of the chip, over a fresh wire (stk_emu's `IsFresh`)
 

@@ -150,6 +150,7 @@ impl Link for TapeLink {
         ensures count { IfOk result (λ n. n ≡ min self.old.cut (length bytes.now)) }
         ensures left { self.new.left ≡ self.old.left }
         ensures cut { self.new.cut ≡ self.old.cut }
+        ensures same { OnErr result (self.new ≡ record self.old { failures = self.new.failures }) }
         ensures comes { Stays IsOfTape self.old self.new }
     {
         let count = self.cut.min(bytes.len());

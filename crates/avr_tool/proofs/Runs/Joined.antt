@@ -1,14 +1,15 @@
 -- Planning and session as one run.
-use Rattle.std.proofs.Common.{◌≡◌, ℕ, ◌⊎◌, inl, inr, List, [], ◌∷◌, ◌++◌, map, refl, sym, ap, ◌∙◌, subst, arith, append_assoc, rules}
+use Rattle.std.proofs.Common.{◌≡◌, ℕ, ◌⊎◌, inl, inr, List, [], ◌∷◌, ◌++◌, map, Bool, true, false, absurd, refl, sym, ap, ◌∙◌, subst, arith, append_assoc, append-nil, rules}
 use Rattle.avr_cli.specs.declared.settings.Settings.{Settings}
 use Rattle.avr_desk.specs.Fault.{Follows}
-use Rattle.avr_desk.specs.Record.{DeskState}
-use Rattle.avr_desk.specs.Said.{OutputEvent, Line, SaidPart, after_all}
-use Rattle.avr_desk.proofs.Stages.Outputs.{kept_append}
+use Rattle.avr_desk.specs.Lines.{memory_line, not_opened_line, not_read_line}
+use Rattle.avr_desk.specs.Record.{DeskState, Record, Bytes, after_err}
+use Rattle.avr_desk.specs.Said.{OutputEvent, Line, SaidPart, IsPrefixOf, TellsLine, after_all}
+use Rattle.avr_desk.proofs.Stages.Outputs.{kept_append, after_append}
 use Rattle.avr_desk.proofs.Lines.Told.{follows_on, follows_same, same_on}
 use Rattle.avr_plan.specs.Plan.{Plan}
 use Rattle.avr_plan.specs.Planning.{planned}
-use Rattle.avr_desk.specs.Playing.{Went, WentRefused}
+use Rattle.avr_desk.specs.Playing.{Went, WentRefused, Break, InLine, NotOpened, NotRead, NoMemory, NoMemoryFor, TellsBreak, last_done}
 use Rattle.avr_desk.specs.Stage.{Made, StageResult}
 use Rattle.stk_host.specs.Dialog.{Event, Played, Said, behind, bytes_sent, outputs}
 use Rattle.stk_host.specs.Transcript.{LinkState, heard, Grows}
@@ -16,10 +17,10 @@ use Rattle.stk_host.specs.Tape.{Tape}
 use Rattle.stk_host.specs.Play.{IsPrefixOfEvents}
 use Rattle.stk_host.proofs.Transcripts.Laws.{grows_none}
 use Rattle.avr_session.specs.Run.{RunsSession, RunsSettings, StopsSession}
-use Rattle.avr_session.specs.Runs.{Devices, devices}
+use Rattle.avr_session.specs.Runs.{Devices, devices, Cause, OfSending, OfListening, OfFile, OfPrinting, OfMemory, TellsCause, cause_line}
 use Rattle.avr_session.specs.Session.{session}
 use Rattle.avr_session.specs.Stopping.{IsPlayed}
-use Rattle.avr_tool.specs.Headline.{run, after_answer, IsInTurn, IsRun, IsPrefixOfRun, StoppedPlaying, StoppedPlanning, IsStopped}
+use Rattle.avr_tool.specs.Headline.{run, after_answer, IsInTurn, IsRun, IsPrefixOfRun, stop_line, opened_at, StoppedPlaying, StoppedPlanning, IsStopped}
 
 pub said_outputs : (says : List OutputEvent) (events : List (Event OutputEvent))
     → outputs (map Said says ++ events) ≡ says ++ outputs events
@@ -120,17 +121,32 @@ behind_prefix : (says : List OutputEvent) {shown events : List (Event OutputEven
 behind_prefix says f =
     search (rules, append_assoc (map Said says) f.whole f.begun, append_assoc (map Said says) f.whole f.later)
 
+-- all that the desk did, in planning and then in the session
+shown_kept : (says : List OutputEvent) (shown : List (Event OutputEvent)) (told : Bytes) (r s t : Record)
+    → s ≡ after_all says r → t ≡ after_err told (after_all (outputs shown) s)
+    → t ≡ after_err told (after_all (outputs (map Said says ++ shown) ++ []) r)
+shown_kept says shown told r s t first then =
+    then ∙ ap (λ k. after_err told (after_all (outputs shown) k)) first
+    ∙ ap (after_err told) (sym (after_append says (outputs shown) r))
+    ∙ ap (λ done. after_err told (after_all done r))
+        (sym (append-nil (outputs (map Said says ++ shown)) ∙ said_outputs says shown))
+
 -- a stop in the session
 stopped_prefix : (settings : Settings) (x y : Devices) → StoppedPlaying settings x y → IsPrefixOfRun settings x y
 stopped_prefix settings x y stopped = record {
   openings = stopped.made.passed;
   during = stopped.then_is.during;
   shown = map Said stopped.made.says ++ stopped.then_is.shown;
+  reason = inl stopped.then_is.cause;
+  told = stopped.then_is.told;
+  told_part = cause_part _ stopped.then_is.cause stopped.then_is.told _ y.desk stopped.then_is.stops.tells;
   prefix = search (rules, behind_prefix);
   in_turn = λ later. subst (λ answer. IsInTurn answer stopped.then_is.during)
       (sym (answered (stopped.made.comes later))) stopped.then_is.breaks.in_turn;
   all_sent = said_bytes stopped.made.says stopped.then_is.shown ∙ stopped.then_is.breaks.all_sent;
   grows = stopped.then_is.grows;
+  kept = shown_kept stopped.made.says stopped.then_is.shown stopped.then_is.told x.desk.kept stopped.between.kept
+      y.desk.kept stopped.made.kept stopped.then_is.kept;
 }
 
 said_append : (whole later : List OutputEvent) (events : List (Event OutputEvent))
@@ -138,17 +154,64 @@ said_append : (whole later : List OutputEvent) (events : List (Event OutputEvent
 said_append [] later events = refl
 said_append (output ∷ whole) later events = ap (λ rest. Said output ∷ rest) (said_append whole later events)
 
+last_is : (break : Break) (told : Bytes) → last_done break told ≡ opened_at (inr break) ++ Line told ∷ []
+last_is (NotRead name bytes) told = refl
+last_is (NoMemoryFor reading) told = refl
+last_is (InLine line) told = refl
+last_is (NotOpened name) told = refl
+last_is NoMemory told = refl
+
+-- what was reported is a part of the reason's line
+line_part : (line told : Bytes) (x y : DeskState) → TellsLine line told x y → IsPrefixOf told line
+line_part line told x y (inl whole) = ([], append-nil told ∙ whole.0)
+line_part line told x y (inr part) = part.0
+
+none_part : (line told : Bytes) → told ≡ [] → IsPrefixOf told line
+none_part line told none = (line, ap (λ t. t ++ line) none)
+
+cause_part : (was_told : Bool) (cause : Cause) (told : Bytes) (x y : DeskState)
+    → TellsCause was_told cause told x y → IsPrefixOf told (cause_line cause)
+cause_part false cause told x y tells = line_part (cause_line cause) told x y tells
+cause_part true OfSending told x y none = none_part (cause_line OfSending) told none
+cause_part true OfListening told x y none = none_part (cause_line OfListening) told none
+cause_part true OfPrinting told x y none = none_part (cause_line OfPrinting) told none
+cause_part true (OfFile file trouble) told x y tells = absurd tells
+cause_part true OfMemory told x y tells = absurd tells
+
+break_part : (break : Break) (told : Bytes) (x y : DeskState)
+    → TellsBreak break told x y → IsPrefixOf told (stop_line (inr break))
+break_part (InLine line) told x y tells = tells.0
+break_part (NotOpened name) told x y tells = line_part (not_opened_line name) told tells.between y tells.tells
+break_part (NotRead name bytes) told x y tells = line_part (not_read_line name) told tells.between y tells.tells
+break_part NoMemory told x y tells = line_part memory_line told x y tells
+break_part (NoMemoryFor reading) told x y tells = line_part memory_line told x y tells
+
+broken_kept : (whole : List OutputEvent) (break : Break) (told : Bytes) (r t : Record)
+    → t ≡ after_all (whole ++ last_done break told) r
+    → t ≡ after_err told (after_all (outputs (map Said whole ++ []) ++ opened_at (inr break)) r)
+broken_kept whole break told r t kept =
+    kept ∙ ap (λ last. after_all (whole ++ last) r) (last_is break told)
+    ∙ ap (λ done. after_all done r) (sym (append_assoc whole (opened_at (inr break)) (Line told ∷ [])))
+    ∙ after_append (whole ++ opened_at (inr break)) (Line told ∷ []) r
+    ∙ ap (λ done. after_err told (after_all (done ++ opened_at (inr break)) r))
+        (sym (said_outputs whole [] ∙ append-nil whole))
+
 -- a stop in planning
 planned_prefix : (settings : Settings) (x y : Devices) → StoppedPlanning settings x y → IsPrefixOfRun settings x y
 planned_prefix settings x y stopped = record {
   openings = stopped.broke.passed;
   during = [];
   shown = map Said stopped.broke.whole ++ [];
+  reason = inr stopped.broke.break;
+  told = stopped.broke.told;
+  told_part = break_part stopped.broke.break stopped.broke.told x.desk y.desk stopped.broke.tells;
   prefix = search (rules, said_append);
   in_turn = λ later. search rules;
   all_sent = said_bytes stopped.broke.whole [];
   grows = subst (λ (l : LinkState). Grows x.link.transcript [] l.transcript) (sym stopped.same)
       (grows_none x.link.transcript);
+  kept = broken_kept stopped.broke.whole stopped.broke.break stopped.broke.told x.desk.kept y.desk.kept
+      stopped.broke.kept;
 }
 
 pub stop_prefix : (settings : Settings) (x y : Devices) (status : ℕ) → IsStopped settings x y status
