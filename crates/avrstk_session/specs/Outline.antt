@@ -1,12 +1,12 @@
--- The outline of a session: how many frames it sends, and whether a write of flash leaves out a page.
-use Rattle.std.specs.Prelude.{◌≡◌, ◌+◌, ◌-◌, ◌*◌, ◌/◌, ◌^◌, ◌&&◌, not, min, ℕ, Bool, true, false, List, [], ◌∷◌, Option, Result, Ok, Err, ⊤, codes, decimal, if◌then◌else◌}
-use Rattle.std.specs.List.{list_any, range_with_len}
+-- The outline of a session: how many frames it sends, and which pages of flash it writes.
+use Rattle.std.specs.Prelude.{◌≡◌, ◌⊎◌, ◌+◌, ◌-◌, ◌*◌, ◌/◌, ◌^◌, ◌++◌, min, ℕ, zero, suc, List, [], ◌∷◌, Option, Result, Ok, Err, codes, decimal, if◌then◌else◌}
 use Rattle.avr_cli.specs.declared.settings.Settings.{Settings}
-use Rattle.avr_desk.specs.Lines.{information}
+use Rattle.avr_desk.specs.Lines.{error, memory_pieces}
 use Rattle.avr_desk.specs.Playing.{Goes}
-use Rattle.avr_desk.specs.Record.{Bytes, DeskState}
-use Rattle.avr_desk.specs.Said.{IsPrinted}
-use Rattle.avr_desk.specs.declared.desk.DeskFault.{DeskFault}
+use Rattle.avr_desk.specs.Record.{Bytes, DeskState, Passes}
+use Rattle.avr_desk.specs.Said.{Tells}
+use Rattle.avr_desk.specs.Stream.{SendsPart, after_sent}
+use Rattle.avr_desk.specs.declared.stream.Stream.TheVariants.{Output}
 use Rattle.avr_image.specs.Image.{holds_any}
 use Rattle.avr_part.specs.Part.{Part}
 use Rattle.avr_part.specs.declared.part.Mem.TheVariants.{Flash}
@@ -18,37 +18,43 @@ use Rattle.avr_plan.specs.declared.planned.Task.TheVariants.{Write}
 use Rattle.avr_session.specs.PlanSteps.{run_steps}
 use Rattle.stk_host.specs.Bound.{commands_in}
 
--- The image holds a byte in this page of flash, and none in the page before it.
-abbrev pub is_behind_gap : Part → List (Option ℕ) → ℕ → Bool
-is_behind_gap part image page =
-    holds_any image (page * part.flash_page) part.flash_page
-    && not (holds_any image ((page - 1) * part.flash_page) part.flash_page)
+abbrev pub number_line : ℕ → ℕ → Bytes
+number_line number end = decimal number ++ end ∷ []
 
--- A write of flash leaves out a page before another one that it writes.
-abbrev pub leaves_out : Part → Task → Bool
-leaves_out part (Write Flash image) =
-    list_any (is_behind_gap part image) (range_with_len 1 (part.flash_size / part.flash_page - 1))
-leaves_out part task = false
+-- The line of a page in which the image holds a byte: `flash ADDRESS SIZE`.
+abbrev pub page_text : Part → List (Option ℕ) → ℕ → Bytes
+page_text part image page =
+    if holds_any image (page * part.flash_page) part.flash_page
+    then codes "flash " ++ (number_line (page * part.flash_page) 32 ++ number_line part.flash_page 10)
+    else []
 
--- The number of frames, at most 2^32 - 1, and whether flash is left out.
-abbrev pub outline_pieces : Plan → List Bytes
-outline_pieces plan =
-    codes "frames = " ∷ decimal (min (2 ^ 32 - 1) (commands_in (run_steps plan)))
-    ∷ (if list_any (leaves_out plan.part) plan.tasks then codes ", pages of flash are left out" else [])
-    ∷ []
+-- `count` pages from this one on
+abbrev pub pages_text : Part → List (Option ℕ) → ℕ → ℕ → Bytes
+pages_text part image page zero = []
+pages_text part image page (suc count) = page_text part image page ++ pages_text part image (page + 1) count
 
-abbrev pub exit_of : Result ⊤ DeskFault → ℕ
-exit_of (Ok done) = 0
-exit_of (Err fault) = 1
+abbrev pub task_text : Part → Task → Bytes
+task_text part (Write Flash image) = pages_text part image 0 (part.flash_size / part.flash_page)
+task_text part task = []
 
--- The line was reported whole, with status 0, or as far as the messages took it.
-pub record PrintsOutline (plan : Plan) (old new : DeskState) (status : ℕ) : Type 0 where
-  pub outcome : Result ⊤ DeskFault
-  pub printed : IsPrinted old new (information (outline_pieces plan)) outcome
-  pub status_is : status ≡ exit_of outcome
+abbrev pub tasks_text : Part → List Task → Bytes
+tasks_text part [] = []
+tasks_text part (task ∷ tasks) = task_text part task ++ tasks_text part tasks
+
+-- The number of frames, at most 2^64 - 1, and the pages of flash that each task writes.
+abbrev pub outline_text : Plan → Bytes
+outline_text plan =
+    codes "frames " ++ number_line (min (2 ^ 64 - 1) (commands_in (run_steps plan))) 10
+    ++ tasks_text plan.part plan.tasks
+
+-- The text was printed with status 0, or a prefix of it with status 1; or allocation failed, and this was reported.
+abbrev pub PrintsOutline : Bytes → DeskState → DeskState → ℕ → Type 0
+PrintsOutline text old new zero = Passes (after_sent Output text) old new
+PrintsOutline text old new status =
+    (status ≡ 1) × (SendsPart Output old new text ⊎ Tells old new (error memory_pieces))
 
 abbrev pub AfterPlan : Result Plan ℕ → DeskState → DeskState → ℕ → Type 0
-AfterPlan (Ok plan) old new status = PrintsOutline plan old new status
+AfterPlan (Ok plan) old new status = PrintsOutline (outline_text plan) old new status
 AfterPlan (Err failed) old new status = (new ≡ old) × (status ≡ failed)
 
 -- The files were read and judged as for a run. Then the outline of its session was reported, or the run was refused.

@@ -1,27 +1,27 @@
 //! Serves an emulated programmer with an emulated part to one client, over standard input and output.
 //!
 //! It takes avrstk's options `-p`, `--parts` and `-P emu:CHIPFILE`. With `-n` it only checks that this part and chip
-//! file can be served, and writes nothing. With `-P stdio:` it reads the files of a whole command line and reports how
-//! many frames its session sends, for callers that draw progress.
+//! file can be served, and writes nothing. With `-P stdio:` it reads the files of a whole command line, and prints how
+//! many frames its session sends and which pages of flash it writes, for callers that draw progress.
 #![tactic(auto)]
 
 ghost use Rattle.std.specs.Prelude.{◌≡◌, map, string_bytes};
 ghost use Rattle.clap.specs.Words.{kind_of};
 ghost use Rattle.avr_session.specs.Runs.{devices};
-ghost use Rattle.avrstk_session.specs.Outline.{Outlines, PrintsOutline, leaves_out, is_behind_gap};
+ghost use Rattle.avrstk_session.specs.Outline.{Outlines, PrintsOutline, outline_text};
 ghost use Rattle.avrstk_session.specs.Session.{Asks, JudgesOnly, ServesPort, ServesWords, StartsSession, TellsUsage, usage_pieces};
+
+mod outline;
 
 use avr_cli::{Port, Settings, read_settings, read_words};
 use avr_desk::{
-    Bounded, ChipDesk, Desk, Message, Piece, SystemDesk, memory_message, print_information, refuse,
+    Bounded, ChipDesk, Desk, Message, Stream, SystemDesk, memory_message, refuse, write_all,
 };
 use avr_emulator::{judge_part, serve};
-use avr_image::Image;
-use avr_part::{Mem, Part};
-use avr_plan::{Plan, Task, plan};
-use avr_session::frame_count;
+use avr_plan::{Plan, plan};
 use clap::Error;
 use clap::error::ErrorKind;
+use outline::outline_text;
 use std::alloc::Global;
 use std::env::Env;
 use std::fs::File;
@@ -61,52 +61,31 @@ fn usage_message<'a>() -> Message<'a>
     Message::text("usage: avrstk_session -p PART [--parts FILE] -P emu:CHIPFILE [-n], or AVRSTK'S OPTIONS -P stdio:")
 }
 
-/// Returns whether the image holds a byte in this page of flash, and none in the page before it.
-fn is_behind_gap(part: &Part, image: &Image, page: u32) -> bool
-    ensures { result ≡ is_behind_gap part.now image.now page }
+/// Prints the outline of the plan's session on standard output.
+fn print_outline<D: Desk>(alloc: Global, desk: &mut D, plan: &Plan) -> u8
+    ensures { PrintsOutline (outline_text plan.now) (D.view desk.old) (D.view desk.new) result }
 {
-    let size = part.page_of(Mem::Flash);
-    image.holds_any(page * size, size) && !image.holds_any((page - 1) * size, size)
-}
-
-/// Returns whether a task writes a page of flash and leaves out the page before it. A bootloader that erases each page
-/// as it writes one from address 0 on, as that of the Arduino Mega does, erases the wrong pages then.
-fn leaves_out(part: &Part, task: &Task) -> bool
-    ensures { result ≡ leaves_out part.now task.now }
-{
-    let Task::Write(Mem::Flash, image) = task else {
-        return false;
+    let Ok(text) = outline_text(alloc, plan) else {
+        return refuse(desk, &memory_message());
     };
-    let pages = part.size_of(Mem::Flash) / part.page_of(Mem::Flash);
-    (1..pages).any(|page| is_behind_gap(part, image, page))
-}
-
-/// Reports how many frames a session of the plan sends, and whether it leaves out pages of flash.
-fn print_outline<D: Desk>(desk: &mut D, plan: &Plan) -> u8
-    ensures { PrintsOutline plan.now (D.view desk.old) (D.view desk.new) result }
-{
-    let frames = u32::try_from(frame_count(plan)).unwrap_or(u32::MAX);
-    let leaves_out = plan.tasks().iter().any(|task| leaves_out(plan.part(), task));
-    let pages = if leaves_out { ", pages of flash are left out" } else { "" };
-    let pieces = [Piece::Text("frames = "), Piece::Number(frames), Piece::Text(pages)];
-    match print_information(desk, &pieces) {
+    match write_all(desk, Stream::Output, text.as_slice()) {
         Ok(()) => 0,
         Err(_) => 1,
     }
 }
 
-/// Reads the files that the settings name, and reports the outline of their session. No file is created.
+/// Reads the files that the settings name, and prints the outline of their session. No file is created.
 fn outline<D: Desk>(alloc: Global, settings: &Settings, desk: &mut D) -> u8
     ensures { Outlines settings.now (D.view desk.old) (D.view desk.new) result }
 {
     match plan(alloc, settings, desk) {
-        Ok(plan) => print_outline(desk, &plan),
+        Ok(plan) => print_outline(alloc, desk, &plan),
         Err(status) => status,
     }
 }
 
-/// Serves the chip file of these settings over the link, or only checks it. With `-P stdio:` it reports the outline of
-/// the session, and refuses `net:`.
+/// Serves the chip file of these settings over the link, or only checks it. With `-P stdio:` it prints the outline of
+/// the session. It refuses `net:`.
 fn serve_port<D: ChipDesk, L: Link>(
     alloc: Global,
     settings: &Settings,
