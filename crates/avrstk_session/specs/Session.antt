@@ -7,7 +7,7 @@ use Rattle.clap.specs.declared.error.kind.ErrorKind.TheVariants.{DisplayHelp, Ou
 use Rattle.avr_cli.specs.Command.{avrstk, asked_by}
 use Rattle.avr_cli.specs.Settings.{GivesOrMemory, TellsAnyway}
 use Rattle.avr_cli.specs.declared.settings.Port.{Port}
-use Rattle.avr_cli.specs.declared.settings.Port.TheVariants.{Emulated}
+use Rattle.avr_cli.specs.declared.settings.Port.TheVariants.{Emulated, Stdio}
 use Rattle.avr_cli.specs.declared.settings.Settings.{Settings}
 use Rattle.avr_cli.specs.declared.settings.SettingsFault.{SettingsFault}
 use Rattle.avr_desk.specs.Lines.{error, memory_pieces}
@@ -17,9 +17,10 @@ use Rattle.avr_emulator.specs.ServedRun.{JudgesPart, RunsServed}
 use Rattle.avr_part.specs.Part.{Part}
 use Rattle.avr_session.specs.Refusal.{refusal_line}
 use Rattle.avr_session.specs.Runs.{Devices}
+use Rattle.avrstk_session.specs.Outline.{Outlines}
 
 abbrev pub usage_pieces : List Bytes
-usage_pieces = codes "usage: avrstk_session -p PART [--parts FILE] -P emu:CHIPFILE [-n]" ∷ []
+usage_pieces = codes "usage: avrstk_session -p PART [--parts FILE] -P emu:CHIPFILE [-n], or AVRSTK'S OPTIONS -P stdio:" ∷ []
 
 -- Help is no mistake. Any other error is one; that allocation failed has a line of its own.
 abbrev pub TellsUsage : ErrorKind → DeskState → DeskState → ℕ → Type 0
@@ -62,11 +63,12 @@ abbrev pub RefusesUse : Devices → Devices → ℕ → Type 0
 RefusesUse old new status = Tells old.desk new.desk (error usage_pieces) × (new.link ≡ old.link) × (status ≡ 1)
 
 -- With `-P emu:CHIPFILE` that file is served over the link. With `-n` too it is judged, and nothing is received or
--- sent. Any other port is refused.
+-- sent. With `-P stdio:` the outline of a session is reported, also without the link. Any other port is refused.
 abbrev pub ServesPort : Port → Settings → Devices → Devices → ℕ → Type 0
 ServesPort (Emulated file) settings old new status = MatchBool settings.switches.dry
     (JudgesOnly settings file old.desk new.desk status × (new.link ≡ old.link))
     (RunsServed settings file old new status)
+ServesPort Stdio settings old new status = Outlines settings old.desk new.desk status × (new.link ≡ old.link)
 ServesPort port settings old new status = RefusesUse old new status
 
 -- The command takes the command line, which asks for these settings, and they were served.

@@ -1,19 +1,27 @@
 //! Serves an emulated programmer with an emulated part to one client, over standard input and output.
 //!
 //! It takes avrstk's options `-p`, `--parts` and `-P emu:CHIPFILE`. With `-n` it only checks that this part and chip
-//! file can be served, and writes nothing.
+//! file can be served, and writes nothing. With `-P stdio:` it reads the files of a whole command line, and prints how
+//! many frames its session sends and which pages of flash it writes, for callers that draw progress.
 #![tactic(auto)]
 
 ghost use Rattle.std.specs.Prelude.{◌≡◌, map, string_bytes};
 ghost use Rattle.clap.specs.Words.{kind_of};
 ghost use Rattle.avr_session.specs.Runs.{devices};
+ghost use Rattle.avrstk_session.specs.Outline.{Outlines, PrintsOutline, outline_text};
 ghost use Rattle.avrstk_session.specs.Session.{Asks, JudgesOnly, ServesPort, ServesWords, StartsSession, TellsUsage, usage_pieces};
 
+mod outline;
+
 use avr_cli::{Port, Settings, read_settings, read_words};
-use avr_desk::{Bounded, ChipDesk, Desk, Message, SystemDesk, memory_message, refuse};
+use avr_desk::{
+    Bounded, ChipDesk, Desk, Message, Stream, SystemDesk, memory_message, refuse, write_all,
+};
 use avr_emulator::{judge_part, serve};
+use avr_plan::{Plan, plan};
 use clap::Error;
 use clap::error::ErrorKind;
+use outline::outline_text;
 use std::alloc::Global;
 use std::env::Env;
 use std::fs::File;
@@ -50,10 +58,34 @@ fn judge<D: ChipDesk>(alloc: Global, settings: &Settings, file: &str, desk: &mut
 fn usage_message<'a>() -> Message<'a>
     ensures { result ≡ usage_pieces }
 {
-    Message::text("usage: avrstk_session -p PART [--parts FILE] -P emu:CHIPFILE [-n]")
+    Message::text("usage: avrstk_session -p PART [--parts FILE] -P emu:CHIPFILE [-n], or AVRSTK'S OPTIONS -P stdio:")
 }
 
-/// Serves the chip file of these settings over the link, or only checks it; refuses any other port.
+/// Prints the outline of the plan's session on standard output.
+fn print_outline<D: Desk>(alloc: Global, desk: &mut D, plan: &Plan) -> u8
+    ensures { PrintsOutline (outline_text plan.now) (D.view desk.old) (D.view desk.new) result }
+{
+    let Ok(text) = outline_text(alloc, plan) else {
+        return refuse(desk, &memory_message());
+    };
+    match write_all(desk, Stream::Output, text.as_slice()) {
+        Ok(()) => 0,
+        Err(_) => 1,
+    }
+}
+
+/// Reads the files that the settings name, and prints the outline of their session. No file is created.
+fn outline<D: Desk>(alloc: Global, settings: &Settings, desk: &mut D) -> u8
+    ensures { Outlines settings.now (D.view desk.old) (D.view desk.new) result }
+{
+    match plan(alloc, settings, desk) {
+        Ok(plan) => print_outline(alloc, desk, &plan),
+        Err(status) => status,
+    }
+}
+
+/// Serves the chip file of these settings over the link, or only checks it. With `-P stdio:` it prints the outline of
+/// the session. It refuses `net:`.
 fn serve_port<D: ChipDesk, L: Link>(
     alloc: Global,
     settings: &Settings,
@@ -71,7 +103,8 @@ fn serve_port<D: ChipDesk, L: Link>(
                 serve(alloc, settings, file.as_str(), desk, link)
             }
         }
-        _ => refuse(desk, &usage_message()),
+        Port::Stdio => outline(alloc, settings, desk),
+        Port::Net(..) => refuse(desk, &usage_message()),
     }
 }
 

@@ -1,0 +1,65 @@
+-- The outline of a session: how many frames it sends, and which pages of flash it writes.
+use Rattle.std.specs.Prelude.{◌≡◌, ◌⊎◌, ◌+◌, ◌-◌, ◌*◌, ◌/◌, ◌^◌, ◌++◌, min, ℕ, zero, suc, List, [], ◌∷◌, Option, Result, Ok, Err, codes, decimal, if◌then◌else◌}
+use Rattle.avr_cli.specs.declared.settings.Settings.{Settings}
+use Rattle.avr_desk.specs.Lines.{error, memory_pieces}
+use Rattle.avr_desk.specs.Playing.{Goes}
+use Rattle.avr_desk.specs.Record.{Bytes, DeskState, Passes}
+use Rattle.avr_desk.specs.Said.{Tells}
+use Rattle.avr_desk.specs.Stream.{SendsPart, after_sent}
+use Rattle.avr_desk.specs.declared.stream.Stream.TheVariants.{Output}
+use Rattle.avr_image.specs.Image.{holds_any}
+use Rattle.avr_part.specs.Part.{Part}
+use Rattle.avr_part.specs.declared.part.Mem.TheVariants.{Flash}
+use Rattle.avr_plan.specs.Plan.{Plan}
+use Rattle.avr_plan.specs.Planning.{planned}
+use Rattle.avr_plan.specs.Taking.{AtUpdate}
+use Rattle.avr_plan.specs.declared.planned.Task.{Task}
+use Rattle.avr_plan.specs.declared.planned.Task.TheVariants.{Write}
+use Rattle.avr_session.specs.PlanSteps.{run_steps}
+use Rattle.stk_host.specs.Bound.{commands_in}
+
+abbrev pub number_line : ℕ → ℕ → Bytes
+number_line number end = decimal number ++ end ∷ []
+
+-- The line of a page in which the image holds a byte: `flash ADDRESS SIZE`.
+abbrev pub page_text : Part → List (Option ℕ) → ℕ → Bytes
+page_text part image page =
+    if holds_any image (page * part.flash_page) part.flash_page
+    then codes "flash " ++ (number_line (page * part.flash_page) 32 ++ number_line part.flash_page 10)
+    else []
+
+-- `count` pages from this one on
+abbrev pub pages_text : Part → List (Option ℕ) → ℕ → ℕ → Bytes
+pages_text part image page zero = []
+pages_text part image page (suc count) = page_text part image page ++ pages_text part image (page + 1) count
+
+abbrev pub task_text : Part → Task → Bytes
+task_text part (Write Flash image) = pages_text part image 0 (part.flash_size / part.flash_page)
+task_text part task = []
+
+abbrev pub tasks_text : Part → List Task → Bytes
+tasks_text part [] = []
+tasks_text part (task ∷ tasks) = task_text part task ++ tasks_text part tasks
+
+-- The number of frames, at most 2^64 - 1, and the pages of flash that each task writes.
+abbrev pub outline_text : Plan → Bytes
+outline_text plan =
+    codes "frames " ++ number_line (min (2 ^ 64 - 1) (commands_in (run_steps plan))) 10
+    ++ tasks_text plan.part plan.tasks
+
+-- The text was printed with status 0, or a prefix of it with status 1; or allocation failed, and this was reported.
+abbrev pub PrintsOutline : Bytes → DeskState → DeskState → ℕ → Type 0
+PrintsOutline text old new zero = Passes (after_sent Output text) old new
+PrintsOutline text old new status =
+    (status ≡ 1) × (SendsPart Output old new text ⊎ Tells old new (error memory_pieces))
+
+abbrev pub AfterPlan : Result Plan ℕ → DeskState → DeskState → ℕ → Type 0
+AfterPlan (Ok plan) old new status = PrintsOutline (outline_text plan) old new status
+AfterPlan (Err failed) old new status = (new ≡ old) × (status ≡ failed)
+
+-- The files were read and judged as for a run. Then the outline of its session was reported, or the run was refused.
+pub record Outlines (settings : Settings) (old new : DeskState) (status : ℕ) : Type 0 where
+  pub outcome : Result Plan ℕ
+  pub planned_desk : DeskState
+  pub goes : Goes (AtUpdate settings) (planned settings) old planned_desk outcome
+  pub then_is : AfterPlan outcome planned_desk new status
