@@ -60,7 +60,8 @@ pub timeout_put : (at : ℕ) (bytes places : List ℕ) → AreWithin at places (
 timeout_put at bytes [] w = rw (take_rest bytes at, drop_all (length bytes) bytes (omega arith)) refl
 timeout_put at bytes (place ∷ places) w =
     let next = on_tape (take (place - at) (drop at bytes)) in
-    rw (timeout_put place bytes places w.2) (sym (append_assoc next (Silence ∷ tape_in place bytes places) (Silence ∷ [])))
+    rw (timeout_put place bytes places w.2)
+    (sym (append_assoc next (Silence ∷ tape_in place bytes places) (Silence ∷ [])))
 
 -- bytes are received
 pub bytes_dropped : (at count : ℕ) (bytes places : List ℕ) → count ≤ length (bytes_in (tape_in at bytes places))
