@@ -4,7 +4,6 @@ pub mod Record
 pub mod Stream
 pub mod Files
 pub mod Named
-pub mod Places
 pub mod Memory
 pub mod Truth
 pub mod Failing

@@ -10,7 +10,7 @@ ghost use Rattle.avr_session.specs.Runs.{devices};
 ghost use Rattle.avrstk_session.specs.Session.{Asks, JudgesOnly, ServesPort, ServesWords, StartsSession, TellsUsage, usage_pieces};
 
 use avr_cli::{Port, Settings, read_settings, read_words};
-use avr_desk::{Bounded, ChipDesk, Desk, Message, SystemDesk, memory_message, refuse};
+use avr_desk::{ChipDesk, Desk, Message, SystemDesk, memory_message, refuse};
 use avr_emulator::{judge_part, serve};
 use clap::Error;
 use clap::error::ErrorKind;
@@ -23,10 +23,8 @@ use stk_host::{Link, StreamLink};
 
 fn main(rt: HostRuntime) -> ExitCode {
     let _taken = take_closed_streams(&rt);
-    let output = || Bounded::new(rt.stdout(), None);
-    let messages = Bounded::new(rt.stderr(), None);
-    let mut desk = SystemDesk::new(&rt, output(), messages);
-    let mut link = StreamLink::new(rt.stdin(), output());
+    let mut desk = SystemDesk::new(&rt, rt.stdout(), rt.stderr());
+    let mut link = StreamLink::new(rt.stdin(), rt.stdout());
     ExitCode::from(run(&rt, &mut desk, &mut link))
 }
 

@@ -16,7 +16,7 @@ use Rattle.ghosts.specs.Stays.{Stays}
 use Rattle.avr_desk.specs.Named.{is_dash}
 use Rattle.avr_desk.proofs.FileUses.Calls.{calls_opened, calls_replaced, made_dash, opened_dash, opened_named, calls_append}
 use Rattle.avr_desk.proofs.FileUses.Uses.{files_absent, files_opened, files_replaced}
-use Rattle.avr_desk.specs.Journal.{Does, FileCall, Leaves, LeavesAlso, LeavesNoMore, calling, count_of, done_by, giving_input, holding, making, none_done, opened, opening}
+use Rattle.avr_desk.specs.Journal.{Counts, Does, FileCall, Leaves, LeavesAlso, LeavesNoMore, calling, count_of, done_by, giving_input, holding, making, none_done, opened, opening}
 use Rattle.avr_desk.specs.Handles.{CrashLeaves, IsTrueRecord, HasGiven, IsHeldBy, IsTrueOpen, IsTrueUse}
 use Rattle.avr_desk.specs.Standing.{FileGives, GivesBytes, FileGivesNone, IsClosed, is_output}
 use Rattle.avr_desk.specs.Shown.{Shown, IsTrueSince, TellsAll, has_dash, to_output}
@@ -117,6 +117,14 @@ module _ {S F I H O E : Type 0} (system : Ghosts S F I H) (reads : Reads F) (wri
       → IsHeldBy system hold held → Leaves system.did hold old new
       → system.did (holding (record { calls = calls; holds = count_of held })) old → Did calls (Some name) new
   left_one hold held calls name is leaves did = search rules
+
+  -- it holds as many files as the desk
+  counts : (s : S) (hold : Option H) (held : Option Bytes) (calls : List FileCall) → IsHeldBy system hold held
+      → Did calls held s → Counts system.did (count_of hold) s
+  counts s None None calls is did = (record { calls = calls; holds = 0 }, did, refl)
+  counts s (Some hold) (Some name) calls is did = (record { calls = calls; holds = 1 }, did, refl)
+  counts s None (Some name) calls is did = absurd is
+  counts s (Some hold) None calls is did = absurd is
 
   -- ---- what a crash may leave
 
@@ -239,11 +247,14 @@ module _ {S F I H O E : Type 0} (system : Ghosts S F I H) (reads : Reads F) (wri
   -- it was created
   create_true : {b : Desk} {s : S} {f u : ℕ} {e : Option ErrorKind} {o : OpenFile F I} {k : Record} (x : Writing)
       → k ≡ with_open (ToWrite x) b.kept → is_output o ≡ is_dash x.name → TrueOpen o (ToWrite x) → Closed b.opened
-      → Does system.did (making x.name) b.system s → NoMore b.system s → Since b (Next b s f u e o b.hold k)
+      → Does system.did (making x.name) b.system s
+      → (Counts system.did (count_of b.hold) b.system → NoMore b.system s) → Since b (Next b s f u e o b.hold k)
   create_true {b = b} {s = s} {o = o} x kept to_output is closed does keeps =
-      let did : (are : Files b.system b.opened b.hold b.kept) → system.did (done_by (with_open (ToWrite x) b.kept)) s =
-      λ are. did_as b.kept.held s (calls_opened (ToWrite x) (Created x) b.kept refl) (does _ are.did) in
-      grind (arith, nat_tests, files_opened, quiet, no_dash_in_front, no_dash_behind, files_now, uses_true, did)
+      let now : (are : Files b.system b.opened b.hold b.kept) → Files s o b.hold (with_open (ToWrite x) b.kept) =
+      λ are. files_now are (uses_true b.system b.opened b.hold b.kept are closed) is
+      (did_as b.kept.held s (calls_opened (ToWrite x) (Created x) b.kept refl) (does _ are.did))
+      (keeps (counts b.system b.hold b.kept.held _ are.held are.did)) in
+      grind (arith, nat_tests, files_opened, quiet, no_dash_in_front, no_dash_behind, now)
 
   pub output_true : {b : Desk} {s : S} {f u : ℕ} {e : Option ErrorKind} {o : OpenFile F I} {k : Record}
       {name own : Bytes} → o ≡ open_file.Output → own ≡ name
@@ -253,18 +264,21 @@ module _ {S F I H O E : Type 0} (system : Ghosts S F I H) (reads : Reads F) (wri
       let is : true ≡ is_dash own = dash ∙ ap is_dash (sym same) in
       let x : Writing = record { name = own; bytes = [] } in
       rw is_open (create_true x kept is (x, refl, sym is) closed
-      (λ done did. rw (made_dash own (sym is), append-nil done.calls) (stays _ did)) keeps)
+      (λ done did. rw (made_dash own (sym is), append-nil done.calls) (stays _ did)) (λ only. keeps))
 
   pub created_true : {b : Desk} {s t : S} {f u : ℕ} {e : Option ErrorKind} {o : OpenFile F I} {k : Record}
       {name own : Bytes} {h : F} → o ≡ open_file.ToWrite h → own ≡ name → false ≡ is_dash name → system.is_of h name
       → k ≡ with_open (ToWrite (record { name = own; bytes = [] })) b.kept
       → Closed b.opened → Does system.did (making name) b.system s → Stays system.did s t
-      → NoMore b.system s → NoMore s t → Since b (Next b t f u e o b.hold k)
-  created_true {own = own} {h = h} is_open same no_dash named kept closed does stays keeps keeps_on =
+      → (held : Option H) → held ≡ b.hold → (Counts system.did (count_of held) b.system → NoMore b.system s)
+      → NoMore s t → Since b (Next b t f u e o b.hold k)
+  created_true {b = b} {own = own} {h = h} is_open same no_dash named kept closed does stays held is_hold keeps keeps_on =
       let x : Writing = record { name = own; bytes = [] } in
       rw is_open (create_true x kept (no_dash ∙ ap is_dash (sym same))
       (x, refl, (h, subst (system.is_of h) (sym same) named, Appends-nil (writes.contents h))) closed
-      (λ done did. rw same (stays _ (does done did))) (left_on keeps keeps_on))
+      (λ done did. rw same (stays _ (does done did)))
+      (λ only. left_on
+      (keeps (subst (λ (hold : Option H). Counts system.did (count_of hold) b.system) (sym is_hold) only)) keeps_on))
 
   -- a file was replaced, and the held file released
   pub replace_true : {b c : Desk} {s t u : S} {name own bytes : Bytes} (h : Option H) → own ≡ name
