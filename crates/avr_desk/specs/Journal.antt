@@ -73,6 +73,10 @@ count_of (Some it) = 1
 abbrev pub Counts : {S : Type 0} → (Done → S → Type 0) → ℕ → S → Type 0
 Counts did holds now = (done : Done) × did done now × (done.holds ≡ holds)
 
+-- it holds no file, or none by this name
+abbrev pub IsFree : {S : Type 0} → (Done → S → Type 0) → (S → Bytes → Type 0) → S → Bytes → Type 0
+IsFree did is_free now name = Counts did 0 now ⊎ is_free now name
+
 -- ---- what the record tells of it
 
 abbrev pub opened : Bytes → FileCall

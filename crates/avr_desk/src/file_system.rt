@@ -31,13 +31,14 @@ pub trait FileSystem {
     /// The reader is as the system gives it for standard input.
     ghost is_input: { Self.Input → Type 0 };
 
-    /// The file was opened or created by this name.
+    /// The file was created by this name, or opened by it. If this run held the file of the name, that is the one that
+    /// was there when it was locked.
     ghost is_of: { Self.File → Bytes → Type 0 };
 
     /// The file was closed as it is.
     ghost closed: { Self.File → Type 0 };
 
-    /// No file had this name.
+    /// No file had this name. If this run held the file of the name, there was none when it was locked either.
     ghost lacks: { Bytes → Type 0 };
 
     /// It holds the file of this name.
@@ -64,14 +65,17 @@ pub trait FileSystem {
         ensures keeps { LeavesNoMore left self.old self.new }
         ensures gives { Does did giving_input self.old self.new };
 
-    /// Opens a file to read.
+    /// Opens a file to read. `hold` is what this run holds.
     ///
     /// # Errors
     ///
-    /// The system's error, `NotFound` if there is no such file.
-    fn open_named(&mut self, name: &str) -> io::Result<Self::File>
-        ensures named { IfOk result (λ file. is_of file name.now) }
-        ensures absent { IfErr result (λ error. error_kind error ≡ ErrorKind.NotFound → lacks name.now) }
+    /// The system's error, `NotFound` if there is no such file, and `ResourceBusy` if the file is held and another one
+    /// has its name by now, or none.
+    fn open_named(&mut self, name: &str, hold: Option<&Self::Hold>) -> io::Result<Self::File>
+        ensures named { Counts did (count_of (option_copied hold.entry)) self.old
+            → IfOk result (λ file. is_of file name.now) }
+        ensures absent { Counts did (count_of (option_copied hold.entry)) self.old
+            → IfErr result (λ error. error_kind error ≡ ErrorKind.NotFound → lacks name.now) }
         ensures opens { OnOk result (Does did (opening name.now) self.old self.new) }
         ensures fails { OnErr result (Stays did self.old self.new) }
         ensures keeps { LeavesNoMore left self.old self.new };

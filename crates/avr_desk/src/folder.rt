@@ -1,7 +1,7 @@
 //! The calls of a system by which a run uses files, one at a time.
 ghost use Rattle.std.specs.Prelude.{◌≡◌, ◌++◌, [], true, false, IfErr, IfOk, MatchOption, OnErr, OnOk, Option, Some};
 ghost use Rattle.std.specs.IoError.{error_kind};
-ghost use Rattle.avr_desk.specs.Journal.{Counts, Does, Done, LeavesAlso, LeavesNoMore, Still, giving_input, holding, making, opening};
+ghost use Rattle.avr_desk.specs.Journal.{Counts, Does, Done, IsFree, LeavesAlso, LeavesNoMore, Still, giving_input, holding, making, opening};
 ghost use Rattle.avr_desk.specs.Record.{Bytes};
 ghost use Rattle.ghosts.specs.Stays.{Stays};
 
@@ -14,7 +14,7 @@ use std::io::{ErrorKind, Read, Write};
 /// A clause says what a call does together with what other processes did since the last one. They are assumed to leave
 /// a file alone whose lock file another run has locked, and the new file beside it.
 pub trait Folder {
-    /// An open file.
+    /// A file that was opened to read or created.
     type File: Read + Write + Drop;
 
     /// Standard input.
@@ -23,14 +23,24 @@ pub trait Folder {
     /// The place that a name leads to: the path of a file, of its lock file and of a new one.
     type Place: Drop;
 
+    /// The folder of a place, opened to synchronize its names.
+    type Parent: Drop;
+
+    /// A lock file that this run has opened.
+    type LockFile: Drop;
+
     /// A lock file that this run has opened and locked. Others can lock it once this is dropped.
     type Lock: Drop;
 
     /// A place whose lock file this run has locked, and which had its name after that. So others find this one.
     type Held: Drop;
 
-    /// The file that was at a place, or none.
+    /// Which file was at a place, or that none was. It keeps no file open: some systems hide an open file when another
+    /// one gets its name.
     type Seen: Drop;
+
+    /// A new file beside a place.
+    type New: Drop;
 
     /// These are all calls that succeeded since it was new. A file counts as held from [`Folder::confirm`] on until it
     /// is unlocked.
@@ -50,10 +60,13 @@ pub trait Folder {
     ghost finds: { Self → Bytes → Bytes → Type 0 };
 
     /// A look finds at its place what was seen there, and the new file under the name that it was made with.
-    ghost finds_both: { Self → Self.Seen → Self.File → Type 0 };
+    ghost finds_both: { Self → Self.Seen → Self.New → Type 0 };
 
     /// The name doesn't lead to a file that this run holds.
     ghost is_apart: { Self → Bytes → Type 0 };
+
+    /// This run holds no file by this name.
+    ghost is_free: { Self → Bytes → Type 0 };
 
     /// The name that leads to this place.
     ghost name_of: { Self.Place → Bytes };
@@ -68,21 +81,22 @@ pub trait Folder {
     ghost denies: { Bytes → Type 0 };
 
     /// The new file has these bytes.
-    ghost has: { Self.File → Bytes → Type 0 };
+    ghost has: { Self.New → Bytes → Type 0 };
 
     /// The new file has these bytes after each crash.
-    ghost keeps: { Self.File → Bytes → Type 0 };
+    ghost keeps: { Self.New → Bytes → Type 0 };
 
     /// The reader is as the system gives it for standard input.
     ghost is_input: { Self.Input → Type 0 };
 
-    /// The file was opened or created by this name.
+    /// The file was created by this name, or opened by it. If this run held the file of the name, that is the one that
+    /// was there when it was locked.
     ghost is_of: { Self.File → Bytes → Type 0 };
 
     /// The file was closed as it is.
     ghost closed: { Self.File → Type 0 };
 
-    /// No file had this name.
+    /// No file had this name. If this run held the file of the name, there was none when it was locked either.
     ghost lacks: { Bytes → Type 0 };
 
     /// Gives standard input.
@@ -93,8 +107,9 @@ pub trait Folder {
 
     /// Opens a file to read.
     fn open(&mut self, name: &str) -> io::Result<Self::File>
-        ensures named { IfOk result (λ file. is_of file name.now) }
-        ensures absent { IfErr result (λ error. error_kind error ≡ ErrorKind.NotFound → lacks name.now) }
+        ensures named { IsFree did is_free self.old name.now → IfOk result (λ file. is_of file name.now) }
+        ensures absent { IsFree did is_free self.old name.now
+            → IfErr result (λ error. error_kind error ≡ ErrorKind.NotFound → lacks name.now) }
         ensures opens { OnOk result (Does did (opening name.now) self.old self.new) }
         ensures fails { OnErr result (Stays did self.old self.new) }
         ensures keeps { LeavesNoMore left self.old self.new };
@@ -117,13 +132,21 @@ pub trait Folder {
         ensures named { IfOk result (λ place. name_of place ≡ name.now) }
         ensures stays { Still did left self.old self.new };
 
+    /// Opens the folder of a place. A folder that may not be read counts as opened.
+    fn open_parent(&mut self, place: &Self::Place) -> io::Result<Self::Parent>
+        ensures stays { Still did left self.old self.new };
+
     /// Opens the lock file of a place, which is made if it is absent. Returns `None` if another run just removed it.
-    fn open_lock(&mut self, place: &Self::Place) -> io::Result<Option<Self::File>>
+    fn open_lock(&mut self, place: &Self::Place) -> io::Result<Option<Self::LockFile>>
         ensures denied { IfOk result (λ file. MatchOption file (denies (name_of place.now)) (λ file. Unit {0})) }
         ensures stays { Still did left self.old self.new };
 
     /// Locks the lock file. Returns `None` if another process has.
-    fn lock(&mut self, place: &Self::Place, file: Self::File) -> io::Result<Option<Self::Lock>>
+    fn lock(
+        &mut self,
+        place: &Self::Place,
+        file: Self::LockFile,
+    ) -> io::Result<Option<Self::Lock>>
         ensures denied { IfOk result (λ lock. MatchOption lock (denies (name_of place.now)) (λ lock. Unit {0})) }
         ensures stays { Still did left self.old self.new };
 
@@ -139,11 +162,21 @@ pub trait Folder {
 
     /// Returns whether the held file has this name.
     fn is_named(&self, held: &Self::Held, name: &str) -> bool
-        ensures { result ≡ true → held_name held.now ≡ name.now };
+        ensures same { result ≡ true → held_name held.now ≡ name.now }
+        ensures other { result ≡ false → Counts did 1 self.now → is_free self.now name.now };
 
-    /// Opens the file at a place to write it, if there is one, and returns what it is.
+    /// Looks which file is at a place, if there is one. Fails if it may not be written.
     fn see(&mut self, held: &Self::Held) -> io::Result<Self::Seen>
         ensures stays { Still did left self.old self.new };
+
+    /// Opens the file at a place to read. Fails if it isn't the one that was seen; `NotFound` means that none was seen
+    /// there and none is there.
+    fn open_seen(&mut self, held: &Self::Held, seen: &Self::Seen) -> io::Result<Self::File>
+        ensures named { IfOk result (λ file. is_of file (held_name held.now)) }
+        ensures absent { IfErr result (λ error. error_kind error ≡ ErrorKind.NotFound → lacks (held_name held.now)) }
+        ensures opens { OnOk result (Does did (opening (held_name held.now)) self.old self.new) }
+        ensures fails { OnErr result (Stays did self.old self.new) }
+        ensures keeps { LeavesNoMore left self.old self.new };
 
     /// Returns whether a name leads to the file at the place, which was seen there.
     fn leads_to(&mut self, name: &str, held: &Self::Held, seen: &Self::Seen) -> io::Result<bool>
@@ -151,17 +184,17 @@ pub trait Folder {
         ensures stays { Still did left self.old self.new };
 
     /// Makes an empty new file, which has the owner and the permissions of the one that was seen.
-    fn make(&mut self, held: &Self::Held, seen: &Self::Seen) -> io::Result<Self::File>
+    fn make(&mut self, held: &Self::Held, seen: &Self::Seen) -> io::Result<Self::New>
         ensures empty { IfOk result (λ file. has file []) }
         ensures stays { Still did left self.old self.new };
 
     /// Writes at the end of the new file.
-    fn write(&mut self, file: &mut Self::File, bytes: &[u8]) -> io::Result<()>
+    fn write(&mut self, file: &mut Self::New, bytes: &[u8]) -> io::Result<()>
         ensures written { OnOk result ((before : Bytes) → has file.old before → has file.new (before ++ bytes.now)) }
         ensures stays { Still did left self.old self.new };
 
     /// Waits until the new file is on the disk.
-    fn sync(&mut self, file: &mut Self::File) -> io::Result<()>
+    fn sync(&mut self, file: &mut Self::New) -> io::Result<()>
         ensures synced { OnOk result ((bytes : Bytes) → has file.old bytes → keeps file.new bytes) }
         ensures stays { Still did left self.old self.new };
 
@@ -170,13 +203,13 @@ pub trait Folder {
         &mut self,
         held: &Self::Held,
         seen: &Self::Seen,
-        file: &Self::File,
+        file: &Self::New,
     ) -> io::Result<bool>
         ensures ready { IfOk result (λ is. is ≡ true → finds_both self.new seen.now file.now) }
         ensures stays { Still did left self.old self.new };
 
     /// Gives the place to the new file.
-    fn rename(&mut self, held: &Self::Held, seen: &Self::Seen, file: Self::File) -> io::Result<()>
+    fn rename(&mut self, held: &Self::Held, seen: &Self::Seen, file: Self::New) -> io::Result<()>
         requires { finds_both self.old seen.now file }
         ensures whole { (bytes : Bytes) → keeps file bytes
             → LeavesAlso left (held_name held.now) (λ found. found ≡ Some bytes) self.old self.new }
@@ -185,9 +218,9 @@ pub trait Folder {
             → is_mounted (held_name held.now)) }
         ensures stays { Stays did self.old self.new };
 
-    /// Waits until the names beside the place are on the disk. A folder that can't be synchronized counts as
-    /// synchronized.
-    fn sync_name(&mut self, held: &Self::Held) -> io::Result<()>
+    /// Waits until the names beside the place are on the disk. A folder that may not be read, or whose file system
+    /// synchronizes none, counts as synchronized.
+    fn sync_name(&mut self, held: &Self::Held, parent: &Self::Parent) -> io::Result<()>
         ensures lasts { OnOk result ((bytes : Bytes) → finds self.old (held_name held.now) bytes
             → lasts (held_name held.now) bytes) }
         ensures makes { OnOk result ((bytes : Bytes) → finds self.old (held_name held.now) bytes

@@ -27,6 +27,7 @@ mod file_system;
 mod folder;
 mod journal;
 mod kept;
+mod looks;
 mod mem_desk;
 mod replacement;
 mod replacing;

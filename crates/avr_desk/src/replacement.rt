@@ -5,7 +5,7 @@
 //! system unlocks that. The bytes are written to a new file, under the name with `.avrstk-new`. Once it is on the disk,
 //! it is renamed. Only the run that has the lock touches that file.
 ghost use Rattle.std.specs.Prelude.{◌≡◌, IfOk, MatchOption, Some, OnErr, OnOk};
-ghost use Rattle.avr_desk.specs.Journal.{Does, LeavesAlso, holding, making};
+ghost use Rattle.avr_desk.specs.Journal.{Does, LeavesAlso, Still, holding, making};
 ghost use Rattle.ghosts.specs.Stays.{Stays};
 
 use crate::file_system::FileSystem;
@@ -18,6 +18,7 @@ use std::io::ErrorKind;
 pub struct Replacement<F: Folder> {
     held: F::Held,
     seen: F::Seen,
+    parent: F::Parent,
 }
 
 impl<F: Folder> Replacement<F> {
@@ -31,6 +32,7 @@ impl<F: Folder> Replacement<F> {
         ensures leaves { LeavesAlso F.left name.now (F.began name.now) folder.old folder.new }
     {
         let place = folder.find(name)?;
+        let parent = folder.open_parent(&place)?;
         let Some(file) = folder.open_lock(&place)? else {
             return Ok(None);
         };
@@ -41,7 +43,7 @@ impl<F: Folder> Replacement<F> {
             return Ok(None);
         };
         match folder.see(&held) {
-            Ok(seen) => Ok(Some(Replacement { held, seen })),
+            Ok(seen) => Ok(Some(Replacement { held, seen, parent })),
             Err(error) => {
                 folder.unlock(held);
                 Err(error)
@@ -49,24 +51,39 @@ impl<F: Folder> Replacement<F> {
         }
     }
 
-    /// Puts a new file of these bytes in place. If another file is mounted there, that is written in place.
-    fn put_new(&self, folder: &mut F, bytes: &[u8]) -> io::Result<()>
+    /// Makes a new file of these bytes, which is on the disk. Fails if another file is by then where the old one was.
+    fn make_ready(&self, folder: &mut F, bytes: &[u8]) -> io::Result<F::New>
+        ensures keeps { IfOk result (λ file. F.keeps file bytes.now) }
+        ensures found { IfOk result (λ file. F.finds_both folder.new self.now.seen file) }
+        ensures stays { Still F.did F.left folder.old folder.new }
+    {
+        let mut file = folder.make(&self.held, &self.seen)?;
+        folder.write(&mut file, bytes)?;
+        folder.sync(&mut file)?;
+        if folder.is_ready(&self.held, &self.seen, &file)? {
+            Ok(file)
+        } else {
+            Err(io::Error::from(ErrorKind::AlreadyExists))
+        }
+    }
+
+    /// Gives the new file, which has these bytes, the old one's name. If another file is mounted there, that is written
+    /// in place. The new file stays if that fails, so that one of both is always there.
+    fn put_ready(&self, folder: &mut F, file: F::New, bytes: &[u8]) -> io::Result<()>
+        requires has { F.keeps file bytes.now }
+        requires found { F.finds_both folder.old self.now.seen file }
         ensures put { OnOk result (F.lasts (F.held_name self.now.held) bytes.now) }
         ensures makes { OnOk result (Does F.did (making (F.held_name self.now.held)) folder.old folder.new) }
         ensures fails { OnErr result (Stays F.did folder.old folder.new) }
         ensures leaves { LeavesAlso F.left (F.held_name self.now.held) (λ found. found ≡ Some bytes.now)
             folder.old folder.new }
     {
-        let mut file = folder.make(&self.held, &self.seen)?;
-        folder.write(&mut file, bytes)?;
-        folder.sync(&mut file)?;
-        if !folder.is_ready(&self.held, &self.seen, &file)? {
-            return Err(io::Error::from(ErrorKind::AlreadyExists));
-        }
         match folder.rename(&self.held, &self.seen, file) {
-            Ok(()) => folder.sync_name(&self.held),
+            Ok(()) => folder.sync_name(&self.held, &self.parent),
             Err(error) if error.kind() == ErrorKind::ResourceBusy => {
-                folder.write_over(&self.held, bytes)
+                folder.write_over(&self.held, bytes)?;
+                folder.remove_new(&self.held);
+                Ok(())
             }
             Err(error) => Err(error),
         }
@@ -104,8 +121,13 @@ impl<F: Folder> FileSystem for F {
         Folder::input(self)
     }
 
-    fn open_named(&mut self, name: &str) -> io::Result<F::File> {
-        self.open(name)
+    fn open_named(&mut self, name: &str, hold: Option<&Replacement<F>>) -> io::Result<F::File> {
+        match hold {
+            Some(hold) if self.is_named(&hold.held, name) => {
+                self.open_seen(&hold.held, &hold.seen)
+            }
+            _ => self.open(name),
+        }
     }
 
     fn create_named(&mut self, name: &str, hold: Option<&Replacement<F>>) -> io::Result<F::File> {
@@ -133,9 +155,13 @@ impl<F: Folder> FileSystem for F {
     fn put_held(&mut self, hold: &mut Replacement<F>, bytes: &[u8]) -> io::Result<()> {
         // A run that was ended may have left a new file.
         self.remove_new(&hold.held);
-        let put = hold.put_new(self, bytes);
-        self.remove_new(&hold.held);
-        put
+        match hold.make_ready(self, bytes) {
+            Ok(file) => hold.put_ready(self, file, bytes),
+            Err(error) => {
+                self.remove_new(&hold.held);
+                Err(error)
+            }
+        }
     }
 
     fn leave_held(&mut self, hold: Replacement<F>) {

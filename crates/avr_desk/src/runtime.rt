@@ -2,9 +2,10 @@
 ghost use Rattle.std.specs.Prelude.{⊤, string_bytes};
 
 use crate::folder::Folder;
+use crate::looks::{Identity, first_mode, given, is_same, locked, permissions_after, synced, unless};
 use crate::synced::Synced;
 use std::alloc::Global;
-use std::fs::{File, Metadata, OpenOptions, Permissions, TryLockError};
+use std::fs::{File, Metadata, OpenOptions, Permissions};
 use std::io::{ErrorKind, Write};
 use std::os::unix::fs::{MetadataExt, OpenOptionsExt, PermissionsExt, fchown};
 use std::path::Path;
@@ -22,26 +23,31 @@ pub struct Place {
 #[derive(Drop)]
 pub struct Held {
     place: Place,
-    lock: Synced,
+    lock: File,
 }
 
-/// What was at a place.
+/// What was at a place. It keeps no file open.
 #[derive(Drop)]
 pub struct Seen {
     file: Option<Metadata>,
 }
 
-/// Returns `None` if there is no file.
-fn unless_absent<T>(found: io::Result<T>) -> io::Result<Option<T>> {
-    match found {
-        Ok(there) => Ok(Some(there)),
-        Err(error) if error.kind() == ErrorKind::NotFound => Ok(None),
-        Err(error) => Err(error),
+fn identity(file: &Metadata) -> Identity {
+    Identity {
+        device: file.dev(),
+        number: file.ino(),
     }
 }
 
-fn is_same(one: &Metadata, other: &Metadata) -> bool {
-    one.ino() == other.ino() && one.dev() == other.dev()
+/// Returns which file is at this path, which may be a link.
+fn look<R: Files<File = File>>(rt: &R, path: &str) -> io::Result<Option<Identity>> {
+    let found = unless(ErrorKind::NotFound, fs::symlink_metadata(rt, path))?;
+    Ok(found.as_ref().map(identity))
+}
+
+/// Returns which file was seen.
+fn seen_at(seen: &Seen) -> Option<Identity> {
+    seen.file.as_ref().map(identity)
 }
 
 /// Returns this path with an ending.
@@ -61,43 +67,36 @@ fn folder_of(path: &str) -> &str {
 
 /// Returns whether two paths are one name in one folder.
 fn is_one_place<R: Files<File = File>>(rt: &R, one: &str, other: &str) -> io::Result<bool> {
-    match (Path::new(one).file_name(), Path::new(other).file_name()) {
-        (Some(name), Some(own)) if name == own => {
-            let folder = fs::metadata(rt, folder_of(one))?;
-            Ok(is_same(&folder, &fs::metadata(rt, folder_of(other))?))
-        }
-        _ => Ok(false),
+    if Path::new(one).file_name() != Path::new(other).file_name() {
+        return Ok(false);
     }
+    let folder = fs::metadata(rt, folder_of(one))?;
+    let other = fs::metadata(rt, folder_of(other))?;
+    Ok(is_same(Some(identity(&folder)), Some(identity(&other))))
 }
 
 fn is_link<R: Files<File = File>>(rt: &R, path: &str) -> io::Result<bool> {
-    Ok(matches!(unless_absent(fs::symlink_metadata(rt, path))?, Some(there) if there.is_symlink()))
+    let found = unless(ErrorKind::NotFound, fs::symlink_metadata(rt, path))?;
+    Ok(matches!(found, Some(there) if there.is_symlink()))
 }
 
 /// Returns whether this open file has the path.
-fn is_at<R: Files<File = File>>(rt: &R, file: &Synced, path: &str) -> io::Result<bool> {
-    match unless_absent(fs::symlink_metadata(rt, path))? {
-        Some(there) => Ok(is_same(&there, &file.file().metadata()?)),
-        None => Ok(false),
-    }
+fn is_at<R: Files<File = File>>(rt: &R, file: &File, path: &str) -> io::Result<bool> {
+    let own = identity(&file.metadata()?);
+    Ok(is_same(Some(own), look(rt, path)?))
 }
 
-/// Gives a new file the old one's owner, group and permissions, as far as the system allows. Any other group gets
-/// what everyone had.
+/// Gives a new file the old one's group, owner and permissions, as far as the system allows.
 fn be_like(new: &File, old: &Metadata) -> io::Result<()> {
     let own = new.metadata()?;
-    if own.gid() != old.gid() {
-        let _ = fchown(new, None, Some(old.gid()));
+    if let Some(group) = given(own.gid(), old.gid()) {
+        let _ = fchown(new, None, Some(group));
     }
-    if own.uid() != old.uid() {
-        let _ = fchown(new, Some(old.uid()), None);
+    if let Some(owner) = given(own.uid(), old.uid()) {
+        let _ = fchown(new, Some(owner), None);
     }
-    let kept = if new.metadata()?.gid() == old.gid() {
-        0o777
-    } else {
-        0o707 | (old.mode() & 7) << 3
-    };
-    new.set_permissions(Permissions::from_mode(old.mode() & kept))
+    let is_of_group = new.metadata()?.gid() == old.gid();
+    new.set_permissions(Permissions::from_mode(permissions_after(old.mode(), is_of_group)))
 }
 
 impl<'a, R: Files<File = File> + Input + Alloc<A = Global>> Folder for &'a R {
@@ -107,11 +106,17 @@ impl<'a, R: Files<File = File> + Input + Alloc<A = Global>> Folder for &'a R {
 
     type Place = Place;
 
-    type Lock = Synced;
+    type Parent = Option<File>;
+
+    type LockFile = File;
+
+    type Lock = File;
 
     type Held = Held;
 
     type Seen = Seen;
+
+    type New = File;
 
     ghost did = { λ done system. ⊤ };
 
@@ -126,6 +131,8 @@ impl<'a, R: Files<File = File> + Input + Alloc<A = Global>> Folder for &'a R {
     ghost finds_both = { λ system seen file. ⊤ };
 
     ghost is_apart = { λ system name. ⊤ };
+
+    ghost is_free = { λ system name. ⊤ };
 
     ghost name_of = { λ place. string_bytes place.name };
 
@@ -174,26 +181,30 @@ impl<'a, R: Files<File = File> + Input + Alloc<A = Global>> Folder for &'a R {
         Ok(Place { name: own, path })
     }
 
+    fn open_parent(&mut self, place: &Place) -> io::Result<Option<File>> {
+        unless(
+            ErrorKind::PermissionDenied,
+            fs::open(*self, folder_of(place.path.as_str())),
+        )
+    }
+
     // A link is not followed to make it.
-    fn open_lock(&mut self, place: &Place) -> io::Result<Option<Synced>> {
+    fn open_lock(&mut self, place: &Place) -> io::Result<Option<File>> {
         let path = with_ending(self.alloc(), place.path.as_str(), ".avrstk-lock")?;
         match File::create_new(*self, path.as_str()) {
             Err(error) if error.kind() == ErrorKind::AlreadyExists => {
-                Ok(unless_absent(fs::open(*self, path.as_str()))?.map(Synced::new))
+                unless(ErrorKind::NotFound, fs::open(*self, path.as_str()))
             }
-            made => Ok(Some(Synced::new(made?))),
+            made => Ok(Some(made?)),
         }
     }
 
-    fn lock(&mut self, _place: &Place, file: Synced) -> io::Result<Option<Synced>> {
-        match file.file().try_lock() {
-            Ok(()) => Ok(Some(file)),
-            Err(TryLockError::WouldBlock) => Ok(None),
-            Err(TryLockError::Error(error)) => Err(error),
-        }
+    fn lock(&mut self, _place: &Place, file: File) -> io::Result<Option<File>> {
+        let tried = file.try_lock();
+        locked(file, tried)
     }
 
-    fn confirm(&mut self, place: Place, lock: Synced) -> io::Result<Option<Held>> {
+    fn confirm(&mut self, place: Place, lock: File) -> io::Result<Option<Held>> {
         let path = with_ending(self.alloc(), place.path.as_str(), ".avrstk-lock")?;
         if is_at(*self, &lock, path.as_str())? {
             Ok(Some(Held { place, lock }))
@@ -207,11 +218,10 @@ impl<'a, R: Files<File = File> + Input + Alloc<A = Global>> Folder for &'a R {
     }
 
     fn see(&mut self, held: &Held) -> io::Result<Seen> {
-        match unless_absent(fs::metadata(*self, held.place.path.as_str()))? {
+        let path = held.place.path.as_str();
+        match unless(ErrorKind::NotFound, fs::metadata(*self, path))? {
             Some(there) if there.is_file() => {
-                let old = OpenOptions::new()
-                    .write(true)
-                    .open(*self, held.place.path.as_str())?;
+                let old = OpenOptions::new().write(true).open(*self, path)?;
                 Ok(Seen {
                     file: Some(old.metadata()?),
                 })
@@ -221,65 +231,70 @@ impl<'a, R: Files<File = File> + Input + Alloc<A = Global>> Folder for &'a R {
         }
     }
 
-    // If there is no file yet, a link that leads nowhere could lead to it.
-    fn leads_to(&mut self, name: &str, held: &Held, seen: &Seen) -> io::Result<bool> {
-        match (&seen.file, unless_absent(fs::metadata(*self, name))?) {
-            (Some(old), Some(there)) => Ok(is_same(old, &there)),
-            (None, None) => {
-                Ok(is_link(*self, name)? || is_one_place(*self, name, held.place.path.as_str())?)
-            }
-            _ => Ok(false),
+    fn open_seen(&mut self, held: &Held, seen: &Seen) -> io::Result<Synced> {
+        let opened = unless(
+            ErrorKind::NotFound,
+            fs::open(*self, held.place.path.as_str()),
+        )?;
+        let found = match &opened {
+            Some(file) => Some(identity(&file.metadata()?)),
+            None => None,
+        };
+        match opened {
+            Some(file) if is_same(seen_at(seen), found) => Ok(Synced::new(file)),
+            None if is_same(seen_at(seen), found) => Err(io::Error::from(ErrorKind::NotFound)),
+            _ => Err(io::Error::from(ErrorKind::ResourceBusy)),
         }
     }
 
-    fn make(&mut self, held: &Held, seen: &Seen) -> io::Result<Synced> {
+    // If no file was there, a link that leads nowhere could lead to it.
+    fn leads_to(&mut self, name: &str, held: &Held, seen: &Seen) -> io::Result<bool> {
+        let there = unless(ErrorKind::NotFound, fs::metadata(*self, name))?;
+        let leads = match (&seen.file, &there) {
+            (None, None) => is_link(*self, name)?,
+            (Some(_), None) => false,
+            (_, Some(there)) => is_same(seen_at(seen), Some(identity(there))),
+        };
+        Ok(leads || is_one_place(*self, name, held.place.path.as_str())?)
+    }
+
+    fn make(&mut self, held: &Held, seen: &Seen) -> io::Result<File> {
         let path = with_ending(self.alloc(), held.place.path.as_str(), ".avrstk-new")?;
-        let mode = if seen.file.is_some() { 0o600 } else { 0o666 };
-        let mut options = OpenOptions::new();
-        let file = options
+        let file = OpenOptions::new()
             .write(true)
             .create_new(true)
-            .mode(mode)
+            .mode(first_mode(seen.file.is_some()))
             .open(*self, path.as_str())?;
         if let Some(old) = &seen.file {
             be_like(&file, old)?;
         }
-        Ok(Synced::new(file))
+        Ok(file)
     }
 
-    fn write(&mut self, file: &mut Synced, bytes: &[u8]) -> io::Result<()> {
+    fn write(&mut self, file: &mut File, bytes: &[u8]) -> io::Result<()> {
         file.write_all(bytes)
     }
 
-    fn sync(&mut self, file: &mut Synced) -> io::Result<()> {
-        file.file().sync_all()
+    fn sync(&mut self, file: &mut File) -> io::Result<()> {
+        file.sync_all()
     }
 
-    fn is_ready(&mut self, held: &Held, seen: &Seen, file: &Synced) -> io::Result<bool> {
+    // The old file is looked at last, right before the new one gets its name.
+    fn is_ready(&mut self, held: &Held, seen: &Seen, file: &File) -> io::Result<bool> {
         let path = with_ending(self.alloc(), held.place.path.as_str(), ".avrstk-new")?;
-        let is_still = match (
-            &seen.file,
-            unless_absent(fs::symlink_metadata(*self, held.place.path.as_str()))?,
-        ) {
-            (Some(old), Some(there)) => is_same(old, &there),
-            (None, None) => true,
-            _ => false,
-        };
-        Ok(is_still && is_at(*self, file, path.as_str())?)
+        let is_own = is_at(*self, file, path.as_str())?;
+        Ok(is_own && is_same(seen_at(seen), look(*self, held.place.path.as_str())?))
     }
 
-    fn rename(&mut self, held: &Held, _seen: &Seen, _file: Synced) -> io::Result<()> {
+    fn rename(&mut self, held: &Held, _seen: &Seen, _file: File) -> io::Result<()> {
         let path = with_ending(self.alloc(), held.place.path.as_str(), ".avrstk-new")?;
         fs::rename(*self, path.as_str(), held.place.path.as_str())
     }
 
-    fn sync_name(&mut self, held: &Held) -> io::Result<()> {
-        let Ok(folder) = fs::open(*self, folder_of(held.place.path.as_str())) else {
-            return Ok(());
-        };
-        match folder.sync_all() {
-            Err(error) if error.kind() == ErrorKind::InvalidInput => Ok(()),
-            synced => synced,
+    fn sync_name(&mut self, _held: &Held, parent: &Option<File>) -> io::Result<()> {
+        match parent {
+            Some(folder) => synced(folder.sync_all()),
+            None => Ok(()),
         }
     }
 

@@ -205,7 +205,7 @@ impl<R: FileSystem + Drop, O: Outlet + Drop, E: Outlet + Drop> Desk for SystemDe
             self.journal = self.journal.then(&Call::Opened(name.as_bytes()));
             return Ok(());
         }
-        match self.system.open_named(name) {
+        match self.system.open_named(name, self.replacement.as_ref()) {
             Ok(file) => {
                 open_next(&mut self.system, &mut self.opened, OpenFile::ToRead(file));
                 self.journal = self.journal.then(&Call::Opened(name.as_bytes()));

@@ -119,12 +119,21 @@ module _ {S F I H O E : Type 0} (system : Ghosts S F I H) (reads : Reads F) (wri
   left_one hold held calls name is leaves did = search rules
 
   -- it holds as many files as the desk
+  abbrev Holds : Desk → Type 0
+  Holds b = Counts system.did (count_of b.hold) b.system
+
   counts : (s : S) (hold : Option H) (held : Option Bytes) (calls : List FileCall) → IsHeldBy system hold held
       → Did calls held s → Counts system.did (count_of hold) s
   counts s None None calls is did = (record { calls = calls; holds = 0 }, did, refl)
   counts s (Some hold) (Some name) calls is did = (record { calls = calls; holds = 1 }, did, refl)
   counts s None (Some name) calls is did = absurd is
   counts s (Some hold) None calls is did = absurd is
+
+  holds : {b : Desk} → Files b.system b.opened b.hold b.kept → Holds b
+  holds {b = b} are = counts b.system b.hold b.kept.held _ are.held are.did
+
+  holds_as : {b : Desk} {held : Option H} → held ≡ b.hold → Holds b → Counts system.did (count_of held) b.system
+  holds_as {b = b} same only = subst (λ (hold : Option H). Counts system.did (count_of hold) b.system) (sym same) only
 
   -- ---- what a crash may leave
 
@@ -203,14 +212,14 @@ module _ {S F I H O E : Type 0} (system : Ghosts S F I H) (reads : Reads F) (wri
 
   -- it was opened
   opened_true : {b : Desk} {s : S} {f u : ℕ} {e : Option ErrorKind} {o : OpenFile F I} {k : Record} (x : Reading)
-      → k ≡ with_open (ToRead x) b.kept → is_output o ≡ false → TrueOpen o (ToRead x) → Closed b.opened
+      → k ≡ with_open (ToRead x) b.kept → is_output o ≡ false → (Holds b → TrueOpen o (ToRead x)) → Closed b.opened
       → Does system.did (calling (opened x.name ∷ [])) b.system s → NoMore b.system s
       → Since b (Next b s f u e o b.hold k)
   opened_true {b = b} {s = s} x kept elsewhere is closed does keeps =
       let files = ap has_dash (files_opened (ToRead x) b.kept) in
       rw kept (quiet refl refl
       (λ none. no_dash_in_front (all_files b.kept) [] (sym files ∙ none)) (λ none was. elsewhere)
-      (λ are. files_now are (uses_true b.system b.opened b.hold b.kept are closed) is
+      (λ are. files_now are (uses_true b.system b.opened b.hold b.kept are closed) (is (holds are))
       (did_as b.kept.held s (calls_opened (ToRead x) (Opened (Found x)) b.kept refl) (does _ are.did))
       keeps))
 
@@ -221,39 +230,42 @@ module _ {S F I H O E : Type 0} (system : Ghosts S F I H) (reads : Reads F) (wri
   input_true {own = own} {i = i} is_open same dash kept closed begins does stays keeps keeps_on =
       let x : Reading = record { name = own; bytes = []; ended = false } in
       let is : is_dash own ≡ true = sym (dash ∙ ap is_dash (sym same)) in
-      rw is_open (opened_true x kept refl (x, refl, (is, i, begins, given_none input i own)) closed
+      rw is_open (opened_true x kept refl (λ only. (x, refl, (is, i, begins, given_none input i own))) closed
       (λ done did. rw (opened_dash own is) (stays _ (does done did))) (left_on keeps keeps_on))
 
   pub file_true : {b : Desk} {s t : S} {f u : ℕ} {e : Option ErrorKind} {o : OpenFile F I} {k : Record}
-      {name own : Bytes} {h : F} → o ≡ open_file.ToRead h → own ≡ name → false ≡ is_dash name → system.is_of h name
+      {name own : Bytes} {h : F} (held : Option H) → held ≡ b.hold → o ≡ open_file.ToRead h → own ≡ name
+      → false ≡ is_dash name → (Counts system.did (count_of held) b.system → system.is_of h name)
       → k ≡ with_open (ToRead (record { name = own; bytes = []; ended = false })) b.kept
       → Closed b.opened → Does system.did (opening name) b.system s → Stays system.did s t
       → NoMore b.system s → NoMore s t → Since b (Next b t f u e o b.hold k)
-  file_true {own = own} {h = h} is_open same no_dash named kept closed does stays keeps keeps_on =
+  file_true {own = own} {h = h} held is_hold is_open same no_dash named kept closed does stays keeps keeps_on =
       let x : Reading = record { name = own; bytes = []; ended = false } in
       rw is_open (opened_true x kept refl
-      (x, refl, (h, subst (system.is_of h) (sym same) named, given_none reads h own)) closed
+      (λ only. (x, refl, (h, subst (system.is_of h) (sym same) (named (holds_as is_hold only)), given_none reads h own)))
+      closed
       (λ done did. rw (opened_named own (sym (no_dash ∙ ap is_dash (sym same))), same) (stays _ (does done did)))
       (left_on keeps keeps_on))
 
   -- there was no such file
   pub absent_true : {b : Desk} {s t : S} {f u : ℕ} {e : Option ErrorKind} {o : OpenFile F I} {k : Record}
-      {name own : Bytes} → o ≡ open_file.Nothing → own ≡ name
-      → system.lacks name → k ≡ with_absent own b.kept → Closed b.opened → Stays system.did b.system s
+      {name own : Bytes} (held : Option H) → held ≡ b.hold → o ≡ open_file.Nothing → own ≡ name
+      → (Counts system.did (count_of held) b.system → system.lacks name)
+      → k ≡ with_absent own b.kept → Closed b.opened → Stays system.did b.system s
       → Stays system.did s t → NoMore b.system s → NoMore s t → Since b (Next b t f u e o b.hold k)
-  absent_true {b = b} {t = t} {own = own} is_open same lacks kept closed fails stays keeps keeps_on =
-      search (rules, quiet, files_absent, more_true, did_as, append-nil, calls_append, left_on)
+  absent_true {b = b} {t = t} {own = own} held is_hold is_open same lacks kept closed fails stays keeps keeps_on =
+      search (rules, quiet, files_absent, more_true, did_as, append-nil, calls_append, left_on, holds, holds_as)
 
   -- it was created
   create_true : {b : Desk} {s : S} {f u : ℕ} {e : Option ErrorKind} {o : OpenFile F I} {k : Record} (x : Writing)
       → k ≡ with_open (ToWrite x) b.kept → is_output o ≡ is_dash x.name → TrueOpen o (ToWrite x) → Closed b.opened
       → Does system.did (making x.name) b.system s
-      → (Counts system.did (count_of b.hold) b.system → NoMore b.system s) → Since b (Next b s f u e o b.hold k)
+      → (Holds b → NoMore b.system s) → Since b (Next b s f u e o b.hold k)
   create_true {b = b} {s = s} {o = o} x kept to_output is closed does keeps =
       let now : (are : Files b.system b.opened b.hold b.kept) → Files s o b.hold (with_open (ToWrite x) b.kept) =
       λ are. files_now are (uses_true b.system b.opened b.hold b.kept are closed) is
       (did_as b.kept.held s (calls_opened (ToWrite x) (Created x) b.kept refl) (does _ are.did))
-      (keeps (counts b.system b.hold b.kept.held _ are.held are.did)) in
+      (keeps (holds are)) in
       grind (arith, nat_tests, files_opened, quiet, no_dash_in_front, no_dash_behind, now)
 
   pub output_true : {b : Desk} {s : S} {f u : ℕ} {e : Option ErrorKind} {o : OpenFile F I} {k : Record}
@@ -277,8 +289,7 @@ module _ {S F I H O E : Type 0} (system : Ghosts S F I H) (reads : Reads F) (wri
       rw is_open (create_true x kept (no_dash ∙ ap is_dash (sym same))
       (x, refl, (h, subst (system.is_of h) (sym same) named, Appends-nil (writes.contents h))) closed
       (λ done did. rw same (stays _ (does done did)))
-      (λ only. left_on
-      (keeps (subst (λ (hold : Option H). Counts system.did (count_of hold) b.system) (sym is_hold) only)) keeps_on))
+      (λ only. left_on (keeps (holds_as is_hold only)) keeps_on))
 
   -- a file was replaced, and the held file released
   pub replace_true : {b c : Desk} {s t u : S} {name own bytes : Bytes} (h : Option H) → own ≡ name
