@@ -1,11 +1,10 @@
 //! Calls that succeed, and the desk of a program over real files.
 use avr_desk::{
-    Bounded, Bytes, ChipDesk, Desk, DeskCall, DeskFault, FailingDesk, FileFault, MemDesk, Stream,
-    SystemDesk, WatchDesk, WatchedDesk, read_file, write_all,
+    Bytes, ChipDesk, Desk, DeskCall, DeskFault, FailingDesk, FileFault, MemDesk, Stream, SystemDesk,
+    WatchDesk, WatchedDesk, read_file, write_all,
 };
 use std::alloc::{AllocError, Global};
 use std::io::{self, ErrorKind, Write};
-use std::os::fd::{AsRawFd, RawFd};
 use std::test::Fail;
 use std::{env, fs, process};
 
@@ -257,12 +256,6 @@ impl Write for Stubborn {
     }
 }
 
-impl AsRawFd for Stubborn {
-    fn as_raw_fd(&self) -> RawFd {
-        1
-    }
-}
-
 const STUBBORN: Stubborn = Stubborn {
     calls: 0,
     flushes: 0,
@@ -280,5 +273,4 @@ fn is_flushed<W: Write + Drop>(rt: &HostRuntime, output: W) -> bool {
 #[test]
 fn a_writer_is_flushed(rt: HostRuntime) {
     assert!(rt; is_flushed(&rt, STUBBORN));
-    assert!(rt; is_flushed(&rt, Bounded::new(STUBBORN, None)));
 }

@@ -3,4 +3,3 @@ pub mod Writers
 pub mod InMemory
 pub mod TwoWriters
 pub mod Held
-pub mod OneName

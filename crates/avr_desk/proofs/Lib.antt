@@ -2,6 +2,5 @@
 pub mod Lines
 pub mod FileUses
 pub mod Desks
-pub mod Folders
 pub mod Rows
 pub mod Stages

@@ -59,6 +59,24 @@ abbrev pub LeavesAlso : {S : Type 0} → (S → Bytes → Option Bytes → Type 
 LeavesAlso left name More old new = (other : Bytes) (found : Option Bytes) → left new other found
     → left old other found ⊎ ((other ≡ name) × More found)
 
+-- a call that neither counts nor touches a held file
+pub record Still {S : Type 0} (did : Done → S → Type 0) (left : S → Bytes → Option Bytes → Type 0) (old new : S)
+    : Type 0 where
+  pub done : Stays did old new
+  pub kept : LeavesNoMore left old new
+
+abbrev pub count_of : {A : Type 0} → Option A → ℕ
+count_of None = 0
+count_of (Some it) = 1
+
+-- it holds so many files
+abbrev pub Counts : {S : Type 0} → (Done → S → Type 0) → ℕ → S → Type 0
+Counts did holds now = (done : Done) × did done now × (done.holds ≡ holds)
+
+-- it holds no file, or none by this name
+abbrev pub IsFree : {S : Type 0} → (Done → S → Type 0) → (S → Bytes → Type 0) → S → Bytes → Type 0
+IsFree did is_free now name = Counts did 0 now ⊎ is_free now name
+
 -- ---- what the record tells of it
 
 abbrev pub opened : Bytes → FileCall
@@ -72,10 +90,6 @@ calls_of (Created writing) = made writing.name
 abbrev pub all_calls : List FileUse → List FileCall
 all_calls [] = []
 all_calls (used ∷ uses) = calls_of used ++ all_calls uses
-
-abbrev pub count_of : Option Bytes → ℕ
-count_of None = 0
-count_of (Some name) = 1
 
 abbrev pub done_by : Record → Done
 done_by r = record { calls = all_calls (all_uses r); holds = count_of r.held }

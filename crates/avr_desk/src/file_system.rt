@@ -1,22 +1,20 @@
 //! The files of a system by their names, as a program's desk uses them.
-ghost use Rattle.std.specs.Prelude.{◌≡◌, ⊤, IfOk, IfErr, OnOk, OnErr, MatchOption, Option, Some, true};
+ghost use Rattle.std.specs.Prelude.{◌≡◌, IfOk, IfErr, OnOk, OnErr, MatchOption, Option, Some, true};
 ghost use Rattle.std.specs.IoError.{error_kind};
-ghost use Rattle.avr_desk.specs.Journal.{Does, Done, LeavesAlso, LeavesNoMore, giving_input, holding, making, opening};
+ghost use Rattle.std.specs.Option.{option_copied};
+ghost use Rattle.avr_desk.specs.Journal.{Counts, Does, Done, LeavesAlso, LeavesNoMore, giving_input, count_of, holding, making, opening};
 ghost use Rattle.avr_desk.specs.Record.{Bytes};
 ghost use Rattle.ghosts.specs.Stays.{Stays};
 
-use crate::bounded::{Bounded, create};
-use crate::replacing::Replacement;
-use std::alloc::Global;
+use std::io;
 use std::io::{ErrorKind, Read, Write};
-use std::rt::Files;
-use std::{fs, io};
 
 /// Opens, creates and replaces a system's files by their names, and gives standard input. Only a call here yields what
 /// the ghost members state. So a desk can record of a name only what the system returned for it, and its record has
 /// every call that the system did.
 ///
-/// A reference to a runtime with the system's files and input is a `FileSystem`. That it does as asked is only tested.
+/// A [`crate::Folder`] is a `FileSystem`, and so is a reference to a runtime with the system's files and input.
+/// That the single calls of that do as asked is only tested.
 pub trait FileSystem {
     /// A file that was opened or created.
     type File: Read + Write + Drop;
@@ -33,13 +31,14 @@ pub trait FileSystem {
     /// The reader is as the system gives it for standard input.
     ghost is_input: { Self.Input → Type 0 };
 
-    /// The file was opened or created by this name.
+    /// The file was created by this name, or opened by it. If this run held the file of the name, that is the one that
+    /// was there when it was locked.
     ghost is_of: { Self.File → Bytes → Type 0 };
 
     /// The file was closed as it is.
     ghost closed: { Self.File → Type 0 };
 
-    /// No file had this name.
+    /// No file had this name. If this run held the file of the name, there was none when it was locked either.
     ghost lacks: { Bytes → Type 0 };
 
     /// It holds the file of this name.
@@ -48,12 +47,13 @@ pub trait FileSystem {
     /// Another process held the file of this name.
     ghost denies: { Bytes → Type 0 };
 
-    /// The file of this name was replaced with these bytes.
+    /// The file of this name was replaced with these bytes. Each crash leaves them, from some moment on until the run
+    /// replaces them again.
     ghost replaced: { Bytes → Bytes → Type 0 };
 
     /// While this run held the file of this name, a crash until now might have left this: a file of these bytes, or
-    /// none. What is written in place doesn't count: to a file that isn't regular, where another file is mounted, or
-    /// through a file that was opened or created otherwise.
+    /// none. What is written in place doesn't count: where another file is mounted, or through a file that was created
+    /// before it was held.
     ghost left: { Self → Bytes → Option Bytes → Type 0 };
 
     /// This was there when the run locked the file of this name: a file of these bytes, or none.
@@ -65,29 +65,32 @@ pub trait FileSystem {
         ensures keeps { LeavesNoMore left self.old self.new }
         ensures gives { Does did giving_input self.old self.new };
 
-    /// Opens a file to read.
+    /// Opens a file to read. `hold` is what this run holds.
     ///
     /// # Errors
     ///
-    /// The system's error, `NotFound` if there is no such file.
-    fn open_named(&mut self, name: &str) -> io::Result<Self::File>
-        ensures named { IfOk result (λ file. is_of file name.now) }
-        ensures absent { IfErr result (λ error. error_kind error ≡ ErrorKind.NotFound → lacks name.now) }
+    /// The system's error, `NotFound` if there is no such file, and `ResourceBusy` if the file is held and another one
+    /// has its name by now, or none.
+    fn open_named(&mut self, name: &str, hold: Option<&Self::Hold>) -> io::Result<Self::File>
+        ensures named { Counts did (count_of (option_copied hold.entry)) self.old
+            → IfOk result (λ file. is_of file name.now) }
+        ensures absent { Counts did (count_of (option_copied hold.entry)) self.old
+            → IfErr result (λ error. error_kind error ≡ ErrorKind.NotFound → lacks name.now) }
         ensures opens { OnOk result (Does did (opening name.now) self.old self.new) }
         ensures fails { OnErr result (Stays did self.old self.new) }
         ensures keeps { LeavesNoMore left self.old self.new };
 
-    /// Creates a file, or empties an existing one, but not the held one. If the name leads to that, what is written
-    /// goes to a file without a name. Another hard link to it becomes a file of its own.
+    /// Creates a file, or empties an existing one. It is none that this run holds, if that holds no other than `hold`.
     ///
     /// # Errors
     ///
-    /// The system's error.
+    /// The system's error, `ResourceBusy` if the file is held.
     fn create_named(&mut self, name: &str, hold: Option<&Self::Hold>) -> io::Result<Self::File>
         ensures named { IfOk result (λ file. is_of file name.now) }
         ensures creates { OnOk result (Does did (making name.now) self.old self.new) }
         ensures fails { OnErr result (Stays did self.old self.new) }
-        ensures keeps { LeavesNoMore left self.old self.new };
+        ensures keeps { Counts did (count_of (option_copied hold.entry)) self.old
+            → LeavesNoMore left self.old self.new };
 
     /// Closes a file that was written.
     fn close_file(&mut self, file: Self::File)
@@ -128,71 +131,4 @@ pub trait FileSystem {
     fn leave_held(&mut self, hold: Self::Hold)
         ensures leaves { (done : Done) → did (holding done) self.old → did done self.new }
         ensures keeps { LeavesNoMore left self.old self.new };
-}
-
-impl<'a, R: Files<File = fs::File> + Input + Alloc<A = Global>> FileSystem for &'a R {
-    type File = Bounded<fs::File>;
-
-    type Input = R::Reader;
-
-    type Hold = Replacement;
-
-    ghost did = { λ done system. ⊤ };
-
-    ghost is_input = { λ input. ⊤ };
-
-    ghost is_of = { λ file name. ⊤ };
-
-    ghost closed = { λ file. ⊤ };
-
-    ghost lacks = { λ name. ⊤ };
-
-    ghost holds = { λ hold name. ⊤ };
-
-    ghost denies = { λ name. ⊤ };
-
-    ghost replaced = { λ name bytes. ⊤ };
-
-    ghost left = { λ system name found. ⊥ };
-
-    ghost began = { λ name found. ⊤ };
-
-    fn input(&mut self) -> R::Reader {
-        self.reader()
-    }
-
-    fn open_named(&mut self, name: &str) -> io::Result<Bounded<fs::File>> {
-        Ok(Bounded::new(fs::open(*self, name)?, None))
-    }
-
-    fn create_named(
-        &mut self,
-        name: &str,
-        hold: Option<&Replacement>,
-    ) -> io::Result<Bounded<fs::File>> {
-        match hold {
-            Some(hold) => hold.create(*self, name),
-            None => create(*self, name),
-        }
-    }
-
-    fn close_file(&mut self, file: Bounded<fs::File>) {
-        drop(file);
-    }
-
-    fn hold_named(&mut self, name: &str) -> io::Result<Option<Replacement>> {
-        Replacement::begin(*self, name)
-    }
-
-    fn is_held(&self, hold: &Replacement, name: &str) -> bool {
-        hold.is_of(name)
-    }
-
-    fn put_held(&mut self, hold: &mut Replacement, bytes: &[u8]) -> io::Result<()> {
-        hold.put(*self, bytes)
-    }
-
-    fn leave_held(&mut self, hold: Replacement) {
-        hold.leave(*self)
-    }
 }

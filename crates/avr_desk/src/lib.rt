@@ -22,28 +22,29 @@ mod line;
 mod message;
 
 // The desks.
-mod bounded;
 mod failing;
 mod file_system;
 mod folder;
 mod journal;
 mod kept;
+mod looks;
 mod mem_desk;
-mod mem_folder;
-mod placing;
+mod replacement;
 mod replacing;
+mod runtime;
+mod synced;
 mod system;
 mod watched;
 
 // What they keep.
 mod laws;
 
-pub use bounded::Bounded;
 pub use bytes::Bytes;
 pub use desk::{ChipDesk, Desk, DeskFault};
 pub use failing::FailingDesk;
 pub use file_system::FileSystem;
 pub use files::{Contents, FileFault, read_file};
+pub use folder::Folder;
 pub use laws::{what_a_desk_in_memory_gives_is_true, what_a_desk_of_a_program_keeps_is_true};
 pub use line::{Piece, print_error, print_information, print_warning};
 pub use mem_desk::MemDesk;

@@ -41,9 +41,8 @@ enum OpenFile<F, I> {
 /// flushes the writers, so nothing is left unwritten at the end. A failed flush is a failure. A call that a signal
 /// interrupted is retried.
 ///
-/// A file is replaced by a new one beside it, which is renamed once it is on the disk. A lock on the old one holds it.
-/// If there is none, an empty file beside it is locked, its name with `.avrstk-new`. Anything but a regular file is
-/// written in place and not locked.
+/// A file is replaced by a new one beside it, its name with `.avrstk-new`, which is renamed once it is on the disk. A lock
+/// file beside it, its name with `.avrstk-lock`, holds it.
 #[derive(Drop)]
 pub struct SystemDesk<R: FileSystem + Drop, O: Write + Drop, E: Write + Drop> {
     system: R,
@@ -206,7 +205,7 @@ impl<R: FileSystem + Drop, O: Outlet + Drop, E: Outlet + Drop> Desk for SystemDe
             self.journal = self.journal.then(&Call::Opened(name.as_bytes()));
             return Ok(());
         }
-        match self.system.open_named(name) {
+        match self.system.open_named(name, self.replacement.as_ref()) {
             Ok(file) => {
                 open_next(&mut self.system, &mut self.opened, OpenFile::ToRead(file));
                 self.journal = self.journal.then(&Call::Opened(name.as_bytes()));

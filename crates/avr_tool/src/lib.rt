@@ -60,7 +60,7 @@ pub use laws::{
 };
 // what a run reads and writes beside its link
 pub use avr_desk::{
-    Bounded, Bytes, ChipDesk, Desk, DeskCall, DeskFault, FailingDesk, FileSystem, FileUse, MemDesk,
+    Bytes, ChipDesk, Desk, DeskCall, DeskFault, FailingDesk, FileSystem, FileUse, MemDesk,
     Opening, Piece, Reading, Stream, SystemDesk, WatchDesk, WatchedDesk, Writing, print_error,
     print_information, print_warning, write_all,
 };

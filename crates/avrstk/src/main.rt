@@ -9,21 +9,19 @@ ghost use Rattle.avr_tool.specs.Shown.{TellsAll, shown_state};
 ghost use Rattle.avr_tool.specs.Sockets.{peers_of};
 
 use avr_tool::{
-    Bounded, FileSystem, Network, Outlet, StreamLink, SystemDesk, refuse_text, run_program,
+    FileSystem, Network, Outlet, StreamLink, SystemDesk, refuse_text, run_program,
 };
 use std::alloc::Global;
 use std::env::Env;
-use std::fs::{File, OpenOptions};
+use std::fs::File;
 use std::io::{Read, Write};
 use std::process::ExitCode;
 use std::{env, fs, io};
 
 fn main(rt: HostRuntime) -> ExitCode {
     let _taken = take_closed_streams(&rt);
-    let output = || Bounded::new(rt.stdout(), file_of(&rt, "/dev/stdout"));
-    let messages = Bounded::new(rt.stderr(), file_of(&rt, "/dev/stderr"));
-    let mut desk = SystemDesk::new(&rt, output(), messages);
-    let mut link = StreamLink::new(rt.stdin(), output());
+    let mut desk = SystemDesk::new(&rt, rt.stdout(), rt.stderr());
+    let mut link = StreamLink::new(rt.stdin(), rt.stdout());
     ExitCode::from(run(&rt, &rt, &mut desk, &mut link))
 }
 
@@ -32,18 +30,6 @@ fn main(rt: HostRuntime) -> ExitCode {
 /// written.
 fn take_closed_streams(rt: &HostRuntime) -> [io::Result<File>; 3] {
     [fs::open(rt, "/"), fs::open(rt, "/"), fs::open(rt, "/")]
-}
-
-/// Opens the file behind this standard stream, if it is a regular one. Nothing is written to it here.
-fn file_of(rt: &HostRuntime, name: &str) -> Option<File> {
-    match fs::metadata(rt, name) {
-        Ok(there) if there.is_file() => OpenOptions::new()
-            .append(true)
-            .open(rt, name)
-            .or_else(|_| fs::open(rt, name))
-            .ok(),
-        _ => None,
-    }
 }
 
 /// Runs what the command line asks for.

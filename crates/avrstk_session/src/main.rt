@@ -15,7 +15,7 @@ mod outline;
 
 use avr_cli::{Port, Settings, read_settings, read_words};
 use avr_desk::{
-    Bounded, ChipDesk, Desk, Message, Stream, SystemDesk, memory_message, refuse, write_all,
+    ChipDesk, Desk, Message, Stream, SystemDesk, memory_message, refuse, write_all,
 };
 use avr_emulator::{judge_part, serve};
 use avr_plan::{Plan, plan};
@@ -31,10 +31,8 @@ use stk_host::{Link, StreamLink};
 
 fn main(rt: HostRuntime) -> ExitCode {
     let _taken = take_closed_streams(&rt);
-    let output = || Bounded::new(rt.stdout(), None);
-    let messages = Bounded::new(rt.stderr(), None);
-    let mut desk = SystemDesk::new(&rt, output(), messages);
-    let mut link = StreamLink::new(rt.stdin(), output());
+    let mut desk = SystemDesk::new(&rt, rt.stdout(), rt.stderr());
+    let mut link = StreamLink::new(rt.stdin(), rt.stdout());
     ExitCode::from(run(&rt, &mut desk, &mut link))
 }
 

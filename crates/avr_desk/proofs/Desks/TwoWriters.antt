@@ -16,14 +16,14 @@ use Rattle.ghosts.specs.Stays.{Stays}
 use Rattle.avr_desk.specs.Named.{is_dash}
 use Rattle.avr_desk.proofs.FileUses.Calls.{calls_opened, calls_replaced, made_dash, opened_dash, opened_named, calls_append}
 use Rattle.avr_desk.proofs.FileUses.Uses.{files_absent, files_opened, files_replaced}
-use Rattle.avr_desk.specs.Journal.{Does, FileCall, Leaves, LeavesAlso, LeavesNoMore, calling, count_of, done_by, giving_input, holding, making, none_done, opened, opening}
+use Rattle.avr_desk.specs.Journal.{Counts, Does, FileCall, Leaves, LeavesAlso, LeavesNoMore, calling, count_of, done_by, giving_input, holding, making, none_done, opened, opening}
 use Rattle.avr_desk.specs.Handles.{CrashLeaves, IsTrueRecord, HasGiven, IsHeldBy, IsTrueOpen, IsTrueUse}
 use Rattle.avr_desk.specs.Standing.{FileGives, GivesBytes, FileGivesNone, IsClosed, is_output}
 use Rattle.avr_desk.specs.Shown.{Shown, IsTrueSince, TellsAll, has_dash, to_output}
 use Rattle.avr_desk.specs.declared.file_system.FileSystem.{Ghosts}
 use Rattle.avr_desk.specs.declared.record.FileUse.{FileUse}
 use Rattle.avr_desk.specs.declared.record.FileUse.TheVariants.{Created, Opened}
-use Rattle.avr_desk.specs.declared.record.Opening.TheVariants.{Found}
+use Rattle.avr_desk.specs.declared.record.Opening.TheVariants.{Absent, Found}
 use Rattle.avr_desk.specs.declared.record.Open.{Open}
 use Rattle.avr_desk.specs.declared.record.Reading.{Reading}
 use Rattle.avr_desk.specs.declared.record.Writing.{Writing}
@@ -118,6 +118,23 @@ module _ {S F I H O E : Type 0} (system : Ghosts S F I H) (reads : Reads F) (wri
       → system.did (holding (record { calls = calls; holds = count_of held })) old → Did calls (Some name) new
   left_one hold held calls name is leaves did = search rules
 
+  -- it holds as many files as the desk
+  abbrev Holds : Desk → Type 0
+  Holds b = Counts system.did (count_of b.hold) b.system
+
+  counts : (s : S) (hold : Option H) (held : Option Bytes) (calls : List FileCall) → IsHeldBy system hold held
+      → Did calls held s → Counts system.did (count_of hold) s
+  counts s None None calls is did = (record { calls = calls; holds = 0 }, did, refl)
+  counts s (Some hold) (Some name) calls is did = (record { calls = calls; holds = 1 }, did, refl)
+  counts s None (Some name) calls is did = absurd is
+  counts s (Some hold) None calls is did = absurd is
+
+  holds : (b : Desk) → Files b.system b.opened b.hold b.kept → Holds b
+  holds b are = counts b.system b.hold b.kept.held _ are.held are.did
+
+  holds_as : (b : Desk) {held : Option H} → held ≡ b.hold → Holds b → Counts system.did (count_of held) b.system
+  holds_as b same only = subst (λ (hold : Option H). Counts system.did (count_of hold) b.system) (sym same) only
+
   -- ---- what a crash may leave
 
   abbrev NoMore : S → S → Type 0
@@ -195,14 +212,14 @@ module _ {S F I H O E : Type 0} (system : Ghosts S F I H) (reads : Reads F) (wri
 
   -- it was opened
   opened_true : {b : Desk} {s : S} {f u : ℕ} {e : Option ErrorKind} {o : OpenFile F I} {k : Record} (x : Reading)
-      → k ≡ with_open (ToRead x) b.kept → is_output o ≡ false → TrueOpen o (ToRead x) → Closed b.opened
+      → k ≡ with_open (ToRead x) b.kept → is_output o ≡ false → (Holds b → TrueOpen o (ToRead x)) → Closed b.opened
       → Does system.did (calling (opened x.name ∷ [])) b.system s → NoMore b.system s
       → Since b (Next b s f u e o b.hold k)
   opened_true {b = b} {s = s} x kept elsewhere is closed does keeps =
       let files = ap has_dash (files_opened (ToRead x) b.kept) in
       rw kept (quiet refl refl
       (λ none. no_dash_in_front (all_files b.kept) [] (sym files ∙ none)) (λ none was. elsewhere)
-      (λ are. files_now are (uses_true b.system b.opened b.hold b.kept are closed) is
+      (λ are. files_now are (uses_true b.system b.opened b.hold b.kept are closed) (is (holds b are))
       (did_as b.kept.held s (calls_opened (ToRead x) (Opened (Found x)) b.kept refl) (does _ are.did))
       keeps))
 
@@ -213,37 +230,48 @@ module _ {S F I H O E : Type 0} (system : Ghosts S F I H) (reads : Reads F) (wri
   input_true {own = own} {i = i} is_open same dash kept closed begins does stays keeps keeps_on =
       let x : Reading = record { name = own; bytes = []; ended = false } in
       let is : is_dash own ≡ true = sym (dash ∙ ap is_dash (sym same)) in
-      rw is_open (opened_true x kept refl (x, refl, (is, i, begins, given_none input i own)) closed
+      rw is_open (opened_true x kept refl (λ only. (x, refl, (is, i, begins, given_none input i own))) closed
       (λ done did. rw (opened_dash own is) (stays _ (does done did))) (left_on keeps keeps_on))
 
   pub file_true : {b : Desk} {s t : S} {f u : ℕ} {e : Option ErrorKind} {o : OpenFile F I} {k : Record}
-      {name own : Bytes} {h : F} → o ≡ open_file.ToRead h → own ≡ name → false ≡ is_dash name → system.is_of h name
+      {name own : Bytes} {h : F} (held : Option H) → held ≡ b.hold → o ≡ open_file.ToRead h → own ≡ name
+      → false ≡ is_dash name → (Counts system.did (count_of held) b.system → system.is_of h name)
       → k ≡ with_open (ToRead (record { name = own; bytes = []; ended = false })) b.kept
       → Closed b.opened → Does system.did (opening name) b.system s → Stays system.did s t
       → NoMore b.system s → NoMore s t → Since b (Next b t f u e o b.hold k)
-  file_true {own = own} {h = h} is_open same no_dash named kept closed does stays keeps keeps_on =
+  file_true {b = b} {own = own} {h = h} held is_hold is_open same no_dash named kept closed does stays keeps keeps_on =
       let x : Reading = record { name = own; bytes = []; ended = false } in
       rw is_open (opened_true x kept refl
-      (x, refl, (h, subst (system.is_of h) (sym same) named, given_none reads h own)) closed
+      (λ only. (x, refl, (h, subst (system.is_of h) (sym same) (named (holds_as b is_hold only)), given_none reads h own)))
+      closed
       (λ done did. rw (opened_named own (sym (no_dash ∙ ap is_dash (sym same))), same) (stays _ (does done did)))
       (left_on keeps keeps_on))
 
   -- there was no such file
   pub absent_true : {b : Desk} {s t : S} {f u : ℕ} {e : Option ErrorKind} {o : OpenFile F I} {k : Record}
-      {name own : Bytes} → o ≡ open_file.Nothing → own ≡ name
-      → system.lacks name → k ≡ with_absent own b.kept → Closed b.opened → Stays system.did b.system s
+      {name own : Bytes} (held : Option H) → held ≡ b.hold → o ≡ open_file.Nothing → own ≡ name
+      → (Counts system.did (count_of held) b.system → system.lacks name)
+      → k ≡ with_absent own b.kept → Closed b.opened → Stays system.did b.system s
       → Stays system.did s t → NoMore b.system s → NoMore s t → Since b (Next b t f u e o b.hold k)
-  absent_true {b = b} {t = t} {own = own} is_open same lacks kept closed fails stays keeps keeps_on =
-      search (rules, quiet, files_absent, more_true, did_as, append-nil, calls_append, left_on)
+  absent_true {b = b} {t = t} {o = o} {k = k} {own = own} held is_hold is_open same lacks kept closed fails stays keeps
+      keeps_on =
+      let now : Files b.system b.opened b.hold b.kept → Files t o b.hold k =
+      λ are. let is : system.lacks own =
+      subst system.lacks (sym same) (lacks (holds_as b is_hold (holds b are))) in
+      search (rules, more_true, did_as, append-nil, calls_append, left_on) in
+      search (rules, quiet, files_absent, append-nil)
 
   -- it was created
   create_true : {b : Desk} {s : S} {f u : ℕ} {e : Option ErrorKind} {o : OpenFile F I} {k : Record} (x : Writing)
       → k ≡ with_open (ToWrite x) b.kept → is_output o ≡ is_dash x.name → TrueOpen o (ToWrite x) → Closed b.opened
-      → Does system.did (making x.name) b.system s → NoMore b.system s → Since b (Next b s f u e o b.hold k)
+      → Does system.did (making x.name) b.system s
+      → (Holds b → NoMore b.system s) → Since b (Next b s f u e o b.hold k)
   create_true {b = b} {s = s} {o = o} x kept to_output is closed does keeps =
-      let did : (are : Files b.system b.opened b.hold b.kept) → system.did (done_by (with_open (ToWrite x) b.kept)) s =
-      λ are. did_as b.kept.held s (calls_opened (ToWrite x) (Created x) b.kept refl) (does _ are.did) in
-      grind (arith, nat_tests, files_opened, quiet, no_dash_in_front, no_dash_behind, files_now, uses_true, did)
+      let now : (are : Files b.system b.opened b.hold b.kept) → Files s o b.hold (with_open (ToWrite x) b.kept) =
+      λ are. files_now are (uses_true b.system b.opened b.hold b.kept are closed) is
+      (did_as b.kept.held s (calls_opened (ToWrite x) (Created x) b.kept refl) (does _ are.did))
+      (keeps (holds b are)) in
+      grind (arith, nat_tests, files_opened, quiet, no_dash_in_front, no_dash_behind, now)
 
   pub output_true : {b : Desk} {s : S} {f u : ℕ} {e : Option ErrorKind} {o : OpenFile F I} {k : Record}
       {name own : Bytes} → o ≡ open_file.Output → own ≡ name
@@ -253,18 +281,20 @@ module _ {S F I H O E : Type 0} (system : Ghosts S F I H) (reads : Reads F) (wri
       let is : true ≡ is_dash own = dash ∙ ap is_dash (sym same) in
       let x : Writing = record { name = own; bytes = [] } in
       rw is_open (create_true x kept is (x, refl, sym is) closed
-      (λ done did. rw (made_dash own (sym is), append-nil done.calls) (stays _ did)) keeps)
+      (λ done did. rw (made_dash own (sym is), append-nil done.calls) (stays _ did)) (λ only. keeps))
 
   pub created_true : {b : Desk} {s t : S} {f u : ℕ} {e : Option ErrorKind} {o : OpenFile F I} {k : Record}
       {name own : Bytes} {h : F} → o ≡ open_file.ToWrite h → own ≡ name → false ≡ is_dash name → system.is_of h name
       → k ≡ with_open (ToWrite (record { name = own; bytes = [] })) b.kept
       → Closed b.opened → Does system.did (making name) b.system s → Stays system.did s t
-      → NoMore b.system s → NoMore s t → Since b (Next b t f u e o b.hold k)
-  created_true {own = own} {h = h} is_open same no_dash named kept closed does stays keeps keeps_on =
+      → (held : Option H) → held ≡ b.hold → (Counts system.did (count_of held) b.system → NoMore b.system s)
+      → NoMore s t → Since b (Next b t f u e o b.hold k)
+  created_true {b = b} {own = own} {h = h} is_open same no_dash named kept closed does stays held is_hold keeps keeps_on =
       let x : Writing = record { name = own; bytes = [] } in
       rw is_open (create_true x kept (no_dash ∙ ap is_dash (sym same))
       (x, refl, (h, subst (system.is_of h) (sym same) named, Appends-nil (writes.contents h))) closed
-      (λ done did. rw same (stays _ (does done did))) (left_on keeps keeps_on))
+      (λ done did. rw same (stays _ (does done did)))
+      (λ only. left_on (keeps (holds_as b is_hold only)) keeps_on))
 
   -- a file was replaced, and the held file released
   pub replace_true : {b c : Desk} {s t u : S} {name own bytes : Bytes} (h : Option H) → own ≡ name

@@ -18,5 +18,6 @@ returns-in-Ok-clause-call g c = record {
   stays = from_inside _ _ _ _ _ _ c.self.view_is
       (created_true _ _ _ _ _ _ c.open_next-in-Ok.ensures.opened c.as_bytes-in-Ok.ensures.value c.if-eq.ensures c.in-Ok.ensures.named
       c.then-self-inside-in-Ok.ensures c.open_next-in-Ok.ensures.closed c.in-Ok.ensures.creates
-      c.open_next-in-Ok.ensures.did c.create_named.ensures.keeps c.open_next-in-Ok.ensures.keeps);
+      c.open_next-in-Ok.ensures.did _ c.as_ref.ensures.value
+      c.create_named.ensures.keeps c.open_next-in-Ok.ensures.keeps);
 }

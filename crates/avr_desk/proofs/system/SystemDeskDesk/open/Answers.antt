@@ -10,12 +10,12 @@ returns-then-eq-clause-stays g c = from_inside _ _ _ _ _ _ c.self.view_is
 
 pub returns-in-Ok-clause-stays : goal.returns-in-Ok-clause-stays
 returns-in-Ok-clause-stays g c = from_inside _ _ _ _ _ _ c.self.view_is
-    (file_true _ _ _ _ _ _ c.open_next-in-Ok.ensures.opened c.as_bytes-in-Ok.ensures.value c.if-eq.ensures c.in-Ok.ensures.named
+    (file_true _ _ _ _ _ _ _ c.as_ref.ensures.value c.open_next-in-Ok.ensures.opened c.as_bytes-in-Ok.ensures.value c.if-eq.ensures c.in-Ok.ensures.named
     c.then-self-inside-in-Ok.ensures c.open_next-in-Ok.ensures.closed c.in-Ok.ensures.opens
     c.open_next-in-Ok.ensures.did c.open_named.ensures.keeps c.open_next-in-Ok.ensures.keeps)
 
 pub returns-in-Err-clause-stays : goal.returns-in-Err-clause-stays
 returns-in-Err-clause-stays g c = from_inside _ _ _ _ _ _ c.self.view_is
-    (absent_true _ _ _ _ _ _ c.open_next-in-Err.ensures.opened c.as_bytes-in-Err.ensures.value (c.in-Err.ensures.absent (search rules))
+    (absent_true _ _ _ _ _ _ _ c.as_ref.ensures.value c.open_next-in-Err.ensures.opened c.as_bytes-in-Err.ensures.value (λ only. c.in-Err.ensures.absent only (search rules))
     c.then-self-inside-in-Err.ensures c.open_next-in-Err.ensures.closed c.in-Err.ensures.fails
     c.open_next-in-Err.ensures.did c.open_named.ensures.keeps c.open_next-in-Err.ensures.keeps)

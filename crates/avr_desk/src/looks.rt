@@ -1,0 +1,110 @@
+//! What follows from what calls of a system gave. Nothing here calls one.
+ghost use Rattle.std.specs.Prelude.{◌≡◌, ◌==◌, ◌%◌, ◌*◌, bit_and, bit_or, if◌then◌else◌, IfOk, IfErr, OnOk, None, Ok, Err, Option, Some};
+ghost use Rattle.std.specs.IoError.{error_kind};
+ghost use Rattle.avr_desk.specs.Looks.{SyncsNone, is_same, leads, locked};
+
+use std::fs::TryLockError;
+use std::io;
+use std::io::ErrorKind;
+
+/// Which file it is, as long as that is there.
+#[derive(Clone, Copy)]
+pub(crate) struct Identity {
+    pub(crate) device: u64,
+    pub(crate) number: u64,
+}
+
+/// Returns whether two looks found the same: one file, or none.
+pub(crate) fn is_same(one: Option<Identity>, other: Option<Identity>) -> bool
+    ensures { result ≡ is_same one other }
+{
+    match (one, other) {
+        (Some(one), Some(other)) => one.device == other.device && one.number == other.number,
+        (None, None) => true,
+        _ => false,
+    }
+}
+
+/// Returns `None` in place of an error of this kind.
+pub(crate) fn unless<T>(kind: ErrorKind, given: io::Result<T>) -> io::Result<Option<T>>
+    ensures given { IfOk given (λ it. result ≡ Ok (Some it)) }
+    ensures passed { IfErr given (λ error. error_kind error ≡ kind → result ≡ Ok None) }
+    ensures fails { IfErr given (λ error. (error_kind error ≡ kind → ⊥) → result ≡ Err error) }
+{
+    match given {
+        Ok(it) => Ok(Some(it)),
+        Err(error) if error.kind() == kind => Ok(None),
+        Err(error) => Err(error),
+    }
+}
+
+/// Returns the locked file, or `None` if another process has locked it.
+pub(crate) fn locked<T: Drop>(file: T, tried: Result<(), TryLockError>) -> io::Result<Option<T>>
+    ensures { result ≡ locked file tried }
+{
+    match tried {
+        Ok(()) => Ok(Some(file)),
+        Err(TryLockError::WouldBlock) => Ok(None),
+        Err(TryLockError::Error(error)) => Err(error),
+    }
+}
+
+/// Returns what waiting for the disk gave. It counts as done if the file system synchronizes nothing of that kind.
+pub(crate) fn synced(waited: io::Result<()>) -> io::Result<()>
+    ensures done { OnOk waited (result ≡ waited) }
+    ensures passed { IfErr waited (λ error. SyncsNone (error_kind error) → result ≡ Ok tt) }
+    ensures fails { IfErr waited (λ error. (SyncsNone (error_kind error) → ⊥) → result ≡ waited) }
+{
+    match waited {
+        Err(error)
+            if matches!(
+                error.kind(),
+                ErrorKind::InvalidInput | ErrorKind::ReadOnlyFilesystem
+            ) => { Ok(()) }
+        waited => waited,
+    }
+}
+
+/// Returns whether a file that is created by a name may be the held one: the name is that of its place, or leads to the
+/// file that was seen there, or is a link that leads nowhere, as the place may.
+pub(crate) fn leads(
+    seen: Option<Identity>,
+    there: Option<Identity>,
+    is_link: bool,
+    is_place: bool,
+) -> bool
+    ensures { result ≡ leads seen there is_link is_place }
+{
+    match there {
+        Some(_) => is_place || is_same(seen, there),
+        None => is_place || (is_link && seen.is_none()),
+    }
+}
+
+/// Returns the mode that a new file is made with. If it replaces another one, it is its owner's alone until it has
+/// that one's permissions; else the system restricts it as any file.
+pub(crate) fn first_mode(is_replacing: bool) -> u32
+    ensures { result ≡ (if is_replacing then 0o600 else 0o666) }
+{
+    if is_replacing { 0o600 } else { 0o666 }
+}
+
+/// Returns the owner or the group that a new file is given in place of its own: the old one's, if that is another.
+pub(crate) fn given(own: u32, old: u32) -> Option<u32>
+    ensures { result ≡ (if own == old then None else Some old) }
+{
+    if own == old { None } else { Some(old) }
+}
+
+/// Returns the permissions of a new file from the old one's mode, without setuid and setgid. If it has another group,
+/// that gets only those of the old group's rights that everyone had.
+pub(crate) fn permissions_after(mode: u32, is_of_group: bool) -> u32
+    ensures { result ≡ (if is_of_group then bit_and mode 0o777
+        else bit_or (bit_and mode 0o707) (bit_and mode (mode % 8 * 8))) }
+{
+    if is_of_group {
+        mode & 0o777
+    } else {
+        mode & 0o707 | (mode & (mode % 8 * 8))
+    }
+}

@@ -1,0 +1,170 @@
+//! Files by their names, over the single calls of a system. A file is replaced whole or not at all, by one run at a
+//! time.
+//!
+//! A run locks a file beside the one that is to be replaced, under its name with `.avrstk-lock`. If a run is ended, the
+//! system unlocks that. The bytes are written to a new file, under the name with `.avrstk-new`. Once it is on the disk,
+//! it is renamed. Only the run that has the lock touches that file.
+ghost use Rattle.std.specs.Prelude.{◌≡◌, IfOk, MatchOption, Some, OnErr, OnOk};
+ghost use Rattle.avr_desk.specs.Journal.{Does, LeavesAlso, Still, holding, making};
+ghost use Rattle.ghosts.specs.Stays.{Stays};
+
+use crate::file_system::FileSystem;
+use crate::folder::Folder;
+use std::io;
+use std::io::ErrorKind;
+
+/// Holds the file of a name that is to be replaced.
+#[derive(Drop)]
+pub struct Replacement<F: Folder> {
+    held: F::Held,
+    seen: F::Seen,
+    parent: F::Parent,
+}
+
+impl<F: Folder> Replacement<F> {
+    /// Holds the file of this name. Returns `None` if another process does. Fails if the file may not be written.
+    fn begin(folder: &mut F, name: &str) -> io::Result<Option<Replacement<F>>>
+        ensures held { IfOk result (λ answer. MatchOption answer (F.denies name.now)
+            (λ hold. F.held_name hold.held ≡ name.now)) }
+        ensures locks { IfOk result (λ answer. MatchOption answer (Stays F.did folder.old folder.new)
+            (λ hold. Does F.did holding folder.old folder.new)) }
+        ensures fails { OnErr result (Stays F.did folder.old folder.new) }
+        ensures leaves { LeavesAlso F.left name.now (F.began name.now) folder.old folder.new }
+    {
+        let place = folder.find(name)?;
+        let parent = folder.open_parent(&place)?;
+        let Some(file) = folder.open_lock(&place)? else {
+            return Ok(None);
+        };
+        let Some(lock) = folder.lock(&place, file)? else {
+            return Ok(None);
+        };
+        let Some(held) = folder.confirm(place, lock)? else {
+            return Ok(None);
+        };
+        match folder.see(&held) {
+            Ok(seen) => Ok(Some(Replacement { held, seen, parent })),
+            Err(error) => {
+                folder.unlock(held);
+                Err(error)
+            }
+        }
+    }
+
+    /// Makes a new file of these bytes, which is on the disk. Fails if another file is by then where the old one was.
+    fn make_ready(&self, folder: &mut F, bytes: &[u8]) -> io::Result<F::New>
+        ensures keeps { IfOk result (λ file. F.keeps file bytes.now) }
+        ensures found { IfOk result (λ file. F.finds_both folder.new self.now.seen file) }
+        ensures stays { Still F.did F.left folder.old folder.new }
+    {
+        let mut file = folder.make(&self.held, &self.seen)?;
+        folder.write(&mut file, bytes)?;
+        folder.sync(&mut file)?;
+        if folder.is_ready(&self.held, &self.seen, &file)? {
+            Ok(file)
+        } else {
+            Err(io::Error::from(ErrorKind::AlreadyExists))
+        }
+    }
+
+    /// Gives the new file, which has these bytes, the old one's name. If another file is mounted there, that is written
+    /// in place. The new file stays if that fails, so that one of both is always there.
+    fn put_ready(&self, folder: &mut F, file: F::New, bytes: &[u8]) -> io::Result<()>
+        requires has { F.keeps file bytes.now }
+        requires found { F.finds_both folder.old self.now.seen file }
+        ensures put { OnOk result (F.lasts (F.held_name self.now.held) bytes.now) }
+        ensures makes { OnOk result (Does F.did (making (F.held_name self.now.held)) folder.old folder.new) }
+        ensures fails { OnErr result (Stays F.did folder.old folder.new) }
+        ensures leaves { LeavesAlso F.left (F.held_name self.now.held) (λ found. found ≡ Some bytes.now)
+            folder.old folder.new }
+    {
+        match folder.rename(&self.held, &self.seen, file) {
+            Ok(()) => folder.sync_name(&self.held, &self.parent),
+            Err(error) if error.kind() == ErrorKind::ResourceBusy => {
+                folder.write_over(&self.held, bytes)?;
+                folder.remove_new(&self.held);
+                Ok(())
+            }
+            Err(error) => Err(error),
+        }
+    }
+}
+
+impl<F: Folder> FileSystem for F {
+    type File = F::File;
+
+    type Input = F::Input;
+
+    type Hold = Replacement<F>;
+
+    ghost did = { F.did };
+
+    ghost is_input = { F.is_input };
+
+    ghost is_of = { F.is_of };
+
+    ghost closed = { F.closed };
+
+    ghost lacks = { F.lacks };
+
+    ghost holds = { λ hold name. F.held_name hold.held ≡ name };
+
+    ghost denies = { F.denies };
+
+    ghost replaced = { F.lasts };
+
+    ghost left = { F.left };
+
+    ghost began = { F.began };
+
+    fn input(&mut self) -> F::Input {
+        Folder::input(self)
+    }
+
+    fn open_named(&mut self, name: &str, hold: Option<&Replacement<F>>) -> io::Result<F::File> {
+        match hold {
+            Some(hold) if self.is_named(&hold.held, name) => {
+                self.open_seen(&hold.held, &hold.seen)
+            }
+            _ => self.open(name),
+        }
+    }
+
+    fn create_named(&mut self, name: &str, hold: Option<&Replacement<F>>) -> io::Result<F::File> {
+        let Some(hold) = hold else {
+            return self.create(name);
+        };
+        if self.leads_to(name, &hold.held, &hold.seen)? {
+            return Err(io::Error::from(ErrorKind::ResourceBusy));
+        }
+        self.create(name)
+    }
+
+    fn close_file(&mut self, file: F::File) {
+        self.close(file);
+    }
+
+    fn hold_named(&mut self, name: &str) -> io::Result<Option<Replacement<F>>> {
+        Replacement::begin(self, name)
+    }
+
+    fn is_held(&self, hold: &Replacement<F>, name: &str) -> bool {
+        self.is_named(&hold.held, name)
+    }
+
+    fn put_held(&mut self, hold: &mut Replacement<F>, bytes: &[u8]) -> io::Result<()> {
+        // A run that was ended may have left a new file.
+        self.remove_new(&hold.held);
+        match hold.make_ready(self, bytes) {
+            Ok(file) => hold.put_ready(self, file, bytes),
+            Err(error) => {
+                self.remove_new(&hold.held);
+                Err(error)
+            }
+        }
+    }
+
+    fn leave_held(&mut self, hold: Replacement<F>) {
+        self.unlock(hold.held);
+    }
+}

@@ -1,0 +1,312 @@
+//! A runtime's files, each call as the system gives it.
+ghost use Rattle.std.specs.Prelude.{⊤, string_bytes};
+
+use crate::folder::Folder;
+use crate::looks::{
+    Identity, first_mode, given, is_same, leads, locked, permissions_after, synced, unless,
+};
+use crate::synced::Synced;
+use std::alloc::Global;
+use std::fs::{File, Metadata, OpenOptions, Permissions};
+use std::io::{ErrorKind, Write};
+use std::os::unix::fs::{MetadataExt, OpenOptionsExt, PermissionsExt, fchown};
+use std::path::Path;
+use std::rt::Files;
+use std::{fs, io};
+
+/// A name, and the paths of the file that it leads to, of its lock file and of a new one.
+#[derive(Drop)]
+pub struct Place {
+    name: String,
+    path: String,
+    lock: String,
+    new: String,
+}
+
+/// A place, and its locked lock file.
+#[derive(Drop)]
+pub struct Held {
+    place: Place,
+    lock: File,
+}
+
+fn identity(file: &Metadata) -> Identity {
+    Identity {
+        device: file.dev(),
+        number: file.ino(),
+    }
+}
+
+fn identity_of(found: &Option<Metadata>) -> Option<Identity> {
+    found.as_ref().map(identity)
+}
+
+/// Returns which file is at this path, which may be a link.
+fn look<R: Files<File = File>>(rt: &R, path: &str) -> io::Result<Option<Identity>> {
+    let found = unless(ErrorKind::NotFound, fs::symlink_metadata(rt, path))?;
+    Ok(identity_of(&found))
+}
+
+/// Returns this path with an ending.
+fn with_ending(alloc: Global, path: &str, ending: &str) -> io::Result<String> {
+    let mut text = String::from_str(alloc, path)?;
+    text.push_str(ending)?;
+    Ok(text)
+}
+
+/// Returns the folder of a path.
+fn folder_of(path: &str) -> &str {
+    match Path::new(path).parent() {
+        Some(folder) if !folder.as_str().is_empty() => folder.as_str(),
+        _ => ".",
+    }
+}
+
+/// Returns whether two paths are one name in one folder.
+fn is_one_place<R: Files<File = File>>(rt: &R, one: &str, other: &str) -> io::Result<bool> {
+    if Path::new(one).file_name() != Path::new(other).file_name() {
+        return Ok(false);
+    }
+    let folder = fs::metadata(rt, folder_of(one))?;
+    let other = fs::metadata(rt, folder_of(other))?;
+    Ok(is_same(Some(identity(&folder)), Some(identity(&other))))
+}
+
+fn is_link<R: Files<File = File>>(rt: &R, path: &str) -> io::Result<bool> {
+    let found = unless(ErrorKind::NotFound, fs::symlink_metadata(rt, path))?;
+    Ok(matches!(found, Some(there) if there.is_symlink()))
+}
+
+/// Returns whether this open file has the path.
+fn is_at<R: Files<File = File>>(rt: &R, file: &File, path: &str) -> io::Result<bool> {
+    let own = identity(&file.metadata()?);
+    Ok(is_same(Some(own), look(rt, path)?))
+}
+
+/// Gives a new file the old one's group, owner and permissions, as far as the system allows.
+fn be_like(new: &File, old: &Metadata) -> io::Result<()> {
+    let own = new.metadata()?;
+    if let Some(group) = given(own.gid(), old.gid()) {
+        let _ = fchown(new, None, Some(group));
+    }
+    if let Some(owner) = given(own.uid(), old.uid()) {
+        let _ = fchown(new, Some(owner), None);
+    }
+    let is_of_group = new.metadata()?.gid() == old.gid();
+    new.set_permissions(Permissions::from_mode(permissions_after(old.mode(), is_of_group)))
+}
+
+impl<'a, R: Files<File = File> + Input + Alloc<A = Global>> Folder for &'a R {
+    type File = Synced;
+
+    type Input = R::Reader;
+
+    type Place = Place;
+
+    type Parent = Option<File>;
+
+    type LockFile = File;
+
+    type Lock = File;
+
+    type Held = Held;
+
+    type Seen = Option<Metadata>;
+
+    type New = File;
+
+    ghost did = { λ done system. ⊤ };
+
+    ghost left = { λ system name found. ⊥ };
+
+    ghost began = { λ name found. ⊤ };
+
+    ghost lasts = { λ name bytes. ⊤ };
+
+    ghost finds = { λ system name bytes. ⊤ };
+
+    ghost finds_both = { λ system seen file. ⊤ };
+
+    ghost is_apart = { λ system name. ⊤ };
+
+    ghost is_free = { λ system name. ⊤ };
+
+    ghost name_of = { λ place. string_bytes place.name };
+
+    ghost held_name = { λ held. string_bytes held.place.name };
+
+    ghost is_mounted = { λ name. ⊤ };
+
+    ghost denies = { λ name. ⊤ };
+
+    ghost has = { λ file bytes. ⊤ };
+
+    ghost keeps = { λ file bytes. ⊤ };
+
+    ghost is_input = { λ input. ⊤ };
+
+    ghost is_of = { λ file name. ⊤ };
+
+    ghost closed = { λ file. ⊤ };
+
+    ghost lacks = { λ name. ⊤ };
+
+    fn input(&mut self) -> R::Reader {
+        self.reader()
+    }
+
+    fn open(&mut self, name: &str) -> io::Result<Synced> {
+        Ok(Synced::new(fs::open(*self, name)?))
+    }
+
+    fn create(&mut self, name: &str) -> io::Result<Synced> {
+        Ok(Synced::new(fs::create(*self, name)?))
+    }
+
+    fn close(&mut self, file: Synced) {
+        drop(file);
+    }
+
+    // A link stays, and leads to the place. One that leads nowhere has none.
+    fn find(&mut self, name: &str) -> io::Result<Place> {
+        let path = if is_link(*self, name)? {
+            fs::canonicalize(*self, name)?.into_string()
+        } else {
+            String::from_str(self.alloc(), name)?
+        };
+        Ok(Place {
+            name: String::from_str(self.alloc(), name)?,
+            lock: with_ending(self.alloc(), path.as_str(), ".avrstk-lock")?,
+            new: with_ending(self.alloc(), path.as_str(), ".avrstk-new")?,
+            path,
+        })
+    }
+
+    fn open_parent(&mut self, place: &Place) -> io::Result<Option<File>> {
+        unless(
+            ErrorKind::PermissionDenied,
+            fs::open(*self, folder_of(place.path.as_str())),
+        )
+    }
+
+    // A link is not followed, and no pipe is opened, which could wait for ever.
+    fn open_lock(&mut self, place: &Place) -> io::Result<Option<File>> {
+        let path = place.lock.as_str();
+        match File::create_new(*self, path) {
+            Err(error) if error.kind() == ErrorKind::AlreadyExists => {
+                match unless(ErrorKind::NotFound, fs::symlink_metadata(*self, path))? {
+                    Some(there) if there.is_file() => {
+                        unless(ErrorKind::NotFound, fs::open(*self, path))
+                    }
+                    Some(_) => Err(io::Error::from(ErrorKind::InvalidInput)),
+                    None => Ok(None),
+                }
+            }
+            made => Ok(Some(made?)),
+        }
+    }
+
+    fn lock(&mut self, _place: &Place, file: File) -> io::Result<Option<File>> {
+        let tried = file.try_lock();
+        locked(file, tried)
+    }
+
+    fn confirm(&mut self, place: Place, lock: File) -> io::Result<Option<Held>> {
+        if is_at(*self, &lock, place.lock.as_str())? {
+            Ok(Some(Held { place, lock }))
+        } else {
+            Ok(None)
+        }
+    }
+
+    fn is_named(&self, held: &Held, name: &str) -> bool {
+        held.place.name.as_str() == name
+    }
+
+    fn see(&mut self, held: &Held) -> io::Result<Option<Metadata>> {
+        let path = held.place.path.as_str();
+        match unless(ErrorKind::NotFound, fs::metadata(*self, path))? {
+            Some(there) if there.is_file() => {
+                let old = OpenOptions::new().write(true).open(*self, path)?;
+                Ok(Some(old.metadata()?))
+            }
+            Some(_) => Err(io::Error::from(ErrorKind::InvalidInput)),
+            None => Ok(None),
+        }
+    }
+
+    fn open_seen(&mut self, held: &Held, seen: &Option<Metadata>) -> io::Result<Synced> {
+        let path = held.place.path.as_str();
+        let opened = unless(ErrorKind::NotFound, fs::open(*self, path))?;
+        let found = match &opened {
+            Some(file) => Some(identity(&file.metadata()?)),
+            None => None,
+        };
+        if !is_same(identity_of(seen), found) {
+            return Err(io::Error::from(ErrorKind::ResourceBusy));
+        }
+        match opened {
+            Some(file) => Ok(Synced::new(file)),
+            None => Err(io::Error::from(ErrorKind::NotFound)),
+        }
+    }
+
+    fn leads_to(&mut self, name: &str, held: &Held, seen: &Option<Metadata>) -> io::Result<bool> {
+        let there = unless(ErrorKind::NotFound, fs::metadata(*self, name))?;
+        let is_link = is_link(*self, name)?;
+        let is_place = is_one_place(*self, name, held.place.path.as_str())?;
+        Ok(leads(identity_of(seen), identity_of(&there), is_link, is_place))
+    }
+
+    fn make(&mut self, held: &Held, seen: &Option<Metadata>) -> io::Result<File> {
+        let file = OpenOptions::new()
+            .write(true)
+            .create_new(true)
+            .mode(first_mode(seen.is_some()))
+            .open(*self, held.place.new.as_str())?;
+        if let Some(old) = seen {
+            be_like(&file, old)?;
+        }
+        Ok(file)
+    }
+
+    fn write(&mut self, file: &mut File, bytes: &[u8]) -> io::Result<()> {
+        file.write_all(bytes)
+    }
+
+    fn sync(&mut self, file: &mut File) -> io::Result<()> {
+        file.sync_all()
+    }
+
+    // The old file is looked at last, right before the new one gets its name.
+    fn is_ready(&mut self, held: &Held, seen: &Option<Metadata>, file: &File) -> io::Result<bool> {
+        let is_own = is_at(*self, file, held.place.new.as_str())?;
+        Ok(is_own && is_same(identity_of(seen), look(*self, held.place.path.as_str())?))
+    }
+
+    fn rename(&mut self, held: &Held, _seen: &Option<Metadata>, _file: File) -> io::Result<()> {
+        fs::rename(*self, held.place.new.as_str(), held.place.path.as_str())
+    }
+
+    fn sync_name(&mut self, _held: &Held, parent: &Option<File>) -> io::Result<()> {
+        match parent {
+            Some(folder) => synced(folder.sync_all()),
+            None => Ok(()),
+        }
+    }
+
+    fn write_over(&mut self, held: &Held, bytes: &[u8]) -> io::Result<()> {
+        let mut file = fs::create(*self, held.place.path.as_str())?;
+        file.write_all(bytes)?;
+        file.sync_all()
+    }
+
+    fn remove_new(&mut self, held: &Held) {
+        let _ = fs::remove_file(*self, held.place.new.as_str());
+    }
+
+    fn unlock(&mut self, held: Held) {
+        let _ = fs::remove_file(*self, held.place.lock.as_str());
+        drop(held);
+    }
+}
