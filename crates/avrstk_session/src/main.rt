@@ -73,7 +73,7 @@ fn print_outline<D: Desk>(alloc: Global, desk: &mut D, plan: &Plan) -> u8
 }
 
 /// Reads the files that the settings name, and prints the outline of their session. No file is created.
-fn outline<D: Desk>(alloc: Global, settings: &Settings, desk: &mut D) -> u8
+fn outline_session<D: Desk>(alloc: Global, settings: &Settings, desk: &mut D) -> u8
     ensures { Outlines settings.now (D.view desk.old) (D.view desk.new) result }
 {
     match plan(alloc, settings, desk) {
@@ -101,7 +101,7 @@ fn serve_port<D: ChipDesk, L: Link>(
                 serve(alloc, settings, file.as_str(), desk, link)
             }
         }
-        Port::Stdio => outline(alloc, settings, desk),
+        Port::Stdio => outline_session(alloc, settings, desk),
         Port::Net(..) => refuse(desk, &usage_message()),
     }
 }
