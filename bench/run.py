@@ -3,12 +3,16 @@
 
     (cd crates/avrstk && rt run < stdin > /dev/null)    builds crates/avrstk/out/avrstk
     bench/run.py [RUNS]                                 the best of RUNS runs of each command (default 5), in milliseconds
-    bench/run.py --count                                instructions, the same on every machine (needs valgrind)
+    bench/run.py --count                                instructions, the same on every machine (needs valgrind); fails if a
+                                                        figure is more than 2 % above the one in bench/figures.json
+    bench/run.py --count --write                        also writes these figures into the file
     bench/run.py --calls                                system calls per frame, on both sides of a link (needs strace)
 
 Every figure is for a whole process. The images are the same in each run of this script.
 """
 
+import json
+import os
 import random
 import re
 import shutil
@@ -21,12 +25,13 @@ from pathlib import Path
 TOP = Path(__file__).resolve().parent.parent
 sys.path.insert(0, str(TOP / "tests"))
 
-from cases import ended, leave_out, same  # noqa: E402
+from cases import ended, leave_out, same, see  # noqa: E402
 from line import BadLine  # noqa: E402
 from program import PROGRAM, Room, Server  # noqa: E402
 
 KILO = 1024
 SIZES = [32, 64, 128, 256]
+FIGURES = TOP / "bench/figures.json"
 
 
 def image_of(size):
@@ -57,16 +62,19 @@ def srec(image):
     return "".join(rows) + record(8, 0, b"")
 
 
+def reads(file):
+    """Returns a run that only reads a file: standard input is at its end, so it ends once its plan is made."""
+    return [str(PROGRAM), "-p", "m2560", "-P", "stdio:", "-q", "-q", "-U", f"flash:w:{file}"]
+
+
 def own_commands():
     """Yields the name of each measure of the tool, its command, and its status."""
     ours = str(PROGRAM)
-    # standard input is at its end, so the run ends once its plan is made
-    plan = [ours, "-p", "m2560", "-P", "stdio:", "-q", "-q", "-U"]
     emulated = [ours, "-P", "emu:chip.bin", "-q", "-q", "-p"]
     yield "help", [ours, "-h"], 0
     yield "a session of six frames", [*emulated, "m328p"], 0
-    yield "256 kB of Intel HEX read", [*plan, "flash:w:256.hex"], 1
-    yield "256 kB of S-records read", [*plan, "flash:w:256.srec"], 1
+    yield "256 kB of Intel HEX read", reads("256.hex"), 1
+    yield "256 kB of S-records read", reads("256.srec"), 1
     yield "32 kB written and verified, m328p", [*emulated, "m328p", "-U", "flash:w:32.hex"], 0
     for size in SIZES:
         yield f"{size} kB written and verified, m2560", [*emulated, "m2560", "-U", f"flash:w:{size}.hex"], 0
@@ -129,8 +137,8 @@ def time_all(room, runs):
 # ---- over a link
 
 
-def session_over(port):
-    return [str(PROGRAM), "-p", "m328p", "-P", f"net:127.0.0.1:{port}", "-q", "-q", "-U", "flash:w:32.hex"]
+def session_over(port, part="m328p", size=32):
+    return [str(PROGRAM), "-p", part, "-P", f"net:127.0.0.1:{port}", "-q", "-q", "-U", f"flash:w:{size}.hex"]
 
 
 def frames_sent(room):
@@ -170,23 +178,62 @@ def time_line(room, runs):
 # ---- counts
 
 
+def instructions(command, room, wanted):
+    """Returns the instructions of a run, by callgrind."""
+    front = ["valgrind", "--tool=callgrind", "--callgrind-out-file=/dev/null"]
+    ran = subprocess.run([*front, *command], cwd=room.folder, stdin=subprocess.DEVNULL, capture_output=True, text=True)
+    collected = re.search(r"Collected : (\d+)", ran.stderr)
+    if ran.returncode != wanted or not collected:
+        sys.exit(f"{command}: status {ran.returncode}: {ran.stderr}\n(valgrind runs only the proved program)")
+    return int(collected[1])
+
+
 def count_all(room):
-    """Counts instructions with callgrind."""
-    if not shutil.which("valgrind"):
-        sys.exit("valgrind is not installed")
+    """Prints the instructions of each command, and returns them by its name."""
+    counts = {}
     sizes = {"256 kB of Intel HEX read": "256.hex", "256 kB of S-records read": "256.srec"}
     for label, command, wanted in own_commands():
         room.clear()
-        front = ["valgrind", "--tool=callgrind", "--callgrind-out-file=/dev/null"]
-        ran = subprocess.run([*front, *command], cwd=room.folder, stdin=subprocess.DEVNULL, capture_output=True, text=True)
-        collected = re.search(r"Collected : (\d+)", ran.stderr)
-        if ran.returncode != wanted or not collected:
-            sys.exit(f"{command}: status {ran.returncode}: {ran.stderr}\n(valgrind runs only the proved program)")
-        count = int(collected[1])
+        count = counts[label] = instructions(command, room, wanted)
         share = f", {count / len(room.read(sizes[label])):.1f} for each byte of text" if label in sizes else ""
         written = re.match(r"(\d+) kB written", label)
         share = f", {count / KILO / int(written[1]):.0f} for each byte of flash" if written else share
         print(f"{count:12}  {label}{share}")
+    return counts
+
+
+def calls_of_installed_help(room):
+    """Returns the system calls of `avrstk --help` as install.sh installs it."""
+    prefix, traced = room.folder / "installed", room.folder / "help.trace"
+    subprocess.run([TOP / "install.sh", prefix], env=os.environ | {"AVRSTK": str(PROGRAM)}, check=True, stdout=subprocess.DEVNULL)
+    subprocess.run(["strace", "-f", "-o", traced, prefix / "bin/avrstk", "--help"], check=True, stdout=subprocess.DEVNULL)
+    shutil.rmtree(prefix)
+    return len(re.findall(r"^\d+ +\w+\(", traced.read_text(), re.M))
+
+
+def figures(room, counts):
+    """Yields each figure for bench/figures.json, with its name."""
+    whole = "256 kB written and verified, m2560"
+    yield f"{whole}: instructions for each byte of flash", counts[whole] / KILO / 256
+    with Server(room, "chip.bin", part="m2560") as served:
+        yield f"{whole}, over a link: instructions", instructions(session_over(served.port, "m2560", 256), room, 0)
+    more = counts["256 kB of Intel HEX read"] - instructions(reads("128.hex"), room, 1)
+    yield "Intel HEX read: instructions for each more byte of text", more / (len(room.read("256.hex")) - len(room.read("128.hex")))
+    if shutil.which("strace"):
+        yield "avrstk --help, installed: system calls", calls_of_installed_help(room)
+    else:
+        leave_out("the calls of --help", "strace is not installed")
+
+
+def hold(found):
+    """Checks that no figure is more than 2 % above the one in the file. With --write, writes these figures there."""
+    held = json.loads(FIGURES.read_text()) if FIGURES.exists() else {}
+    for name, figure in found.items():
+        print(f"{figure:12}  {name}")
+        if name in held:
+            see(f"{name}: at most 2 % above {held[name]}", figure <= 1.02 * held[name], figure)
+    if "--write" in sys.argv:
+        FIGURES.write_text(json.dumps(found, indent=4) + "\n")
 
 
 CALLS = "trace=read,recvfrom,recvmsg,write,sendto,sendmsg"
@@ -224,7 +271,13 @@ def main():
         room.put(f"{size}.srec", srec(image).encode())
         room.given |= {f"{size}.hex", f"{size}.srec"}
     if "--count" in sys.argv:
-        count_all(room)
+        if not shutil.which("valgrind"):
+            leave_out("the instructions", "valgrind is not installed")
+        else:
+            counts = count_all(room)
+            room.clear()
+            hold({name: round(figure, 1) for name, figure in figures(room, counts)})
+        return ended()
     elif "--calls" in sys.argv:
         count_calls(room)
         return ended()

@@ -48,8 +48,10 @@ SHORT = ("bad_lines", "made_frames", "manual")
 QUICK = ("serial", "parts", "avrdude", "runs", "chips", "package", "serve", "recipes", "why", "claims", "lines", "hostile", *SHORT)
 # those that --all runs with both programs: two compilers made what these compare byte for byte
 BOTH = ("runs", "lines")
+# counts of bench/run.py
+BENCH = ("calls", "count")
 # scripts that --all runs with the proved program; the longest first
-PROGRAM = ("faults", "cuts_and_stalls", "mega", "vendor proof", "calls", *QUICK)
+PROGRAM = ("faults", "cuts_and_stalls", "mega", "vendor proof", *BENCH, *QUICK)
 
 LANES = len(os.sched_getaffinity(0))
 # scripts that no proof waits for give way to rt ci (but not what `rt try` starts, in a session of its own)
@@ -150,7 +152,7 @@ def run(what, command, each=None, **environment):
 def script(name, kind="", before=(), **environment):
     """Runs a script. The log names it with the `kind` of program that it runs."""
     file, *words = name.split()
-    command = [TOP / "bench/run.py", "--calls"] if file == "calls" else [TOP / f"tests/{file}.py", *words]
+    command = [TOP / "bench/run.py", f"--{file}"] if file in BENCH else [TOP / f"tests/{file}.py", *words]
     command = [*before, *command]
     once = lambda again="": run(f"{kind}{name}{again}", command, PYTHONUNBUFFERED="1", **environment)
     done = once()

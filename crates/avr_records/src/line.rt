@@ -1,7 +1,7 @@
 //! Lines of a record file: where one ends, and what each says alone.
 ghost use Rattle.std.specs.Prelude.{◌≡◌, ◌∷◌, ◌++◌, [], MatchOption, ◌≤◌, length, Ok, Err, MatchResult};
 ghost use Rattle.avr_records.specs.Lines.{lines, trimmed_line, is_blank};
-ghost use Rattle.avr_records.specs.Line.{bare_record as spec_bare_record, line_record};
+ghost use Rattle.avr_records.specs.Line.{bare_record, line_record};
 ghost use Rattle.avr_records.specs.Reading.{said_by_line};
 ghost use Rattle.avr_records.specs.Judging.{record_of, meaning_of, FitsKind, FitsFields, Finds};
 ghost use Rattle.avr_records.specs.Meaning.{means};
@@ -63,25 +63,25 @@ fn trim(line: &[u8]) -> &[u8]
     &line[..n]
 }
 
-fn bare_record<'b>(
-    kind: Kind,
-    line: &[u8],
-    room: &'b mut [u8; ROOM],
-) -> Result<LineRecord<'b>, LineFault>
+fn ihex_record<'b>(line: &[u8], room: &'b mut [u8; ROOM]) -> Result<LineRecord<'b>, LineFault>
     requires { length line.now ≤ LONGEST }
-    ensures { Finds kind (spec_bare_record kind line.now) result }
+    ensures { Finds Kind.Ihex (bare_record Kind.Ihex line.now) result }
 {
-    match kind {
-        Kind::Ihex => match line {
-            [b':', digits @ ..] => ihex_fields(decode_digits(digits, room)?),
-            _ => Err(LineFault::Mark),
-        },
-        Kind::Srec => match line {
-            [b'S', digit, digits @ ..] if digit.is_ascii_digit() => {
-                srec_fields(*digit, decode_digits(digits, room)?)
-            }
-            _ => Err(LineFault::Mark),
-        },
+    match line {
+        [b':', digits @ ..] => ihex_fields(decode_digits(digits, room)?),
+        _ => Err(LineFault::Mark),
+    }
+}
+
+fn srec_record<'b>(line: &[u8], room: &'b mut [u8; ROOM]) -> Result<LineRecord<'b>, LineFault>
+    requires { length line.now ≤ LONGEST }
+    ensures { Finds Kind.Srec (bare_record Kind.Srec line.now) result }
+{
+    match line {
+        [b'S', digit, digits @ ..] if digit.is_ascii_digit() => {
+            srec_fields(*digit, decode_digits(digits, room)?)
+        }
+        _ => Err(LineFault::Mark),
     }
 }
 
@@ -96,7 +96,11 @@ pub(crate) fn record_in<'b>(
     if line.len() > LONGEST {
         return Err(LineFault::TooLong);
     }
-    bare_record(kind, trim(line), room)
+    let line = trim(line);
+    match kind {
+        Kind::Ihex => ihex_record(line, room),
+        Kind::Srec => srec_record(line, room),
+    }
 }
 
 /// Returns what a line says. The bytes of a data record are decoded into `room`.
@@ -115,32 +119,42 @@ pub(crate) fn line_says<'b>(
     if line.is_empty() {
         return Ok(Line::Nothing);
     }
-    Ok(meaning(kind, bare_record(kind, line, room)?))
+    // (the meaning beside the record of its kind, so that a data line's type is tested once)
+    match kind {
+        Kind::Ihex => Ok(ihex_meaning(ihex_record(line, room)?)),
+        Kind::Srec => Ok(srec_meaning(srec_record(line, room)?)),
+    }
 }
 
-/// Returns what a record means for its file.
-fn meaning(kind: Kind, found: LineRecord<'_>) -> Line<'_>
-    requires { FitsFields kind found }
-    ensures means { meaning_of result ≡ means kind (record_of found.entry) }
-    ensures fits { FitsKind kind result }
+/// Returns what a record of Intel HEX means for its file.
+fn ihex_meaning(found: LineRecord<'_>) -> Line<'_>
+    requires { FitsFields Kind.Ihex found }
+    ensures means { meaning_of result ≡ means Kind.Ihex (record_of found.entry) }
+    ensures fits { FitsKind Kind.Ihex result }
 {
-    match kind {
-        Kind::Ihex => match (found.record_type, found.bytes) {
-            (DATA, bytes) => Line::Data(found.address, bytes),
-            (END_OF_FILE, _) => Line::End,
-            (EXTENDED_SEGMENT_ADDRESS, [high, low]) => {
-                Line::Rebase(AddressBase::Segment(u16::from_be_bytes([*high, *low])))
-            }
-            (EXTENDED_LINEAR_ADDRESS, [high, low]) => {
-                Line::Rebase(AddressBase::Linear(u16::from_be_bytes([*high, *low])))
-            }
-            _ => Line::Nothing,
-        },
-        Kind::Srec => match found.record_type {
-            0 => Line::Nothing,
-            1..=3 => Line::Data(found.address, found.bytes),
-            4..=6 => Line::Counted(found.address),
-            _ => Line::End,
-        },
+    match (found.record_type, found.bytes) {
+        (DATA, bytes) => Line::Data(found.address, bytes),
+        (END_OF_FILE, _) => Line::End,
+        (EXTENDED_SEGMENT_ADDRESS, [high, low]) => {
+            Line::Rebase(AddressBase::Segment(u16::from_be_bytes([*high, *low])))
+        }
+        (EXTENDED_LINEAR_ADDRESS, [high, low]) => {
+            Line::Rebase(AddressBase::Linear(u16::from_be_bytes([*high, *low])))
+        }
+        _ => Line::Nothing,
+    }
+}
+
+/// Returns what an S-record means for its file.
+fn srec_meaning(found: LineRecord<'_>) -> Line<'_>
+    requires { FitsFields Kind.Srec found }
+    ensures means { meaning_of result ≡ means Kind.Srec (record_of found.entry) }
+    ensures fits { FitsKind Kind.Srec result }
+{
+    match found.record_type {
+        0 => Line::Nothing,
+        1..=3 => Line::Data(found.address, found.bytes),
+        4..=6 => Line::Counted(found.address),
+        _ => Line::End,
     }
 }

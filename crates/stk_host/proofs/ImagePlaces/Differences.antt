@@ -37,6 +37,13 @@ pub run_goes_on : (addr i : ℕ) (run found : List ℕ) → i < length run → i
     ≡ difference_from (addr + (i + 1)) (held_as (drop (i + 1) run)) (drop (i + 1) found)
 run_goes_on addr i run found within there same = search (rules, drop_at)
 
+-- a run that the memory holds
+pub same_run : (addr : ℕ) (run bytes : List ℕ) → run ≡ take (length run) bytes
+    → difference_from addr (held_as run) bytes ≡ None
+same_run addr [] bytes same = refl
+same_run addr (b ∷ run) [] same = refl
+same_run addr (b ∷ run) (found ∷ bytes) same = search (rules, same_run (addr + 1) run bytes)
+
 -- ---- the runs of an image
 
 abbrev pub earlier : Option Difference → Option Difference → Option Difference
