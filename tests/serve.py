@@ -469,8 +469,8 @@ def a_command():
         same(f"{words}: the status", found[0], status)
         see(f"{words}: its messages", told is None or found[1:] == (told, ""), found)
     (room.folder / "chip.bin").rmdir()
-    for command, status in [("exec sleep 600", 143), ("trap '' TERM; while :; do sleep 0.1; done", 137)]:
-        with Serving("--", "sh", "-c", f"echo begun; {command}") as it:
+    for command, status in [("echo begun; exec sleep 600", 143), ("trap '' TERM; echo begun; while :; do sleep 0.1; done", 137)]:
+        with Serving("--", "sh", "-c", command) as it:
             same(f"{command}: its output", it.said, b"begun\n")
             same(f"{command}: SIGTERM ends it too", it.end(), (status, ""))
 
@@ -702,7 +702,7 @@ FAULTS = [
 
 def state_of(memory, old):
     """Returns what a memory holds: the old bytes, none, the new image, or a mixture."""
-    image = bytes.fromhex("".join(row[9:-3] for row in room.read("blink.hex").decode().split()))
+    image = bytes.fromhex("".join(row[9:-2] for row in room.read("blink.hex").decode().split()))
     kinds = {old: "old", b"\xff" * len(old): "erased", image + memory[len(image) :]: "new"}
     return kinds.get(memory, "mixed")
 
