@@ -353,13 +353,34 @@ def parts():
     same("AVRDUDE has each under the same names", others, [])
 
 
+# texts that are no firmware, and updates of images without a byte
+TEXTS = {
+    "m.c": b"int main(void)\n{\n}\n",
+    "fw.txt": b"# a note\n" + (TOP / "examples/blink.hex").read_bytes(),
+    "html": "<html>\n<p>Größe</p>\n".encode(),
+    "latin": "// Größe\n".encode("latin-1"),
+    "wide": ":100000000C945C000C946E\n".encode("utf-16"),
+    "marked": b"\xef\xbb\xbf:100000000C945C000C946E\n",
+    "indented": b" :100000000C945C000C946E\n",
+}
+EMPTY = {"empty.hex": "empty.hex", "flash:w:empty.hex:i": "empty.hex", "eeprom:w:empty.bin:r": "empty.bin"}
+EMPTY.update({f"{update}:{it}": it for update in ["flash:w", "eeprom:v"] for it in ["end.hex", "end.srec"]})
+
+
 def refused():
     """A refused run opens no device, and reports why."""
     note = "nothing was sent, and the device was not opened"
     room.clear()
+    good = room.read("blink.hex")
     room.put("an x.elf", b"\x7fELF\x01\x01\x01")
-    room.put("note.hex", b"# a note\n" + room.read("blink.hex"))
+    room.put("note.hex", b"# a note\n" + good)
+    room.put("page.hex", b"<!DOCTYPE html>\n<p>no such firmware</p>\n")
     room.put("empty.hex", b"")
+    room.put("end.hex", good.splitlines(True)[-1])
+    room.put("end.srec", b"S0030000FC\nS5030000FC\nS9030000FC\n")
+    for name, text in TEXTS.items():
+        room.put(name, text)
+    text = "is text without records: name its format"
     room.put("big.hex", hex_of([(32_768, b"x")]))
     (room.folder / "gone.hex").symlink_to("nowhere")
     cases = [
@@ -400,23 +421,28 @@ def refused():
         (["-U", "flash:r:no/where/x.hex:i"], f"no/where/x.hex cannot be created, since no/where is no folder: {note}"),
         (["-U", "flash:r:.:i"], f". is a folder: {note}"),
         (["-U", "lfuse:w:E2:m"], f"a value is written as 0xE2, 0b11100010, 0342 or 226; {note}"),
-        (["-U", "flash:w:blink.hex:I"], "-U flash:w:blink.hex:I: the formats are i, s, r, a and m to write and comp"),
-        (["-U", "flash:w:x.elf:e"], "avr-objcopy -O ihex -R .eeprom -R .fuse -R .lock x.elf x.hex makes a file that can be"),
+        (["-U", "flash:w:blink.hex:I"], "-U flash:w:blink.hex:I: the formats are i, s, r, e, a and m to write and comp"),
+        (["-U", "flash:r:x.elf:e"], "-U flash:r:x.elf:e: the formats are i, s, r, e, a and m to write and compare, i, s, r, h"),
+        (["-U", "flash:w:x.elf:e"], f"x.elf: there is no such ELF file: {note}"),
         (["-U", "flash:w:"], f"-U flash:w:: a file comes last, as flash:w:firmware.hex:i; {note}"),
         (["-U", "nofile"], f"there is no such file; {note}"),
         (["-U", "flash:w:gone.hex:i"], f"it is a symbolic link to a missing file; {note}"),
         (["-U", "lfuse:w:0xE2"], f"a value needs :m after it, as lfuse:w:0xE2:m; {note}"),
-        (["-U", "flash:w:an x.elf"], "avr-objcopy -O ihex -R .eeprom -R .fuse -R .lock 'an x.elf' 'an x.hex' makes a"),
+        (["-U", "flash:w:an x.elf"], f"an x.elf is damaged, or no linked ELF file for AVR: {note}"),
+        (["-U", "flash:w:an x.elf:r"], f"an x.elf is ELF, not the bytes of a memory: leave out :r: {note}"),
+        (["-U", "eeprom:v:blink.hex:e"], f"blink.hex is not ELF: {note}"),
+        (["-U", "flash:w:an x.elf:i"], f"it has ELF: give flash:w:an x.elf:e; {note}"),
+        *((["-U", f"{update}:{it}"], f"{it} {text}: {note}") for it in TEXTS for update in ["flash:w", "eeprom:v"]),
+        *((["-U", f"flash:w:{it}:a"], f"{it} {text}: {note}") for it in TEXTS),
         (["-U", "fuse:w:1:m"], "-U fuse:w:1:m: the memories are flash, eeprom, lfuse, "),
         (["-U", "lfuse:r:-:h", "-U", "fl:r:x:i"], "-U fl:r:x:i: the memories are flash, eeprom, lfuse, "),
         (["-U", "flash:x:1:m"], f"-U flash:x:1:m: the operations are w (write), v (compare) and r (read); {note}"),
-        (["-U", "flash:w:note.hex"], f"it is not Intel HEX, or something stands above its first record; {note}"),
+        (["-U", "flash:w:note.hex"], "something is above its first record: delete it if it is a comment, else build or dow"),
+        (["-U", "flash:w:page.hex"], f"it is not Intel HEX; {note}"),
         (["-U", "flash:w:big.hex"], f"flash of m328p has 32,768 bytes; is -p right?; {note}"),
         (["-U", "eeprom:w:0,0,0.hex"], f"there is no such file; {note}"),
         (["-U", "lfuse:w:0,0:m"], f"lfuse of m328p has 1 byte; is -p right?; {note}"),
-        (["-U", "empty.hex"], f"empty.hex is empty (did its build fail?): {note}"),
-        (["-U", "flash:w:empty.hex:i"], f"empty.hex is empty (did its build fail?): {note}"),
-        (["-U", "eeprom:w:empty.bin:r"], f"empty.bin is empty (did its build fail?): {note}"),
+        *((["-U", f"{update}"], f"{it} is empty (did its build fail?): {note}") for update, it in EMPTY.items()),
     ]
 
     def ran(words):
@@ -950,27 +976,18 @@ def hints():
     instead = lambda command, *body: {"answer": changes(command, bytes([command, *body]))}
     whole, partly = "the chip is unchanged", "the chip is erased or partly written, and may be held in reset: run the"
     stopped = "the programmer stopped replying: check the cable and the power"
-    another = "the chip is m328p (1E 95 0F): use -p m328p; nothing was written"
-    bit = "may not have such a bit: read the value with -U lfuse:r:-:h"
-    locked, nobit = "run the same command again; if it fails again, a lock protects it", "only bits differ that the part"
-    fuse, found = ["-p", "m328p", "-U", "lfuse:w:0xE2:m"], "expected, 00 found"
+    nobit, found = "only bits differ that the part", "expected, 00 found"
     reading = ["-p", "m328p", "-U"]
     stays = "everything reported above was done. The chip stays in programming mode: power-cycle the board"
     cases = [
         ("silent", FLASH, f"no reply; {whole}. Check: the speed (-b 115200)", "error: no answer", {"deaf": 1000}),
-        ("another part", ["-p", "t85", "-e"], another, "error: signature is", {}),
         ("signature 00", FLASH, "the programmer finds no chip", "error: signature is", instead(0x1B, 0, 0, 0)),
         ("signature FF", FLASH, "the programmer finds no chip", "error: signature is", instead(0x1B, 0, 0xFF, 0)),
         ("signature 12", FLASH, "another part (12 12 12), which is not known", "error: sig", instead(0x1B, 0, 0x12, 0)),
         ("command 10", FLASH, f"the programmer can't reach the chip, which is unch", "command 10", instead(0x10, 0xC0)),
-        ("command 12", FLASH, f"can't erase the chip, which is unchanged: use -D", "command 12", instead(0x12, 0xC0)),
         ("command 13", FLASH, f"the programmer refused the command: {partly}", "command 13", instead(0x13, 0xC0)),
-        ("command 17", fuse, "a bootloader can't write fuses", "command 17 refused", instead(0x17, 0xC0)),
-        ("a bit", fuse, locked, "expected, F2 found", instead(0x18, 0, 0xF2, 0)),
-        ("no bit", [*fuse[:3], "efuse:w:0xFD:m"], nobit, "expected, 05 found", instead(0x18, 0, 0x05, 0)),
-        ("an unknown part's", ["--parts", "mine.toml", *fuse], bit, "expected, F2 found", instead(0x18, 0, 0xF2, 0)),
+        ("no bit", [*reading, "efuse:w:0xFD:m"], nobit, "expected, 05 found", instead(0x18, 0, 0x05, 0)),
         ("flash", FLASH, "run the same command again; if it always", found, instead(0x14, 0, *bytes(256), 0)),
-        ("flash with -D", [*FLASH, "-D"], "a bootloader erases pages from 0 on", found, instead(0x14, 0, *bytes(256), 0)),
         ("a bad answer", FLASH, "something else sends data", "command 12: bad answer", instead(0x12, 0, 0)),
         ("a full disk", [*reading, "lfuse:r:/dev/full:h"], f"check the folder and free space; {stays}", "/dev/full", {}),
         ("leaving", FLASH, "everything above was done; only the last", "flash: 228 bytes verified", silent(0x11)),
@@ -1008,51 +1025,129 @@ def without(words, left_out):
     return [it for it in words if it != left_out]
 
 
-def other_part(words, part):
+def other_part(words, part, made):
+    """Returns the command for another part, with a firmware that is made for it."""
     at = words.index("-p") + 1
-    return [*words[:at], part, *words[at + 1 :]]
+    return [it.replace("blink.hex", made) for it in [*words[:at], part, *words[at + 1 :]]]
 
 
-def renamed(words, given, by=None):
+def renamed(words, given):
     """Replaces the update of the same file."""
     file = given.split(":")[2]
-    return [by or given if file in it.split(":") else it for it in words]
+    return [given if file in it.split(":") else it for it in words]
 
 
-def made_hex(words, _, found):
-    """Types the command that makes an Intel HEX file, and gives that file."""
-    subprocess.run(found[1], shell=True, cwd=room.folder, check=True)
-    return renamed(words, words[-1], f"flash:w:{found[2]}")
+def another_file(words, case, *_):
+    """Builds or downloads the file again, or makes one image from address 0 on."""
+    case["again"]()
+    return words
+
+
+def on_a_bootloader(words, case, *_):
+    return another_file([*without(without(words, "-e"), "-D"), "-D"], case)
+
+
+# a program for avr-gcc: sections for each memory, the data of flash at another address than in RAM
+ELF = """
+    .text
+main:
+    .fill 700, 1, 0x5A
+    .data
+    .byte 1, 2, 3
+    .section .eeprom, "aw"
+    .byte 4, 0xFF, 5
+    .section .fuse, "aw"
+    .byte 0xE2, 0xD1, 0xFD
+    .section .lock, "aw"
+    .byte 0xFC
+    .section .signature, "a"
+    .byte 0x0F, 0x95, 0x1E
+"""
+
+
+def linked(name, text, *more):
+    """Makes an ELF file, by avr-gcc."""
+    made = ["avr-gcc", "-mmcu=atmega328p", "-nostdlib", "-x", "assembler", "-", "-o", name, *more]
+    subprocess.run(made, cwd=room.folder, check=True, input=text.encode())
+
+
+def elf_files():
+    """Each memory gets from an ELF file what avr-objcopy takes from it, over a device and avrstk's own ports alike."""
+    if not shutil.which("avr-gcc"):
+        return leave_out("ELF", "avr-gcc is not installed")
+    room.clear()
+    linked("main.elf", ELF)
+    others = [it for name in ["eeprom", "fuse", "lock", "signature"] for it in ("-R", f".{name}")]
+    take = lambda *words: subprocess.run(["avr-objcopy", "-O", "binary", *words], cwd=room.folder, check=True)
+    take(*others, "main.elf", "flash.bin")
+    take("-j", ".eeprom", "main.elf", "eeprom.bin")
+    flash, eeprom = room.read("flash.bin"), room.read("eeprom.bin")
+    see("what avr-objcopy takes", (len(flash) >= 703, eeprom) == (True, b"\4\xff\5"), (flash, eeprom))
+    wanted = flash.ljust(32_768, b"\xff") + eeprom.ljust(1024, b"\xff") + bytes.fromhex("E2D1FDFC")
+    memories = ["flash", "eeprom", "lfuse", "hfuse", "efuse", "lock"]
+    words = ["-p", "m328p", "--retry", "1", "-q", *(word for it in memories for word in ("-U", f"{it}:w:main.elf"))]
+    it = Boards(silent(0x15), {})
+    status, _, told, own = run([*words, "-P", str(it.device)])
+    again = ["no answer: the same command again, 1 of 1"]
+    same("all, by a second attempt", (status, own, it.end()), (0, again, wanted))
+    words = [word for it in memories for word in ("-U", f"{it}:v:main.elf:e")]
+    room.put("wanted.bin", wanted)
+    status, _, told, own = run(["-p", "m328p", "-P", "emu:wanted.bin", *words])
+    same("each is compared", (status, told.count(b" verified")), (0, 6))
+    see("its line", own[0].startswith("main.elf is read as ELF (:e): its flash is /dev/fd/"), own)
+    linked("high.elf", ".text\n.byte 7\n.section .high, \"ax\"\n.byte 8, 9\n", "-Wl,--section-start=.high=0x1FFFF")
+    status, *_ = run(["-p", "m2560", "-P", "emu:high.bin", "-qq", "-U", "flash:w:high.elf"])
+    same("over 64 kB", (status, room.read("high.bin")[0x1FFFE:0x20002]), (0, b"\xff\x08\x09\xff"))
+    linked("odd.elf", ELF + '.section .odd, "a"\n.byte 1, 2\n', "-Wl,--section-start=.odd=0x850000")
+    linked("none.elf", ".text\n.byte 1\n")
+    linked("main.o", ELF, "-c")
+    room.put("cut.elf", room.read("main.elf")[:700])
+    for text, why in [
+        ("flash:w:odd.elf", "odd.elf has a section .odd that fits no memory (2 bytes at 00850000)"),
+        ("eeprom:w:none.elf", "none.elf has no byte of eeprom"),
+        ("flash:w:main.o", "main.o is damaged, or no linked ELF file for AVR"),
+        ("flash:w:cut.elf", "cut.elf is damaged, or no linked ELF file for AVR"),
+    ]:
+        _, _, told, own = run(["-p", "m328p", "-P", "emu:no.bin", "-U", text])
+        same(text, (told, own), (b"", [f"{why}: nothing was sent, and the device was not opened"]))
+    room.put("both.hex", good_and(0x810000, b"eeprom"))
+    for memory, at in [("flash", 0), ("eeprom", 32_768)]:
+        wanted_there = lambda chip: (flash if at == 0 else eeprom) + chip[len(flash if at == 0 else eeprom) :]
+        walk(memory, ["-p", "m328p", "-U", f"{memory}:w:both.hex"], lambda chip: chip[:at] + wanted_there(chip[at:]))
+
+
+def good_and(at, more):
+    """Returns a firmware with these bytes of another memory, as Intel HEX."""
+    return b"".join((TOP / "examples/blink.hex").read_bytes().splitlines(True)[:-1]) + hex_of([(at, more)])
 
 
 # What a reader does after a hint: the words that he finds in it, and the next command with the files of its case. After a
 # hint without a next command the walk ends.
 FOLLOWED = [
-    (r"damaged or cut short: build or download it again", lambda words, case, _: case["again"]() or words),
-    (r"something stands above its first record", lambda words, case, _: case["again"]() or words),
-    (r"make it again, by avr-objcopy -O ihex -R .eeprom", lambda words, case, _: case["again"]() or words),
-    (r"begins at 0 and leaves out no page$", lambda words, case, _: case["again"]() or words),
-    (r"With a programmer leave out -D", lambda words, case, _: case["old"](words)),
-    (r"^(avr-objcopy .* (\S+)) makes a file that can be read", made_hex),
-    (r"is -p right\?", lambda words, case, _: other_part(words, case["part"])),
-    (r"use -p (\w+)", lambda words, _, found: other_part(words, found[1])),
-    (r": give (\S+:[is]);", lambda words, _, found: renamed(words, found[1])),
+    (r"damaged or cut short: build or download it again", another_file),
+    (r"if it is a comment, else build or download the file again", another_file),
+    (r"give the ELF file itself, as (\w+:w:)NAME.elf", lambda words, _, found: [*words[:3], f"{found[1]}main.elf", *words[4:]]),
+    (r"leave out -D; with a", lambda words, case, _: on_a_bootloader(words, case) if "loads" in case else without(words, "-D")),
+    (r"use -D(, and give one image .* no page)?$", on_a_bootloader),
+    (r"is -p right\?", lambda words, case, _: other_part(words, case["part"], "blink.hex")),
+    (r"the right board\? .*; if that is so, -p (\w+), with", lambda words, case, found: other_part(words, found[1], case["made"])),
+    (r": give (\S+:[ise]);", lambda words, _, found: renamed(words, found[1])),
     (r"the operations are w \(write\)", lambda words, *_: renamed(words, "flash:w:blink.hex:i")),
-    (r"the formats are i, s, r, a and m to write", lambda words, *_: renamed(words, "flash:w:blink.hex:i")),
+    (r"the formats are i, s, r, e, a and m to write", lambda words, *_: renamed(words, "flash:w:blink.hex:i")),
     (r"a value is written as 0xE2", lambda words, *_: [it.replace(":E2:", ":0xE2:") for it in words]),
     (r"has no option before it: a file is given as (-U) (\S+)$", lambda words, _, found: [*words[:-1], found[1], found[2]]),
     (r"a value needs :m after it, as lfuse:w:0xE2:m", lambda words, *_: renamed(words, "lfuse:w:0xE2:m")),
-    (r": use -D$", lambda words, *_: [*words, "-D"]),
-    (r"leave out -e, and use -D$", lambda words, *_: [*without(words, "-e"), "-D"]),
+    (r"Does the data sheet have them\?", lambda words, case, _: [*words, "-V" if "lacks" in case else "-e"]),
     (r"removes a lock: -e, which", lambda words, *_: [*words, "-e"]),
+    (r"if it fails again, a lock", lambda words, case, _: [*words, *["-e"] * ("tried" in case or case.update(tried=1) or 0)]),
     (r"run the same command again", lambda words, *_: words),
-    (r"holds something else than [^;]*$", lambda *_: None),
+    (r"holds something else than [^;]*$|: use a programmer$|: power-cycle the board$", lambda *_: None),
 ]
 
 
-def walk(name, words, end, board=None, **case):
-    """Follows each hint until a run ends well or a hint gives no command. Returns the hints. The chip must be as `end`
-    has it, and no hint names a format that takes each text for bytes."""
+def followed(name, words, board=None, **case):
+    """Follows each hint until a run ends well, or a hint gives no command. Returns the last status, the hints and the chip.
+    No hint names a format that takes each text for bytes."""
     hints, chip = [], f"walk{next(boards)}.bin"
     if "chip" in case:
         room.put(chip, case["chip"])
@@ -1065,13 +1160,19 @@ def walk(name, words, end, board=None, **case):
         hints.append(own[-1])
         see(f"{name}: no other format", not re.search(r":[ar](?![\w:])", own[-1]), own)
         rules = [(text, act) for text, act in FOLLOWED if re.search(text, own[-1])]
-        if not see(f"{name}: the hint can be followed", rules, (own, told)):
+        if not see(f"{name}: the hint can be followed", rules, (words, own, told)):
             break
         words = rules[0][1](words, case, re.search(rules[0][0], own[-1]))
         if words is None:
             break
-    see(f"{name}: it ends well", status == 0 or words is None, hints)
-    found = bytes(board["server"].flash) if board else room.read(chip) or b""
+    found = bytes(board["server"].flash) if "loads" in case else room.read(chip) or b""
+    return status if words else None, hints, found
+
+
+def walk(name, words, end, **case):
+    """Follows hints until a run ends well or a hint gives no command. The chip must be as `end` has it."""
+    status, hints, found = followed(name, words, **case)
+    see(f"{name}: it ends well", not status, hints)
     see(f"{name}: the chip", found == end(found), [at for at in range(len(found)) if found[at] != end(found)[at]][:9])
     return hints
 
@@ -1079,6 +1180,58 @@ def walk(name, words, end, board=None, **case):
 def with_flash(held, at=0):
     """Returns a function that puts these bytes into a flash that is erased else."""
     return lambda chip: (b"\xff" * at + held + b"\xff" * 32_768)[:32_768] + chip[32_768:]
+
+
+def without_bits(answer):
+    """A part whose extended fuse and lock lack bits, which read 1."""
+    more = {0x18: 0xF8, 0x1A: 0xC0}.get(answer[5])
+    return frame(answer[1], bytes([answer[5], 0, answer[7] | more, 0])) if more else answer
+
+
+def hints_over_each_memory():
+    """Hints over each memory, kind of board and kind of part file end at the wanted bytes, or no run ends well."""
+    image = flashed()[:228]
+    room.clear()
+    room.put("mine.toml", (TOP / "parts/classic.toml").read_bytes())
+    room.put("mega.hex", hex_of([(0, bytes(300))]))
+    # (the updates, the place in the chip's file, the wanted bytes, and the bits that the part has)
+    updates = {
+        "flash:w:blink.hex:i": (0, image, 0xFF),
+        "eeprom:w:1,2,3:m": (32_768, b"\1\2\3", 0xFF),
+        "lfuse:w:0xE2:m": (-4, b"\xe2", 0xFF),
+        "lfuse:w:0xFF:m": (-4, b"\xff", 0xFF),
+        "hfuse:w:0xD1:m": (-3, b"\xd1", 0xFF),
+        "efuse:w:0x05:m": (-2, b"\x05", 0x07),
+        "efuse:w:0xFF:m": (-2, b"\xff", 0x07),
+        "lock:w:0x3F:m": (-1, b"\x3f", 0x3F),
+        "lock:w:0x2C:m": (-1, b"\x2c", 0x3F),
+    }
+    old = bytes(it % 241 for it in range(32_768)) + bytes(1024) + b"\xe1\xd0"
+    kinds = {
+        "served": lambda: {},
+        "written": lambda: {"chip": old + b"\xfa\xff"},
+        "locked": lambda: {"chip": old + b"\xfa\xfc"},
+        "locked, without bits": lambda: {"chip": old + b"\xfa\xfc", "lacks": 1, "board": {"answer": without_bits}},
+        "without bits": lambda: {"lacks": 1, "board": {"answer": without_bits}},
+        "a bootloader": lambda: {"loads": 1, "again": lambda: None, "board": {"server": Bootloader(old[:32_768])}},
+        "another board": lambda: {"has": "m2560", "made": "mega.hex"},
+    }
+
+    def right(case):
+        update, kind, words = case
+        place, wanted, bits = updates[update]
+        more = kinds[kind]()
+        status, hints, chip = followed(f"{case}", ["-p", "m328p", "-U", update, *words], **more)
+        if "made" in more and place >= 0:
+            place, wanted = (0, bytes(300)) if place == 0 else (262_144, wanted)
+        found = chip[place:][: len(wanted)]
+        return status != 0 or [it & bits for it in found] == [it & bits for it in wanted], (status, hints, found)
+
+    more = {"flash": [["-D"], ["-c", "wiring", "-D"]], "eeprom": []}
+    words = {it: [[], *more.get(it.split(":")[0], [["--parts", "mine.toml"]])] for it in updates}
+    cases = [(update, kind, it) for update, kind in itertools.product(updates, kinds) for it in words[update]]
+    for it, (is_right, found) in zip(cases, side_by_side(right, cases)):
+        see(f"{it}: the chip", is_right, found)
 
 
 def hints_that_are_followed():
@@ -1096,10 +1249,9 @@ def hints_that_are_followed():
         "cut.hex": good[:-25],
         "digit.hex": good.replace(b":10", b":1G", 1),
         "comment.hex": b"; made by x\n" + good,
-        "page.hex": b"<!DOCTYPE html>\n<html>\n" + good,
+        "mark.hex": b"\xef\xbb\xbf" + good,
         "amid.hex": rows[0] + b"# a note\n" + b"".join(rows[1:]),
         "long.hex": rows[0].strip() + b"0" * 600 + b"\n" + b"".join(rows[1:]),
-        "both.hex": b"".join(rows[:-1]) + hex_of([(0x810000, b"eeprom")]),
     }
     for name, text in bad.items():
         room.put(name, text)
@@ -1114,36 +1266,24 @@ def hints_that_are_followed():
     big = lambda chip: b"\xff" * 32_768 + image + b"\xff" * (len(chip) - 32_768 - len(image))
     found = walk("big.hex", flash("big.hex"), big, part="m2560", has="m2560")
     same("big.hex", found[0][:45], "flash of m328p has 32,768 bytes; is -p right?")
-    walk("another part", other_part(flash("blink.hex"), "t85"), ends)
-    walk("a value", ["-p", "m328p", "-U", "lfuse:w:0xE2"], lambda chip: chip[:-4] + b"\xe2" + chip[-3:])
+    walk("another part", other_part(flash("blink.hex"), "t85", "blink.hex"), ends, made="blink.hex")
     fused = lambda chip: chip[:-4] + b"\xe2" + chip[-3:]
+    walk("a value", ["-p", "m328p", "-U", "lfuse:w:0xE2"], fused)
     walk("no number", ["-p", "m328p", "-U", "lfuse:w:E2:m"], fused)
     for text in ["flash:write:blink.hex:i", "flash:w:blink.hex:I"]:
         walk(text, ["-p", "m328p", "-U", text], ends)
     walk("a file alone", ["-p", "m328p", "blink.hex"], ends)
-    if shutil.which("avr-objcopy"):
-        made = ["avr-objcopy", "-I", "ihex", "-O", "elf32-avr", "blink.hex", "made.elf"]
-        subprocess.run(made, cwd=room.folder, check=True)
-        for text in ["flash:w:made.elf", "flash:w:made.elf:a", "flash:w:made.elf:e"]:
-            walk(text, ["-p", "m328p", "-U", text], ends)
-    else:
-        leave_out("ELF", "avr-objcopy is not installed")
-    locked = firmware[:-1] + b"\xfc"
-    walk("a lock", ["-p", "m328p", "-U", "lock:w:0xFF:m"], lambda chip: b"\xff" * len(chip), chip=locked)
     for memory in ["flash:v:blink.hex", "eeprom:v:0x01:m", "lfuse:v:0xE2:m", "lock:v:0x00:m"]:
         walk(memory, ["-p", "m328p", "-U", memory], lambda chip: old + b"\xff" * 1028, chip=old + b"\xff" * 1028)
     late = hex_of([(0x1000, image)])
     merged = b"\xff" * 0x1000 + image
-    erases = lambda words: without(words, "-D")
     for words in [[], ["-D"], ["-e"], ["-c", "wiring"], ["-c", "wiring", "-D"]]:
         room.put("late.hex", late)
         board = {"server": Bootloader(old)}
         wanted = lambda chip: merged[: 0x1000 + 768].ljust(0x1300, b"\xff") + old[0x1300:]
-        case = again("late.hex", hex_of([(0, merged)])) | {"old": lambda it: room.put("late.hex", case["whole"]) or it}
-        case["whole"] = hex_of([(0, merged)])
-        walk(f"a bootloader {words}", flash("late.hex", *words), wanted, board=board, **case)
+        walk(f"a bootloader {words}", flash("late.hex", *words), wanted, board=board, loads=1, **again("late.hex", hex_of([(0, merged)])))
     room.put("late.hex", late)
-    walk("-D", flash("late.hex", "-D"), with_flash(image, 0x1000), chip=old + b"\xff" * 1028, old=erases)
+    walk("-D", flash("late.hex", "-D"), with_flash(image, 0x1000), chip=old + b"\xff" * 1028)
 
 
 def signals():
@@ -1464,6 +1604,8 @@ CASES = named(
     the_part_of_the_chip,
     programs,
     hints,
+    elf_files,
+    hints_over_each_memory,
     hints_that_are_followed,
     progress,
     images_that_are_read_once,
