@@ -21,6 +21,7 @@ import selectors
 import shutil
 import signal
 import socket
+import subprocess
 import time
 
 READ, WRITE = selectors.EVENT_READ, selectors.EVENT_WRITE
@@ -110,6 +111,53 @@ def program(default=None):
     if not shutil.which(found):
         raise Fault(f"{found} is not there, or can't be run: avrstk is needed beside this script, or named by AVRSTK")
     return found
+
+
+def is_clone():
+    """Whether the script is in a clone, where ./avrstk knows the built programs."""
+    return os.path.exists(os.path.join(HERE, "crates.txt"))
+
+
+def asked(*words):
+    """Returns what a program prints on standard output."""
+    return os.fsdecode(subprocess.run(words, stdout=subprocess.PIPE).stdout).rstrip("\n")
+
+
+def built():
+    """Returns the path of avrstk, without links. In a clone it is a built program, not the script ./avrstk."""
+    if is_clone() and not os.environ.get("AVRSTK"):
+        # (if no program is built, ./avrstk has reported it)
+        return program(asked(os.path.join(HERE, "avrstk"), "--which") or sys.exit(1))
+    return os.path.realpath(shutil.which(program()))
+
+
+def beside(file, name):
+    """Returns the path of a file that comes with avrstk: beside it, or where a build or install.sh puts it."""
+    places = [f"{os.path.dirname(file)}/{it}{name}" for it in ["", "../lib/avrstk/", f"../../{name}/out/"]]
+    return next((os.path.normpath(it) for it in places if os.path.isfile(it)), None)
+
+
+def session_program():
+    """Returns the path of avrstk_session, the program that serves one client."""
+    file = built()
+    found = beside(file, "avrstk_session")
+    if not found or not shutil.which(found):
+        missing = os.path.join(os.path.dirname(file), "avrstk_session")
+        raise Fault(f"{missing} is not there, or can't be run: it is built and installed with avrstk")
+    return found
+
+
+def version():
+    """Returns the version of avrstk, and lines of its build's stamp: whether it is proved, its commit and kit."""
+    file = built()
+    number = re.search(r"This is avrstk (\S+)\.", " ".join(asked(file, "--help").split()))
+    if is_clone():
+        stamp = asked(os.path.join(HERE, "avrstk"), "--stamp-of", file)
+    else:
+        noted = beside(file, "avrstk.stamp")
+        stamp = asked("cat", noted) if noted else ""
+    rows = [it for it in stamp.splitlines() if not it.startswith(("sources: ", "program "))]
+    return "\n".join([f"avrstk {number[1] if number else '?'}", *(rows or ["not known whether it is proved"])])
 
 
 def ready(watched, until=None):

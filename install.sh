@@ -153,10 +153,10 @@ if [ -n "$remove" ]; then
 fi
 
 # A started command runs in a process group of its own, which ends with this script.
-started='' unfinished='' front=''
+started='' unfinished='' front='' stamp=''
 finish() {
     [ -z "$started" ] || kill -- "-$started" 2>/dev/null || true
-    rm -f ${unfinished:+"$unfinished"} ${front:+"$front"}
+    rm -f ${unfinished:+"$unfinished"} ${front:+"$front"} ${stamp:+"$stamp"}
 }
 trap finish EXIT
 trap 'exit 1' INT TERM HUP
@@ -187,7 +187,8 @@ session=$(session_of "$built")
 if [ -z "$session" ] && [ -d "$top/crates/avrstk_session" ]; then
     echo "avrstk_session, which avrstk-serve needs, is not beside $built"
 fi
-front=$(mktemp)
+front=$(mktemp) stamp=$(mktemp)
+"$top/avrstk" --stamp-of "$built" ${session:+"$session"} >"$stamp" || true
 {
     cat "$top/tools/hint.sh"
     # shellcheck disable=SC2016
@@ -196,6 +197,7 @@ front=$(mktemp)
 add 755 "$built" lib/avrstk/avrstk
 [ -z "$session" ] || add 755 "$session" lib/avrstk/avrstk_session
 add 755 "$front" bin/avrstk
+add 644 "$stamp" lib/avrstk/avrstk.stamp
 add 755 "$top/avrstk-serial" bin/avrstk-serial
 add 755 "$top/avrstk-serve" bin/avrstk-serve
 add 644 "$top/avrstk_common.py" lib/avrstk/avrstk_common.py

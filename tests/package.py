@@ -223,7 +223,7 @@ def packages_hold_what_is_installed():
         see("and what it was built from", all(it in told for it in [KIT, made()[0].commit(), UNPROVED]), told)
         modes = {it: oct((Path(folder, "avrstk") / it).stat().st_mode & 0o777) for it in found}
         programs = {it for it, mode in modes.items() if mode == "0o755"}
-        wanted = {it for it in found if it.startswith(("usr/bin/", "usr/lib/")) and not it.endswith(".py")}
+        wanted = {it for it in found if it.startswith(("usr/bin/", "usr/lib/")) and not it.endswith((".py", ".stamp"))}
         same("programs alone can be run", programs, wanted)
         first = {(Path(folder, "avrstk/usr/bin") / it).read_text().split("\n")[0] for it in ["avrstk-serial", "avrstk-serve"]}
         same("the scripts name Debian's Python", first, {"#!/usr/bin/python3"})

@@ -134,7 +134,7 @@ AVRSTK=$program DESTDIR=$all "$top/install.sh" ${with_c:+"$with_c"} /usr >/dev/n
 # what the stamp says of the programs as they are installed
 programs=("$all/usr/lib/avrstk/avrstk")
 [ ! -e "${programs[0]}_session" ] || programs+=("${programs[0]}_session")
-stamp=$("$top/avrstk" --stamp-of "${programs[@]}") || stamp="unknown"
+stamp=$("$top/avrstk" --stamp-of "${programs[@]}") || stamp="not known whether it is proved"
 kit=$(sed -n 's/^kit: //p' <<<"$stamp")
 kit=${kit:-an unknown kit}
 version=$release
@@ -148,6 +148,7 @@ if [[ $stamp != proved* ]]; then
 fi
 mkdir "$all/DEBIAN"
 strip --remove-section=.comment --remove-section=.note "${programs[@]}"
+printf '%s\ncommit: %s\nkit: %s\n' "${stamp%%$'\n'*}" "$commit" "$kit" >"$all/usr/lib/avrstk/avrstk.stamp"
 gzip -9n "$all"/usr/share/man/man1/*.1
 document avrstk "$all" "$version" "$proof" "$kit"
 docs=$all/usr/share/doc/avrstk
