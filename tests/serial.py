@@ -14,6 +14,7 @@ import os
 import pty
 import re
 import select
+import shlex
 import shutil
 import signal
 import socket
@@ -218,6 +219,24 @@ def stand_in(text, folder=None):
     return {"AVRSTK": str(file)}
 
 
+# what avrstk_session knows of an image: the address and length of each run of whole pages
+PAGES = {"blink.hex": ["0 256"], "late.hex": ["16384 128"], "1,2": ["0 128"], "gap.hex": ["0 128", "256 128"]}
+
+
+def planned(runs='exec {0} "$@"'):
+    """Returns the environment for a stand-in of avrstk_session, which prints its plan: so many frames, and PAGES."""
+    folder = room.folder / "planned"
+    folder.mkdir(exist_ok=True)
+    room.given.add("planned")
+    rows = f"PAGES = {PAGES}\nprint('frames 300')\nfor it in sys.argv[1:]:\n    file = (it.split(':') + ['', ''])[2]\n"
+    texts = {"avrstk": f"#!/bin/sh\n{runs.format(PROGRAM)}\n"}
+    texts["avrstk_session"] = f"#!{PYTHON}\nimport sys\n{rows}    for row in PAGES.get(file, []):\n        print('flash', row)\n"
+    for name, text in texts.items():
+        (folder / name).write_text(text)
+        (folder / name).chmod(0o755)
+    return {"AVRSTK": str(folder / "avrstk")}
+
+
 @lru_cache
 def emulated(*words, part="m328p"):
     """Returns the chip that these options leave over `emu:`."""
@@ -265,7 +284,6 @@ def words_of_avrdude():
         ([*FLASH, "-v", "-v", "-PDEVICE"], []),
         *(([f"-p{it}", "-PDEVICE", "-Uflash:w:blink.hex:i"], []) for it in [long, long.lower()]),
         (recipe, ["ignored: -C /etc/avrdude.conf"]),
-        ([*FLASH, "-C", "x.conf", "-l", "x.log", "-P", "DEVICE"], ["ignored: -C x.conf, -l x.log"]),
         ([*FLASH, "-us", "-P", "DEVICE"], ["ignored: -u, -s"]),
         (["-vp=m328p", "-P=DEVICE", "-b=115200", "-U=blink.hex"], [named]),
         (["--wait", "0", *FLASH, "-P", "DEVICE"], []),
@@ -394,7 +412,7 @@ def refused():
         (["-Y", "1"], "-Y is not supported: erase cycles are not counted"),
         (["-x", "vtarg=5"], "-x is not supported"),
         (["-y"], "-y is not supported: erase cycles are not counted"),
-        (["-c", "arduino"], "-c arduino is the bootloader of Uno and Nano"),
+        (["-c", "arduino", "-B", "10"], "-c arduino is the bootloader of Uno and Nano"),
         (["-c", "usbasp"], "-c usbasp is a programmer with a protocol of its own"),
         (["-cusbtiny"], "-c usbtiny is a programmer with a protocol of its own"),
         (["-c", "avrispmkII"], "-c avrispmkII is a programmer on USB"),
@@ -410,6 +428,18 @@ def refused():
         (["-"], "- has no option before it: a file is given as -U flash:w:-"),
         (["-U", "=blink.hex"], f"there is no such file; {note}"),
         (["--serve", "5000"], "--serve is for a programmer without a device"),
+        (["-P", "COM3"], "COM3: there is no such device (Linux calls it /dev/ttyACM0 or /dev/ttyUSB0; -P ? lists"),
+        (["-P", "localhost:5000"], "localhost:5000: there is no such device (a port of a network is -P net:localhost:5000)"),
+        (["-P", "net:localhost"], "-P net:localhost: a port of a network is -P net:HOST:PORT"),
+        (["-p", "uno"], "-p takes the chip's name, not the board's: m328p for Uno and Nano, m2560 for Mega 2560"),
+        (["-p", "ATmega328P-PU"], f"without the package: -p atmega328p; {note}"),
+        (["-u", "flash:w:blink.hex:i"], "flash:w:blink.hex:i has no option before it: give -U flash:w:blink.hex:i"),
+        (["-U", "lfuse", "w", "0xE2", "m"], "an update is one word: give -U lfuse:w:0xE2:m"),
+        (["-U", "flash:w:blink.hex:hex"], f"a format is one letter: give -U flash:w:blink.hex; {note}"),
+        (["--backup", ".", "-e"], "--backup only reads, all memories: leave out -U and -e, and use a programmer, not a"),
+        (["--backup", ".", "-c", "wiring"], "--backup only reads, all memories: leave out -U and -e, and use a programmer"),
+        (["--backup", "."], ". is not empty: give a new folder"),
+        (["-l", "no/where"], f"-l no/where: No such file or directory: {note}"),
         (["-P", "usb"], "-P usb is for programmers without a serial device: use avrdude"),
         (["-p", "m9"], f"-p ? lists the parts; others need a part file (--parts); {note}"),
         (["-e"], f"-p ? lists the parts, and -p auto reads which one it is; others need a part file (--parts); {note}"),
@@ -441,7 +471,7 @@ def refused():
         (["-U", "flash:w:page.hex"], f"it is not Intel HEX; {note}"),
         (["-U", "flash:w:big.hex"], f"flash of m328p has 32,768 bytes; is -p right?; {note}"),
         (["-U", "eeprom:w:0,0,0.hex"], f"there is no such file; {note}"),
-        (["-U", "lfuse:w:0,0:m"], f"lfuse of m328p has 1 byte; is -p right?; {note}"),
+        (["-U", "lfuse:w:0,0:m"], f"lfuse has 1 byte: give one value; {note}"),
         *((["-U", f"{update}"], f"{it} is empty (did its build fail?): {note}") for update, it in EMPTY.items()),
     ]
 
@@ -644,12 +674,12 @@ def bits_that_do_not_exist():
     """Bits of a fuse or the lock that the part doesn't have are named before anything is sent, and given as 1."""
     room.clear()
     note = "of atmega328p has no bits"
-    recipe = ["-e", "-Ulock:w:0x3F:m", "-Uefuse:w:05:m", "-Uhfuse:w:0xDE:m", "-Ulfuse:w:255:m"]
+    recipe = ["-e", "-Ulock:w:0x3F:m", "-Uefuse:w: 0X05,:m", "-Uhfuse:w:0xDE:m", "-Ulfuse:w:255:m"]
     shown = [f"lock {note} 6, 7; given as 1: lock:w:0xFF:m", f"efuse {note} 3, 4, 5, 6, 7; given as 1: efuse:w:0xFD:m"]
     it = Board()
     status, _, _, own = run(["-patmega328p", "-P", it.device, *recipe])
     same("a recipe of the Arduino IDE", (status, own, it.end()[-4:].hex()), (0, shown, "ffdefdff"))
-    status, _, _, own = run(["-patmega328p", "-P", "emu:chip.bin", *recipe, "-Uefuse:v:0b101:m"])
+    status, _, _, own = run(["-patmega328p", "-P", "emu:chip.bin", *recipe, "-Uefuse:v:0B101:m"])
     shown.append(f"efuse {note} 3, 4, 5, 6, 7; given as 1: efuse:v:0xFD:m")
     same("the same over emu:", (status, own, room.read("chip.bin")[-4:].hex()), (0, shown, "ffdefdff"))
     room.put("mine.toml", (TOP / "parts/classic.toml").read_bytes())
@@ -660,13 +690,14 @@ def bits_that_do_not_exist():
 
 
 def lists():
-    """Tests -P ? and --version."""
+    """Tests -P ? and --version: the build's stamp says what the program is."""
     status, output, told, own = run(["-P", "?"])
     found = [row.split()[0] for row in output.decode().splitlines()]
     here = sorted(str(it) for kind in ("ACM", "USB") for it in Path("/dev").glob(f"tty{kind}*"))
     same("-P ?", (status, told, own, found), (0, b"", [], here or ["there"]))
     version = (TOP / "VERSION").read_text().strip()
-    same("--version", run(["--version"]), (0, f"avrstk {version}\n".encode(), b"", []))
+    status, output, told, own = run(["--version"])
+    see("--version", (status, told, own) == (0, b"", []) and re.match(rf"avrstk {version}\n(un)?proved\ncommit: ", output.decode()), output)
 
 
 class Boards:
@@ -746,7 +777,7 @@ def retries_that_are_refused():
     room.put("late.hex", hex_of([(0x4000, b"late")]))
     os.mkfifo(room.folder / "pipe")
     line, device = terminal()
-    fails = stand_in("sys.exit(1)\n")
+    fails = planned("exit 1")
 
     def ran(*words):
         status, _, _, own = run(["-p", "m328p", "-P", device, "--retry", "1", *words], env=fails)
@@ -758,8 +789,8 @@ def retries_that_are_refused():
         (["-U", "flash:v:blink.hex:i", *whole], "it compares flash, which it didn't write before"),
         (["-U", "lock:w:0xFC:m", *whole], "it writes after the lock"),
         (["-U", "lock:w:0xFC:m", "-U", "lock:w:0xFF:m"], "it writes after the lock"),
-        ([*whole, *whole], "it writes flash twice at the same address"),
-        ([*whole, "-U", "flash:w:1,2:m"], "it writes flash twice at the same address"),
+        ([*whole, *whole], "it writes a page of flash twice"),
+        ([*whole, "-U", "flash:w:1,2:m"], "it writes a page of flash twice"),
         (["-U", "flash:w:pipe:i"], "pipe can't be read twice"),
         (["-U", "flash:w:-:i"], "- can't be read twice"),
         (["-U", "lfuse:r:-:h"], "- can't be written twice"),
@@ -778,6 +809,8 @@ def retries_that_are_refused():
         ([*whole, "-D", "-U", "hfuse:w:0xD9:m"], ""),
     ]:
         same(f"--retry {words}", ran(*words), (1, why))
+    fails = stand_in("sys.exit(1)\n")
+    same("--retry without avrstk_session", ran(*whole, "-U", "flash:w:late.hex:i"), (1, "it writes a page of flash twice"))
     for text in ["-1", "x", "100", "\u0663"]:
         status, _, _, own = run([*FLASH, "-P", device, f"--retry={text}"])
         same(f"--retry {text}", (status, own), (1, [f"--retry {text}: not a number from 0 to 99"]))
@@ -789,10 +822,10 @@ def the_part_of_the_chip():
     wanted = flashed()
     room.clear()
     words = ["-p", "auto", "-U", "flash:w:blink.hex:i", "-U", "lock:w:0x3F:m"]
-    it = Boards({}, {})
-    status, _, told, own = run([*words, "-P", str(it.device)])
-    note = "lock of m328p has no bits 6, 7; given as 1: lock:w:0xFF:m"
-    same("its lines", (status, own), (0, ["the chip is m328p (1E 95 0F)", note]))
+    it = Boards(silent(0x1B), {}, {})
+    status, _, told, own = run([*words, "--retry", "1", "-P", str(it.device)])
+    note, again = "lock of m328p has no bits 6, 7; given as 1: lock:w:0xFF:m", "no answer: the same command again, 1 of 1"
+    same("its lines", (status, own), (0, [again, "the chip is m328p (1E 95 0F)", note]))
     see("the run's own lines alone", told.startswith(lines(SIGNATURE, "chip erased")), told)
     same("the chip", it.end(), wanted)
     classic = ["--parts", str(TOP / "parts/classic.toml")]
@@ -874,11 +907,11 @@ def screen(text):
     return [row.rstrip() for row in rows]
 
 
-def on_a_terminal(words, answer=None):
+def on_a_terminal(words, answer=None, **more):
     """Returns a terminal's text if it is standard error, and the status."""
     it = Board(answer=answer)
     line, slave = pty.openpty()
-    started = start([*words, "-P", it.device], stderr=slave)
+    started = start([*words, "-P", it.device], stderr=slave, **more)
     kills = threading.Timer(60, started.kill)
     kills.start()
     os.close(slave)
@@ -900,27 +933,113 @@ def progress():
         return answer
 
     read = itertools.count()
-    got, status = on_a_terminal(FLASH, slow)
+    got, status = on_a_terminal(FLASH, slow, env=planned())
     same("the lines that stay", (status, screen(got)), (0, [*rows, ""]))
-    for text in ["writing flash: 128 bytes, 50 %", "writing flash: 256 bytes, 100 %", "verifying flash: 256 bytes, 0 %"]:
+    # (six frames come before the first page, and two are for each)
+    for text in ["writing flash: 128 bytes, 2 %", "writing flash: 256 bytes, 3 %", "reading flash: 256 bytes, 4 %"]:
         see(text, f"\ravrstk-serial: {text}" in got, got)
-    left = re.search(r"\ravrstk-serial: verifying flash: 1,\d+ bytes, \d %, (\d+) s left", got)
+    left = re.search(r"\ravrstk-serial: reading flash: 1,\d+ bytes, \d %, (\d+) s left", got)
     see("the time that is left", left and int(left[1]) > 20, got)
-    got, status = on_a_terminal(["-p", "m328p", "-U", "eeprom:w:whole.bin:r", "-U", "flash:w:blink.srec", "-V"])
-    see("each write has its own", status == 0 and "writing eeprom: 4 bytes, 0 %" in got, got)
-    see("by its image", "writing flash: 128 bytes, 50 %" in got, got)
     names = lambda: re.findall(r"\ravrstk-serial: (\w+ \w+)", got)
-    updates = ["flash:r:back.hex:i", "eeprom:w:whole.bin:r", "flash:v:ff.bin:r", "eeprom:r:back.bin"]
-    room.put("ff.bin", b"\xff" * 4)
+    updates = ["flash:r:back.hex:i", "eeprom:w:whole.bin:r", "flash:w:blink.hex", "eeprom:r:back.bin"]
     got, status = on_a_terminal(["-p", "m328p", *(word for it in updates for word in ("-U", it))])
-    wanted = ["reading flash", "writing eeprom", "verifying eeprom", "verifying flash", "reading eeprom"]
-    same("each has its name", (status, list(dict.fromkeys(names()))), (0, wanted))
-    see("no time when none is left", " 0 s left" not in got, got)
-    room.put("mine.toml", (TOP / "parts/classic.toml").read_bytes())
-    got, status = on_a_terminal(["--parts", "mine.toml", *FLASH])
-    see("a part file of one's own", status == 0 and "\ravrstk-serial: writing flash: 128 bytes\r" in got, got)
+    wanted = ["reading flash", "writing eeprom", "reading eeprom", "reading flash", "writing flash"]
+    same("each has its name", (status, set(names())), (0, set(wanted)))
     got, status = on_a_terminal([*FLASH, "-q"])
     same("-q", (status, got), (0, ""))
+
+
+def plans():
+    """avrstk_session prints the frames that a run sends, and the pages that it writes."""
+    flashed()
+    room.clear()
+    session = next((it for it in [PROGRAM.parent, PROGRAM.parents[2] / "avrstk_session/out"] if (it / "avrstk_session").exists()))
+    command = [session / "avrstk_session", "-P", "stdio:", *FLASH]
+    found = subprocess.run(command, cwd=room.folder, capture_output=True, text=True, stdin=subprocess.DEVNULL)
+    if found.returncode:
+        return leave_out("the plan of avrstk_session", "it doesn't print one yet")
+    it = Board()
+    run([*FLASH, "-P", it.device, "--wait", "0"])
+    it.end()
+    count = at = 0
+    while at < len(it.heard):
+        at, count = at + 6 + int.from_bytes(it.heard[at + 2 : at + 4], "big"), count + 1
+    same("the plan", found.stdout.splitlines(), [f"frames {count}", *(f"flash {row}" for row in PAGES["blink.hex"])])
+
+
+def few_lines():
+    """-q twice prints errors alone, and -l keeps all lines in a file, over a device and over a port of avrstk."""
+    flashed()
+    room.clear()
+    quiet = ["-C", "x.conf", "-q", "-q", "-p", "auto", "--retry", "1", "-U", "blink.hex", "-U", "efuse:w:5:m", "-U", "lfuse:w:0:m"]
+    it = Boards({}, silent(0x13), {})
+    same("-q twice", run([*quiet, "-P", str(it.device)])[::3], (0, []))
+    see("the chip", it.end()[:228] == flashed()[:228])
+    it = Board()
+    for port in [it.device, "emu:logged.bin"]:
+        status, _, told, own = run([*FLASH, "-l", "x.log", "-C", "x.conf", "-P", port])
+        own = b"".join(b"avrstk-serial: " + row.encode() + b"\n" for row in own)
+        same(f"-l, {port}", (status, told, room.read("x.log")), (0, lines(*FIRMWARE), own + told))
+    it.end()
+
+
+def backups():
+    """--backup reads six memories, and prints the command that restores them into another chip."""
+    room.clear()
+    old = bytes(it % 241 for it in range(700)).ljust(32_768, b"\xff") + bytes(it % 239 for it in range(1024))
+    for fuses in ["E2D1FDFF", "62D907FE", "E2D1FDFC"]:
+        room.put("old.bin", old + bytes.fromhex(fuses))
+        shutil.rmtree(room.folder / "a backup", ignore_errors=True)
+        it = Board(chip="old.bin")
+        status, output, _, own = run(["-p", "auto" if fuses == "x" else "m328p", "-P", it.device, "--backup", "a backup"])
+        it.end()
+        if fuses[-2:] == "FC":
+            wanted = ["the chip is locked, so flash and EEPROM can't be read: this is no backup of them"]
+            same("a locked chip", (status, output, own), (1, b"", wanted))
+            break
+        room.put("new.bin", bytes(33_792) + b"\xe1\xd2\xfa\xfc")
+        it = Board(chip="new.bin")
+        words = [it.device if word.startswith("/dev/") else word for word in shlex.split(output.decode())]
+        same("restored", (status, words[0], run(words[1:])[0]), (0, "avrstk-serial", 0))
+        see("the chip", it.end()[:-2] == (old + bytes.fromhex(fuses))[:-2], fuses)
+    room.put("none.bin", b"\xff" * 33_796)
+    status, output, *_ = run(["-p", "m328p", "-P", "emu:none.bin", "--backup", "none"])
+    see("an erased flash", (status, b"flash:w" in output, b"-e" in output) == (0, False, True), output)
+    for it in ["a backup", "none"]:
+        shutil.rmtree(room.folder / it)
+
+
+def warnings():
+    """Fuses that can make a chip unreachable are warned of before the device is opened (bits by the data sheets), and an
+    image that leaves out a bootloader's pages."""
+    room.clear()
+    out = lambda update, what: f"warning: {update} turns {what}: no ISP programmer reaches the chip then"
+    reset = "the reset pin off (RSTDISBL)"
+    for part, update, wanted in [
+        ("m328p", "lfuse:w:0x60:m", "warning: lfuse:w:0x60:m selects an external clock: the chip only works while a clock"),
+        ("m328p", "lfuse:w:0x62:m", None),
+        ("m328p", "hfuse:w:0x59:m", out("hfuse:w:0x59:m", reset)),
+        ("t85", "hfuse:w:0xFF:m", out("hfuse:w:0xFF:m", "SPIEN off")),
+        ("m2560", "hfuse:w:0x19:m", None),
+        ("m329p", "efuse:w:0xFE:m", out("efuse:w:0xFE:m", reset)),
+        ("m32u2", "hfuse:w:0x99:m", out("hfuse:w:0x99:m", reset)),
+        ("m32u2", "hfuse:w:0x59:m", None),
+        ("m328p", "hfuse:v:0x59:m", None),
+    ]:
+        own = run(["-p", part, "-P", "emu:no.bin", "-n", "-U", update])[3]
+        room.clear()
+        see(f"{part} {update}", (not own and not wanted) or wanted and own[0].startswith(wanted), own)
+    leaves_out = "warning: a bootloader erases pages from 0 on, other ones than this image writes: give one image that"
+    for file, words, is_warned in [
+        ("blink.hex", ["-c", "wiring", "-D"], False),
+        ("gap.hex", ["-c", "wiring", "-D"], True),
+        ("late.hex", ["-c", "wiring", "-D"], True),
+        ("late.hex", ["-D"], False),
+    ]:
+        room.put("gap.hex", hex_of([(0, b"x"), (256, b"x")]))
+        room.put("late.hex", hex_of([(0x4000, b"late")]))
+        own = run(["-p", "m328p", "-P", "emu:no.bin", "-U", f"flash:w:{file}:i", *words], env=planned())[3]
+        see(f"{file} {words}", bool(own) == is_warned and all(it.startswith(leaves_out) for it in own), own)
 
 
 def images_that_are_read_once():
@@ -1608,6 +1727,10 @@ CASES = named(
     hints_over_each_memory,
     hints_that_are_followed,
     progress,
+    plans,
+    few_lines,
+    backups,
+    warnings,
     images_that_are_read_once,
     a_child_that_is_not_waited_for,
     signals,
