@@ -60,6 +60,7 @@ _avrstk_parts() {
         done
     fi
     [ ! -f "$file" ] || built_in+=" $(sed -nE 's/^\[parts\.([[:alnum:]_-]+)\].*/\1/p; s/^([[:alnum:]_-]+) = \{.*/\1/p' <"$file")"
+    [ "$script" != avrstk-serial ] || built_in+=" auto"
     compgen -W "$built_in" -- "$value" | awk '!seen[$0]++'
 }
 
@@ -79,7 +80,7 @@ _avrstk_value() {
             esac ;;
         -U) _avrstk_update ;;
         -b) [ "$script" = avrstk ] || _avrstk_behind "" "9600 19200 38400 57600 115200 250000" ;;
-        --parts | --chip) _avrstk_behind "" ;;
+        --parts | --chip | --backup) _avrstk_behind "" ;;
     esac
 }
 
@@ -89,7 +90,7 @@ _avrstk() {
     script=${line%%[[:blank:]]*}
     script=${script##*/}
     case $script in
-        avrstk-serial) options="-p -c -P -U -e -D -V -n -F -A -q -b -v -C -l --parts --wait --retry --version -h --help" ;;
+        avrstk-serial) options="-p -c -P -U -e -D -V -n -F -A -q -b -v -C -l --parts --wait --retry --backup --version -h --help" ;;
         avrstk-serve) options="-p --chip --parts --idle --listen --pty --log -h --help" ;;
         *) script=avrstk ;;
     esac
@@ -104,7 +105,7 @@ _avrstk() {
     before=${before##*[[:blank:]]}
     value=$typed
     case $before in
-        -[pcPUb] | --parts | --chip | --serve | --wait | --idle | --retry | --listen | --pty | --log) found=$(_avrstk_value "$before") ;;
+        -[pcPUb] | --parts | --chip | --serve | --wait | --idle | --retry | --backup | --listen | --pty | --log) found=$(_avrstk_value "$before") ;;
         *) case $typed in
             --parts=* | --chip=*)
                 front=${typed%%=*}=
@@ -127,7 +128,7 @@ _avrstk() {
     [[ $COMP_WORDBREAKS != *:* ]] || COMPREPLY=("${COMPREPLY[@]#"${typed%"${typed##*:}"}"}")
     # bash puts a reply on the line as it is, so a name with special characters is quoted here
     mapfile -t COMPREPLY < <(printf '%q\n' "${COMPREPLY[@]}")
-    [[ $typed != "~"* ]] || COMPREPLY=("${COMPREPLY[@]#\\}")
+    [[ $typed != "~"* ]] || COMPREPLY=("${COMPREPLY[@]/#\\\~/\~}")
 }
 
 complete -F _avrstk avrstk avrstk-serial avrstk-serve
