@@ -431,13 +431,13 @@ def refused():
         (["-P", "COM3"], "COM3: there is no such device (Linux calls it /dev/ttyACM0 or /dev/ttyUSB0; -P ? lists"),
         (["-P", "localhost:5000"], "localhost:5000: there is no such device (a port of a network is -P net:localhost:5000)"),
         (["-P", "net:localhost"], "-P net:localhost: a port of a network is -P net:HOST:PORT"),
-        (["-p", "uno"], "-p takes the chip's name, not the board's: m328p for Uno and Nano, m2560 for Mega 2560"),
+        (["-p", "uno"], "-p takes the chip's name, not the board's: m328p for Uno, m2560 for Mega 2560, m32u4"),
         (["-p", "ATmega328P-PU"], f"without the package: -p atmega328p; {note}"),
         (["-u", "flash:w:blink.hex:i"], "flash:w:blink.hex:i has no option before it: give -U flash:w:blink.hex:i"),
         (["-U", "lfuse", "w", "0xE2", "m"], "an update is one word: give -U lfuse:w:0xE2:m"),
         (["-U", "flash:w:blink.hex:hex"], f"a format is one letter: give -U flash:w:blink.hex; {note}"),
-        (["--backup", ".", "-e"], "--backup only reads, all memories: leave out -U and -e, and use a programmer, not a"),
-        (["--backup", ".", "-c", "wiring"], "--backup only reads, all memories: leave out -U and -e, and use a programmer"),
+        (["--backup", ".", "-e"], "--backup only reads: leave out -U and -e, and use a programmer, not a boot"),
+        (["--backup", ".", "-c", "wiring"], "--backup only reads: leave out -U and -e, and use a programmer, not a boot"),
         (["--backup", "."], ". is not empty: give a new folder"),
         (["-l", "no/where"], f"-l no/where: No such file or directory: {note}"),
         (["-P", "usb"], "-P usb is for programmers without a serial device: use avrdude"),
@@ -453,7 +453,7 @@ def refused():
         (["-U", "lfuse:w:E2:m"], f"a value is written as 0xE2, 0b11100010, 0342 or 226; {note}"),
         (["-U", "flash:w:blink.hex:I"], "-U flash:w:blink.hex:I: the formats are i, s, r, e, a and m to write and comp"),
         (["-U", "flash:r:x.elf:e"], "-U flash:r:x.elf:e: the formats are i, s, r, e, a and m to write and compare, i, s, r, h"),
-        (["-U", "flash:w:x.elf:e"], f"x.elf: there is no such ELF file: {note}"),
+        (["-U", "flash:w:x.elf:e"], f"x.elf can't be read as ELF: it is no file: {note}"),
         (["-U", "flash:w:"], f"-U flash:w:: a file comes last, as flash:w:firmware.hex:i; {note}"),
         (["-U", "nofile"], f"there is no such file; {note}"),
         (["-U", "flash:w:gone.hex:i"], f"it is a symbolic link to a missing file; {note}"),
@@ -1612,7 +1612,7 @@ def names_and_interrupts():
     modules = room.folder / "modules"
     modules.mkdir()
     (modules / "glob.py").write_text("import os, signal, time\nos.kill(os.getpid(), signal.SIGINT)\ntime.sleep(1)\n")
-    started = start(["--help"], env={"PYTHONPATH": str(modules)})
+    started = start(["-p", "?"], env={"PYTHONPATH": str(modules)})
     found = (*started.communicate(timeout=PATIENCE), started.returncode)
     same("Ctrl-C at once", found, (b"", b"", -signal.SIGINT))
     shutil.rmtree(modules)
