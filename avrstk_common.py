@@ -190,10 +190,11 @@ class Signals:
 
 
 class Way:
-    """Passes bytes from one file to another, one piece at a time, and notes them. Both files are non-blocking."""
+    """Passes bytes from one file to another, one piece at a time, notes them, and passes on what `change` makes of them.
+    Both files are non-blocking."""
 
     def __init__(self, source, sink, note=None):
-        self.source, self.sink, self.note = source, sink, note
+        self.source, self.sink, self.note, self.change = source, sink, note, None
         self.held, self.has_ended = b"", False
 
     def watch(self, watched):
@@ -205,7 +206,8 @@ class Way:
     def take(self):
         """Takes the bytes that are there, or notes the end of the source."""
         piece = os.read(self.source.fileno(), 65_536)
-        self.held, self.has_ended = self.held + piece, not piece
+        self.held += self.change(piece) if self.change else piece
+        self.has_ended = not piece
         if self.note:
             self.note(piece)
 
@@ -223,21 +225,34 @@ class Way:
             return False
 
 
+def is_frame(piece):
+    """Whether a piece of a stream is a frame. (A bad header has five bytes, and noise no start byte.)"""
+    return piece[0] == 0x1B and len(piece) > 5
+
+
 class Frames:
-    """Cuts a stream into frames of STK500v2. What begins no frame is left out."""
+    """Cuts a stream of STK500v2 as the programmer does: docs/PROTOCOL has the rule."""
 
     def __init__(self):
         self.held = b""
 
-    def cut(self, piece):
-        """Yields the sequence number and the body of each frame that this piece completes."""
-        self.held += piece
-        while len(self.held) > 5:
-            size = int.from_bytes(self.held[2:4], "big")
-            if self.held[0] != 0x1B or self.held[4] != 0x0E or not 0 < size <= 275:
-                self.held = self.held[1:]
-                continue
-            if len(self.held) < size + 6:
-                return
-            frame, self.held = self.held[: size + 5], self.held[size + 6 :]
-            yield frame[1], frame[5:]
+    def pieces(self, more):
+        """Returns the pieces that these bytes complete: frames, bad headers and noise. What may begin one is kept."""
+        held, at, found = self.held + more, 0, []
+        while at < len(held):
+            start = held.find(0x1B, at)
+            end = start if start > at else len(held)
+            if start == at:
+                size = int.from_bytes(held[at + 2 : at + 4], "big")
+                end = at + (size + 6 if held[at + 4 : at + 5] == b"\x0e" and 0 < size <= 275 else 5)
+            if end > len(held):
+                break
+            found.append(held[at:end])
+            at = end
+        self.held = held[at:]
+        return found
+
+    def cut(self, more):
+        """Yields the sequence number and the body of each frame that these bytes complete."""
+        for it in filter(is_frame, self.pieces(more)):
+            yield it[1], it[5:-1]

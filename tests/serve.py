@@ -13,12 +13,13 @@ import socket
 import struct
 import subprocess
 import sys
+import tempfile
 import time
 from pathlib import Path
 
 from cases import PATIENCE, leave_out, named, run_cases, same, see, wait_until
-from program import ANSWERS, CHIP_FILE, ENDS, FRAMES, PROGRAM, TOP, Room
-from program import frame, free_port, kept_port, lines, port_of, read_whole
+from program import ANSWERS, CHIP_FILE, ENDS, FRAMES, NAMED, PROGRAM, TOP, Room
+from program import frame, free_port, has_avrdude, kept_port, lines, port_of, read_whole
 
 SCRIPT = TOP / "avrstk-serve"
 M328P = ["-p", "m328p", "--chip", "chip.bin"]
@@ -38,7 +39,7 @@ class Serving:
             how |= {"env": environment(program), "start_new_session": True, "preexec_fn": before}
             self.started = subprocess.Popen(command, **how)
         self.said = self.started.stdout.readline()
-        self.port = int(self.said.rpartition(b":")[2] or 0) if port else None
+        self.port = int(self.said.rpartition(b":")[2] or 0) if port and b" at " in self.said else None
 
     def call(self):
         return socket.create_connection(("127.0.0.1", self.port), PATIENCE)
@@ -336,25 +337,23 @@ def refused():
 
 
 def installed():
-    """If it is installed, it finds the program beside it, and the installed part file."""
+    """If it is installed, it finds the program, the part file, and the stamp of the build, as in a clone."""
     room.clear()
-    (room.folder / "bin").mkdir()
-    (room.folder / "share/avrstk").mkdir(parents=True)
-    (room.folder / "lib/avrstk").mkdir(parents=True)
-    shutil.copy(SCRIPT, room.folder / "bin/avrstk-serve")
-    shutil.copy(TOP / "avrstk_common.py", room.folder / "lib/avrstk")
-    shutil.copy(TOP / "parts/classic.toml", room.folder / "share/avrstk/classic.toml")
-    shutil.copy(PROGRAM, room.folder / "bin/avrstk")
-    shutil.copy(session_program(), room.folder / "lib/avrstk")
-    clean = {name: it for name, it in os.environ.items() if name != "AVRSTK"}
-    words = ["0", "-p", "atmega32u4", "--chip", "chip.bin"]
-    how = {"cwd": room.folder, "env": clean, "stdout": subprocess.PIPE}
-    with subprocess.Popen([room.folder / "bin/avrstk-serve", *words], **how) as started:
-        see("it serves", started.stdout.readline().startswith(b"serving at 127.0.0.1:"))
-        started.terminate()
-    same("its status", started.returncode, 0)
-    for name in ["bin", "share", "lib"]:
-        shutil.rmtree(room.folder / name)
+    with tempfile.TemporaryDirectory() as folder:
+        subprocess.run([TOP / "install.sh", folder], env=environment(), stdout=subprocess.DEVNULL, check=True)
+        how = {"cwd": room.folder, "env": {name: it for name, it in os.environ.items() if name != "AVRSTK"}}
+        how |= {"capture_output": True, "text": True, "timeout": PATIENCE}
+        script = Path(folder, "bin/avrstk-serve")
+        same("it serves", subprocess.run([script, "0", "-p", "atmega32u4", "--chip", "chip.bin", "--", "true"], **how).returncode, 0)
+        shown = [subprocess.run([it, "--version"], **how).stdout.splitlines() for it in (SCRIPT, script)]
+        stamp = subprocess.run([TOP / "avrstk", "--stamp-of", PROGRAM], **how).stdout.splitlines()
+        rows = [it for it in stamp if not it.startswith(("sources", "program"))] or ["not known whether it is proved"]
+        wanted = [f"avrstk {(TOP / 'VERSION').read_text().strip()}", *rows]
+        same("--version, installed", shown[1], wanted)
+        same("--version, in the clone", NAMED or shown[0], NAMED or wanted)
+        Path(folder, "lib/avrstk/avrstk.stamp").unlink()
+        told = subprocess.run([script, "--version"], **how).stdout
+        same("without a stamp", told.splitlines()[1:], ["not known whether it is proved"])
 
 
 def session_program():
@@ -442,22 +441,38 @@ def status_of_sessions():
         same(f"{name}: no run is left", runs(), [])
 
 
-def the_recipe_of_a_script():
-    """A script's `kill` and `wait` give the server's status, also if a session has failed before."""
-    text = """"$0" 0 -p m328p --chip chip.bin >serving 2>messages & server=$!
-        until [ -s serving ]; do sleep 0.1; done; read -r _ _ address <serving
-        "$AVRSTK" -p m328p -P net:$address -q -U lfuse:w:$1:m || exit 9
-        until [ -s chip.bin ]; do sleep 0.1; done
-        [ "$2" = 0 ] || { rm chip.bin; mkdir chip.bin; "$AVRSTK" -p m328p -P net:$address -q; }
-        kill $server; wait $server"""
-    for value, status in [(0x60, 0), (0x61, 1)]:
-        room.clear()
-        words = ["bash", "-c", text, SCRIPT, str(value), str(status)]
-        ran = subprocess.run(words, cwd=room.folder, env=environment(), stderr=subprocess.DEVNULL, timeout=PATIENCE)
-        same(f"{value}: the status", ran.returncode, status)
-        if status == 0:
-            same(f"{value}: the fuse", fuse(), value)
+def serves_a_command(*words, chip=M328P):
+    """Returns the status and messages of the script, with these words after its port and chip."""
+    how = {"cwd": room.folder, "env": environment(), "capture_output": True, "text": True, "timeout": PATIENCE}
+    ran = subprocess.run([SCRIPT, *chip, *words], **how)
+    same(f"{words}: no run is left", runs(), [])
+    return ran.returncode, ran.stderr, ran.stdout
+
+
+def a_command():
+    """A command after -- is the client. Its end ends the server, whose status it is, or 1 if a chip was not saved."""
+    room.clear()
+    client = [str(PROGRAM), "-p", "m328p", "-P", "net:{}", "-q", "-U", "lfuse:w:0x60:m"]
+    same("a client", serves_a_command("0", "--", *client), (0, "", ""))
+    same("its fuse", fuse(), 0x60)
+    gone = "No such file or directory"
+    rows = [
+        (["sh", "-c", "[ {} = $AVRSTK_PORT ] && exit 7"], 7, ""),
+        (["sh", "-c", "kill -9 $$"], 137, ""),
+        (["/nowhere/it"], 1, f"avrstk-serve: /nowhere/it can't be run: {gone}\n"),
+        ([], 1, "avrstk-serve: no command after --\n"),
+        (["sh", "-c", 'rm chip.bin; mkdir chip.bin; "$@"; exit 0', "sh", *client], 1, None),
+        (["false"], 1, None),
+    ]
+    for words, status, told in rows:
+        found = serves_a_command("0", "--", *words)
+        same(f"{words}: the status", found[0], status)
+        see(f"{words}: its messages", told is None or found[1:] == (told, ""), found)
     (room.folder / "chip.bin").rmdir()
+    for command, status in [("echo begun; exec sleep 600", 143), ("trap '' TERM; echo begun; while :; do sleep 0.1; done", 137)]:
+        with Serving("--", "sh", "-c", command) as it:
+            same(f"{command}: its output", it.said, b"begun\n")
+            same(f"{command}: SIGTERM ends it too", it.end(), (status, ""))
 
 
 def no_inner_port():
@@ -594,36 +609,132 @@ def devices():
         same("it ends", it.end(), (0, told))
         see("its link is removed", not link.is_symlink())
     with Serving("--pty", "device", port=None) as it:
+        first = os.open(link, os.O_RDWR | os.O_NOCTTY)
+        os.write(first, FRAMES[0])
+        same("a first client", os.read(first, 100), ANSWERS[: ENDS[0]])
+        (run,) = runs()
+        os.kill(run, signal.SIGSTOP)
+        os.close(first)
+        time.sleep(0.2)
+        # (the first one's chip isn't saved yet)
+        second = os.open(link, os.O_RDWR | os.O_NOCTTY)
+        os.write(second, FRAMES[0])
+        os.kill(run, signal.SIGCONT)
+        same("a second client at once", os.read(second, 100), ANSWERS[: ENDS[0]])
+        os.close(second)
+        same("it ends", it.end(), (0, ""))
+    same("nothing is left", [it.name for it in room.folder.glob("device*")], [])
+    with Serving("--pty", "device", port=None) as it:
         link.unlink()
         link.symlink_to("blink.hex")
         same("another link", it.end(), (0, ""))
         same("stays", os.readlink(link), "blink.hex")
 
 
-def logged():
-    """With --log each command of a client has a line; noise has none."""
+def avrdudes_in_a_row():
+    """Many runs of AVRDUDE, one right after the other, at one device: each ends."""
+    if not has_avrdude():
+        return leave_out("AVRDUDE at a device", "AVRDUDE 7.1 is not installed")
     room.clear()
+    command = 'for _ in $(seq 25); do timeout 60 avrdude -qq -c stk500v2 -p m2560 -P "$0" -U lfuse:v:0xff:m || exit; done'
+    chip = ["-p", "m2560", "--chip", "chip.bin"]
+    same("all end", serves_a_command("--pty", "device", "--", "bash", "-c", command, "{}", chip=chip)[0], 0)
+
+
+def marks():
+    """Returns the lines of the log, without the times."""
+    return [row.partition(" client ")[2] for row in room.read("log").decode().splitlines()]
+
+
+def logged():
+    """With --log each command of a client has a line, with what became of it; noise and bad headers have none."""
+    room.clear()
+    spoiled = bytearray(frame(3, 0x12, 9, 0, 0xAC, 0x80, 0, 0))
+    spoiled[-1] ^= 1
     with Serving("--log", "log") as it:
         with it.call() as client:
-            client.sendall(b"noise" + FRAMES[0] + FRAMES[1])
-            see("replies", len(heard(client, ENDS[1])) == ENDS[1])
+            # (a bad header whose second byte looks like the start of a frame)
+            client.sendall(b"noise" + FRAMES[0] + b"\x1b" + FRAMES[0] + FRAMES[1] + spoiled + frame(4, 0x12))
+            replies = ANSWERS[: ENDS[1]] + frame(3, 0xB0, 0xC1) + frame(4, 0x12, 0xC0)
+            same("the replies", heard(client, len(replies)), replies)
         with it.call() as client:
             see("another client", begins(client))
-        wait_until(lambda: len(room.read("log").splitlines()) == 3)
-        same("it ends", it.end(), (0, ""))
-    rows = [row.partition(" client ")[2] for row in room.read("log").decode().splitlines()]
+        wait_until(lambda: len(room.read("log").splitlines()) == 5)
+        with it.call() as client:
+            see("one whose run is killed", begins(client))
+            (run,) = runs()
+            os.kill(run, signal.SIGSTOP)
+            client.sendall(FRAMES[1])
+            time.sleep(0.2)
+            os.kill(run, signal.SIGKILL)
+            same("it is hung up on", client.recv(1), b"")
+        it.end()
     wanted = [
         "1, 1: SIGN_ON 01",
         "1, 2: ENTER_PROGMODE 10 c8 64 19 20 00 53 03 ac 53 00 00",
+        "1, 3: CHIP_ERASE 12 09 00 ac 80 00 00: refused (b0 c1)",
+        "1, 4: CHIP_ERASE 12: refused (12 c0)",
         "2, 1: SIGN_ON 01",
+        "3, 1: SIGN_ON 01",
+        "3, 2: ENTER_PROGMODE 10 c8 64 19 20 00 53 03 ac 53 00 00: no reply",
     ]
-    same("its lines", rows, wanted)
+    same("its lines", marks(), wanted)
+
+
+# a bad line, a bad programmer or a bad chip: the options; the log's mark; the status, the flash and the EEPROM with avrstk as
+# the client, and with AVRDUDE, which goes on after some failures
+FAULTS = [
+    ("--lose CHIP_ERASE", "CHIP_ERASE 12 09 00 ac 80 00 00: lost", (1, "old", "old"), (1, "mixed", "old")),
+    ("--lose-reply CHIP_ERASE", ": reply lost", (1, "erased", "erased"), (0, "new", "erased")),
+    ("--corrupt CHIP_ERASE", ": corrupted, refused (b0 c1)", (1, "old", "old"), (1, "mixed", "old")),
+    ("--corrupt-reply CHIP_ERASE", ": reply corrupted", (1, "erased", "erased"), (0, "new", "erased")),
+    ("--lose PROGRAM_FLASH", ": lost", (1, "erased", "erased"), (1, "erased", "erased")),
+    ("--lose 2 --corrupt 6 --corrupt-reply 9", ": lost", (0, "new", "erased"), None),
+    ("--late 6:0.5", ": reply late", (0, "new", "erased"), (0, "new", "erased")),
+    ("--drop 2% --seed 7", " lost", (0, "new", "erased"), None),
+    ("--bootloader", ": refused (12 c0)", (1, "old", "old"), (255, "old", "old")),
+    ("--bootloader -D", "PROGRAM_FLASH", (0, "new", "erased"), (0, "new", "erased")),
+    ("--no-chip", ": refused (10 c0)", (1, "old", "old"), (1, "old", "old")),
+    ("--locked", "CHIP_ERASE", (0, "new", "erased"), (0, "new", "erased")),
+    ("--locked -D", "PROGRAM_FLASH", (1, "old", "old"), (1, "old", "old")),
+]
+
+
+def state_of(memory, old):
+    """Returns what a memory holds: the old bytes, none, the new image, or a mixture."""
+    image = bytes.fromhex("".join(row[9:-2] for row in room.read("blink.hex").decode().split()))
+    kinds = {old: "old", b"\xff" * len(old): "erased", image + memory[len(image) :]: "new"}
+    return kinds.get(memory, "mixed")
+
+
+def faults():
+    """Each fault is made, and each client gets as far as it can."""
+    emulated = ["-p", "m328p", "-P", "emu:chip.bin", "-qq", "-U", "flash:w:whole.bin:r", "-U", "eeprom:w:whole.bin:r"]
+    clients = [[str(PROGRAM)], ["avrdude", "-c", "stk500v2"] if has_avrdude() else None]
+    old = room.read("whole.bin")
+    for options, mark, *ends in FAULTS:
+        own = [it for it in options.split() if it != "-D"]
+        for client, wanted in zip(clients, ends):
+            if not client or not wanted:
+                continue
+            room.clear()
+            same("an old firmware", room.run(emulated)[0], 0)
+            words = [*client, "-p", "m328p", "-P", "net:{}", "-qq", *(["-D"] if "-D" in options else []), "-U", "flash:w:blink.hex:i"]
+            status, told, _ = serves_a_command("0", "--log", "log", *own, "--", *words)
+            chip = room.read("chip.bin")
+            found = status, state_of(chip[:1024], old), state_of(chip[32_768:LFUSE], old)
+            same(f"{options}: {client[0]}: status, flash, EEPROM", found, wanted)
+            see(f"{options}: {client[0]}: the log", any(mark in row for row in marks()), marks())
+            see(f"{options}: the seed is printed", ("--seed 7 makes the same faults again" in told) == ("%" in options), told)
+    if not clients[1]:
+        leave_out("faults with AVRDUDE", "AVRDUDE 7.1 is not installed")
 
 
 CASES = named(
     *(listens, clients_that_send_nothing, one_after_another, half_closed, clients_that_reset, a_chip_in_use),
-    *(idle_clients, ends_at_a_signal, refused, installed, status_of_sessions, the_recipe_of_a_script),
+    *(idle_clients, ends_at_a_signal, refused, installed, status_of_sessions, a_command),
     *(no_inner_port, errors_end_one_session, few_files, two_at_once, nothing_hangs, other_addresses, devices, logged),
+    *(avrdudes_in_a_row, faults),
 )
 
 if __name__ == "__main__":
