@@ -208,8 +208,8 @@ def stand_in(text, folder=None):
     return {"AVRSTK": str(file)}
 
 
-# what avrstk_session knows of an image: the address and length of each run of whole pages
-PAGES = {"blink.hex": ["0 256"], "late.hex": ["16384 128"], "1,2": ["0 128"], "gap.hex": ["0 128", "256 128"]}
+# what avrstk_session prints of an image: the address and length of each page that it writes
+PAGES = {"blink.hex": ["0 128", "128 128"], "late.hex": ["16384 128"], "1,2": ["0 128"], "gap.hex": ["0 128", "256 128"]}
 
 
 def planned(runs='exec {0} "$@"'):
