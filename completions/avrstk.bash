@@ -60,6 +60,7 @@ _avrstk_parts() {
         done
     fi
     [ ! -f "$file" ] || built_in+=" $(sed -nE 's/^\[parts\.([[:alnum:]_-]+)\].*/\1/p; s/^([[:alnum:]_-]+) = \{.*/\1/p' <"$file")"
+    [ "$script" != avrstk-serial ] || built_in+=" auto"
     compgen -W "$built_in" -- "$value" | awk '!seen[$0]++'
 }
 
@@ -79,7 +80,7 @@ _avrstk_value() {
             esac ;;
         -U) _avrstk_update ;;
         -b) [ "$script" = avrstk ] || _avrstk_behind "" "9600 19200 38400 57600 115200 250000" ;;
-        --parts | --chip) _avrstk_behind "" ;;
+        --parts | --chip | --backup) _avrstk_behind "" ;;
         --lose | --lose-reply | --corrupt | --corrupt-reply | --late | --drop)
             _avrstk_behind "" "CHIP_ERASE PROGRAM_FLASH READ_FLASH LOAD_ADDRESS ENTER_PROGMODE SIGN_ON 1 2%" ;;
     esac
@@ -91,7 +92,7 @@ _avrstk() {
     script=${line%%[[:blank:]]*}
     script=${script##*/}
     case $script in
-        avrstk-serial) options="-p -c -P -U -e -D -V -n -F -A -q -b -v -C -l --parts --wait --retry --version -h --help" ;;
+        avrstk-serial) options="-p -c -P -U -e -D -V -n -F -A -q -b -v -C -l --parts --wait --retry --backup --version -h --help" ;;
         avrstk-serve) options="-p --chip --parts --idle --listen --pty --log --lose --lose-reply --corrupt --corrupt-reply --late --drop --seed --bootloader --locked --no-chip --version -h --help" ;;
         *) script=avrstk ;;
     esac
@@ -106,7 +107,7 @@ _avrstk() {
     before=${before##*[[:blank:]]}
     value=$typed
     case $before in
-        -[pcPUb] | --parts | --chip | --serve | --wait | --idle | --retry | --listen | --pty | --log | --lose | --lose-reply | --corrupt | --corrupt-reply | --late | --drop | --seed) found=$(_avrstk_value "$before") ;;
+        -[pcPUb] | --parts | --chip | --serve | --wait | --idle | --retry | --backup | --listen | --pty | --log | --lose | --lose-reply | --corrupt | --corrupt-reply | --late | --drop | --seed) found=$(_avrstk_value "$before") ;;
         *) case $typed in
             --parts=* | --chip=*)
                 front=${typed%%=*}=
@@ -130,7 +131,7 @@ _avrstk() {
     # bash puts a reply on the line as it is, so a name with special characters is quoted here
     mapfile -t COMPREPLY < <(printf '%q\n' "${COMPREPLY[@]}")
     # (a tilde in front stays one)
-    [[ $typed != "~"* ]] || COMPREPLY=("${COMPREPLY[@]/#\\~/\~}")
+    [[ $typed != "~"* ]] || COMPREPLY=("${COMPREPLY[@]/#\\\~/\~}")
 }
 
 complete -F _avrstk avrstk avrstk-serial avrstk-serve

@@ -39,7 +39,7 @@ HEAD = """\
 
 HEAD_OF_BITS = """\
 # The bits that the fuses and the lock of the parts in classic.toml have: lfuse, hfuse, efuse, lock. Made by
-# tests/parts.py --write of the write instructions in the configuration of AVRDUDE 7.1, which gives the others as 1.
+# tests/parts.py --write of the write instructions in the configuration of AVRDUDE 7.1. A part reads the others as 1.
 # A memory whose other bits are read as 0 there has a dash.
 """
 HEAD_OF_UNSUPPORTED = """\

@@ -170,6 +170,44 @@ def jobs(clone):
         (clone.folder / "chip.bin").unlink()
 
 
+# the Arduino IDE's own rules for AVR boards: names and values, of which platform.local.txt replaces some
+PLATFORM = Path("/usr/share/arduino/hardware/arduino/avr/platform.txt")
+
+
+def uploads(local):
+    """Returns the upload command of the Arduino IDE, with the text of a platform.local.txt."""
+    rules = dict(it.split("=", 1) for it in f"{PLATFORM.read_text()}\n{local}".splitlines() if re.match(r"[\w.]+=", it))
+    tool = {name[len("tools.avrdude.") :]: it for name, it in rules.items() if name.startswith("tools.avrdude.")}
+    given = {"build.mcu": "atmega2560", "upload.protocol": "wiring", "upload.speed": "115200", "serial.port": "/dev/ttyACM0"}
+    given |= {"build.path": "examples", "build.project_name": "blink", "upload.verbose": "-v", "upload.verify": ""}
+    command = tool["upload.pattern"]
+    while found := re.search(r"\{([\w.]+)\}", command):
+        command = command.replace(found[0], {**tool, **given, "path": "", "runtime.tools.avrdude.path": ""}[found[1]])
+    return command
+
+
+def in_place_of_avrdude(clone):
+    """The recipes of docs/USAGE for the Arduino IDE, for PlatformIO and for a link named avrdude upload to a board."""
+    text = (TOP / "docs/USAGE.md").read_text().split("## In place of AVRDUDE")[1].split("\n## ")[0]
+    local, project, link = ["\n".join(it.strip() for it in found.splitlines()) for found in re.findall(r"(?:^    .*\n)+", text, re.M)]
+    clone.types(["./install.sh ~/.local"])
+    installed = lambda it: it.replace("/usr/bin/", f"{clone.folder}/home/.local/bin/")
+    settings = dict(re.findall(r"^(\w+) = (.*)$", project, re.M))
+    variables = {"$UPLOAD_PORT": settings["upload_port"], "$SOURCE": "examples/blink.hex"}
+    commands = [re.sub(r"\$\w+", lambda it: variables[it[0]], settings["upload_command"])]
+    commands.append(f"cd ~ && {installed(link)} && cd - && ~/avrdude -patmega2560 -cwiring -P/dev/ttyACM0 -D -Uflash:w:examples/blink.hex:i")
+    if PLATFORM.exists():
+        commands.append(uploads(installed(local)))
+    else:
+        leave_out("the Arduino IDE's recipe", "arduino-core-avr is not installed")
+    for it in commands:
+        board = Board(part="m2560")
+        printed = clone.types([it.replace("/dev/ttyACM0", board.device)])
+        chip = board.end()
+        see(f"is right: {it}", "FAILED here" not in printed and "avrstk: flash: 228 bytes verified" in printed, printed)
+        same("the chip", chip[:4].hex(), "0c943400")
+
+
 def somebody_else(clone):
     """Another user of the clone runs the built program, and builds nothing."""
     if os.geteuid() != 0:
@@ -180,7 +218,7 @@ def somebody_else(clone):
     see("it runs", "Usage: " in printed and "FAILED" not in printed, printed)
 
 
-CASES = named(*map(in_a_clone, [readme, usage, jobs, somebody_else]))
+CASES = named(*map(in_a_clone, [readme, usage, jobs, in_place_of_avrdude, somebody_else]))
 
 if __name__ == "__main__":
     sys.exit(run_cases(CASES, __doc__))

@@ -14,6 +14,7 @@ import os
 import pty
 import re
 import select
+import shlex
 import shutil
 import signal
 import socket
@@ -55,19 +56,8 @@ class Board:
     programmer and sends this text all the time. The device disappears after `vanish` replies. `answer` changes the
     bytes of each reply."""
 
-    def __init__(
-        self,
-        deaf=0.0,
-        gone=None,
-        part="m328p",
-        talk=None,
-        vanish=None,
-        answer=None,
-        words=(),
-        chip=None,
-        server=None,
-        ends=None,
-    ):
+    def __init__(self, deaf=0.0, gone=None, part="m328p", talk=None, vanish=None, answer=None, words=(), **more):
+        chip, server, ends = (more.get(it) for it in ("chip", "server", "ends"))
         self.deaf, self.gone, self.talk, self.vanish, self.answer = deaf, gone, talk, vanish, answer
         self.opened, self.heard, self.chip = 0, b"", chip or f"served{next(boards)}.bin"
         self.server = None if talk else server or Server(room, self.chip, part, words)
@@ -218,6 +208,24 @@ def stand_in(text, folder=None):
     return {"AVRSTK": str(file)}
 
 
+# what avrstk_session prints of an image: the address and length of each page that it writes
+PAGES = {"blink.hex": ["0 128", "128 128"], "late.hex": ["16384 128"], "1,2": ["0 128"], "gap.hex": ["0 128", "256 128"]}
+
+
+def planned(runs='exec {0} "$@"'):
+    """Returns the environment for a stand-in of avrstk_session, which prints its plan: so many frames, and PAGES."""
+    folder = room.folder / "planned"
+    folder.mkdir(exist_ok=True)
+    room.given.add("planned")
+    rows = f"PAGES = {PAGES}\nprint('frames 300')\nfor it in sys.argv[1:]:\n    file = (it.split(':') + ['', ''])[2]\n"
+    texts = {"avrstk": f"#!/bin/sh\n{runs.format(PROGRAM)}\n"}
+    texts["avrstk_session"] = f"#!{PYTHON}\nimport sys\n{rows}    for row in PAGES.get(file, []):\n        print('flash', row)\n"
+    for name, text in texts.items():
+        (folder / name).write_text(text)
+        (folder / name).chmod(0o755)
+    return {"AVRSTK": str(folder / "avrstk")}
+
+
 @lru_cache
 def emulated(*words, part="m328p"):
     """Returns the chip that these options leave over `emu:`."""
@@ -262,17 +270,14 @@ def words_of_avrdude():
         ([*FLASH, "-P", "DEVICE"], []),
         *(([*FLASH, "-P", "DEVICE", "-c", it], []) for it in ["wiring", "stk500v2", "avrispv2", "stk500", "STK500"]),
         ([*FLASH, "-cstk500v2", "-PDEVICE", "-b115200"], []),
-        ([*FLASH, "-v", "-v", "-PDEVICE"], []),
         *(([f"-p{it}", "-PDEVICE", "-Uflash:w:blink.hex:i"], []) for it in [long, long.lower()]),
         (recipe, ["ignored: -C /etc/avrdude.conf"]),
-        ([*FLASH, "-C", "x.conf", "-l", "x.log", "-P", "DEVICE"], ["ignored: -C x.conf, -l x.log"]),
         ([*FLASH, "-us", "-P", "DEVICE"], ["ignored: -u, -s"]),
         (["-vp=m328p", "-P=DEVICE", "-b=115200", "-U=blink.hex"], [named]),
         (["--wait", "0", *FLASH, "-P", "DEVICE"], []),
         *(([f"--wait={it}", *FLASH, "-P", "DEVICE"], []) for it in ["2.5", "3"]),
-        *(([*FLASH, "-P", "DEVICE", "-b", it], []) for it in ["9600", "74880", "250000", "1000000"]),
+        *(([*FLASH, "-P", "DEVICE", "-b", it], []) for it in ["9600", "1000000"]),
         (["-p", "m328p", "-P", "DEVICE", "-U", "flash:w:blink.hex"], [named]),
-        (["-p", "m328p", "-P", "DEVICE", "-U", "blink.hex"], [named]),
         (["-p", "m328p", "-P", "DEVICE", "-U", "flash:w:blink.hex:a"], []),
         (["-p", "m328p", "-P", "DEVICE", "-U", "flash:w:blink.HEX"], ["blink.HEX is read as Intel HEX (:i)"]),
         (["-p", "m328p", "-P", "DEVICE", "-U", "blink.srec"], ["blink.srec is read as S-records (:s)"]),
@@ -353,70 +358,97 @@ def parts():
     same("AVRDUDE has each under the same names", others, [])
 
 
+# texts that are no firmware, and updates of images without a byte
+TEXTS = {
+    "m.c": b"int main(void)\n{\n}\n",
+    "fw.txt": b"# a note\n" + (TOP / "examples/blink.hex").read_bytes(),
+    "html": "<html>\n<p>Größe</p>\n".encode(),
+    "latin": "// Größe\n".encode("latin-1"),
+    "wide": ":100000000C945C000C946E\n".encode("utf-16"),
+    "marked": b"\xef\xbb\xbf:100000000C945C000C946E\n",
+    "indented": b" :100000000C945C000C946E\n",
+}
+EMPTY = {"empty.hex": "empty.hex", "flash:w:empty.hex:i": "empty.hex", "eeprom:w:empty.bin:r": "empty.bin"}
+EMPTY.update({f"{update}:{it}": it for update in ["flash:w", "eeprom:v"] for it in ["end.hex", "end.srec"]})
+
+
 def refused():
     """A refused run opens no device, and reports why."""
     note = "nothing was sent, and the device was not opened"
     room.clear()
+    good = room.read("blink.hex")
     room.put("an x.elf", b"\x7fELF\x01\x01\x01")
-    room.put("note.hex", b"# a note\n" + room.read("blink.hex"))
+    room.put("note.hex", b"# a note\n" + good)
+    room.put("page.hex", b"<!DOCTYPE html>\n<p>no such firmware</p>\n")
     room.put("empty.hex", b"")
+    room.put("end.hex", good.splitlines(True)[-1])
+    room.put("end.srec", b"S0030000FC\nS5030000FC\nS9030000FC\n")
+    for name, text in TEXTS.items():
+        room.put(name, text)
+    text = "is text without records: name its format"
     room.put("big.hex", hex_of([(32_768, b"x")]))
     (room.folder / "gone.hex").symlink_to("nowhere")
     cases = [
         (["-B", "10"], "-B is not supported: leave it out; the programmer has its own clock"),
-        (["-B10"], "-B is not supported"),
         (["-E", "noreset"], "-E is not supported: the pins of a parallel port"),
         (["-O"], "-O is not supported: the oscillator is not calibrated"),
         (["-i", "10"], "-i is not supported: the programmer has its own clock"),
         (["-t"], "-t is not supported"),
-        (["-T", "read flash 0 16"], "-T is not supported"),
         (["-Y", "1"], "-Y is not supported: erase cycles are not counted"),
         (["-x", "vtarg=5"], "-x is not supported"),
-        (["-y"], "-y is not supported: erase cycles are not counted"),
-        (["-c", "arduino"], "-c arduino is the bootloader of Uno and Nano"),
+        (["-c", "arduino", "-B", "10"], "-c arduino is the bootloader of Uno and Nano"),
         (["-c", "usbasp"], "-c usbasp is a programmer with a protocol of its own"),
-        (["-cusbtiny"], "-c usbtiny is a programmer with a protocol of its own"),
         (["-c", "avrispmkII"], "-c avrispmkII is a programmer on USB"),
         (["-c", "buspirate"], "-c buspirate: this speaks STK500v2 only: use avrdude -c buspirate"),
         (["-b", "0"], "-b 0: not a speed"),
-        (["-b", "fast"], "-b fast: not a speed"),
-        (["--wait", "soon"], "--wait soon: not a number of seconds from 0 to 3"),
         (["--wait", "4"], "--wait 4: not a number of seconds from 0 to 3"),
         (["--wait"], "option --wait requires argument"),
-        (["-U"], "option -U requires argument"),
         (["-z"], "option -z not recognized"),
-        (["--verbose"], "option --verbose not recognized"),
-        (["-"], "- has no option before it: a file is given as -U flash:w:-"),
-        (["-U", "=blink.hex"], f"there is no such file; {note}"),
         (["--serve", "5000"], "--serve is for a programmer without a device"),
+        (["-P", "COM3"], "COM3: there is no such device (Linux calls it /dev/ttyACM0 or /dev/ttyUSB0; -P ? lists"),
+        (["-P", "localhost:5000"], "localhost:5000: there is no such device (a port of a network is -P net:localhost:5000)"),
+        (["-P", "net:localhost"], "-P net:localhost: a port of a network is -P net:HOST:PORT"),
+        (["-p", "uno"], "-p takes the chip's name, not the board's: m328p for Uno, m2560 for Mega 2560, m32u4"),
+        (["-p", "ATmega328P-PU"], f"without the package: -p atmega328p; {note}"),
+        (["-u", "flash:w:blink.hex:i"], "flash:w:blink.hex:i has no option before it: give -U flash:w:blink.hex:i"),
+        (["-U", "lfuse", "w", "0xE2", "m"], "an update is one word: give -U lfuse:w:0xE2:m"),
+        (["-U", "flash:w:blink.hex:hex"], f"a format is one letter: give -U flash:w:blink.hex; {note}"),
+        (["--backup", ".", "-e"], "--backup only reads: leave out -U and -e, and use a programmer, not a boot"),
+        (["--backup", "."], f".: File exists: {note}"),
+        (["--backup", ""], f": No such file or directory: {note}"),
+        (["-l", "no/where"], f"no/where: No such file or directory: {note}"),
+        (["-l", "./blink.hex", "-U", "flash:w:blink.hex"], f"-l ./blink.hex: that is the file of an update: {note}"),
         (["-P", "usb"], "-P usb is for programmers without a serial device: use avrdude"),
         (["-p", "m9"], f"-p ? lists the parts; others need a part file (--parts); {note}"),
         (["-e"], f"-p ? lists the parts, and -p auto reads which one it is; others need a part file (--parts); {note}"),
         (["-p", "m8"], "atmega8 is not supported: EEPROM is written by the byte, and the program writes it by the page"),
         (["-p", "ATtiny13"], "attiny13 is not supported: no extended fuse, two calibration bytes"),
         (["-p", "1200"], f"at90s1200 is not supported: no flash pages, but the program writes pages. Use avrdude; {note}"),
-        (["-p", "c32", "-p", "lgt8f88p"], "lgt8f88p is not supported: avr-libc doesn't say"),
         (["blink.hex"], "blink.hex has no option before it: a file is given as -U flash:w:blink.hex"),
         (["-U", "flash:r:no/where/x.hex:i"], f"no/where/x.hex cannot be created, since no/where is no folder: {note}"),
         (["-U", "flash:r:.:i"], f". is a folder: {note}"),
         (["-U", "lfuse:w:E2:m"], f"a value is written as 0xE2, 0b11100010, 0342 or 226; {note}"),
-        (["-U", "flash:w:blink.hex:I"], "-U flash:w:blink.hex:I: the formats are i, s, r, a and m to write and comp"),
-        (["-U", "flash:w:x.elf:e"], "avr-objcopy -O ihex -R .eeprom -R .fuse -R .lock x.elf x.hex makes a file that can be"),
+        (["-U", "flash:w:blink.hex:I"], "-U flash:w:blink.hex:I: the formats are i, s, r, e, a and m to write and comp"),
+        (["-U", "flash:r:x.elf:e"], "-U flash:r:x.elf:e: the formats are i, s, r, e, a and m to write and compare, i, s, r, h"),
+        (["-U", "flash:w:x.elf:e"], f"x.elf can't be read as ELF: it is no file: {note}"),
         (["-U", "flash:w:"], f"-U flash:w:: a file comes last, as flash:w:firmware.hex:i; {note}"),
-        (["-U", "nofile"], f"there is no such file; {note}"),
         (["-U", "flash:w:gone.hex:i"], f"it is a symbolic link to a missing file; {note}"),
         (["-U", "lfuse:w:0xE2"], f"a value needs :m after it, as lfuse:w:0xE2:m; {note}"),
-        (["-U", "flash:w:an x.elf"], "avr-objcopy -O ihex -R .eeprom -R .fuse -R .lock 'an x.elf' 'an x.hex' makes a"),
+        (["-U", "flash:w:an x.elf"], f"an x.elf is damaged, or no linked ELF file for AVR: {note}"),
+        (["-U", "flash:w:an x.elf:r"], f"an x.elf is ELF, not the bytes of a memory: leave out :r: {note}"),
+        (["-U", "eeprom:v:blink.hex:e"], f"blink.hex is not ELF: {note}"),
+        (["-U", "flash:w:an x.elf:i"], f"it has ELF: give flash:w:an x.elf:e; {note}"),
+        *((["-U", f"{update}:{it}"], f"{it} {text}: {note}") for it in TEXTS for update in ["flash:w", "eeprom:v"]),
+        *((["-U", f"flash:w:{it}:a"], f"{it} {text}: {note}") for it in TEXTS),
         (["-U", "fuse:w:1:m"], "-U fuse:w:1:m: the memories are flash, eeprom, lfuse, "),
         (["-U", "lfuse:r:-:h", "-U", "fl:r:x:i"], "-U fl:r:x:i: the memories are flash, eeprom, lfuse, "),
         (["-U", "flash:x:1:m"], f"-U flash:x:1:m: the operations are w (write), v (compare) and r (read); {note}"),
-        (["-U", "flash:w:note.hex"], f"it is not Intel HEX, or something stands above its first record; {note}"),
+        (["-U", "flash:w:note.hex"], "something is above its first record: delete it if it is a comment, else build or dow"),
+        (["-U", "flash:w:page.hex"], f"it is not Intel HEX; {note}"),
         (["-U", "flash:w:big.hex"], f"flash of m328p has 32,768 bytes; is -p right?; {note}"),
         (["-U", "eeprom:w:0,0,0.hex"], f"there is no such file; {note}"),
-        (["-U", "lfuse:w:0,0:m"], f"lfuse of m328p has 1 byte; is -p right?; {note}"),
-        (["-U", "empty.hex"], f"empty.hex is empty (did its build fail?): {note}"),
-        (["-U", "flash:w:empty.hex:i"], f"empty.hex is empty (did its build fail?): {note}"),
-        (["-U", "eeprom:w:empty.bin:r"], f"empty.bin is empty (did its build fail?): {note}"),
+        (["-U", "lfuse:w:0,0:m"], f"lfuse has 1 byte: give one value; {note}"),
+        *((["-U", f"{update}"], f"{it} is empty (did its build fail?): {note}") for update, it in EMPTY.items()),
     ]
 
     def ran(words):
@@ -618,12 +650,12 @@ def bits_that_do_not_exist():
     """Bits of a fuse or the lock that the part doesn't have are named before anything is sent, and given as 1."""
     room.clear()
     note = "of atmega328p has no bits"
-    recipe = ["-e", "-Ulock:w:0x3F:m", "-Uefuse:w:05:m", "-Uhfuse:w:0xDE:m", "-Ulfuse:w:255:m"]
+    recipe = ["-e", "-Ulock:w:0x3F:m", "-Uefuse:w: 0X05,:m", "-Uhfuse:w:0xDE:m", "-Ulfuse:w:255:m"]
     shown = [f"lock {note} 6, 7; given as 1: lock:w:0xFF:m", f"efuse {note} 3, 4, 5, 6, 7; given as 1: efuse:w:0xFD:m"]
     it = Board()
     status, _, _, own = run(["-patmega328p", "-P", it.device, *recipe])
     same("a recipe of the Arduino IDE", (status, own, it.end()[-4:].hex()), (0, shown, "ffdefdff"))
-    status, _, _, own = run(["-patmega328p", "-P", "emu:chip.bin", *recipe, "-Uefuse:v:0b101:m"])
+    status, _, _, own = run(["-patmega328p", "-P", "emu:chip.bin", *recipe, "-Uefuse:v:0B101:m"])
     shown.append(f"efuse {note} 3, 4, 5, 6, 7; given as 1: efuse:v:0xFD:m")
     same("the same over emu:", (status, own, room.read("chip.bin")[-4:].hex()), (0, shown, "ffdefdff"))
     room.put("mine.toml", (TOP / "parts/classic.toml").read_bytes())
@@ -634,13 +666,14 @@ def bits_that_do_not_exist():
 
 
 def lists():
-    """Tests -P ? and --version."""
+    """Tests -P ? and --version: the build's stamp says what the program is."""
     status, output, told, own = run(["-P", "?"])
     found = [row.split()[0] for row in output.decode().splitlines()]
     here = sorted(str(it) for kind in ("ACM", "USB") for it in Path("/dev").glob(f"tty{kind}*"))
     same("-P ?", (status, told, own, found), (0, b"", [], here or ["there"]))
     version = (TOP / "VERSION").read_text().strip()
-    same("--version", run(["--version"]), (0, f"avrstk {version}\n".encode(), b"", []))
+    status, output, told, own = run(["--version"])
+    see("--version", (status, told, own) == (0, b"", []) and re.match(rf"avrstk {version}\n(not known|(un)?proved\ncommit: )", output.decode()), output)
 
 
 class Boards:
@@ -720,7 +753,7 @@ def retries_that_are_refused():
     room.put("late.hex", hex_of([(0x4000, b"late")]))
     os.mkfifo(room.folder / "pipe")
     line, device = terminal()
-    fails = stand_in("sys.exit(1)\n")
+    fails = planned("exit 1")
 
     def ran(*words):
         status, _, _, own = run(["-p", "m328p", "-P", device, "--retry", "1", *words], env=fails)
@@ -732,8 +765,8 @@ def retries_that_are_refused():
         (["-U", "flash:v:blink.hex:i", *whole], "it compares flash, which it didn't write before"),
         (["-U", "lock:w:0xFC:m", *whole], "it writes after the lock"),
         (["-U", "lock:w:0xFC:m", "-U", "lock:w:0xFF:m"], "it writes after the lock"),
-        ([*whole, *whole], "it writes flash twice at the same address"),
-        ([*whole, "-U", "flash:w:1,2:m"], "it writes flash twice at the same address"),
+        ([*whole, *whole], "it writes a page of flash twice"),
+        ([*whole, "-U", "flash:w:1,2:m"], "it writes a page of flash twice"),
         (["-U", "flash:w:pipe:i"], "pipe can't be read twice"),
         (["-U", "flash:w:-:i"], "- can't be read twice"),
         (["-U", "lfuse:r:-:h"], "- can't be written twice"),
@@ -752,6 +785,8 @@ def retries_that_are_refused():
         ([*whole, "-D", "-U", "hfuse:w:0xD9:m"], ""),
     ]:
         same(f"--retry {words}", ran(*words), (1, why))
+    fails = stand_in("sys.exit(1)\n")
+    same("--retry without avrstk_session", ran(*whole, "-U", "flash:w:late.hex:i"), (1, "it writes a page of flash twice"))
     for text in ["-1", "x", "100", "\u0663"]:
         status, _, _, own = run([*FLASH, "-P", device, f"--retry={text}"])
         same(f"--retry {text}", (status, own), (1, [f"--retry {text}: not a number from 0 to 99"]))
@@ -763,10 +798,10 @@ def the_part_of_the_chip():
     wanted = flashed()
     room.clear()
     words = ["-p", "auto", "-U", "flash:w:blink.hex:i", "-U", "lock:w:0x3F:m"]
-    it = Boards({}, {})
-    status, _, told, own = run([*words, "-P", str(it.device)])
-    note = "lock of m328p has no bits 6, 7; given as 1: lock:w:0xFF:m"
-    same("its lines", (status, own), (0, ["the chip is m328p (1E 95 0F)", note]))
+    it = Boards(silent(0x1B), {}, {})
+    status, _, told, own = run([*words, "--retry", "1", "-P", str(it.device)])
+    note, again = "lock of m328p has no bits 6, 7; given as 1: lock:w:0xFF:m", "no answer: the same command again, 1 of 1"
+    same("its lines", (status, own), (0, [again, "the chip is m328p (1E 95 0F)", note]))
     see("the run's own lines alone", told.startswith(lines(SIGNATURE, "chip erased")), told)
     same("the chip", it.end(), wanted)
     classic = ["--parts", str(TOP / "parts/classic.toml")]
@@ -790,48 +825,26 @@ def the_part_of_the_chip():
 
 
 def programs():
-    """If no program is named, it runs the one beside it, and in a clone the one that ./avrstk runs without building."""
+    """If no program is named, it runs the one beside it. (tests/build.py has what ./avrstk of a clone runs.)"""
     room.clear()
-    folder = room.folder / "clone"
-    front, proved, unproved = (folder / it for it in ["avrstk", "crates/avrstk/out/avrstk", "out/unproved/avrstk"])
-    for it in [proved, unproved]:
-        it.parent.mkdir(parents=True)
-    shutil.copy(SCRIPT, folder)
-    shutil.copy(SHARED, folder)
-    (folder / "tools").mkdir()
-    shutil.copy(TOP / "tools/hint.sh", folder / "tools")
-    (folder / "crates.txt").touch()
+    folder = room.folder / "beside"
+    folder.mkdir()
+    front = folder / "avrstk"
+    for it in [SCRIPT, SHARED]:
+        shutil.copy(it, folder)
     environment = {name: value for name, value in os.environ.items() if name != "AVRSTK"}
 
     def ran(*words):
-        command = [sys.executable, str(folder / "avrstk-serial"), *words]
+        command = [sys.executable, str(folder / "avrstk-serial"), *words, "-p", "m328p", "-P", "emu:x"]
         it = subprocess.run(command, capture_output=True, text=True, env=environment, timeout=PATIENCE)
         return it.returncode, it.stdout, it.stderr
 
-    def put(file):
-        file.write_text(f"#!/bin/sh\necho {file} $1\n")
-        file.chmod(0o755)
-
-    def stamp(file, kind):
-        put(file)
-        sources = subprocess.run([front, "--sources"], capture_output=True, text=True, check=True).stdout.strip()
-        subprocess.run([front, "--stamp", kind, sources], check=True)
-
-    port = ["-p", "m328p", "-P", "emu:x"]
     needed = "avrstk is needed beside this script, or named by AVRSTK"
-    same("nothing", ran(*port), (1, "", f"avrstk-serial: {front} is not there, or can't be run: {needed}\n"))
-    put(front)
-    same("the installed one", ran(*port), (0, f"{front} -P\n", ""))
-    same("--unproved", ran("--unproved", *port), (0, f"{front} --unproved\n", ""))
-    shutil.copy(TOP / "avrstk", folder)
-    line, device = terminal()
-    status, _, told = ran("-p", "m328p", "-P", device)
-    see("not built", status == 1 and all(f"{front} {it} " in told for it in ["--unproved", "--build"]), told)
-    os.close(line)
-    stamp(unproved, "unproved")
-    same("the unproved one", ran(*port), (0, f"{unproved} -P\n", "avrstk: unproved: nothing of this program was proved\n"))
-    stamp(proved, "proved")
-    same("the proved one", ran(*port), (0, f"{proved} -P\n", ""))
+    same("nothing", ran(), (1, "", f"avrstk-serial: {front} is not there, or can't be run: {needed}\n"))
+    front.write_text("#!/bin/sh\necho $0 $1\n")
+    front.chmod(0o755)
+    same("the one beside it", ran(), (0, f"{front} -P\n", ""))
+    same("--unproved", ran("--unproved"), (0, f"{front} --unproved\n", ""))
     shutil.rmtree(folder)
 
 
@@ -848,11 +861,11 @@ def screen(text):
     return [row.rstrip() for row in rows]
 
 
-def on_a_terminal(words, answer=None):
+def on_a_terminal(words, answer=None, **more):
     """Returns a terminal's text if it is standard error, and the status."""
     it = Board(answer=answer)
     line, slave = pty.openpty()
-    started = start([*words, "-P", it.device], stderr=slave)
+    started = start([*words, "-P", it.device], stderr=slave, **more)
     kills = threading.Timer(60, started.kill)
     kills.start()
     os.close(slave)
@@ -874,27 +887,113 @@ def progress():
         return answer
 
     read = itertools.count()
-    got, status = on_a_terminal(FLASH, slow)
+    got, status = on_a_terminal(FLASH, slow, env=planned())
     same("the lines that stay", (status, screen(got)), (0, [*rows, ""]))
-    for text in ["writing flash: 128 bytes, 50 %", "writing flash: 256 bytes, 100 %", "verifying flash: 256 bytes, 0 %"]:
+    # (six frames come before the first page, and two are for each)
+    for text in ["writing flash: 128 bytes, 2 %", "writing flash: 256 bytes, 3 %", "reading flash: 256 bytes, 4 %"]:
         see(text, f"\ravrstk-serial: {text}" in got, got)
-    left = re.search(r"\ravrstk-serial: verifying flash: 1,\d+ bytes, \d %, (\d+) s left", got)
+    left = re.search(r"\ravrstk-serial: reading flash: 1,\d+ bytes, \d %, (\d+) s left", got)
     see("the time that is left", left and int(left[1]) > 20, got)
-    got, status = on_a_terminal(["-p", "m328p", "-U", "eeprom:w:whole.bin:r", "-U", "flash:w:blink.srec", "-V"])
-    see("each write has its own", status == 0 and "writing eeprom: 4 bytes, 0 %" in got, got)
-    see("by its image", "writing flash: 128 bytes, 50 %" in got, got)
     names = lambda: re.findall(r"\ravrstk-serial: (\w+ \w+)", got)
-    updates = ["flash:r:back.hex:i", "eeprom:w:whole.bin:r", "flash:v:ff.bin:r", "eeprom:r:back.bin"]
-    room.put("ff.bin", b"\xff" * 4)
+    updates = ["flash:r:back.hex:i", "eeprom:w:whole.bin:r", "flash:w:blink.hex", "eeprom:r:back.bin"]
     got, status = on_a_terminal(["-p", "m328p", *(word for it in updates for word in ("-U", it))])
-    wanted = ["reading flash", "writing eeprom", "verifying eeprom", "verifying flash", "reading eeprom"]
-    same("each has its name", (status, list(dict.fromkeys(names()))), (0, wanted))
-    see("no time when none is left", " 0 s left" not in got, got)
-    room.put("mine.toml", (TOP / "parts/classic.toml").read_bytes())
-    got, status = on_a_terminal(["--parts", "mine.toml", *FLASH])
-    see("a part file of one's own", status == 0 and "\ravrstk-serial: writing flash: 128 bytes\r" in got, got)
+    wanted = ["reading flash", "writing eeprom", "reading eeprom", "reading flash", "writing flash"]
+    same("each has its name", (status, set(names())), (0, set(wanted)))
     got, status = on_a_terminal([*FLASH, "-q"])
     same("-q", (status, got), (0, ""))
+
+
+def plans():
+    """avrstk_session prints the frames that a run sends, and the pages that it writes."""
+    flashed()
+    room.clear()
+    session = next((it for it in [PROGRAM.parent, PROGRAM.parents[2] / "avrstk_session/out"] if (it / "avrstk_session").exists()))
+    command = [session / "avrstk_session", "-P", "stdio:", *FLASH]
+    found = subprocess.run(command, cwd=room.folder, capture_output=True, text=True, stdin=subprocess.DEVNULL)
+    if found.returncode:
+        return leave_out("the plan of avrstk_session", "it doesn't print one yet")
+    it = Board()
+    run([*FLASH, "-P", it.device, "--wait", "0"])
+    it.end()
+    count = at = 0
+    while at < len(it.heard):
+        at, count = at + 6 + int.from_bytes(it.heard[at + 2 : at + 4], "big"), count + 1
+    same("the plan", found.stdout.splitlines(), [f"frames {count}", *(f"flash {row}" for row in PAGES["blink.hex"])])
+
+
+def few_lines():
+    """-q twice prints errors alone, and -l keeps all lines in a file, over a device and over a port of avrstk."""
+    flashed()
+    room.clear()
+    quiet = ["-C", "x.conf", "-q", "-q", "-p", "auto", "--retry", "1", "-U", "blink.hex", "-U", "efuse:w:5:m", "-U", "lfuse:w:0:m"]
+    it = Boards({}, silent(0x13), {})
+    same("-q twice", run([*quiet, "-P", str(it.device)])[::3], (0, []))
+    see("the chip", it.end()[:228] == flashed()[:228])
+    it = Board()
+    for port in [it.device, "emu:logged.bin"]:
+        status, _, told, own = run([*FLASH, "-l", "x.log", "-C", "x.conf", "-P", port])
+        own = b"".join(b"avrstk-serial: " + row.encode() + b"\n" for row in own)
+        same(f"-l, {port}", (status, told, room.read("x.log")), (0, lines(*FIRMWARE), own + told))
+    it.end()
+
+
+def backups():
+    """--backup reads six memories, and prints the command that restores them into another chip."""
+    room.clear()
+    old = bytes(it % 241 for it in range(700)).ljust(32_768, b"\xff") + bytes(it % 239 for it in range(1024))
+    for fuses in ["E2D1FDFF", "62D907FE", "E2D1FDFC"]:
+        room.put("old.bin", old + bytes.fromhex(fuses))
+        shutil.rmtree(room.folder / "a backup", ignore_errors=True)
+        it = Board(chip="old.bin")
+        status, output, _, own = run(["-p", "auto" if fuses == "x" else "m328p", "-P", it.device, "--backup", "a backup"])
+        it.end()
+        if fuses[-2:] == "FC":
+            wanted = ["the chip is locked, so flash and EEPROM can't be read: this is no backup of them"]
+            same("a locked chip", (status, output, own), (1, b"", wanted))
+            break
+        room.put("new.bin", bytes(33_792) + b"\xe1\xd2\xfa\xfc")
+        it = Board(chip="new.bin")
+        words = [it.device if word.startswith("/dev/") else word for word in shlex.split(output.decode())]
+        same("restored", (status, words[0], run(words[1:])[0]), (0, "avrstk-serial", 0))
+        see("the chip", it.end()[:-2] == (old + bytes.fromhex(fuses))[:-2], fuses)
+    room.put("none.bin", b"\xff" * 33_796)
+    status, output, *_ = run(["-p", "m328p", "-P", "emu:none.bin", "--backup", "none"])
+    see("an erased flash", (status, b"flash:w" in output, b"-e" in output) == (0, False, True), output)
+    for it in ["a backup", "none"]:
+        shutil.rmtree(room.folder / it)
+
+
+def warnings():
+    """Fuses that can make a chip unreachable are warned of before the device is opened (bits by the data sheets), and an
+    image that leaves out a bootloader's pages."""
+    room.clear()
+    out = lambda update, what: f"warning: {update} turns {what}: no ISP programmer reaches the chip then"
+    reset = "the reset pin off (RSTDISBL)"
+    for part, update, wanted in [
+        ("m328p", "lfuse:w:0x60:m", "warning: lfuse:w:0x60:m selects an external clock: the chip only works while a clock"),
+        ("m328p", "lfuse:w:0x62:m", None),
+        ("m328p", "hfuse:w:0x59:m", out("hfuse:w:0x59:m", reset)),
+        ("t85", "hfuse:w:0xFF:m", out("hfuse:w:0xFF:m", "SPIEN off")),
+        ("m2560", "hfuse:w:0x19:m", None),
+        ("m329p", "efuse:w:0xFE:m", out("efuse:w:0xFE:m", reset)),
+        ("m32u2", "hfuse:w:0x99:m", out("hfuse:w:0x99:m", reset)),
+        ("m32u2", "hfuse:w:0x59:m", None),
+        ("m328p", "hfuse:v:0x59:m", None),
+    ]:
+        own = run(["-p", part, "-P", "emu:no.bin", "-n", "-U", update])[3]
+        room.clear()
+        see(f"{part} {update}", (not own and not wanted) or wanted and own[0].startswith(wanted), own)
+    leaves_out = "warning: a bootloader erases pages from 0 on, other ones than this image writes: give one image that"
+    for file, words, is_warned in [
+        ("blink.hex", ["-c", "wiring", "-D"], False),
+        ("gap.hex", ["-c", "wiring", "-D"], True),
+        ("late.hex", ["-c", "wiring", "-D"], True),
+        ("late.hex", ["-D"], False),
+    ]:
+        room.put("gap.hex", hex_of([(0, b"x"), (256, b"x")]))
+        room.put("late.hex", hex_of([(0x4000, b"late")]))
+        own = run(["-p", "m328p", "-P", "emu:no.bin", "-U", f"flash:w:{file}:i", *words], env=planned())[3]
+        see(f"{file} {words}", bool(own) == is_warned and all(it.startswith(leaves_out) for it in own), own)
 
 
 def images_that_are_read_once():
@@ -950,27 +1049,18 @@ def hints():
     instead = lambda command, *body: {"answer": changes(command, bytes([command, *body]))}
     whole, partly = "the chip is unchanged", "the chip is erased or partly written, and may be held in reset: run the"
     stopped = "the programmer stopped replying: check the cable and the power"
-    another = "the chip is m328p (1E 95 0F): use -p m328p; nothing was written"
-    bit = "may not have such a bit: read the value with -U lfuse:r:-:h"
-    locked, nobit = "run the same command again; if it fails again, a lock protects it", "only bits differ that the part"
-    fuse, found = ["-p", "m328p", "-U", "lfuse:w:0xE2:m"], "expected, 00 found"
+    nobit, found = "only bits differ that the part", "expected, 00 found"
     reading = ["-p", "m328p", "-U"]
     stays = "everything reported above was done. The chip stays in programming mode: power-cycle the board"
     cases = [
         ("silent", FLASH, f"no reply; {whole}. Check: the speed (-b 115200)", "error: no answer", {"deaf": 1000}),
-        ("another part", ["-p", "t85", "-e"], another, "error: signature is", {}),
         ("signature 00", FLASH, "the programmer finds no chip", "error: signature is", instead(0x1B, 0, 0, 0)),
         ("signature FF", FLASH, "the programmer finds no chip", "error: signature is", instead(0x1B, 0, 0xFF, 0)),
         ("signature 12", FLASH, "another part (12 12 12), which is not known", "error: sig", instead(0x1B, 0, 0x12, 0)),
         ("command 10", FLASH, f"the programmer can't reach the chip, which is unch", "command 10", instead(0x10, 0xC0)),
-        ("command 12", FLASH, f"can't erase the chip, which is unchanged: use -D", "command 12", instead(0x12, 0xC0)),
         ("command 13", FLASH, f"the programmer refused the command: {partly}", "command 13", instead(0x13, 0xC0)),
-        ("command 17", fuse, "a bootloader can't write fuses", "command 17 refused", instead(0x17, 0xC0)),
-        ("a bit", fuse, locked, "expected, F2 found", instead(0x18, 0, 0xF2, 0)),
-        ("no bit", [*fuse[:3], "efuse:w:0xFD:m"], nobit, "expected, 05 found", instead(0x18, 0, 0x05, 0)),
-        ("an unknown part's", ["--parts", "mine.toml", *fuse], bit, "expected, F2 found", instead(0x18, 0, 0xF2, 0)),
+        ("no bit", [*reading, "efuse:w:0xFD:m"], nobit, "expected, 05 found", instead(0x18, 0, 0x05, 0)),
         ("flash", FLASH, "run the same command again; if it always", found, instead(0x14, 0, *bytes(256), 0)),
-        ("flash with -D", [*FLASH, "-D"], "a bootloader erases pages from 0 on", found, instead(0x14, 0, *bytes(256), 0)),
         ("a bad answer", FLASH, "something else sends data", "command 12: bad answer", instead(0x12, 0, 0)),
         ("a full disk", [*reading, "lfuse:r:/dev/full:h"], f"check the folder and free space; {stays}", "/dev/full", {}),
         ("leaving", FLASH, "everything above was done; only the last", "flash: 228 bytes verified", silent(0x11)),
@@ -1008,51 +1098,129 @@ def without(words, left_out):
     return [it for it in words if it != left_out]
 
 
-def other_part(words, part):
+def other_part(words, part, made):
+    """Returns the command for another part, with a firmware that is made for it."""
     at = words.index("-p") + 1
-    return [*words[:at], part, *words[at + 1 :]]
+    return [it.replace("blink.hex", made) for it in [*words[:at], part, *words[at + 1 :]]]
 
 
-def renamed(words, given, by=None):
+def renamed(words, given):
     """Replaces the update of the same file."""
     file = given.split(":")[2]
-    return [by or given if file in it.split(":") else it for it in words]
+    return [given if file in it.split(":") else it for it in words]
 
 
-def made_hex(words, _, found):
-    """Types the command that makes an Intel HEX file, and gives that file."""
-    subprocess.run(found[1], shell=True, cwd=room.folder, check=True)
-    return renamed(words, words[-1], f"flash:w:{found[2]}")
+def another_file(words, case, *_):
+    """Builds or downloads the file again, or makes one image from address 0 on."""
+    case["again"]()
+    return words
+
+
+def on_a_bootloader(words, case, *_):
+    return another_file([*without(without(words, "-e"), "-D"), "-D"], case)
+
+
+# a program for avr-gcc: sections for each memory, the data of flash at another address than in RAM
+ELF = """
+    .text
+main:
+    .fill 700, 1, 0x5A
+    .data
+    .byte 1, 2, 3
+    .section .eeprom, "aw"
+    .byte 4, 0xFF, 5
+    .section .fuse, "aw"
+    .byte 0xE2, 0xD1, 0xFD
+    .section .lock, "aw"
+    .byte 0xFC
+    .section .signature, "a"
+    .byte 0x0F, 0x95, 0x1E
+"""
+
+
+def linked(name, text, *more):
+    """Makes an ELF file, by avr-gcc."""
+    made = ["avr-gcc", "-mmcu=atmega328p", "-nostdlib", "-x", "assembler", "-", "-o", name, *more]
+    subprocess.run(made, cwd=room.folder, check=True, input=text.encode())
+
+
+def elf_files():
+    """Each memory gets from an ELF file what avr-objcopy takes from it, over a device and avrstk's own ports alike."""
+    if not shutil.which("avr-gcc"):
+        return leave_out("ELF", "avr-gcc is not installed")
+    room.clear()
+    linked("main.elf", ELF)
+    others = [it for name in ["eeprom", "fuse", "lock", "signature"] for it in ("-R", f".{name}")]
+    take = lambda *words: subprocess.run(["avr-objcopy", "-O", "binary", *words], cwd=room.folder, check=True)
+    take(*others, "main.elf", "flash.bin")
+    take("-j", ".eeprom", "main.elf", "eeprom.bin")
+    flash, eeprom = room.read("flash.bin"), room.read("eeprom.bin")
+    see("what avr-objcopy takes", (len(flash) >= 703, eeprom) == (True, b"\4\xff\5"), (flash, eeprom))
+    wanted = flash.ljust(32_768, b"\xff") + eeprom.ljust(1024, b"\xff") + bytes.fromhex("E2D1FDFC")
+    memories = ["flash", "eeprom", "lfuse", "hfuse", "efuse", "lock"]
+    words = ["-p", "m328p", "--retry", "1", "-q", *(word for it in memories for word in ("-U", f"{it}:w:main.elf"))]
+    it = Boards(silent(0x15), {})
+    status, _, told, own = run([*words, "-P", str(it.device)])
+    again = ["no answer: the same command again, 1 of 1"]
+    same("all, by a second attempt", (status, own, it.end()), (0, again, wanted))
+    words = [word for it in memories for word in ("-U", f"{it}:v:main.elf:e")]
+    room.put("wanted.bin", wanted)
+    status, _, told, own = run(["-p", "m328p", "-P", "emu:wanted.bin", *words])
+    same("each is compared", (status, told.count(b" verified")), (0, 6))
+    see("its line", own[0].startswith("main.elf is read as ELF (:e): its flash is /dev/fd/"), own)
+    linked("high.elf", ".text\n.byte 7\n.section .high, \"ax\"\n.byte 8, 9\n", "-Wl,--section-start=.high=0x1FFFF")
+    status, *_ = run(["-p", "m2560", "-P", "emu:high.bin", "-qq", "-U", "flash:w:high.elf"])
+    same("over 64 kB", (status, room.read("high.bin")[0x1FFFE:0x20002]), (0, b"\xff\x08\x09\xff"))
+    linked("odd.elf", ELF + '.section .odd, "a"\n.byte 1, 2\n', "-Wl,--section-start=.odd=0x850000")
+    linked("none.elf", ".text\n.byte 1\n")
+    linked("main.o", ELF, "-c")
+    room.put("cut.elf", room.read("main.elf")[:700])
+    for text, why in [
+        ("flash:w:odd.elf", "odd.elf has a section .odd that fits no memory (2 bytes at 00850000)"),
+        ("eeprom:w:none.elf", "none.elf has no byte of eeprom"),
+        ("flash:w:main.o", "main.o is damaged, or no linked ELF file for AVR"),
+        ("flash:w:cut.elf", "cut.elf is damaged, or no linked ELF file for AVR"),
+    ]:
+        _, _, told, own = run(["-p", "m328p", "-P", "emu:no.bin", "-U", text])
+        same(text, (told, own), (b"", [f"{why}: nothing was sent, and the device was not opened"]))
+    room.put("both.hex", good_and(0x810000, b"eeprom"))
+    for memory, at in [("flash", 0), ("eeprom", 32_768)]:
+        wanted_there = lambda chip: (flash if at == 0 else eeprom) + chip[len(flash if at == 0 else eeprom) :]
+        walk(memory, ["-p", "m328p", "-U", f"{memory}:w:both.hex"], lambda chip: chip[:at] + wanted_there(chip[at:]))
+
+
+def good_and(at, more):
+    """Returns a firmware with these bytes of another memory, as Intel HEX."""
+    return b"".join((TOP / "examples/blink.hex").read_bytes().splitlines(True)[:-1]) + hex_of([(at, more)])
 
 
 # What a reader does after a hint: the words that he finds in it, and the next command with the files of its case. After a
 # hint without a next command the walk ends.
 FOLLOWED = [
-    (r"damaged or cut short: build or download it again", lambda words, case, _: case["again"]() or words),
-    (r"something stands above its first record", lambda words, case, _: case["again"]() or words),
-    (r"make it again, by avr-objcopy -O ihex -R .eeprom", lambda words, case, _: case["again"]() or words),
-    (r"begins at 0 and leaves out no page$", lambda words, case, _: case["again"]() or words),
-    (r"With a programmer leave out -D", lambda words, case, _: case["old"](words)),
-    (r"^(avr-objcopy .* (\S+)) makes a file that can be read", made_hex),
-    (r"is -p right\?", lambda words, case, _: other_part(words, case["part"])),
-    (r"use -p (\w+)", lambda words, _, found: other_part(words, found[1])),
-    (r": give (\S+:[is]);", lambda words, _, found: renamed(words, found[1])),
+    (r"damaged or cut short: build or download it again", another_file),
+    (r"if it is a comment, else build or download the file again", another_file),
+    (r"give the ELF file itself, as (\w+:w:)NAME.elf", lambda words, _, found: [*words[:3], f"{found[1]}main.elf", *words[4:]]),
+    (r"leave out -D; with a", lambda words, case, _: on_a_bootloader(words, case) if "loads" in case else without(words, "-D")),
+    (r"use -D(, and give one image .* no page)?$", on_a_bootloader),
+    (r"is -p right\?", lambda words, case, _: other_part(words, case["part"], "blink.hex")),
+    (r"the right board\? .*; if that is so, -p (\w+), with", lambda words, case, found: other_part(words, found[1], case["made"])),
+    (r": give (\S+:[ise]);", lambda words, _, found: renamed(words, found[1])),
     (r"the operations are w \(write\)", lambda words, *_: renamed(words, "flash:w:blink.hex:i")),
-    (r"the formats are i, s, r, a and m to write", lambda words, *_: renamed(words, "flash:w:blink.hex:i")),
+    (r"the formats are i, s, r, e, a and m to write", lambda words, *_: renamed(words, "flash:w:blink.hex:i")),
     (r"a value is written as 0xE2", lambda words, *_: [it.replace(":E2:", ":0xE2:") for it in words]),
     (r"has no option before it: a file is given as (-U) (\S+)$", lambda words, _, found: [*words[:-1], found[1], found[2]]),
     (r"a value needs :m after it, as lfuse:w:0xE2:m", lambda words, *_: renamed(words, "lfuse:w:0xE2:m")),
-    (r": use -D$", lambda words, *_: [*words, "-D"]),
-    (r"leave out -e, and use -D$", lambda words, *_: [*without(words, "-e"), "-D"]),
+    (r"Does the data sheet have them\?", lambda words, case, _: [*words, "-V" if "lacks" in case else "-e"]),
     (r"removes a lock: -e, which", lambda words, *_: [*words, "-e"]),
+    (r"if it fails again, a lock", lambda words, case, _: [*words, *["-e"] * ("tried" in case or case.update(tried=1) or 0)]),
     (r"run the same command again", lambda words, *_: words),
-    (r"holds something else than [^;]*$", lambda *_: None),
+    (r"holds something else than [^;]*$|: use a programmer$|: power-cycle the board$", lambda *_: None),
 ]
 
 
-def walk(name, words, end, board=None, **case):
-    """Follows each hint until a run ends well or a hint gives no command. Returns the hints. The chip must be as `end`
-    has it, and no hint names a format that takes each text for bytes."""
+def followed(name, words, board=None, **case):
+    """Follows each hint until a run ends well, or a hint gives no command. Returns the last status, the hints and the chip.
+    No hint names a format that takes each text for bytes."""
     hints, chip = [], f"walk{next(boards)}.bin"
     if "chip" in case:
         room.put(chip, case["chip"])
@@ -1065,13 +1233,19 @@ def walk(name, words, end, board=None, **case):
         hints.append(own[-1])
         see(f"{name}: no other format", not re.search(r":[ar](?![\w:])", own[-1]), own)
         rules = [(text, act) for text, act in FOLLOWED if re.search(text, own[-1])]
-        if not see(f"{name}: the hint can be followed", rules, (own, told)):
+        if not see(f"{name}: the hint can be followed", rules, (words, own, told)):
             break
         words = rules[0][1](words, case, re.search(rules[0][0], own[-1]))
         if words is None:
             break
-    see(f"{name}: it ends well", status == 0 or words is None, hints)
-    found = bytes(board["server"].flash) if board else room.read(chip) or b""
+    found = bytes(board["server"].flash) if "loads" in case else room.read(chip) or b""
+    return status if words else None, hints, found
+
+
+def walk(name, words, end, **case):
+    """Follows hints until a run ends well or a hint gives no command. The chip must be as `end` has it."""
+    status, hints, found = followed(name, words, **case)
+    see(f"{name}: it ends well", not status, hints)
     see(f"{name}: the chip", found == end(found), [at for at in range(len(found)) if found[at] != end(found)[at]][:9])
     return hints
 
@@ -1079,6 +1253,58 @@ def walk(name, words, end, board=None, **case):
 def with_flash(held, at=0):
     """Returns a function that puts these bytes into a flash that is erased else."""
     return lambda chip: (b"\xff" * at + held + b"\xff" * 32_768)[:32_768] + chip[32_768:]
+
+
+def without_bits(answer):
+    """A part whose extended fuse and lock lack bits, which read 1."""
+    more = {0x18: 0xF8, 0x1A: 0xC0}.get(answer[5])
+    return frame(answer[1], bytes([answer[5], 0, answer[7] | more, 0])) if more else answer
+
+
+def hints_over_each_memory():
+    """Hints over each memory, kind of board and kind of part file end at the wanted bytes, or no run ends well."""
+    image = flashed()[:228]
+    room.clear()
+    room.put("mine.toml", (TOP / "parts/classic.toml").read_bytes())
+    room.put("mega.hex", hex_of([(0, bytes(300))]))
+    # (the updates, the place in the chip's file, the wanted bytes, and the bits that the part has)
+    updates = {
+        "flash:w:blink.hex:i": (0, image, 0xFF),
+        "eeprom:w:1,2,3:m": (32_768, b"\1\2\3", 0xFF),
+        "lfuse:w:0xE2:m": (-4, b"\xe2", 0xFF),
+        "lfuse:w:0xFF:m": (-4, b"\xff", 0xFF),
+        "hfuse:w:0xD1:m": (-3, b"\xd1", 0xFF),
+        "efuse:w:0x05:m": (-2, b"\x05", 0x07),
+        "efuse:w:0xFF:m": (-2, b"\xff", 0x07),
+        "lock:w:0x3F:m": (-1, b"\x3f", 0x3F),
+        "lock:w:0x2C:m": (-1, b"\x2c", 0x3F),
+    }
+    old = bytes(it % 241 for it in range(32_768)) + bytes(1024) + b"\xe1\xd0"
+    kinds = {
+        "served": lambda: {},
+        "written": lambda: {"chip": old + b"\xfa\xff"},
+        "locked": lambda: {"chip": old + b"\xfa\xfc"},
+        "locked, without bits": lambda: {"chip": old + b"\xfa\xfc", "lacks": 1, "board": {"answer": without_bits}},
+        "without bits": lambda: {"lacks": 1, "board": {"answer": without_bits}},
+        "a bootloader": lambda: {"loads": 1, "again": lambda: None, "board": {"server": Bootloader(old[:32_768])}},
+        "another board": lambda: {"has": "m2560", "made": "mega.hex"},
+    }
+
+    def right(case):
+        update, kind, words = case
+        place, wanted, bits = updates[update]
+        more = kinds[kind]()
+        status, hints, chip = followed(f"{case}", ["-p", "m328p", "-U", update, *words], **more)
+        if "made" in more and place >= 0:
+            place, wanted = (0, bytes(300)) if place == 0 else (262_144, wanted)
+        found = chip[place:][: len(wanted)]
+        return status != 0 or [it & bits for it in found] == [it & bits for it in wanted], (status, hints, found)
+
+    more = {"flash": [["-D"], ["-c", "wiring", "-D"]], "eeprom": []}
+    words = {it: [[], *more.get(it.split(":")[0], [["--parts", "mine.toml"]])] for it in updates}
+    cases = [(update, kind, it) for update, kind in itertools.product(updates, kinds) for it in words[update]]
+    for it, (is_right, found) in zip(cases, side_by_side(right, cases)):
+        see(f"{it}: the chip", is_right, found)
 
 
 def hints_that_are_followed():
@@ -1096,10 +1322,9 @@ def hints_that_are_followed():
         "cut.hex": good[:-25],
         "digit.hex": good.replace(b":10", b":1G", 1),
         "comment.hex": b"; made by x\n" + good,
-        "page.hex": b"<!DOCTYPE html>\n<html>\n" + good,
+        "mark.hex": b"\xef\xbb\xbf" + good,
         "amid.hex": rows[0] + b"# a note\n" + b"".join(rows[1:]),
         "long.hex": rows[0].strip() + b"0" * 600 + b"\n" + b"".join(rows[1:]),
-        "both.hex": b"".join(rows[:-1]) + hex_of([(0x810000, b"eeprom")]),
     }
     for name, text in bad.items():
         room.put(name, text)
@@ -1114,36 +1339,23 @@ def hints_that_are_followed():
     big = lambda chip: b"\xff" * 32_768 + image + b"\xff" * (len(chip) - 32_768 - len(image))
     found = walk("big.hex", flash("big.hex"), big, part="m2560", has="m2560")
     same("big.hex", found[0][:45], "flash of m328p has 32,768 bytes; is -p right?")
-    walk("another part", other_part(flash("blink.hex"), "t85"), ends)
-    walk("a value", ["-p", "m328p", "-U", "lfuse:w:0xE2"], lambda chip: chip[:-4] + b"\xe2" + chip[-3:])
     fused = lambda chip: chip[:-4] + b"\xe2" + chip[-3:]
+    walk("a value", ["-p", "m328p", "-U", "lfuse:w:0xE2"], fused)
     walk("no number", ["-p", "m328p", "-U", "lfuse:w:E2:m"], fused)
     for text in ["flash:write:blink.hex:i", "flash:w:blink.hex:I"]:
         walk(text, ["-p", "m328p", "-U", text], ends)
     walk("a file alone", ["-p", "m328p", "blink.hex"], ends)
-    if shutil.which("avr-objcopy"):
-        made = ["avr-objcopy", "-I", "ihex", "-O", "elf32-avr", "blink.hex", "made.elf"]
-        subprocess.run(made, cwd=room.folder, check=True)
-        for text in ["flash:w:made.elf", "flash:w:made.elf:a", "flash:w:made.elf:e"]:
-            walk(text, ["-p", "m328p", "-U", text], ends)
-    else:
-        leave_out("ELF", "avr-objcopy is not installed")
-    locked = firmware[:-1] + b"\xfc"
-    walk("a lock", ["-p", "m328p", "-U", "lock:w:0xFF:m"], lambda chip: b"\xff" * len(chip), chip=locked)
     for memory in ["flash:v:blink.hex", "eeprom:v:0x01:m", "lfuse:v:0xE2:m", "lock:v:0x00:m"]:
         walk(memory, ["-p", "m328p", "-U", memory], lambda chip: old + b"\xff" * 1028, chip=old + b"\xff" * 1028)
     late = hex_of([(0x1000, image)])
     merged = b"\xff" * 0x1000 + image
-    erases = lambda words: without(words, "-D")
     for words in [[], ["-D"], ["-e"], ["-c", "wiring"], ["-c", "wiring", "-D"]]:
         room.put("late.hex", late)
         board = {"server": Bootloader(old)}
         wanted = lambda chip: merged[: 0x1000 + 768].ljust(0x1300, b"\xff") + old[0x1300:]
-        case = again("late.hex", hex_of([(0, merged)])) | {"old": lambda it: room.put("late.hex", case["whole"]) or it}
-        case["whole"] = hex_of([(0, merged)])
-        walk(f"a bootloader {words}", flash("late.hex", *words), wanted, board=board, **case)
+        walk(f"a bootloader {words}", flash("late.hex", *words), wanted, board=board, loads=1, **again("late.hex", hex_of([(0, merged)])))
     room.put("late.hex", late)
-    walk("-D", flash("late.hex", "-D"), with_flash(image, 0x1000), chip=old + b"\xff" * 1028, old=erases)
+    walk("-D", flash("late.hex", "-D"), with_flash(image, 0x1000), chip=old + b"\xff" * 1028)
 
 
 def signals():
@@ -1353,7 +1565,7 @@ def names_and_interrupts():
     modules = room.folder / "modules"
     modules.mkdir()
     (modules / "glob.py").write_text("import os, signal, time\nos.kill(os.getpid(), signal.SIGINT)\ntime.sleep(1)\n")
-    started = start(["--help"], env={"PYTHONPATH": str(modules)})
+    started = start(["-p", "?"], env={"PYTHONPATH": str(modules)})
     found = (*started.communicate(timeout=PATIENCE), started.returncode)
     same("Ctrl-C at once", found, (b"", b"", -signal.SIGINT))
     shutil.rmtree(modules)
@@ -1389,18 +1601,12 @@ def ended(started):
 
 
 def recipe_of_the_script():
-    firmware = flashed()
-    room.clear()
-    it = Board()
-    found = ended(typed(recipe("avrstk-serial -p m328p -P /dev/ttyACM0"), it.device))
-    same("avrstk-serial", (*found, it.end() == firmware), (0, lines(*FIRMWARE), True))
-    firmware = emulated("-D", *FLASH[2:], part="m2560")
-    room.clear()
-    it = Board(part="m2560")
-    status, told = ended(typed(recipe("avrstk-serial -C/etc/avrdude.conf"), it.device))
-    told = told.decode().splitlines()
-    see("the recipe of an IDE", status == 0 and told[0] == "avrstk-serial: ignored: -C /etc/avrdude.conf", told)
-    see("the chip then", it.end() == firmware)
+    for begin, part, more in [("avrstk-serial -p m328p -P /dev/", "m328p", []), ("avrstk-serial -C/etc", "m2560", ["-D"])]:
+        firmware = emulated(*more, *FLASH[2:], part=part)
+        room.clear()
+        it = Board(part=part)
+        status, _ = ended(typed(recipe(begin), it.device))
+        same(begin, (status, it.end() == firmware), (0, True))
 
 
 def recipe_of_a_plain_bridge():
@@ -1464,8 +1670,14 @@ CASES = named(
     the_part_of_the_chip,
     programs,
     hints,
+    elf_files,
+    hints_over_each_memory,
     hints_that_are_followed,
     progress,
+    plans,
+    few_lines,
+    backups,
+    warnings,
     images_that_are_read_once,
     a_child_that_is_not_waited_for,
     signals,
