@@ -4,6 +4,7 @@ pub mod Record
 pub mod Stream
 pub mod Files
 pub mod Named
+pub mod Looks
 pub mod Memory
 pub mod Truth
 pub mod Failing

@@ -1,5 +1,10 @@
--- What looks at files found.
-use Rattle.std.specs.Prelude.{◌==◌, ◌&&◌, Bool, true, false, Option, Some, None}
+-- What follows from what calls of a system gave.
+use Rattle.std.specs.Prelude.{◌≡◌, ◌⊎◌, ◌==◌, ◌&&◌, ◌||◌, Bool, true, false, Option, Some, None, Result, Ok, Err}
+use Rattle.std.specs.Option.{is_none}
+use Rattle.std.specs.declared.io.ErrorKind.{ErrorKind}
+use Rattle.std.specs.declared.io.Error.{Error}
+use Rattle.std.specs.declared.fs.TryLockError.{TryLockError}
+use Rattle.std.specs.declared.fs.TryLockError.TheVariants as lock
 use Rattle.avr_desk.specs.declared.looks.Identity.{Identity}
 
 -- both found one file, or none
@@ -7,3 +12,18 @@ abbrev pub is_same : Option Identity → Option Identity → Bool
 is_same (Some one) (Some other) = (one.device == other.device) && (one.number == other.number)
 is_same None None = true
 is_same one other = false
+
+-- only a lock that was given is held
+abbrev pub locked : {T : Type 0} → T → Result (Unit {0}) TryLockError → Result (Option T) Error
+locked file (Ok done) = Ok (Some file)
+locked file (Err lock.WouldBlock) = Ok None
+locked file (Err (lock.Error error)) = Err error
+
+-- the error of a file system that synchronizes nothing of a kind
+abbrev pub SyncsNone : ErrorKind → Type 0
+SyncsNone kind = (kind ≡ ErrorKind.InvalidInput) ⊎ (kind ≡ ErrorKind.ReadOnlyFilesystem)
+
+-- what is created by a name may be the held file
+abbrev pub leads : Option Identity → Option Identity → Bool → Bool → Bool
+leads seen (Some there) is_link is_place = is_place || is_same seen (Some there)
+leads seen None is_link is_place = is_place || (is_link && is_none seen)

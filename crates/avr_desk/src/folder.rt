@@ -142,11 +142,7 @@ pub trait Folder {
         ensures stays { Still did left self.old self.new };
 
     /// Locks the lock file. Returns `None` if another process has.
-    fn lock(
-        &mut self,
-        place: &Self::Place,
-        file: Self::LockFile,
-    ) -> io::Result<Option<Self::Lock>>
+    fn lock(&mut self, place: &Self::Place, file: Self::LockFile) -> io::Result<Option<Self::Lock>>
         ensures denied { IfOk result (λ lock. MatchOption lock (denies (name_of place.now)) (λ lock. Unit {0})) }
         ensures stays { Still did left self.old self.new };
 

@@ -1,7 +1,7 @@
 //! What follows from what calls of a system gave. Nothing here calls one.
-ghost use Rattle.std.specs.Prelude.{◌≡◌, ◌==◌, ◌%◌, ◌*◌, bit_and, bit_or, if◌then◌else◌, IfOk, IfErr, None, Ok, Err, Option, Some};
+ghost use Rattle.std.specs.Prelude.{◌≡◌, ◌==◌, ◌%◌, ◌*◌, bit_and, bit_or, if◌then◌else◌, IfOk, IfErr, OnOk, None, Ok, Err, Option, Some};
 ghost use Rattle.std.specs.IoError.{error_kind};
-ghost use Rattle.avr_desk.specs.Looks.{is_same};
+ghost use Rattle.avr_desk.specs.Looks.{SyncsNone, is_same, leads, locked};
 
 use std::fs::TryLockError;
 use std::io;
@@ -39,7 +39,9 @@ pub(crate) fn unless<T>(kind: ErrorKind, given: io::Result<T>) -> io::Result<Opt
 }
 
 /// Returns the locked file, or `None` if another process has locked it.
-pub(crate) fn locked<T: Drop>(file: T, tried: Result<(), TryLockError>) -> io::Result<Option<T>> {
+pub(crate) fn locked<T: Drop>(file: T, tried: Result<(), TryLockError>) -> io::Result<Option<T>>
+    ensures { result ≡ locked file tried }
+{
     match tried {
         Ok(()) => Ok(Some(file)),
         Err(TryLockError::WouldBlock) => Ok(None),
@@ -48,17 +50,34 @@ pub(crate) fn locked<T: Drop>(file: T, tried: Result<(), TryLockError>) -> io::R
 }
 
 /// Returns what waiting for the disk gave. It counts as done if the file system synchronizes nothing of that kind.
-pub(crate) fn synced(waited: io::Result<()>) -> io::Result<()> {
+pub(crate) fn synced(waited: io::Result<()>) -> io::Result<()>
+    ensures done { OnOk waited (result ≡ waited) }
+    ensures passed { IfErr waited (λ error. SyncsNone (error_kind error) → result ≡ Ok tt) }
+    ensures fails { IfErr waited (λ error. (SyncsNone (error_kind error) → ⊥) → result ≡ waited) }
+{
     match waited {
         Err(error)
             if matches!(
                 error.kind(),
                 ErrorKind::InvalidInput | ErrorKind::ReadOnlyFilesystem
-            ) =>
-        {
-            Ok(())
-        }
+            ) => { Ok(()) }
         waited => waited,
+    }
+}
+
+/// Returns whether a file that is created by a name may be the held one: the name is that of its place, or leads to the
+/// file that was seen there, or is a link that leads nowhere, as the place may.
+pub(crate) fn leads(
+    seen: Option<Identity>,
+    there: Option<Identity>,
+    is_link: bool,
+    is_place: bool,
+) -> bool
+    ensures { result ≡ leads seen there is_link is_place }
+{
+    match there {
+        Some(_) => is_place || is_same(seen, there),
+        None => is_place || (is_link && seen.is_none()),
     }
 }
 

@@ -2,7 +2,9 @@
 ghost use Rattle.std.specs.Prelude.{⊤, string_bytes};
 
 use crate::folder::Folder;
-use crate::looks::{Identity, first_mode, given, is_same, locked, permissions_after, synced, unless};
+use crate::looks::{
+    Identity, first_mode, given, is_same, leads, locked, permissions_after, synced, unless,
+};
 use crate::synced::Synced;
 use std::alloc::Global;
 use std::fs::{File, Metadata, OpenOptions, Permissions};
@@ -247,15 +249,16 @@ impl<'a, R: Files<File = File> + Input + Alloc<A = Global>> Folder for &'a R {
         }
     }
 
-    // If no file was there, a link that leads nowhere could lead to it.
     fn leads_to(&mut self, name: &str, held: &Held, seen: &Seen) -> io::Result<bool> {
         let there = unless(ErrorKind::NotFound, fs::metadata(*self, name))?;
-        let leads = match (&seen.file, &there) {
-            (None, None) => is_link(*self, name)?,
-            (Some(_), None) => false,
-            (_, Some(there)) => is_same(seen_at(seen), Some(identity(there))),
-        };
-        Ok(leads || is_one_place(*self, name, held.place.path.as_str())?)
+        let is_link = is_link(*self, name)?;
+        let is_place = is_one_place(*self, name, held.place.path.as_str())?;
+        Ok(leads(
+            seen_at(seen),
+            there.as_ref().map(identity),
+            is_link,
+            is_place,
+        ))
     }
 
     fn make(&mut self, held: &Held, seen: &Seen) -> io::Result<File> {
