@@ -9,7 +9,6 @@ each ends a run. Runs are started at once with one chip, and beside a run or a s
 """
 
 import contextlib
-import fcntl
 import itertools
 import os
 import random
@@ -26,7 +25,7 @@ from collections import Counter, namedtuple
 from pathlib import Path
 
 from cases import PATIENCE, leave_out, named, run_cases, same, see, wait_until
-from program import CHIP_FILE, PROGRAM, Room, Server, lines
+from program import CHIP_FILE, FRAMES, PROGRAM, Room, Server, lines
 
 room = Room()
 FOLDER = os.path.realpath(room.folder)
@@ -284,7 +283,8 @@ def reads_on_the_disk():
     that syncs no files or folders is no failure."""
     failed = (1, lines(SIGNATURE, "error: out.bin: cannot be written"))
     good = (0, lines(SIGNATURE, "eeprom: 1024 bytes read", "done"))
-    for how, wanted in [("error=EIO:when=1", failed), ("error=EDQUOT:when=1", failed), ("error=EINVAL:when=1+2", good), ("error=EROFS:when=1+2", good)]:
+    # (the new chip is synced between the two)
+    for how, wanted in [("error=EIO:when=1", failed), ("error=EINVAL:when=1+2", good), ("error=EROFS:when=1+2", good)]:
         found = traced(fresh_room, [*EMULATED, "-U", "eeprom:r:out.bin:r"], f"fsync:{how}")
         same(f"{how}: the run", found[:2], wanted)
         see(f"{how}: what was read is there", room.read("out.bin") == OLD[EEPROM:LFUSE])
@@ -304,16 +304,6 @@ def goes_on(started, pipe="pipe"):
     (room.folder / pipe).read_bytes()
     status, _, messages = ended(started)
     return status, messages.splitlines(True)[-1]
-
-
-def is_held():
-    """Returns whether a process holds the chip."""
-    with contextlib.suppress(FileNotFoundError), open(LOCK_FILE) as it:
-        try:
-            fcntl.flock(it, fcntl.LOCK_EX | fcntl.LOCK_NB)
-        except BlockingIOError:
-            return True
-    return False
 
 
 DONE = (0, lines("done"))
@@ -344,7 +334,8 @@ def held_by_a_session():
     with Server(room, "chip.bin") as server:
         is_good("a run before a caller comes", room.run(writes_fuse(0x62)))
         with server.call() as caller:
-            wait_until(is_held)
+            caller.sendall(FRAMES[0])
+            same("the session replies", caller.recv(1), FRAMES[0][:1])
             same("a run beside the session", room.run(writes_fuse(0xE2)), (1, b"", IN_USE))
             caller.shutdown(1)
         same("the session", server.end(), (0, b"", b""))
