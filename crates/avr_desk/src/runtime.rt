@@ -14,11 +14,13 @@ use std::path::Path;
 use std::rt::Files;
 use std::{fs, io};
 
-/// A name, and the path that it leads to.
+/// A name, and the paths of the file that it leads to, of its lock file and of a new one.
 #[derive(Drop)]
 pub struct Place {
     name: String,
     path: String,
+    lock: String,
+    new: String,
 }
 
 /// A place, and its locked lock file.
@@ -174,13 +176,17 @@ impl<'a, R: Files<File = File> + Input + Alloc<A = Global>> Folder for &'a R {
 
     // A link stays, and leads to the place. One that leads nowhere has none.
     fn find(&mut self, name: &str) -> io::Result<Place> {
-        let own = String::from_str(self.alloc(), name)?;
         let path = if is_link(*self, name)? {
             fs::canonicalize(*self, name)?.into_string()
         } else {
             String::from_str(self.alloc(), name)?
         };
-        Ok(Place { name: own, path })
+        Ok(Place {
+            name: String::from_str(self.alloc(), name)?,
+            lock: with_ending(self.alloc(), path.as_str(), ".avrstk-lock")?,
+            new: with_ending(self.alloc(), path.as_str(), ".avrstk-new")?,
+            path,
+        })
     }
 
     fn open_parent(&mut self, place: &Place) -> io::Result<Option<File>> {
@@ -192,10 +198,9 @@ impl<'a, R: Files<File = File> + Input + Alloc<A = Global>> Folder for &'a R {
 
     // A link is not followed to make it.
     fn open_lock(&mut self, place: &Place) -> io::Result<Option<File>> {
-        let path = with_ending(self.alloc(), place.path.as_str(), ".avrstk-lock")?;
-        match File::create_new(*self, path.as_str()) {
+        match File::create_new(*self, place.lock.as_str()) {
             Err(error) if error.kind() == ErrorKind::AlreadyExists => {
-                unless(ErrorKind::NotFound, fs::open(*self, path.as_str()))
+                unless(ErrorKind::NotFound, fs::open(*self, place.lock.as_str()))
             }
             made => Ok(Some(made?)),
         }
@@ -207,8 +212,7 @@ impl<'a, R: Files<File = File> + Input + Alloc<A = Global>> Folder for &'a R {
     }
 
     fn confirm(&mut self, place: Place, lock: File) -> io::Result<Option<Held>> {
-        let path = with_ending(self.alloc(), place.path.as_str(), ".avrstk-lock")?;
-        if is_at(*self, &lock, path.as_str())? {
+        if is_at(*self, &lock, place.lock.as_str())? {
             Ok(Some(Held { place, lock }))
         } else {
             Ok(None)
@@ -262,12 +266,11 @@ impl<'a, R: Files<File = File> + Input + Alloc<A = Global>> Folder for &'a R {
     }
 
     fn make(&mut self, held: &Held, seen: &Seen) -> io::Result<File> {
-        let path = with_ending(self.alloc(), held.place.path.as_str(), ".avrstk-new")?;
         let file = OpenOptions::new()
             .write(true)
             .create_new(true)
             .mode(first_mode(seen.file.is_some()))
-            .open(*self, path.as_str())?;
+            .open(*self, held.place.new.as_str())?;
         if let Some(old) = &seen.file {
             be_like(&file, old)?;
         }
@@ -284,14 +287,12 @@ impl<'a, R: Files<File = File> + Input + Alloc<A = Global>> Folder for &'a R {
 
     // The old file is looked at last, right before the new one gets its name.
     fn is_ready(&mut self, held: &Held, seen: &Seen, file: &File) -> io::Result<bool> {
-        let path = with_ending(self.alloc(), held.place.path.as_str(), ".avrstk-new")?;
-        let is_own = is_at(*self, file, path.as_str())?;
+        let is_own = is_at(*self, file, held.place.new.as_str())?;
         Ok(is_own && is_same(seen_at(seen), look(*self, held.place.path.as_str())?))
     }
 
     fn rename(&mut self, held: &Held, _seen: &Seen, _file: File) -> io::Result<()> {
-        let path = with_ending(self.alloc(), held.place.path.as_str(), ".avrstk-new")?;
-        fs::rename(*self, path.as_str(), held.place.path.as_str())
+        fs::rename(*self, held.place.new.as_str(), held.place.path.as_str())
     }
 
     fn sync_name(&mut self, _held: &Held, parent: &Option<File>) -> io::Result<()> {
@@ -308,15 +309,11 @@ impl<'a, R: Files<File = File> + Input + Alloc<A = Global>> Folder for &'a R {
     }
 
     fn remove_new(&mut self, held: &Held) {
-        if let Ok(path) = with_ending(self.alloc(), held.place.path.as_str(), ".avrstk-new") {
-            let _ = fs::remove_file(*self, path.as_str());
-        }
+        let _ = fs::remove_file(*self, held.place.new.as_str());
     }
 
     fn unlock(&mut self, held: Held) {
-        if let Ok(path) = with_ending(self.alloc(), held.place.path.as_str(), ".avrstk-lock") {
-            let _ = fs::remove_file(*self, path.as_str());
-        }
+        let _ = fs::remove_file(*self, held.place.lock.as_str());
         drop(held);
     }
 }

@@ -23,7 +23,7 @@ use Rattle.avr_desk.specs.Shown.{Shown, IsTrueSince, TellsAll, has_dash, to_outp
 use Rattle.avr_desk.specs.declared.file_system.FileSystem.{Ghosts}
 use Rattle.avr_desk.specs.declared.record.FileUse.{FileUse}
 use Rattle.avr_desk.specs.declared.record.FileUse.TheVariants.{Created, Opened}
-use Rattle.avr_desk.specs.declared.record.Opening.TheVariants.{Found}
+use Rattle.avr_desk.specs.declared.record.Opening.TheVariants.{Absent, Found}
 use Rattle.avr_desk.specs.declared.record.Open.{Open}
 use Rattle.avr_desk.specs.declared.record.Reading.{Reading}
 use Rattle.avr_desk.specs.declared.record.Writing.{Writing}
@@ -129,11 +129,11 @@ module _ {S F I H O E : Type 0} (system : Ghosts S F I H) (reads : Reads F) (wri
   counts s None (Some name) calls is did = absurd is
   counts s (Some hold) None calls is did = absurd is
 
-  holds : {b : Desk} → Files b.system b.opened b.hold b.kept → Holds b
-  holds {b = b} are = counts b.system b.hold b.kept.held _ are.held are.did
+  holds : (b : Desk) → Files b.system b.opened b.hold b.kept → Holds b
+  holds b are = counts b.system b.hold b.kept.held _ are.held are.did
 
-  holds_as : {b : Desk} {held : Option H} → held ≡ b.hold → Holds b → Counts system.did (count_of held) b.system
-  holds_as {b = b} same only = subst (λ (hold : Option H). Counts system.did (count_of hold) b.system) (sym same) only
+  holds_as : (b : Desk) {held : Option H} → held ≡ b.hold → Holds b → Counts system.did (count_of held) b.system
+  holds_as b same only = subst (λ (hold : Option H). Counts system.did (count_of hold) b.system) (sym same) only
 
   -- ---- what a crash may leave
 
@@ -219,7 +219,7 @@ module _ {S F I H O E : Type 0} (system : Ghosts S F I H) (reads : Reads F) (wri
       let files = ap has_dash (files_opened (ToRead x) b.kept) in
       rw kept (quiet refl refl
       (λ none. no_dash_in_front (all_files b.kept) [] (sym files ∙ none)) (λ none was. elsewhere)
-      (λ are. files_now are (uses_true b.system b.opened b.hold b.kept are closed) (is (holds are))
+      (λ are. files_now are (uses_true b.system b.opened b.hold b.kept are closed) (is (holds b are))
       (did_as b.kept.held s (calls_opened (ToRead x) (Opened (Found x)) b.kept refl) (does _ are.did))
       keeps))
 
@@ -239,10 +239,10 @@ module _ {S F I H O E : Type 0} (system : Ghosts S F I H) (reads : Reads F) (wri
       → k ≡ with_open (ToRead (record { name = own; bytes = []; ended = false })) b.kept
       → Closed b.opened → Does system.did (opening name) b.system s → Stays system.did s t
       → NoMore b.system s → NoMore s t → Since b (Next b t f u e o b.hold k)
-  file_true {own = own} {h = h} held is_hold is_open same no_dash named kept closed does stays keeps keeps_on =
+  file_true {b = b} {own = own} {h = h} held is_hold is_open same no_dash named kept closed does stays keeps keeps_on =
       let x : Reading = record { name = own; bytes = []; ended = false } in
       rw is_open (opened_true x kept refl
-      (λ only. (x, refl, (h, subst (system.is_of h) (sym same) (named (holds_as is_hold only)), given_none reads h own)))
+      (λ only. (x, refl, (h, subst (system.is_of h) (sym same) (named (holds_as b is_hold only)), given_none reads h own)))
       closed
       (λ done did. rw (opened_named own (sym (no_dash ∙ ap is_dash (sym same))), same) (stays _ (does done did)))
       (left_on keeps keeps_on))
@@ -253,8 +253,13 @@ module _ {S F I H O E : Type 0} (system : Ghosts S F I H) (reads : Reads F) (wri
       → (Counts system.did (count_of held) b.system → system.lacks name)
       → k ≡ with_absent own b.kept → Closed b.opened → Stays system.did b.system s
       → Stays system.did s t → NoMore b.system s → NoMore s t → Since b (Next b t f u e o b.hold k)
-  absent_true {b = b} {t = t} {own = own} held is_hold is_open same lacks kept closed fails stays keeps keeps_on =
-      search (rules, quiet, files_absent, more_true, did_as, append-nil, calls_append, left_on, holds, holds_as)
+  absent_true {b = b} {t = t} {o = o} {k = k} {own = own} held is_hold is_open same lacks kept closed fails stays keeps
+      keeps_on =
+      let now : Files b.system b.opened b.hold b.kept → Files t o b.hold k =
+      λ are. let is : system.lacks own =
+          subst system.lacks (sym same) (lacks (holds_as b is_hold (holds b are))) in
+      search (rules, more_true, did_as, append-nil, calls_append, left_on) in
+      search (rules, quiet, files_absent, append-nil)
 
   -- it was created
   create_true : {b : Desk} {s : S} {f u : ℕ} {e : Option ErrorKind} {o : OpenFile F I} {k : Record} (x : Writing)
@@ -265,7 +270,7 @@ module _ {S F I H O E : Type 0} (system : Ghosts S F I H) (reads : Reads F) (wri
       let now : (are : Files b.system b.opened b.hold b.kept) → Files s o b.hold (with_open (ToWrite x) b.kept) =
       λ are. files_now are (uses_true b.system b.opened b.hold b.kept are closed) is
       (did_as b.kept.held s (calls_opened (ToWrite x) (Created x) b.kept refl) (does _ are.did))
-      (keeps (holds are)) in
+      (keeps (holds b are)) in
       grind (arith, nat_tests, files_opened, quiet, no_dash_in_front, no_dash_behind, now)
 
   pub output_true : {b : Desk} {s : S} {f u : ℕ} {e : Option ErrorKind} {o : OpenFile F I} {k : Record}
@@ -289,7 +294,7 @@ module _ {S F I H O E : Type 0} (system : Ghosts S F I H) (reads : Reads F) (wri
       rw is_open (create_true x kept (no_dash ∙ ap is_dash (sym same))
       (x, refl, (h, subst (system.is_of h) (sym same) named, Appends-nil (writes.contents h))) closed
       (λ done did. rw same (stays _ (does done did)))
-      (λ only. left_on (keeps (holds_as is_hold only)) keeps_on))
+      (λ only. left_on (keeps (holds_as b is_hold only)) keeps_on))
 
   -- a file was replaced, and the held file released
   pub replace_true : {b c : Desk} {s t u : S} {name own bytes : Bytes} (h : Option H) → own ≡ name
