@@ -245,9 +245,9 @@ def ended_anywhere():
 
 @contextlib.contextmanager
 def held_at(call):
-    """Starts a run that strace holds for a second at its first call of this name, and waits for that."""
+    """Starts a run that strace holds for two seconds at its first call of this name, and waits for that."""
     fresh_room()
-    started = start_traced(writes_fuse(0x11), f"{call}:delay_enter=1000000:when=1")
+    started = start_traced(writes_fuse(0x11), f"{call}:delay_enter=2000000:when=1")
     # (strace prints a call's name as it begins)
     wait_until(lambda: re.search(rf"^{call}\(".encode(), room.read("calls") or b"", re.M))
     yield started
