@@ -30,12 +30,6 @@ pub struct Held {
     lock: File,
 }
 
-/// What was at a place. It keeps no file open.
-#[derive(Drop)]
-pub struct Seen {
-    file: Option<Metadata>,
-}
-
 fn identity(file: &Metadata) -> Identity {
     Identity {
         device: file.dev(),
@@ -43,15 +37,14 @@ fn identity(file: &Metadata) -> Identity {
     }
 }
 
+fn identity_of(found: &Option<Metadata>) -> Option<Identity> {
+    found.as_ref().map(identity)
+}
+
 /// Returns which file is at this path, which may be a link.
 fn look<R: Files<File = File>>(rt: &R, path: &str) -> io::Result<Option<Identity>> {
     let found = unless(ErrorKind::NotFound, fs::symlink_metadata(rt, path))?;
-    Ok(found.as_ref().map(identity))
-}
-
-/// Returns which file was seen.
-fn seen_at(seen: &Seen) -> Option<Identity> {
-    seen.file.as_ref().map(identity)
+    Ok(identity_of(&found))
 }
 
 /// Returns this path with an ending.
@@ -118,7 +111,7 @@ impl<'a, R: Files<File = File> + Input + Alloc<A = Global>> Folder for &'a R {
 
     type Held = Held;
 
-    type Seen = Seen;
+    type Seen = Option<Metadata>;
 
     type New = File;
 
@@ -196,11 +189,18 @@ impl<'a, R: Files<File = File> + Input + Alloc<A = Global>> Folder for &'a R {
         )
     }
 
-    // A link is not followed to make it.
+    // A link is not followed, and no pipe is opened, which could wait for ever.
     fn open_lock(&mut self, place: &Place) -> io::Result<Option<File>> {
-        match File::create_new(*self, place.lock.as_str()) {
+        let path = place.lock.as_str();
+        match File::create_new(*self, path) {
             Err(error) if error.kind() == ErrorKind::AlreadyExists => {
-                unless(ErrorKind::NotFound, fs::open(*self, place.lock.as_str()))
+                match unless(ErrorKind::NotFound, fs::symlink_metadata(*self, path))? {
+                    Some(there) if there.is_file() => {
+                        unless(ErrorKind::NotFound, fs::open(*self, path))
+                    }
+                    Some(_) => Err(io::Error::from(ErrorKind::InvalidInput)),
+                    None => Ok(None),
+                }
             }
             made => Ok(Some(made?)),
         }
@@ -223,55 +223,48 @@ impl<'a, R: Files<File = File> + Input + Alloc<A = Global>> Folder for &'a R {
         held.place.name.as_str() == name
     }
 
-    fn see(&mut self, held: &Held) -> io::Result<Seen> {
+    fn see(&mut self, held: &Held) -> io::Result<Option<Metadata>> {
         let path = held.place.path.as_str();
         match unless(ErrorKind::NotFound, fs::metadata(*self, path))? {
             Some(there) if there.is_file() => {
                 let old = OpenOptions::new().write(true).open(*self, path)?;
-                Ok(Seen {
-                    file: Some(old.metadata()?),
-                })
+                Ok(Some(old.metadata()?))
             }
             Some(_) => Err(io::Error::from(ErrorKind::InvalidInput)),
-            None => Ok(Seen { file: None }),
+            None => Ok(None),
         }
     }
 
-    fn open_seen(&mut self, held: &Held, seen: &Seen) -> io::Result<Synced> {
-        let opened = unless(
-            ErrorKind::NotFound,
-            fs::open(*self, held.place.path.as_str()),
-        )?;
+    fn open_seen(&mut self, held: &Held, seen: &Option<Metadata>) -> io::Result<Synced> {
+        let path = held.place.path.as_str();
+        let opened = unless(ErrorKind::NotFound, fs::open(*self, path))?;
         let found = match &opened {
             Some(file) => Some(identity(&file.metadata()?)),
             None => None,
         };
+        if !is_same(identity_of(seen), found) {
+            return Err(io::Error::from(ErrorKind::ResourceBusy));
+        }
         match opened {
-            Some(file) if is_same(seen_at(seen), found) => Ok(Synced::new(file)),
-            None if is_same(seen_at(seen), found) => Err(io::Error::from(ErrorKind::NotFound)),
-            _ => Err(io::Error::from(ErrorKind::ResourceBusy)),
+            Some(file) => Ok(Synced::new(file)),
+            None => Err(io::Error::from(ErrorKind::NotFound)),
         }
     }
 
-    fn leads_to(&mut self, name: &str, held: &Held, seen: &Seen) -> io::Result<bool> {
+    fn leads_to(&mut self, name: &str, held: &Held, seen: &Option<Metadata>) -> io::Result<bool> {
         let there = unless(ErrorKind::NotFound, fs::metadata(*self, name))?;
         let is_link = is_link(*self, name)?;
         let is_place = is_one_place(*self, name, held.place.path.as_str())?;
-        Ok(leads(
-            seen_at(seen),
-            there.as_ref().map(identity),
-            is_link,
-            is_place,
-        ))
+        Ok(leads(identity_of(seen), identity_of(&there), is_link, is_place))
     }
 
-    fn make(&mut self, held: &Held, seen: &Seen) -> io::Result<File> {
+    fn make(&mut self, held: &Held, seen: &Option<Metadata>) -> io::Result<File> {
         let file = OpenOptions::new()
             .write(true)
             .create_new(true)
-            .mode(first_mode(seen.file.is_some()))
+            .mode(first_mode(seen.is_some()))
             .open(*self, held.place.new.as_str())?;
-        if let Some(old) = &seen.file {
+        if let Some(old) = seen {
             be_like(&file, old)?;
         }
         Ok(file)
@@ -286,12 +279,12 @@ impl<'a, R: Files<File = File> + Input + Alloc<A = Global>> Folder for &'a R {
     }
 
     // The old file is looked at last, right before the new one gets its name.
-    fn is_ready(&mut self, held: &Held, seen: &Seen, file: &File) -> io::Result<bool> {
+    fn is_ready(&mut self, held: &Held, seen: &Option<Metadata>, file: &File) -> io::Result<bool> {
         let is_own = is_at(*self, file, held.place.new.as_str())?;
-        Ok(is_own && is_same(seen_at(seen), look(*self, held.place.path.as_str())?))
+        Ok(is_own && is_same(identity_of(seen), look(*self, held.place.path.as_str())?))
     }
 
-    fn rename(&mut self, held: &Held, _seen: &Seen, _file: File) -> io::Result<()> {
+    fn rename(&mut self, held: &Held, _seen: &Option<Metadata>, _file: File) -> io::Result<()> {
         fs::rename(*self, held.place.new.as_str(), held.place.path.as_str())
     }
 

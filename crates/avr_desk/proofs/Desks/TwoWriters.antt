@@ -257,7 +257,7 @@ module _ {S F I H O E : Type 0} (system : Ghosts S F I H) (reads : Reads F) (wri
       keeps_on =
       let now : Files b.system b.opened b.hold b.kept → Files t o b.hold k =
       λ are. let is : system.lacks own =
-          subst system.lacks (sym same) (lacks (holds_as b is_hold (holds b are))) in
+      subst system.lacks (sym same) (lacks (holds_as b is_hold (holds b are))) in
       search (rules, more_true, did_as, append-nil, calls_append, left_on) in
       search (rules, quiet, files_absent, append-nil)
 
