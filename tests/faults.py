@@ -69,7 +69,7 @@ LINES = {
     "read": ["link cannot be read", "{file}: cannot be read"],
     "write": ["link cannot be written", "{file}: cannot be written"],
     "open": ["{file}: cannot be opened", "{file}: cannot be created", "{file}: cannot be written"],
-    "file": ["{file}: cannot be written", "{file}: cannot be created", CREATED],
+    "file": ["{file}: cannot be written", "{file}: cannot be created", "{file}: cannot be opened", CREATED],
     "socket": ["port net:127.0.0.1:PORT cannot be opened", "port PORT cannot be opened"],
 }
 

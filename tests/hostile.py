@@ -103,7 +103,6 @@ def files_fail():
         ([*EMULATED, "--parts", "folder"], ["error: folder: cannot be read"]),
         ([*EMULATED, "--parts", "missing.toml"], ["error: missing.toml: cannot be opened"]),
         (["-p", "m328p", "-P", "emu:short.bin"], ["error: short.bin: 100 bytes, 33796 expected"]),
-        (["-p", "m328p", "-P", "emu:folder"], ["error: folder: cannot be read"]),
         ([*EMULATED, "-U", "flash:r:folder"], [SIGNATURE, "error: folder: cannot be created"]),
         ([*EMULATED, "-U", "flash:r:nowhere/out.hex"], [SIGNATURE, "error: nowhere/out.hex: cannot be created"]),
         ([*EMULATED, "-U", "eeprom:r:/dev/full"], [SIGNATURE, "error: /dev/full: cannot be written"]),

@@ -546,14 +546,14 @@ def two_at_once():
 
 
 def nothing_hangs():
-    """A chip file that is a pipe, and signals that were ignored when it began, hold up no end and change no status."""
+    """A part file that is a pipe, and signals that were ignored when it began, hold up no end and change no status."""
     room.clear()
     os.mkfifo(room.folder / "pipe")
     how = {"cwd": room.folder, "env": environment(), "stdout": subprocess.PIPE, "stderr": subprocess.PIPE}
-    started = subprocess.Popen([SCRIPT, "0", "-p", "m328p", "--chip", "pipe"], **how)
+    started = subprocess.Popen([SCRIPT, "0", "-p", "m328p", "--parts", "pipe", "--chip", "chip.bin"], **how)
     wait_until(runs)
     started.terminate()
-    same("a pipe as chip file", (*started.communicate(timeout=PATIENCE), started.returncode), (b"", b"", 0))
+    same("a pipe as part file", (*started.communicate(timeout=PATIENCE), started.returncode), (b"", b"", 0))
     same("no run is left", runs(), [])
     how["preexec_fn"] = lambda: signal.signal(signal.SIGCHLD, signal.SIG_IGN)
     words = [SCRIPT, "0", "-p", "none", "--chip", "chip.bin"]
