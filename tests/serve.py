@@ -604,7 +604,8 @@ def devices():
     """With --pty a client opens a link to a terminal, and is served as at a port."""
     room.clear()
     link = room.folder / "device"
-    with Serving("--pty", "device", "--idle", "0.5", port=None) as it:
+    # (a run under load takes a while until its first reply)
+    with Serving("--pty", "device", "--idle", "3", port=None) as it:
         same("its line", it.said, b"serving at device\n")
         os.close(os.open(link, os.O_RDWR | os.O_NOCTTY))
         words = [TOP / "avrstk-serial", "-p", "m328p", "-P", link, "--wait", "0", "-q"]
@@ -618,7 +619,7 @@ def devices():
         os.write(idle, FRAMES[0])
         same("an idle client is hung up on after its reply", read_whole(idle), ANSWERS[: ENDS[0]])
         os.close(idle)
-        told = "avrstk-serve: a client sent nothing for 0.5 seconds: hung up\n"
+        told = "avrstk-serve: a client sent nothing for 3 seconds: hung up\n"
         same("it ends", it.end(), (0, told))
         see("its link is removed", not link.is_symlink())
     with Serving("--pty", "device", port=None) as it:
