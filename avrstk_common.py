@@ -16,19 +16,6 @@ HERE, NAME = os.path.split(os.path.realpath(sys.argv[0]))
 if sys.version_info < (3, 8):
     sys.exit("%s: Python 3.8 or later is needed, this is %d.%d" % (NAME, *sys.version_info[:2]))
 
-import re
-import selectors
-import shutil
-import signal
-import socket
-import subprocess
-import time
-
-READ, WRITE = selectors.EVENT_READ, selectors.EVENT_WRITE
-
-# avrstk has these parts without a part file
-BUILT_IN = {"m328p", "t85", "m2560"}
-
 
 class Fault(Exception):
     """Ends the script with an error line."""
@@ -74,6 +61,26 @@ def take_closed_streams():
 
 
 take_closed_streams()
+
+# (the help needs no module of those below, which take longer to load than Python itself)
+if sys.argv[1:] in ([], ["-h"], ["--help"]):
+    try:
+        sys.exit(show(sys.modules["__main__"].__doc__.strip()))
+    except Fault as fault:
+        sys.exit(message(str(fault)).decode().rstrip())
+
+import re
+import selectors
+import shutil
+import signal
+import socket
+import subprocess
+import time
+
+READ, WRITE = selectors.EVENT_READ, selectors.EVENT_WRITE
+
+# avrstk has these parts without a part file
+BUILT_IN = {"m328p", "t85", "m2560"}
 
 
 def data_file(name):

@@ -79,3 +79,11 @@ complete -c avrstk-serve -l idle -x -d 'idle timeout'
 complete -c avrstk-serve -l listen -x -d 'address to listen at'
 complete -c avrstk-serve -l pty -r -F -d 'link to a terminal'
 complete -c avrstk-serve -l log -r -F -d 'file of commands'
+for fault in lose lose-reply corrupt corrupt-reply late drop
+    complete -c avrstk-serve -l $fault -x -d 'fault of a frame: a command, number or share'
+end
+complete -c avrstk-serve -l seed -x -d 'repeat faults'
+for flag in bootloader locked no-chip
+    complete -c avrstk-serve -l $flag -d 'a programmer or chip that refuses'
+end
+complete -c avrstk-serve -l version -d 'print the version'

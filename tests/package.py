@@ -45,6 +45,7 @@ esac
 DOCUMENTS = ["BOARDS", "EMULATOR", "FORMATS", "PART", "PARTS", "PROTOCOL", "README", "TROUBLESHOOTING", "USAGE", "WHY"]
 UNPROVED = "UNPROVED: this build was compiled without its proofs"
 PROVED = "Its behaviour is proved"
+PROGRAMS_PROVED = "The behaviour of avrstk and avrstk_session is proved. The scripts avrstk-serial and avrstk-serve are tested. Proved"
 DEVELOPMENT = [
     "usr/include/avr_records.h",
     "usr/lib/libavr_records.a",
@@ -183,13 +184,13 @@ def a_proved_program_is_not_marked():
     same("its version", field(found, "Version"), VERSION)
     see("it has no mark", "unproved" not in description.lower(), description)
     flat = " ".join(description.split())
-    see("it states that it is proved", f"{PROVED}, by {KIT}." in flat, description)
+    see("it states that it is proved", f"{PROGRAMS_PROVED} by {KIT}." in flat, description)
     see("and of changes", f"Commit {made()[0].commit()}, with changes since." in flat, description)
     shutil.copy(clone.top / "out/unproved/avrstk", program)
     status, told = ended(clone.start(AVRSTK=str(program)))
     (found,) = clone.made.glob("avrstk_*~unproved_*.deb")
     description = " ".join(field(found, "Description").split())
-    see("the unproved program in the proved one's place is marked", UNPROVED in description and PROVED not in description, told)
+    see("the unproved program in the proved one's place is marked", UNPROVED in description and PROGRAMS_PROVED not in description, told)
 
 
 def unpacked(name, folder):
@@ -204,7 +205,8 @@ def packages_hold_what_is_installed():
         environment = os.environ | {"AVRSTK": str(PROGRAM)}
         subprocess.run([TOP / "install.sh", prefix], env=environment, check=True, stdout=subprocess.DEVNULL)
         (prefix / "share/avrstk/manifest").unlink()
-        wanted = [f"usr/{it}.gz" if it.endswith(".1") else f"usr/{it}" for it in files(prefix)]
+        placed = lambda it: it.replace("zsh/site-functions", "zsh/vendor-completions") + ".gz" * it.endswith(".1")
+        wanted = [f"usr/{placed(it)}" for it in files(prefix)]
         docs = ["built-from", "changelog.gz", "copyright"]
         own = [*docs, "examples/blink.hex", *(f"{it}.md" for it in DOCUMENTS)]
         found = unpacked("avrstk", Path(folder, "avrstk"))

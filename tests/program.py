@@ -3,6 +3,7 @@ program; the default is the one that ./avrstk runs: the proved one, or else the 
 
 import operator
 import os
+import shutil
 import socket
 import subprocess
 import sys
@@ -60,11 +61,8 @@ CHIP_FILE = 33_796
 
 def has_avrdude():
     """Returns whether AVRDUDE is installed, in the version that README and docs describe."""
-    try:
-        ran = subprocess.run(["avrdude", "-?"], capture_output=True, text=True)
-    except FileNotFoundError:
-        return False
-    return "version 7.1," in ran.stderr
+    found = shutil.which("avrdude")
+    return bool(found) and "version 7.1," in subprocess.run([found, "-?"], capture_output=True, text=True).stderr
 
 
 class Room:

@@ -5,6 +5,7 @@ a port, the log, what fails in a session, and how it ends.
     tests/serve.py [CASE ..]        needs a built program (program.py)
 """
 
+import ast
 import os
 import resource
 import shutil
@@ -275,6 +276,12 @@ def ends_at_a_signal():
         with Serving() as it, it.call() as client:
             client.sendall(FRAMES[0] * 2_000)
             same(f"{name}: a client that takes no replies", it.end(number, group=group)[0], 0)
+    # (a module in place of one that it loads)
+    room.put("getopt.py", b"import os, signal, time\nos.kill(os.getpid(), signal.SIGTERM)\ntime.sleep(60)")
+    how = {"env": environment() | {"PYTHONPATH": str(room.folder)}, "cwd": room.folder, "capture_output": True}
+    for words, status in [(["0", *M328P], 0), (["0", *M328P, "--", "true"], 143)]:
+        same(f"{words}: SIGTERM while it is loaded", subprocess.run([SCRIPT, *words], **how).returncode, status)
+    (room.folder / "getopt.py").unlink()
     with Serving() as it, it.call() as client:
         see("a session", begins(client))
         same("three signals at once", it.end(signal.SIGINT, signal.SIGTERM, signal.SIGHUP, group=True)[0], 0)
@@ -299,6 +306,9 @@ def refused():
         (["0", *M328P, "-e"], 1, "avrstk-serve: option -e not recognized\n"),
         (["0", "--chip", "chip.bin"], 1, "avrstk: error: no part given (-p)\n"),
         (["0", "-p", "m328p"], 1, "avrstk-serve: no chip file given (--chip)\n"),
+        (["0", "-p", "m328p", "--chip", "\udcff"], 1, "avrstk-serve: --chip \\xff: the name is not UTF-8\n"),
+        (["0", *M328P, "--lose", "it"], 1, None),
+        (["0", *M328P, "--late", "7"], 1, "avrstk-serve: --late : not a number of seconds\n"),
         (["0", "-p", "m328p", "--chip", "-"], 1, "avrstk: error: standard streams are taken\n"),
         (["0", *M328P, "--pty", "link"], 1, "avrstk-serve: a port and --pty: give one of the two\n"),
         (["--pty", "link", *M328P, "--listen", "::1"], 1, "avrstk-serve: a port and --pty: give one of the two\n"),
@@ -319,6 +329,9 @@ def refused():
         see(f"{words}: its messages", ran.stderr == told if told is not None else ran.stderr.count("\n") == 1, ran.stderr)
         see(f"{words}: it doesn't serve", "serving at 127.0.0.1:" not in ran.stdout.replace("`serving at", ""), ran.stdout)
     taken.close()
+    # (Python 3.7 gets as far as the line that names the version it needs)
+    for name in ["avrstk-serve", "avrstk_common.py"]:
+        ast.parse((TOP / name).read_text(), feature_version=(3, 7))
     # (Python keeps no docstrings then)
     ran = subprocess.run([SCRIPT, "--help"], env=environment() | {"PYTHONOPTIMIZE": "2"}, capture_output=True, text=True)
     see("--help without docstrings", ran.returncode == 0 and "avrstk-serve PORT" in ran.stdout, ran.stderr)

@@ -50,6 +50,7 @@ number=${release%%.*}
 [ "$number" != 0 ] || number=${release%.*}
 [ -z "$with_c" ] || rt=$(rt version)
 proved="Its behaviour is proved, by"
+programs_proved="The behaviour of avrstk and avrstk_session is proved. The scripts avrstk-serial and avrstk-serve are tested. Proved by"
 arch=$(dpkg --print-architecture)
 
 work=$(mktemp -d)
@@ -138,7 +139,7 @@ stamp=$("$top/avrstk" --stamp-of "${programs[@]}") || stamp="not known whether i
 kit=$(sed -n 's/^kit: //p' <<<"$stamp")
 kit=${kit:-an unknown kit}
 version=$release
-proof="$proved $kit."
+proof="$programs_proved $kit."
 mark=""
 if [[ $stamp != proved* ]]; then
     proof="UNPROVED: this build was compiled without its proofs, by $kit. Nothing of it was proved."
@@ -199,6 +200,8 @@ tar -C "$work" --sort=name --format=gnu --owner=0 --group=0 --numeric-owner -cf 
 echo "made $folder/$name.tar.xz"
 
 sed -i '1s,^#!/usr/bin/env python3$,#!/usr/bin/python3,' "$all"/usr/bin/avrstk-*
+# (Debian's zsh looks for completions of packages there alone)
+mv "$all/usr/share/zsh/site-functions" "$all/usr/share/zsh/vendor-completions"
 depends=$(shared_by "${programs[@]}")
 package avrstk "$all" "$version" <<END
 Section: electronics
