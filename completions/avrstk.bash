@@ -131,7 +131,7 @@ _avrstk() {
     # bash puts a reply on the line as it is, so a name with special characters is quoted here
     mapfile -t COMPREPLY < <(printf '%q\n' "${COMPREPLY[@]}")
     # (a tilde in front stays one)
-    [[ $typed != "~"* ]] || COMPREPLY=("${COMPREPLY[@]/#\\\~/\~}")
+    [[ $typed != "~"* ]] || COMPREPLY=("${COMPREPLY[@]/#\\~/\~}")
 }
 
 complete -F _avrstk avrstk avrstk-serial avrstk-serve

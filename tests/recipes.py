@@ -149,27 +149,6 @@ def usage(clone):
         clone.tries(commands)
 
 
-def jobs(clone):
-    """The recipes for jobs: GitLab's and GitHub's steps, after the installation, and pytest's fixture."""
-    clone.types(["./install.sh ~/.local"])
-    text = (TOP / "docs/EMULATOR.md").read_text().split("### Recipes for jobs")[1]
-    gitlab, github, fixture = [textwrap.dedent(it) for it in re.findall(r"(?:^(?:    (?!\$ ).*)?\n)+", text, re.M) if it.strip()]
-    steps = re.findall("^ +- (avrstk.*)", gitlab, re.M), re.findall("^ +(avrstk.*)", github, re.M)
-    shutil.copy(clone.top / "examples/blink.hex", clone.folder / "firmware.hex")
-    (clone.folder / "test_flash.py").write_text(fixture)
-    (typed,) = re.findall(r"run by `([^`]*)`", text)
-    for name, commands in [("gitlab", steps[0]), ("github", steps[1]), ("pytest", [typed])]:
-        see(f"{name} has steps", len(commands) > (name != "pytest"), commands)
-        if not has_avrdude() or name == "pytest" and not shutil.which("pytest"):
-            leave_out(f"the recipe of {name}", "a tool is not installed")
-            continue
-        printed = clone.types(["cd ..", *commands])
-        see(f"{name} is right", printed and "FAILED here" not in printed, printed)
-        chip = (clone.folder / "chip.bin").read_bytes()
-        same(f"{name}: the chip has the firmware", chip[:4].hex(), "0c943400")
-        (clone.folder / "chip.bin").unlink()
-
-
 # the Arduino IDE's own rules for AVR boards: names and values, of which platform.local.txt replaces some
 PLATFORM = Path("/usr/share/arduino/hardware/arduino/avr/platform.txt")
 
@@ -208,6 +187,27 @@ def in_place_of_avrdude(clone):
         same("the chip", chip[:4].hex(), "0c943400")
 
 
+def jobs(clone):
+    """The recipes for jobs: GitLab's and GitHub's steps, after the installation, and pytest's fixture."""
+    clone.types(["./install.sh ~/.local"])
+    text = (TOP / "docs/EMULATOR.md").read_text().split("### Recipes for jobs")[1]
+    gitlab, github, fixture = [textwrap.dedent(it) for it in re.findall(r"(?:^(?:    (?!\$ ).*)?\n)+", text, re.M) if it.strip()]
+    steps = re.findall("^ +- (avrstk.*)", gitlab, re.M), re.findall("^ +(avrstk.*)", github, re.M)
+    shutil.copy(clone.top / "examples/blink.hex", clone.folder / "firmware.hex")
+    (clone.folder / "test_flash.py").write_text(fixture)
+    (typed,) = re.findall(r"run by `([^`]*)`", text)
+    for name, commands in [("gitlab", steps[0]), ("github", steps[1]), ("pytest", [typed])]:
+        see(f"{name} has steps", len(commands) > (name != "pytest"), commands)
+        if not has_avrdude() or name == "pytest" and not shutil.which("pytest"):
+            leave_out(f"the recipe of {name}", "a tool is not installed")
+            continue
+        printed = clone.types(["cd ..", *commands])
+        see(f"{name} is right", printed and "FAILED here" not in printed, printed)
+        chip = (clone.folder / "chip.bin").read_bytes()
+        same(f"{name}: the chip has the firmware", chip[:4].hex(), "0c943400")
+        (clone.folder / "chip.bin").unlink()
+
+
 def somebody_else(clone):
     """Another user of the clone runs the built program, and builds nothing."""
     if os.geteuid() != 0:
@@ -218,7 +218,7 @@ def somebody_else(clone):
     see("it runs", "Usage: " in printed and "FAILED" not in printed, printed)
 
 
-CASES = named(*map(in_a_clone, [readme, usage, jobs, in_place_of_avrdude, somebody_else]))
+CASES = named(*map(in_a_clone, [readme, usage, in_place_of_avrdude, jobs, somebody_else]))
 
 if __name__ == "__main__":
     sys.exit(run_cases(CASES, __doc__))

@@ -368,8 +368,7 @@ TEXTS = {
     "marked": b"\xef\xbb\xbf:100000000C945C000C946E\n",
     "indented": b" :100000000C945C000C946E\n",
 }
-EMPTY = {"empty.hex": "empty.hex", "flash:w:empty.hex:i": "empty.hex", "eeprom:w:empty.bin:r": "empty.bin"}
-EMPTY.update({f"{update}:{it}": it for update in ["flash:w", "eeprom:v"] for it in ["end.hex", "end.srec"]})
+EMPTY = {"end.hex": b":00000001FF\n", "end.srec": b"S0030000FC\nS5030000FC\nS9030000FC\n", "empty.hex": b"", "empty.bin": b""}
 
 
 def refused():
@@ -380,12 +379,6 @@ def refused():
     room.put("an x.elf", b"\x7fELF\x01\x01\x01")
     room.put("note.hex", b"# a note\n" + good)
     room.put("page.hex", b"<!DOCTYPE html>\n<p>no such firmware</p>\n")
-    room.put("empty.hex", b"")
-    room.put("end.hex", good.splitlines(True)[-1])
-    room.put("end.srec", b"S0030000FC\nS5030000FC\nS9030000FC\n")
-    for name, text in TEXTS.items():
-        room.put(name, text)
-    text = "is text without records: name its format"
     room.put("big.hex", hex_of([(32_768, b"x")]))
     (room.folder / "gone.hex").symlink_to("nowhere")
     cases = [
@@ -438,8 +431,6 @@ def refused():
         (["-U", "flash:w:an x.elf:r"], f"an x.elf is ELF, not the bytes of a memory: leave out :r: {note}"),
         (["-U", "eeprom:v:blink.hex:e"], f"blink.hex is not ELF: {note}"),
         (["-U", "flash:w:an x.elf:i"], f"it has ELF: give flash:w:an x.elf:e; {note}"),
-        *((["-U", f"{update}:{it}"], f"{it} {text}: {note}") for it in TEXTS for update in ["flash:w", "eeprom:v"]),
-        *((["-U", f"flash:w:{it}:a"], f"{it} {text}: {note}") for it in TEXTS),
         (["-U", "fuse:w:1:m"], "-U fuse:w:1:m: the memories are flash, eeprom, lfuse, "),
         (["-U", "lfuse:r:-:h", "-U", "fl:r:x:i"], "-U fl:r:x:i: the memories are flash, eeprom, lfuse, "),
         (["-U", "flash:x:1:m"], f"-U flash:x:1:m: the operations are w (write), v (compare) and r (read); {note}"),
@@ -448,7 +439,6 @@ def refused():
         (["-U", "flash:w:big.hex"], f"flash of m328p has 32,768 bytes; is -p right?; {note}"),
         (["-U", "eeprom:w:0,0,0.hex"], f"there is no such file; {note}"),
         (["-U", "lfuse:w:0,0:m"], f"lfuse has 1 byte: give one value; {note}"),
-        *((["-U", f"{update}"], f"{it} is empty (did its build fail?): {note}") for update, it in EMPTY.items()),
     ]
 
     def ran(words):
@@ -462,6 +452,20 @@ def refused():
 
     for (words, wanted), (found, own) in zip(cases, side_by_side(lambda it: ran(it[0]), cases)):
         see(" ".join(words), found == (1, b"", 1, 0) and own[0].startswith(wanted), (found, own))
+
+
+def no_firmware():
+    """A text without records and an image without a byte are refused, unless the text's format is given."""
+    room.clear()
+    why = {**dict.fromkeys(TEXTS, "is text without records: name its format"), **dict.fromkeys(EMPTY, "is empty (did its build fail?)")}
+    for name, content in {**TEXTS, **EMPTY}.items():
+        room.put(name, content)
+        for update in [f"flash:w:{name}", f"eeprom:v:{name}", f"flash:w:{name}:{'a' if name in TEXTS else 'i'}"]:
+            found = run(["-p", "m328p", "-P", "emu:no.bin", "-U", update])
+            wanted = f"{name} {why[name]}: nothing was sent, and the device was not opened"
+            same(update, found, (1, b"", b"", [wanted]))
+    status, *_ = run(["-p", "m328p", "-P", "emu:no.bin", "-U", "eeprom:w:m.c:r"])
+    same("a text as raw bytes", (status, room.read("no.bin")[32_768:][: len(TEXTS["m.c"])]), (0, TEXTS["m.c"]))
 
 
 def ports_of_avrstk():
@@ -1658,6 +1662,7 @@ CASES = named(
     boards_that_reset,
     parts,
     refused,
+    no_firmware,
     devices,
     what_is_missing,
     ports_of_avrstk,
