@@ -376,7 +376,8 @@ def what_stays():
 
 def what_is_refused():
     """These are no chip files, and refused before a frame is sent or the server waits for a caller: a link to no file or to
-    itself, a pipe, a device, a folder, a name that is too long, one in a folder that isn't there."""
+    itself, a pipe, a device, a folder, a name that is too long, one in a folder that isn't there. So is a chip whose lock
+    file isn't regular."""
     for name, make in [
         ("link.bin", lambda it: it.symlink_to("chip.bin")),
         ("loop.bin", lambda it: it.symlink_to("loop.bin")),
@@ -392,6 +393,10 @@ def what_is_refused():
         same("a run", room.run(writes_fuse(0x62, name)), told)
         same("--serve", Server(room, name, waits=False).end(), told)
         same(f"{name}: no file is made", (room.read("chip.bin"), beside()), (None, []))
+    for make in [os.mkfifo, lambda it: it.symlink_to("chip.bin")]:
+        fresh_room()
+        make(LOCK_FILE)
+        same("a lock file that isn't regular", room.run(writes_fuse(0x62)), (1, b"", UNWRITABLE))
 
 
 def read_into_the_chip():
