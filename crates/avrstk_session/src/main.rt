@@ -83,7 +83,7 @@ fn outline_session<D: Desk>(alloc: Global, settings: &Settings, desk: &mut D) ->
 }
 
 /// Serves the chip file of these settings over the link, or only checks it. With `-P stdio:` it prints the outline of
-/// the session. It refuses `net:`.
+/// the session. It refuses any other port.
 fn serve_port<D: ChipDesk, L: Link>(
     alloc: Global,
     settings: &Settings,
@@ -102,7 +102,7 @@ fn serve_port<D: ChipDesk, L: Link>(
             }
         }
         Port::Stdio => outline_session(alloc, settings, desk),
-        Port::Net(..) => refuse(desk, &usage_message()),
+        _ => refuse(desk, &usage_message()),
     }
 }
 
