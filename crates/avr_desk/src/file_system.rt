@@ -80,7 +80,7 @@ pub trait FileSystem {
         ensures fails { OnErr result (Stays did self.old self.new) }
         ensures keeps { LeavesNoMore left self.old self.new };
 
-    /// Creates a file, or empties an existing one. It is none that this run holds, if that holds no other than `hold`.
+    /// Creates a file, or empties an existing one, but never the held one. `hold` is what this run holds.
     ///
     /// # Errors
     ///
