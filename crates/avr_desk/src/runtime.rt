@@ -239,7 +239,11 @@ impl<'a, R: Files<File = File> + Input + Alloc<A = Global>> Folder for &'a R {
         let path = held.place.path.as_str();
         let opened = unless(ErrorKind::NotFound, fs::open(*self, path))?;
         let found = match &opened {
-            Some(file) => Some(identity(&file.metadata()?)),
+            // (an error here says of no file that it is absent)
+            Some(file) => match file.metadata() {
+                Ok(there) => Some(identity(&there)),
+                Err(_) => return Err(io::Error::from(ErrorKind::ResourceBusy)),
+            },
             None => None,
         };
         if !is_same(identity_of(seen), found) {

@@ -60,8 +60,8 @@ pub use laws::{
 };
 // what a run reads and writes beside its link
 pub use avr_desk::{
-    Bytes, ChipDesk, Desk, DeskCall, DeskFault, FailingDesk, FileSystem, FileUse, MemDesk,
-    Opening, Piece, Reading, Stream, SystemDesk, WatchDesk, WatchedDesk, Writing, print_error,
+    Bytes, ChipDesk, Desk, DeskCall, DeskFault, FailingDesk, FileSystem, FileUse, MemDesk, Opening,
+    Piece, Reading, Stream, SystemDesk, WatchDesk, WatchedDesk, Writing, print_error,
     print_information, print_warning, write_all,
 };
 // from settings to a status, over any link

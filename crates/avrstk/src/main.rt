@@ -8,9 +8,7 @@ ghost use Rattle.avr_tool.specs.Runs.{devices};
 ghost use Rattle.avr_tool.specs.Shown.{TellsAll, shown_state};
 ghost use Rattle.avr_tool.specs.Sockets.{peers_of};
 
-use avr_tool::{
-    FileSystem, Network, Outlet, StreamLink, SystemDesk, refuse_text, run_program,
-};
+use avr_tool::{FileSystem, Network, Outlet, StreamLink, SystemDesk, refuse_text, run_program};
 use std::alloc::Global;
 use std::env::Env;
 use std::fs::File;

@@ -14,9 +14,7 @@ ghost use Rattle.avrstk_session.specs.Session.{Asks, JudgesOnly, ServesPort, Ser
 mod outline;
 
 use avr_cli::{Port, Settings, read_settings, read_words};
-use avr_desk::{
-    ChipDesk, Desk, Message, Stream, SystemDesk, memory_message, refuse, write_all,
-};
+use avr_desk::{ChipDesk, Desk, Message, Stream, SystemDesk, memory_message, refuse, write_all};
 use avr_emulator::{judge_part, serve};
 use avr_plan::{Plan, plan};
 use clap::Error;
@@ -56,7 +54,9 @@ fn judge<D: ChipDesk>(alloc: Global, settings: &Settings, file: &str, desk: &mut
 fn usage_message<'a>() -> Message<'a>
     ensures { result ≡ usage_pieces }
 {
-    Message::text("usage: avrstk_session -p PART [--parts FILE] -P emu:CHIPFILE [-n], or AVRSTK'S OPTIONS -P stdio:")
+    Message::text(
+        "usage: avrstk_session -p PART [--parts FILE] -P emu:CHIPFILE [-n], or AVRSTK'S OPTIONS -P stdio:",
+    )
 }
 
 /// Prints the outline of the plan's session on standard output.

@@ -129,7 +129,7 @@ shown_kept says shown told r s t first then =
     then ∙ ap (λ k. after_err told (after_all (outputs shown) k)) first
     ∙ ap (after_err told) (sym (after_append says (outputs shown) r))
     ∙ ap (λ done. after_err told (after_all done r))
-        (sym (append-nil (outputs (map Said says ++ shown)) ∙ said_outputs says shown))
+    (sym (append-nil (outputs (map Said says ++ shown)) ∙ said_outputs says shown))
 
 -- a stop in the session
 stopped_prefix : (settings : Settings) (x y : Devices) → StoppedPlaying settings x y → IsPrefixOfRun settings x y
@@ -194,7 +194,7 @@ broken_kept whole break told r t kept =
     ∙ ap (λ done. after_all done r) (sym (append_assoc whole (opened_at (inr break)) (Line told ∷ [])))
     ∙ after_append (whole ++ opened_at (inr break)) (Line told ∷ []) r
     ∙ ap (λ done. after_err told (after_all (done ++ opened_at (inr break)) r))
-        (sym (said_outputs whole [] ∙ append-nil whole))
+    (sym (said_outputs whole [] ∙ append-nil whole))
 
 -- a stop in planning
 planned_prefix : (settings : Settings) (x y : Devices) → StoppedPlanning settings x y → IsPrefixOfRun settings x y
