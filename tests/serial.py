@@ -914,8 +914,6 @@ def plans():
     session = next((it for it in [PROGRAM.parent, PROGRAM.parents[2] / "avrstk_session/out"] if (it / "avrstk_session").exists()))
     command = [session / "avrstk_session", "-P", "stdio:", *FLASH]
     found = subprocess.run(command, cwd=room.folder, capture_output=True, text=True, stdin=subprocess.DEVNULL)
-    if found.returncode:
-        return leave_out("the plan of avrstk_session", "it doesn't print one yet")
     it = Board()
     run([*FLASH, "-P", it.device, "--wait", "0"])
     it.end()
@@ -1699,5 +1697,9 @@ CASES = named(
     recipe_of_ser2net,
 )
 
+# a board that replies for a time, or a signal at a moment
+TIMED = ["boards_that_reset", "retries", "the_part_of_the_chip", "hints_over_each_memory", "hints_that_are_followed"]
+TIMED += ["progress", "signals", "devices_that_go", "names_and_interrupts"]
+
 if __name__ == "__main__":
-    sys.exit(run_cases(CASES, __doc__))
+    sys.exit(run_cases(CASES, __doc__, timed=TIMED))

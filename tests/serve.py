@@ -751,5 +751,8 @@ CASES = named(
     *(avrdudes_in_a_row, faults),
 )
 
+# an idle time, AVRDUDE's own timeouts, or a port that nobody keeps
+TIMED = ["listens", "idle_clients", "devices", "logged", "avrdudes_in_a_row", "faults", "a_command"]
+
 if __name__ == "__main__":
-    sys.exit(run_cases(CASES, __doc__))
+    sys.exit(run_cases(CASES, __doc__, timed=TIMED))

@@ -2,7 +2,7 @@
 -- that its `use` names. Sections 1 to 3 hold over any link, section 4 over a wire to the emulated programmer that
 -- forges no frame. Beside this page are specs/Program (from a command line), avr_emulator's specs/Emulated (over a
 -- chip file) and specs/InMemory (from bytes to bytes). docs/PROOFS.md lists what is not proved.
-use Rattle.std.specs.Prelude.{ℕ, ◌≡◌, ◌≤◌, ◌⊎◌, inl, inr, List, [], ◌∷◌, ◌++◌, map, length, Some, None}
+use Rattle.std.specs.Prelude.{ℕ, ◌≡◌, ◌≤◌, ◌⊎◌, List, [], ◌∷◌, ◌++◌, map, length, Some, None}
 use Rattle.avr_cli.specs.declared.settings.Settings.{Settings}
 use Rattle.avr_desk.specs.Record.{DeskState, Passes, Bytes, after_err}
 use Rattle.avr_desk.specs.declared.record.Opening.{Opening}
@@ -85,23 +85,28 @@ abbrev pub IsStopped : Settings → Devices → Devices → ℕ → Type 0
 IsStopped settings before now status =
     (StoppedPlaying settings before now ⊎ StoppedPlanning settings before now) × (status ≡ 1)
 
--- The line that reports why a run stopped: a cause in the session, or a break in planning.
-abbrev pub stop_line : Cause ⊎ Break → Bytes
-stop_line (inl cause) = cause_line cause
-stop_line (inr (InLine line)) = line
-stop_line (inr (NotOpened name)) = not_opened_line name
-stop_line (inr (NotRead name bytes)) = not_read_line name
-stop_line (inr NoMemory) = memory_line
-stop_line (inr (NoMemoryFor reading)) = memory_line
+-- Why a run stopped: a cause in the session, or a break in planning.
+pub data Reason : Type 0 where
+  InSession : Cause → Reason
+  InPlanning : Break → Reason
+
+-- The line that reports it.
+abbrev pub stop_line : Reason → Bytes
+stop_line (InSession cause) = cause_line cause
+stop_line (InPlanning (InLine line)) = line
+stop_line (InPlanning (NotOpened name)) = not_opened_line name
+stop_line (InPlanning (NotRead name bytes)) = not_read_line name
+stop_line (InPlanning NoMemory) = memory_line
+stop_line (InPlanning (NoMemoryFor reading)) = memory_line
 
 -- The file of which a part was read when planning broke off.
-abbrev pub opened_at : Cause ⊎ Break → List OutputEvent
-opened_at (inl cause) = []
-opened_at (inr (InLine line)) = []
-opened_at (inr (NotOpened name)) = []
-opened_at (inr (NotRead name bytes)) = part_read name bytes ∷ []
-opened_at (inr NoMemory) = []
-opened_at (inr (NoMemoryFor reading)) = Opens (Found reading) ∷ []
+abbrev pub opened_at : Reason → List OutputEvent
+opened_at (InSession cause) = []
+opened_at (InPlanning (InLine line)) = []
+opened_at (InPlanning (NotOpened name)) = []
+opened_at (InPlanning (NotRead name bytes)) = part_read name bytes ∷ []
+opened_at (InPlanning NoMemory) = []
+opened_at (InPlanning (NoMemoryFor reading)) = Opens (Found reading) ∷ []
 
 -- What a stopped run did is a prefix of the run over what was received; only the last event may be incomplete. At the
 -- desk this was done, then perhaps a part of the next file was read, then the line of the reason was reported, or a
@@ -110,7 +115,7 @@ pub record IsPrefixOfRun (settings : Settings) (before now : Devices) : Type 0 w
   pub openings : List Opening
   pub during : Transcript
   pub shown : List (Event OutputEvent)
-  pub reason : Cause ⊎ Break
+  pub reason : Reason
   pub told : Bytes
   pub prefix : (later : List Opening) → IsPrefixOfEvents SaidPart shown
       (run settings (openings ++ later) (heard during)).events

@@ -1,5 +1,5 @@
 -- Planning and session as one run.
-use Rattle.std.proofs.Common.{◌≡◌, ℕ, ◌⊎◌, inl, inr, List, [], ◌∷◌, ◌++◌, map, Bool, true, false, absurd, refl, sym, ap, ◌∙◌, subst, arith, append_assoc, append-nil, rules}
+use Rattle.std.proofs.Common.{◌≡◌, ℕ, ◌⊎◌, inl, inr, List, [], ◌∷◌, ◌++◌, map, Bool, true, false, refl, sym, ap, ◌∙◌, subst, arith, append_assoc, append-nil, rules}
 use Rattle.avr_cli.specs.declared.settings.Settings.{Settings}
 use Rattle.avr_desk.specs.Fault.{Follows}
 use Rattle.avr_desk.specs.Lines.{memory_line, not_opened_line, not_read_line}
@@ -20,7 +20,7 @@ use Rattle.avr_session.specs.Run.{RunsSession, RunsSettings, StopsSession}
 use Rattle.avr_session.specs.Runs.{Devices, devices, Cause, OfSending, OfListening, OfFile, OfPrinting, OfMemory, TellsCause, cause_line}
 use Rattle.avr_session.specs.Session.{session}
 use Rattle.avr_session.specs.Stopping.{IsPlayed}
-use Rattle.avr_tool.specs.Headline.{run, after_answer, IsInTurn, IsRun, IsPrefixOfRun, stop_line, opened_at, StoppedPlaying, StoppedPlanning, IsStopped}
+use Rattle.avr_tool.specs.Headline.{run, after_answer, IsInTurn, IsRun, IsPrefixOfRun, InSession, InPlanning, stop_line, opened_at, StoppedPlaying, StoppedPlanning, IsStopped}
 
 pub said_outputs : (says : List OutputEvent) (events : List (Event OutputEvent))
     → outputs (map Said says ++ events) ≡ says ++ outputs events
@@ -131,36 +131,6 @@ shown_kept says shown told r s t first then =
     ∙ ap (λ done. after_err told (after_all done r))
     (sym (append-nil (outputs (map Said says ++ shown)) ∙ said_outputs says shown))
 
--- a stop in the session
-stopped_prefix : (settings : Settings) (x y : Devices) → StoppedPlaying settings x y → IsPrefixOfRun settings x y
-stopped_prefix settings x y stopped = record {
-  openings = stopped.made.passed;
-  during = stopped.then_is.during;
-  shown = map Said stopped.made.says ++ stopped.then_is.shown;
-  reason = inl stopped.then_is.cause;
-  told = stopped.then_is.told;
-  told_part = cause_part _ stopped.then_is.cause stopped.then_is.told _ y.desk stopped.then_is.stops.tells;
-  prefix = search (rules, behind_prefix);
-  in_turn = λ later. subst (λ answer. IsInTurn answer stopped.then_is.during)
-      (sym (answered (stopped.made.comes later))) stopped.then_is.breaks.in_turn;
-  all_sent = said_bytes stopped.made.says stopped.then_is.shown ∙ stopped.then_is.breaks.all_sent;
-  grows = stopped.then_is.grows;
-  kept = shown_kept stopped.made.says stopped.then_is.shown stopped.then_is.told x.desk.kept stopped.between.kept
-      y.desk.kept stopped.made.kept stopped.then_is.kept;
-}
-
-said_append : (whole later : List OutputEvent) (events : List (Event OutputEvent))
-    → map Said (whole ++ later) ++ events ≡ map Said whole ++ (map Said later ++ events)
-said_append [] later events = refl
-said_append (output ∷ whole) later events = ap (λ rest. Said output ∷ rest) (said_append whole later events)
-
-last_is : (break : Break) (told : Bytes) → last_done break told ≡ opened_at (inr break) ++ Line told ∷ []
-last_is (NotRead name bytes) told = refl
-last_is (NoMemoryFor reading) told = refl
-last_is (InLine line) told = refl
-last_is (NotOpened name) told = refl
-last_is NoMemory told = refl
-
 -- what was reported is a part of the reason's line
 line_part : (line told : Bytes) (x y : DeskState) → TellsLine line told x y → IsPrefixOf told line
 line_part line told x y (inl whole) = ([], append-nil told ∙ whole.0)
@@ -179,21 +149,51 @@ cause_part true (OfFile file trouble) told x y tells = absurd tells
 cause_part true OfMemory told x y tells = absurd tells
 
 break_part : (break : Break) (told : Bytes) (x y : DeskState)
-    → TellsBreak break told x y → IsPrefixOf told (stop_line (inr break))
+    → TellsBreak break told x y → IsPrefixOf told (stop_line (InPlanning break))
 break_part (InLine line) told x y tells = tells.0
 break_part (NotOpened name) told x y tells = line_part (not_opened_line name) told tells.between y tells.tells
 break_part (NotRead name bytes) told x y tells = line_part (not_read_line name) told tells.between y tells.tells
 break_part NoMemory told x y tells = line_part memory_line told x y tells
 break_part (NoMemoryFor reading) told x y tells = line_part memory_line told x y tells
 
+-- a stop in the session
+stopped_prefix : (settings : Settings) (x y : Devices) → StoppedPlaying settings x y → IsPrefixOfRun settings x y
+stopped_prefix settings x y stopped = record {
+  openings = stopped.made.passed;
+  during = stopped.then_is.during;
+  shown = map Said stopped.made.says ++ stopped.then_is.shown;
+  reason = InSession stopped.then_is.cause;
+  told = stopped.then_is.told;
+  told_part = cause_part _ stopped.then_is.cause stopped.then_is.told _ y.desk stopped.then_is.stops.tells;
+  prefix = search (rules, behind_prefix);
+  in_turn = λ later. subst (λ answer. IsInTurn answer stopped.then_is.during)
+      (sym (answered (stopped.made.comes later))) stopped.then_is.breaks.in_turn;
+  all_sent = said_bytes stopped.made.says stopped.then_is.shown ∙ stopped.then_is.breaks.all_sent;
+  grows = stopped.then_is.grows;
+  kept = shown_kept stopped.made.says stopped.then_is.shown stopped.then_is.told x.desk.kept stopped.between.kept
+      y.desk.kept stopped.made.kept stopped.then_is.kept;
+}
+
+said_append : (whole later : List OutputEvent) (events : List (Event OutputEvent))
+    → map Said (whole ++ later) ++ events ≡ map Said whole ++ (map Said later ++ events)
+said_append [] later events = refl
+said_append (output ∷ whole) later events = ap (λ rest. Said output ∷ rest) (said_append whole later events)
+
+last_is : (break : Break) (told : Bytes) → last_done break told ≡ opened_at (InPlanning break) ++ Line told ∷ []
+last_is (NotRead name bytes) told = refl
+last_is (NoMemoryFor reading) told = refl
+last_is (InLine line) told = refl
+last_is (NotOpened name) told = refl
+last_is NoMemory told = refl
+
 broken_kept : (whole : List OutputEvent) (break : Break) (told : Bytes) (r t : Record)
     → t ≡ after_all (whole ++ last_done break told) r
-    → t ≡ after_err told (after_all (outputs (map Said whole ++ []) ++ opened_at (inr break)) r)
+    → t ≡ after_err told (after_all (outputs (map Said whole ++ []) ++ opened_at (InPlanning break)) r)
 broken_kept whole break told r t kept =
     kept ∙ ap (λ last. after_all (whole ++ last) r) (last_is break told)
-    ∙ ap (λ done. after_all done r) (sym (append_assoc whole (opened_at (inr break)) (Line told ∷ [])))
-    ∙ after_append (whole ++ opened_at (inr break)) (Line told ∷ []) r
-    ∙ ap (λ done. after_err told (after_all (done ++ opened_at (inr break)) r))
+    ∙ ap (λ done. after_all done r) (sym (append_assoc whole (opened_at (InPlanning break)) (Line told ∷ [])))
+    ∙ after_append (whole ++ opened_at (InPlanning break)) (Line told ∷ []) r
+    ∙ ap (λ done. after_err told (after_all (done ++ opened_at (InPlanning break)) r))
     (sym (said_outputs whole [] ∙ append-nil whole))
 
 -- a stop in planning
@@ -202,7 +202,7 @@ planned_prefix settings x y stopped = record {
   openings = stopped.broke.passed;
   during = [];
   shown = map Said stopped.broke.whole ++ [];
-  reason = inr stopped.broke.break;
+  reason = InPlanning stopped.broke.break;
   told = stopped.broke.told;
   told_part = break_part stopped.broke.break stopped.broke.told x.desk y.desk stopped.broke.tells;
   prefix = search (rules, said_append);
