@@ -18,9 +18,15 @@ use std::{env, fs, io};
 
 fn main(rt: HostRuntime) -> ExitCode {
     let _taken = take_closed_streams(&rt);
-    let mut desk = SystemDesk::new(&rt, rt.stdout(), rt.stderr());
-    let mut link = StreamLink::new(rt.stdin(), rt.stdout());
-    ExitCode::from(run(&rt, &rt, &mut desk, &mut link))
+    ExitCode::from(start(
+        &rt,
+        &rt,
+        &rt,
+        rt.stdin(),
+        rt.stdout(),
+        rt.stdout(),
+        rt.stderr(),
+    ))
 }
 
 /// Opens a folder in place of each closed standard stream, and keeps it open while the program runs. Otherwise a file
@@ -28,6 +34,22 @@ fn main(rt: HostRuntime) -> ExitCode {
 /// written.
 fn take_closed_streams(rt: &HostRuntime) -> [io::Result<File>; 3] {
     [fs::open(rt, "/"), fs::open(rt, "/"), fs::open(rt, "/")]
+}
+
+/// Runs what the command line asks for. The port `stdio:` is `input` and `replies`.
+// (The borrow checker covers a desk over any system, but in `main` none over the runtime's own.)
+fn start<
+    E: Env + Alloc<A = Global>,
+    N: Network,
+    S: FileSystem + Drop,
+    O: Outlet + Drop,
+    M: Outlet + Drop,
+    R: Read + Drop,
+    W: Write + Drop,
+>(rt: &E, network: N, system: S, input: R, replies: W, output: O, messages: M) -> u8 {
+    let mut desk = SystemDesk::new(system, output, messages);
+    let mut link = StreamLink::new(input, replies);
+    run(rt, network, &mut desk, &mut link)
 }
 
 /// Runs what the command line asks for.

@@ -14,11 +14,14 @@ ghost use Rattle.avrstk_session.specs.Session.{Asks, JudgesOnly, ServesPort, Ser
 mod outline;
 
 use avr_cli::{Port, Settings, read_settings, read_words};
-use avr_desk::{ChipDesk, Desk, Message, Stream, SystemDesk, memory_message, refuse, write_all};
+use avr_desk::{
+    ChipDesk, Desk, FileSystem, Message, Stream, SystemDesk, memory_message, refuse, write_all,
+};
 use avr_emulator::{judge_part, serve};
 use avr_plan::{Plan, plan};
 use clap::Error;
 use clap::error::ErrorKind;
+use ghosts::{Inlet, Outlet};
 use outline::outline_text;
 use std::alloc::Global;
 use std::env::Env;
@@ -29,9 +32,7 @@ use stk_host::{Link, StreamLink};
 
 fn main(rt: HostRuntime) -> ExitCode {
     let _taken = take_closed_streams(&rt);
-    let mut desk = SystemDesk::new(&rt, rt.stdout(), rt.stderr());
-    let mut link = StreamLink::new(rt.stdin(), rt.stdout());
-    ExitCode::from(run(&rt, &mut desk, &mut link))
+    ExitCode::from(start(&rt, &rt, rt.stdin(), rt.stdout(), rt.stdout(), rt.stderr()))
 }
 
 /// Opens a folder in place of each closed standard stream, and keeps it open while the program runs. Otherwise the chip
@@ -148,6 +149,21 @@ fn serve_words<D: ChipDesk, L: Link>(
         Ok(settings) => serve_port(alloc, &settings, desk, link),
         Err(status) => status,
     }
+}
+
+/// Serves what the command line asks for, to the client behind `input` and `replies`.
+// (The borrow checker covers a desk over any system, but in `main` none over the runtime's own.)
+fn start<
+    E: Env + Alloc<A = Global>,
+    S: FileSystem + Drop,
+    R: Inlet + Drop,
+    W: Outlet + Drop,
+    O: Outlet + Drop,
+    M: Outlet + Drop,
+>(rt: &E, system: S, input: R, replies: W, output: O, messages: M) -> u8 {
+    let mut desk = SystemDesk::new(system, output, messages);
+    let mut link = StreamLink::new(input, replies);
+    run(rt, &mut desk, &mut link)
 }
 
 /// Serves what the process's command line asks for.
