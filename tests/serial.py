@@ -1699,7 +1699,7 @@ CASES = named(
 
 # a board that replies for a time, or a signal at a moment
 TIMED = ["boards_that_reset", "retries", "the_part_of_the_chip", "hints_over_each_memory", "hints_that_are_followed"]
-TIMED += ["progress", "signals", "devices_that_go", "names_and_interrupts"]
+TIMED += ["progress", "signals", "devices_that_go", "names_and_interrupts", "recipe_of_a_plain_bridge", "recipe_of_ser2net"]
 
 if __name__ == "__main__":
     sys.exit(run_cases(CASES, __doc__, timed=TIMED))
