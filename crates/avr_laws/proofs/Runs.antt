@@ -1,0 +1,3 @@
+-- What status 0 means, and outcomes that are refused.
+pub mod Promise
+pub mod Refused
