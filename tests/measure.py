@@ -10,7 +10,8 @@
 Only files known to git are read. Code is counted in src/, without tests and contracts. Contracts are the clauses of
 functions, definitions are in specs/, and proofs in proofs/. Blank lines, comments and `use` lines are never counted. Wide
 lines have more than 120 columns, except imports. A clause is one `requires` or `ensures`; the mean is over public
-functions. The width of a definition is the number of its explicit arguments.
+functions. The width of a definition is the number of its explicit arguments. The program's row is the sum of the crates of
+the programs (`avrstk` ..) and of all below them; the row after it has the others, such as the laws above it.
 """
 
 import re
@@ -192,6 +193,18 @@ def types():
     return {defined: sorted(where) for defined, where in places.items() if len(where) > 1}
 
 
+def below_programs():
+    """Returns the programs' crates and all that they stand on."""
+    lines = [re.sub("#.*", "", it).split() for it in (TOP / "crates.txt").read_text().splitlines()]
+    below = {it[0].rstrip(":"): it[1:] for it in lines if it}
+    found, todo = set(), [it for it in below if it.startswith("avrstk")]
+    while todo:
+        name = todo.pop()
+        found.add(name)
+        todo += set(below.get(name, [])) - found
+    return found
+
+
 def figures():
     """Returns the table, with a row for each crate, and the two counts of names."""
     titles = ["Crate", "Code", "Contracts", "Definitions", "Proofs", "Wide lines", "in proofs", "Longest clause line",
@@ -200,9 +213,12 @@ def figures():
     table = ["| " + " | ".join(titles) + " |", "| --- |" + " ---: |" * (len(titles) - 1)]
     for name, row in rows.items():
         table.append(f"| {name} | " + " | ".join(f"{x:.1f}" if isinstance(x, float) else str(x) for x in row) + " |")
-    sums = [str(sum(row[i] for row in rows.values())) for i in range(6)]
-    most = [max(row[i] for row in rows.values()) for i in (6, 8, 9)]
-    table.append("| in all | " + " | ".join(sums) + f" | {most[0]} | | {most[1]} | {most[2]} |")
+    program = below_programs()
+    parts = {"the program": [name for name in rows if name in program], "beside and above it": [name for name in rows if name not in program]}
+    for title, names in (parts | {"in all": list(rows)}).items():
+        sums = [str(sum(rows[name][i] for name in names)) for i in range(6)]
+        most = [max(rows[name][i] for name in names) for i in (6, 8, 9)]
+        table.append(f"| {title} | " + " | ".join(sums) + f" | {most[0]} | | {most[1]} | {most[2]} |")
     return "\n".join(table), f"{SEVERAL}{len(meanings())}", f"{SHARED}{len(types())}"
 
 

@@ -1,7 +1,8 @@
 #!/usr/bin/env python3
-"""Copies crates into other repositories by tools/vendor.sh, and builds a crate there that uses them. The case `proof`, which
-runs only if named, proves the link of examples/library too, whose ghost members only a proof reads. That takes minutes if no
-rt ci at work has proved the crates below it.
+"""Copies crates into other repositories by tools/vendor.sh, and builds a crate there that uses them: an example of
+examples/library with a contract of its own. The case `proof`, which runs only if named, proves it there. It also proves the
+link of examples/library, whose ghost members only a proof reads. That takes minutes if no rt ci at work has proved the
+crates below them.
 
     tests/vendor.py [CASE ..]
 """
@@ -19,8 +20,24 @@ from cases import named, run_cases, same, see
 
 TOP = Path(__file__).resolve().parent.parent
 PARTS = ("src", "specs", "proofs", "README.md")
-FOREIGN = "serial_patch"
+FOREIGN = "patch_serial_number"
 EXAMPLE = "a_link_of_ones_own"
+TEST = """#![tactic(auto)]
+#[cfg(test)]
+mod tests {
+    use avr_image::{Image, Pieces};
+    use patch_serial_number::put_serial_number;
+    use std::test::Fail;
+
+    #[test]
+    fn a_serial_number_is_put(rt: HostRuntime) -> Result<(), Fail> {
+        let mut image = Image::new(rt.alloc(), 8)?;
+        put_serial_number(&mut image, 2, b"SN")?;
+        assert_eq!(rt; image.get(3), Some(b'N'));
+        Ok(())
+    }
+}
+"""
 
 
 def line_of(name, top=TOP):
@@ -114,57 +131,52 @@ def refusals():
         same("another line", vendor("avr_image", top), (1, f"vendor.sh: error: {line.format(top)}\n"))
 
 
-@contextmanager
-def foreign():
-    """Makes a repository with a crate of its own that uses crates of this one."""
-    with repository() as top:
-        below = [it for it in line_of(FOREIGN).split(":")[1].split() if line_of(it)]
-        status, text = vendor(*below, top)
-        same("vendored", (status, text if status else ""), (0, ""))
-        left = shutil.ignore_patterns("out", "must-fail")
-        shutil.copytree(TOP / "crates" / FOREIGN, top / "crates" / FOREIGN, ignore=left)
-        with (top / "crates.txt").open("a") as lines:
-            lines.write(line_of(FOREIGN) + "\n")
-        shutil.copy(TOP / "HANDLES", top)
-        yield top
-
-
 def rt(words, folder):
     ran = subprocess.run(["rt", *words], cwd=folder, stdout=subprocess.PIPE, stderr=subprocess.STDOUT, text=True)
     return ran.returncode, ran.stdout
 
 
+def add_example(name, top):
+    """Adds an example as a library, without its `main`, which tests/rattle.py runs."""
+    source = (TOP / f"examples/library/{name}.rs").read_text()
+    needs = re.match("// crates: (.*)", source)[1]
+    status, text = vendor(*filter(line_of, needs.split()), top)
+    same("vendored", (status, text if status else ""), (0, ""))
+    crate = top / "crates" / name
+    (crate / "src").mkdir(parents=True)
+    (crate / "src/lib.rt").write_text(source.partition("\nfn main(")[0])
+    with (top / "crates.txt").open("a") as lines:
+        lines.write(f"{name}: {needs}\n")
+    same("the example's layout", rt(["fmt"], crate)[0], 0)
+
+
+@contextmanager
+def foreign(*examples):
+    """Makes a repository with these examples as crates of its own, beside the crates of this one that they use."""
+    with repository() as top:
+        shutil.copy(TOP / "HANDLES", top)
+        for name in examples:
+            add_example(name, top)
+        yield top
+
+
 def build():
-    with foreign() as top:
+    with foreign(FOREIGN) as top:
         tests = top / "crates/tests/src"
         tests.mkdir(parents=True)
-        (tests / "lib.rt").write_text("#![tactic(auto)]\n#[cfg(test)]\nmod tests;\n")
-        shutil.copy(TOP / "tests/rattle/serial_patches.rs", tests / "tests.rt")
+        (tests / "lib.rt").write_text(TEST)
         with (top / "crates.txt").open("a") as lines:
-            lines.write(f"tests: avr_part {FOREIGN}\n")
+            lines.write(f"tests: avr_image {FOREIGN}\n")
         status, text = rt(["try", "--test"], tests.parent)
         see("its tests pass", status == 0 and "1 passed" in text, text[-600:])
 
 
-def add_example(top):
-    """Adds the example as a library, without its `main`, which tests/rattle.py runs."""
-    source = (TOP / f"examples/library/{EXAMPLE}.rs").read_text()
-    needs = re.match("// crates: (.*)", source)[1]
-    vendor(*filter(line_of, needs.split()), top)
-    crate = top / "crates" / EXAMPLE
-    (crate / "src").mkdir(parents=True)
-    (crate / "src/lib.rt").write_text(source.partition("\nfn main(")[0])
-    with (top / "crates.txt").open("a") as lines:
-        lines.write(f"{EXAMPLE}: {needs}\n")
-    same("the example's layout", rt(["fmt"], crate)[0], 0)
-
-
 def proof():
-    with foreign() as top:
-        add_example(top)
+    with foreign(FOREIGN, EXAMPLE) as top:
         proved.lend(top)
-        status, text = rt(["check"], top / "crates" / EXAMPLE)
-        see("it is proved", status == 0 and "logic=proved" in text.splitlines()[-1], text[-600:])
+        for name in (FOREIGN, EXAMPLE):
+            status, text = rt(["check"], top / "crates" / name)
+            see(f"{name} is proved", status == 0 and "logic=proved" in text.splitlines()[-1], text[-600:])
 
 
 CASES = named(all_that_it_stands_on, the_network_is_named, what_is_there_stays, refusals, build)

@@ -1,7 +1,7 @@
 //! Chip files that are missing, complete or of the wrong length, and desks that fail.
 use avr_desk::{ChipDesk, Desk, FailingDesk, MemDesk};
-use avr_emulator::{hold_chip, load_chip, save_chip};
 use avr_part::{Chip, Mem, Part, PartFault, Parts};
+use avr_tool::{hold_chip, load_chip, save_chip};
 use std::alloc::{AllocError, Global};
 use std::test::Fail;
 

@@ -1,12 +1,7 @@
 //! Calls whose contracts are the headline: their conditions can be met.
-ghost use Rattle.std.specs.Prelude.{◌≡◌};
-ghost use Rattle.avr_desk.specs.Record.{nothing_kept};
 
 use crate::support::{Over, desk_with, fates, run_wired_on, settings_for};
-use avr_tool::{
-    Fate, Item, MemDesk, Settings, StreamLink, SystemDesk, TapeLink, run_in_memory, run_streams,
-    run_streams_in_memory,
-};
+use avr_tool::{Fate, Item, MemDesk, Settings, StreamLink, SystemDesk, TapeLink, run};
 use std::alloc::Global;
 use std::test::Fail;
 use crate::data::digits::{ANSWERS, LEAVE, OPENING};
@@ -31,7 +26,7 @@ fn play<'a>(
 ) -> u8 {
     let mut desk = SystemDesk::new(rt, output, messages);
     let mut link = StreamLink::new(answers, sent);
-    run_streams(rt.alloc(), settings, &mut desk, &mut link)
+    run(rt.alloc(), settings, &mut desk, &mut link)
 }
 
 /// Runs a session over these replies, with writers in memory.
@@ -116,7 +111,7 @@ fn run_over_tape(
     let mut desk = MemDesk::empty(alloc);
     desk.put("low", &[low])?;
     let mut link = TapeLink::new(alloc, items, 281);
-    let status = run_in_memory(alloc, &settings, &mut desk, &mut link);
+    let status = run(alloc, &settings, &mut desk, &mut link);
     Ok(Over { desk, link, status })
 }
 
@@ -127,11 +122,9 @@ fn status_over_streams(
     desk: &mut MemDesk,
     answers: &[u8],
     sent: &mut Vec<u8>,
-) -> u8
-    requires { desk.old.kept ≡ nothing_kept }
-{
+) -> u8 {
     let mut streams = StreamLink::new(answers, sent);
-    run_streams_in_memory(alloc, settings, desk, &mut streams)
+    run(alloc, settings, desk, &mut streams)
 }
 
 /// Does the same as [`run_over_tape`], over a reader of these replies and a writer in memory.

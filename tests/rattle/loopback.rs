@@ -3,10 +3,8 @@ ghost use Rattle.stk_host.specs.Links.{stream_state};
 
 use avr_cli::{Settings, read_settings, read_words};
 use avr_desk::MemDesk;
-use avr_emulator::answer_all;
 use avr_part::{Chip, Mem, Parts};
-use avr_session::run;
-use avr_tool::{accept, listen};
+use avr_tool::{accept, answer_all, listen, run};
 use std::alloc::Global;
 use std::net::{OpenListener, TcpStream};
 use std::test::Fail;

@@ -165,7 +165,7 @@ fn a_caller_is_answered_and_the_chip_is_saved(rt: HostRuntime) -> Result<(), Fai
     caller.shutdown(Shutdown::Write)?;
     let settings = settings_to_serve(alloc, "m328p", "5000")?;
     let mut desk = MemDesk::empty(alloc);
-    let status = serve_on(alloc, &settings, listener, &mut desk);
+    let status = serve_on(&rt, alloc, &settings, listener, &mut desk);
     assert_eq!(rt; status, 0);
     assert!(rt; desk.messages().is_empty());
     assert_eq!(rt; desk.file("chip.bin").map(|file| file.len()), Some(33_796));

@@ -2,7 +2,7 @@
 //! version 2), written out by hand.
 use avr_cli::{Settings, read_settings, read_words};
 use avr_desk::{Desk, FailingDesk, MemDesk};
-use avr_session::run;
+use avr_tool::run;
 use std::alloc::Global;
 use std::ops::Range;
 use std::process::Abort;

@@ -1,6 +1,6 @@
 //! Frames in pieces, timeouts, and a link of which each call fails in turn.
-use avr_emulator::{Served, answer_all};
 use avr_part::{Chip, PartFault, Parts};
+use avr_tool::{Served, answer_all};
 use std::alloc::{AllocError, Global};
 use std::test::Fail;
 use stk_emu::Emulator;

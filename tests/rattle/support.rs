@@ -3,8 +3,7 @@
 use avr_cli::{Settings, read_settings, read_words};
 use avr_desk::{Desk, MemDesk};
 use avr_part::{Chip, Mem, Parts};
-use avr_session::run;
-use avr_tool::run_wired;
+use avr_tool::{run, run_wired};
 use std::alloc::{AllocError, Global};
 use std::process::Abort;
 use std::test::Fail;

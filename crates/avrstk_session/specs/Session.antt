@@ -5,17 +5,15 @@ use Rattle.clap.specs.declared.error.Error.{Error}
 use Rattle.clap.specs.declared.error.kind.ErrorKind.{ErrorKind}
 use Rattle.clap.specs.declared.error.kind.ErrorKind.TheVariants.{DisplayHelp, OutOfMemory}
 use Rattle.avr_cli.specs.Command.{avrstk, asked_by}
-use Rattle.avr_cli.specs.Settings.{GivesOrMemory, TellsAnyway}
 use Rattle.avr_cli.specs.declared.settings.Port.{Port}
 use Rattle.avr_cli.specs.declared.settings.Port.TheVariants.{Emulated, Stdio}
 use Rattle.avr_cli.specs.declared.settings.Settings.{Settings}
-use Rattle.avr_cli.specs.declared.settings.SettingsFault.{SettingsFault}
 use Rattle.avr_desk.specs.Lines.{error, memory_pieces}
 use Rattle.avr_desk.specs.Record.{Bytes, DeskState}
 use Rattle.avr_desk.specs.Said.{Tells}
+use Rattle.avr_tool.specs.Asked.{IsRefused}
 use Rattle.avr_tool.specs.ServedRun.{JudgesPart, RunsServed}
 use Rattle.avr_part.specs.Part.{Part}
-use Rattle.avr_session.specs.Refusal.{refusal_line}
 use Rattle.avr_session.specs.Runs.{Devices}
 use Rattle.avrstk_session.specs.Outline.{Outlines}
 
@@ -34,19 +32,6 @@ pub record IsUntaken (words : List Bytes) (old new : DeskState) (status : ℕ) :
   pub kind : HasKind (fault_of avrstk words) error
   pub memory : takes avrstk words ≡ true → kind_of error ≡ OutOfMemory
   pub told : TellsUsage (kind_of error) old new status
-
--- The settings have a fault, or allocation failed, and this was reported.
-pub record IsRefused (words : List Bytes) (old new : DeskState) (status : ℕ) : Type 0 where
-  pub fault : SettingsFault
-  pub is : GivesOrMemory (asked_by words) (Err fault)
-  pub anyway : TellsAnyway (asked_by words) (Err fault)
-  pub told : Tells old new (refusal_line fault)
-  pub status_is : status ≡ 1
-
--- The settings are those of a command line that the command takes; or there are none.
-abbrev pub Asks : List Bytes → DeskState → DeskState → Result Settings ℕ → Type 0
-Asks words old new (Ok settings) = (Ok settings ≡ asked_by words) × (fault_of avrstk words ≡ []) × (new ≡ old)
-Asks words old new (Err status) = IsRefused words old new status ⊎ IsUntaken words old new status
 
 abbrev pub status_of : Result Part ℕ → ℕ
 status_of (Ok part) = 0
@@ -82,7 +67,7 @@ pub record TakesWords (words : List Bytes) (old new : Devices) (status : ℕ) : 
 abbrev pub ServesWords : List Bytes → Devices → Devices → ℕ → Type 0
 ServesWords words old new status =
     TakesWords words old new status
-    ⊎ (Asks words old.desk new.desk (Err status) × (new.link ≡ old.link))
+    ⊎ ((IsRefused words old.desk new.desk status ⊎ IsUntaken words old.desk new.desk status) × (new.link ≡ old.link))
 
 -- From the start of a process: its command line, which no clause knows, was read and served. Or it could not be read.
 abbrev pub StartsSession : Devices → Devices → ℕ → Type 0

@@ -9,16 +9,17 @@ ghost use Rattle.std.specs.Prelude.{◌≡◌, map, string_bytes};
 ghost use Rattle.clap.specs.Words.{kind_of};
 ghost use Rattle.avr_session.specs.Runs.{devices};
 ghost use Rattle.avrstk_session.specs.Outline.{Outlines, PrintsOutline, outline_text};
-ghost use Rattle.avrstk_session.specs.Session.{Asks, JudgesOnly, ServesPort, ServesWords, StartsSession, TellsUsage, usage_pieces};
+ghost use Rattle.avr_tool.specs.Ports.{HasChip, chip_file_of};
+ghost use Rattle.avrstk_session.specs.Session.{JudgesOnly, ServesPort, ServesWords, StartsSession, TellsUsage, usage_pieces};
 
 mod outline;
 
-use avr_cli::{Port, Settings, read_settings, read_words};
+use avr_cli::{Port, Settings};
 use avr_desk::{
     ChipDesk, Desk, FileSystem, Message, Stream, SystemDesk, memory_message, refuse, write_all,
 };
-use avr_emulator::{judge_part, serve};
 use avr_plan::{Plan, plan};
+use avr_tool::{NotAsked, asked, judge_part, serve};
 use clap::Error;
 use clap::error::ErrorKind;
 use ghosts::{Inlet, Outlet};
@@ -41,11 +42,12 @@ fn take_closed_streams(rt: &HostRuntime) -> [io::Result<File>; 3] {
     [fs::open(rt, "/"), fs::open(rt, "/"), fs::open(rt, "/")]
 }
 
-/// Checks that the part and this chip file can be served, and returns the status.
-fn judge<D: ChipDesk>(alloc: Global, settings: &Settings, file: &str, desk: &mut D) -> u8
-    ensures { JudgesOnly settings.now file.now (D.view desk.old) (D.view desk.new) result }
+/// Checks that the part and the chip file of these settings can be served, and returns the status.
+fn judge<D: ChipDesk>(alloc: Global, settings: &Settings, desk: &mut D) -> u8
+    requires { HasChip settings.now.port }
+    ensures { JudgesOnly settings.now (chip_file_of settings.now.port) (D.view desk.old) (D.view desk.new) result }
 {
-    match judge_part(alloc, settings, file, desk) {
+    match judge_part(alloc, settings, desk) {
         Ok(_) => 0,
         Err(status) => status,
     }
@@ -95,11 +97,11 @@ fn serve_port<D: ChipDesk, L: Link>(
         (devices (L.view link.new) (D.view desk.new)) result }
 {
     match &settings.port {
-        Port::Emulated(file) => {
+        Port::Emulated(_) => {
             if settings.switches.dry {
-                judge(alloc, settings, file.as_str(), desk)
+                judge(alloc, settings, desk)
             } else {
-                serve(alloc, settings, file.as_str(), desk, link)
+                serve(alloc, settings, desk, link)
             }
         }
         Port::Stdio => outline_session(alloc, settings, desk),
@@ -121,20 +123,6 @@ fn tell_usage<D: Desk>(desk: &mut D, error: &Error) -> u8
     }
 }
 
-/// Reads settings from a command line, or reports why it asks for none and returns the status.
-fn asked<D: Desk>(alloc: Global, words: &[String], desk: &mut D) -> Result<Settings, u8>
-    ensures { Asks (map string_bytes words.now) (D.view desk.old) (D.view desk.new) result }
-{
-    let matches = match read_words(alloc, words) {
-        Ok(matches) => matches,
-        Err(error) => return Err(tell_usage(desk, &error)),
-    };
-    match read_settings(alloc, &matches) {
-        Ok(settings) => Ok(settings),
-        Err(fault) => Err(avr_session::refuse(&fault, desk)),
-    }
-}
-
 /// Serves what a command line asks for. Its first element is the program's name.
 fn serve_words<D: ChipDesk, L: Link>(
     alloc: Global,
@@ -147,7 +135,8 @@ fn serve_words<D: ChipDesk, L: Link>(
 {
     match asked(alloc, words, desk) {
         Ok(settings) => serve_port(alloc, &settings, desk, link),
-        Err(status) => status,
+        Err(NotAsked::Refused(status)) => status,
+        Err(NotAsked::Words(error)) => tell_usage(desk, &error),
     }
 }
 

@@ -6,7 +6,7 @@ ghost use Rattle.avr_desk.specs.Truth.{HoldsTrue};
 
 use avr_cli::Settings;
 use avr_desk::{Bytes, Desk, DeskFault, FailingDesk, MemDesk, SystemDesk};
-use avr_session::run;
+use avr_tool::run;
 use std::test::Fail;
 use stk_host::TapeLink;
 

@@ -79,7 +79,7 @@ fn ports(rt: HostRuntime) -> Result<(), Fail> {
     let nobody = served(alloc, "nobody")?;
     let status: u8 = serve_net(&rt, alloc, &nobody, &mut desk);
     assert!(rt; status == 1);
-    let status: u8 = serve_on(alloc, &nobody, listen(&rt, 0)?, &mut desk);
+    let status: u8 = serve_on(&rt, alloc, &nobody, listen(&rt, 0)?, &mut desk);
     assert!(rt; status == 1);
     let mut distant = Settings::for_link(alloc, "nobody")?;
     distant.port = Port::Network(Text::new(alloc, "localhost:5000")?);
