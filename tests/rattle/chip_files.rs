@@ -43,7 +43,7 @@ fn is_given_back(
         return Ok(false);
     };
     let is_first = chip.byte(Mem::Eeprom, 0) == Some(first);
-    let is_saved = save_chip(alloc, &chip, file, desk) == Ok(());
+    let is_saved = save_chip(&chip, file, desk) == Ok(());
     Ok(is_first && is_saved && desk.file(file) == Some(bytes))
 }
 
@@ -112,7 +112,7 @@ fn saves<D: ChipDesk>(alloc: Global, held: &Result<Chip, u8>, desk: &mut D) -> b
 fn fails_to_save(alloc: Global, n: u64, line: &str) -> Result<bool, Fail> {
     let chip = Chip::fresh(alloc, m328p()?)?;
     let mut desk = FailingDesk::new(desk_with(alloc, b"")?, n);
-    let saved = save_chip(alloc, &chip, "chip.bin", &mut desk);
+    let saved = save_chip(&chip, "chip.bin", &mut desk);
     Ok(saved == Err(1) && desk.inner().messages() == line.as_bytes())
 }
 

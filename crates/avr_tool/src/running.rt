@@ -19,7 +19,7 @@ use avr_plan::plan;
 use avr_session::run as run_over;
 use std::alloc::Global;
 use std::io::{Read, Write};
-use stk_emu::Wired;
+use stk_emu::{Recorder, Wired};
 use stk_host::{Link, StreamLink, TapeLink};
 
 /// Makes the plan of a run, runs its session over a link, and reports it at the desk. Returns the status: 0 if there
@@ -150,7 +150,12 @@ pub fn run_streams_in_memory<R: Read + Drop, W: Write + Drop>(
 /// assert_eq!(rt; run_wired(alloc, &settings, &mut desk, &mut wire), 0);
 /// assert_eq!(rt; wire.failures(), 0);
 /// ```
-pub fn run_wired<D: Desk>(alloc: Global, settings: &Settings, desk: &mut D, wire: &mut Wired) -> u8
+pub fn run_wired<D: Desk, R: Recorder>(
+    alloc: Global,
+    settings: &Settings,
+    desk: &mut D,
+    wire: &mut Wired<R>,
+) -> u8
     requires fresh { IsFresh wire.old }
     ensures runs { RunsWired settings.now wire.old wire.new (D.view desk.old) (D.view desk.new) result }
     ensures stays { Stays D.comes_of desk.old desk.new }
