@@ -101,9 +101,9 @@ fn fails_to_hold(alloc: Global, n: u64, line: &str) -> Result<bool, Fail> {
 }
 
 /// Returns whether this chip can be saved.
-fn saves<D: ChipDesk>(alloc: Global, held: &Result<Chip, u8>, desk: &mut D) -> bool {
+fn saves<D: ChipDesk>(held: &Result<Chip, u8>, desk: &mut D) -> bool {
     match held {
-        Ok(chip) => save_chip(alloc, chip, "chip.bin", desk) == Ok(()),
+        Ok(chip) => save_chip(chip, "chip.bin", desk) == Ok(()),
         Err(_) => false,
     }
 }
@@ -141,7 +141,7 @@ fn a_chip_is_held_until_it_is_saved(rt: HostRuntime) -> Result<(), Fail> {
     let held = hold(alloc, &mut desk)?;
     assert!(rt; matches!(hold(alloc, &mut desk)?, Err(1)));
     assert!(rt; desk.messages() == b"avrstk: error: chip.bin: in use by another run\n".as_slice());
-    assert!(rt; saves(alloc, &held, &mut desk));
+    assert!(rt; saves(&held, &mut desk));
     assert!(rt; hold(alloc, &mut desk)?.is_ok());
     Ok(())
 }

@@ -43,6 +43,7 @@ pub fn drive_wired<D: Desk, R: Recorder>(
         → OverAnyLine plan.now wire.old wire.new (D.view desk.old) (D.view desk.new) result }
     ensures stays { Stays D.comes_of desk.old desk.new }
 {
+    // two laws that the proof cites
     plan.is_sound();
     wire.chip().is_sound();
     drive(alloc, plan, desk, wire)
@@ -93,6 +94,7 @@ pub fn run_emu<D: ChipDesk>(alloc: Global, settings: &Settings, file: &str, desk
         Ok(chip) => chip,
         Err(status) => return status,
     };
+    // two laws that the proof cites
     plan.is_sound();
     chip.is_sound();
     let mut wire = Wired::unlogged(alloc, chip, Fates::none(alloc));
