@@ -75,7 +75,7 @@ fn main(rt: HostRuntime) -> Result<()> {
         passed: Log::new(alloc),
         failures: 0,
     };
-    let mut host = Host::new(&part);
+    let mut host = Host::new(part);
     let [first, second, third] = host.open(&mut bench, false)?;
     println!(rt; "signature: {first:02X} {second:02X} {third:02X}")?;
     host.erase(&mut bench)?;

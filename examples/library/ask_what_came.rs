@@ -34,7 +34,7 @@ fn main(rt: HostRuntime) -> Result<()> {
     let outcome = drive_outcome(alloc, &plan, &mut desk, &mut wire);
     match outcome {
         Outcome::Done => println!(rt; "the chip has the file's bytes")?,
-        Outcome::Faulty(HostFault::Differs { mem, addr, want, found }) => {
+        Outcome::Faulty(HostFault::Differs(mem, addr, want, found)) => {
             println!(rt; "{} differs at byte {addr}: {want:02X} wanted, {found:02X} found", mem.name())?;
         }
         Outcome::Faulty(fault) => println!(rt; "{fault}")?,

@@ -44,7 +44,7 @@ fn main(rt: HostRuntime) -> Result<()> {
     let mut image = Image::new(alloc, part.size_of(Mem::Flash))?;
     image.put_slice(0, &[0x0E, 0xC0])?;
     let mut link = StreamLink::new(ANSWERS, Vec::new(alloc));
-    let mut host = Host::new(&part);
+    let mut host = Host::new(part);
     let [first, second, third] = host.open(&mut link, false)?;
     println!(rt; "signature: {first:02X} {second:02X} {third:02X}")?;
     host.erase(&mut link)?;

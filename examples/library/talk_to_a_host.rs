@@ -24,7 +24,7 @@ fn main(rt: HostRuntime) -> Result<()> {
     let mut fates = Fates::none(alloc);
     fates.push(Fate::LostAnswer)?;
     let mut wire = Wired::with_fates(alloc, chip, fates);
-    let mut host = Host::new(&part);
+    let mut host = Host::new(part.copied());
     let [first, second, third] = host.open(&mut wire, false)?;
     println!(rt; "signature: {first:02X} {second:02X} {third:02X}")?;
     // SIGN_ON has 7 bytes; its body is byte 5, after the start byte, the number, two bytes of length and the token
@@ -38,7 +38,7 @@ fn main(rt: HostRuntime) -> Result<()> {
     println!(rt; "verified")?;
     image.put(2, 0x35)?;
     match host.verify(alloc, &mut wire, Mem::Flash, &image) {
-        Err(HostFault::Differs { mem, addr, want, found }) => {
+        Err(HostFault::Differs(mem, addr, want, found)) => {
             println!(rt; "{} at {addr}: wanted {want:02X}, found {found:02X}", mem.name())?
         }
         Err(fault) => bail!("{fault}"),

@@ -43,7 +43,7 @@ fn is_given_back(
         return Ok(false);
     };
     let is_first = chip.byte(Mem::Eeprom, 0) == Some(first);
-    let is_saved = save_chip(alloc, &chip, file, desk) == Ok(());
+    let is_saved = save_chip(&chip, file, desk) == Ok(());
     Ok(is_first && is_saved && desk.file(file) == Some(bytes))
 }
 
@@ -101,9 +101,9 @@ fn fails_to_hold(alloc: Global, n: u64, line: &str) -> Result<bool, Fail> {
 }
 
 /// Returns whether this chip can be saved.
-fn saves<D: ChipDesk>(alloc: Global, held: &Result<Chip, u8>, desk: &mut D) -> bool {
+fn saves<D: ChipDesk>(held: &Result<Chip, u8>, desk: &mut D) -> bool {
     match held {
-        Ok(chip) => save_chip(alloc, chip, "chip.bin", desk) == Ok(()),
+        Ok(chip) => save_chip(chip, "chip.bin", desk) == Ok(()),
         Err(_) => false,
     }
 }
@@ -112,7 +112,7 @@ fn saves<D: ChipDesk>(alloc: Global, held: &Result<Chip, u8>, desk: &mut D) -> b
 fn fails_to_save(alloc: Global, n: u64, line: &str) -> Result<bool, Fail> {
     let chip = Chip::fresh(alloc, m328p()?)?;
     let mut desk = FailingDesk::new(desk_with(alloc, b"")?, n);
-    let saved = save_chip(alloc, &chip, "chip.bin", &mut desk);
+    let saved = save_chip(&chip, "chip.bin", &mut desk);
     Ok(saved == Err(1) && desk.inner().messages() == line.as_bytes())
 }
 
@@ -141,7 +141,7 @@ fn a_chip_is_held_until_it_is_saved(rt: HostRuntime) -> Result<(), Fail> {
     let held = hold(alloc, &mut desk)?;
     assert!(rt; matches!(hold(alloc, &mut desk)?, Err(1)));
     assert!(rt; desk.messages() == b"avrstk: error: chip.bin: in use by another run\n".as_slice());
-    assert!(rt; saves(alloc, &held, &mut desk));
+    assert!(rt; saves(&held, &mut desk));
     assert!(rt; hold(alloc, &mut desk)?.is_ok());
     Ok(())
 }

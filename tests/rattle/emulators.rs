@@ -77,20 +77,22 @@ fn a_session_is_answered_alike_in_pieces_of_any_size(rt: HostRuntime) -> Result<
     Ok(())
 }
 
+/// The command 05 is unknown. The last byte of the second frame is spoiled.
 #[test]
 fn unknown_and_spoiled_frames_are_told_apart(rt: HostRuntime) -> Result<(), Fail> {
-    let mut emulator = emulator(rt.alloc(), "m328p")?;
-    let mut out = ArrayVec::new();
-    emulator.feed(&[0x1B, 0x09, 0x00, 0x01, 0x0E, 0x05, 0x18], &mut out);
-    assert_eq!(rt;
-        out.as_slice(),
-        [0x1B, 0x09, 0x00, 0x02, 0x0E, 0x05, 0xC9, 0xD2].as_slice()
-    );
-    emulator.feed(&[0x1B, 0x09, 0x00, 0x01, 0x0E, 0x05, 0x19], &mut out);
-    assert_eq!(rt;
-        out.as_slice(),
-        [0x1B, 0x09, 0x00, 0x02, 0x0E, 0xB0, 0xC1, 0x6F].as_slice()
-    );
+    let rows = [
+        ("1B0900010E0518", "1B0900020E05C9D2"),
+        ("1B0900010E0519", "1B0900020EB0C16F"),
+    ];
+    let alloc = rt.alloc();
+    for size in [1, 2, 3, 5, 280, 281] {
+        let mut emulator = emulator(alloc, "m328p")?;
+        for (frame, reply) in rows {
+            let frame = hex::decode(alloc, frame)?;
+            let all = answers(alloc, &mut emulator, frame.as_slice(), size)?;
+            assert_eq!(rt; all.as_slice(), hex::decode(alloc, reply)?.as_slice(), "in pieces of {size}");
+        }
+    }
     Ok(())
 }
 
@@ -241,7 +243,7 @@ fn m328p(alloc: Global) -> Result<Chip, avr_part::PartFault> {
 fn a_refused_command_is_sent_again(rt: HostRuntime) -> Result<(), Fail> {
     let fates = fates(rt.alloc(), 0, 0, Fate::CommandRefused)?;
     let mut link = Wired::with_fates(rt.alloc(), m328p(rt.alloc())?, fates);
-    let mut host = Host::new(&Parts::none().find("m328p")?);
+    let mut host = Host::new(Parts::none().find("m328p")?);
     assert_eq!(rt; host.open(&mut link, false), Ok([0x1E, 0x95, 0x0F]));
     assert_eq!(rt; host.close(&mut link), Ok(()));
     assert_eq!(rt; link.sent().len(), 77);
@@ -254,7 +256,7 @@ fn a_refused_command_is_sent_again(rt: HostRuntime) -> Result<(), Fail> {
 fn nothing_is_obeyed_where_all_is_lost(rt: HostRuntime) -> Result<(), Fail> {
     let fates = fates(rt.alloc(), 0, 3, Fate::LostCommand)?;
     let mut link = Wired::with_fates(rt.alloc(), m328p(rt.alloc())?, fates);
-    let mut host = Host::new(&Parts::none().find("m328p")?);
+    let mut host = Host::new(Parts::none().find("m328p")?);
     assert_eq!(rt; host.open(&mut link, false), Err(HostFault::NoAnswer));
     assert_eq!(rt; host.close(&mut link), Ok(()));
     let leave = [0x1B, 0x05, 0x00, 0x03, 0x0E, 0x11, 0x01, 0x01, 0x02];
@@ -267,10 +269,10 @@ fn nothing_is_obeyed_where_all_is_lost(rt: HostRuntime) -> Result<(), Fail> {
 fn a_programmer_that_begins_anew_is_outside_the_mode(rt: HostRuntime) -> Result<(), Fail> {
     let fates = fates(rt.alloc(), 2, 0, Fate::Reset)?;
     let mut link = Wired::with_fates(rt.alloc(), m328p(rt.alloc())?, fates);
-    let mut host = Host::new(&Parts::none().find("m328p")?);
+    let mut host = Host::new(Parts::none().find("m328p")?);
     assert_eq!(rt;
         host.open(&mut link, false),
-        Err(HostFault::Refused { command: 0x1B, status: 0xC0 })
+        Err(HostFault::Refused(0x1B, 0xC0))
     );
     assert_eq!(rt; host.close(&mut link), Ok(()));
     Ok(())
@@ -291,7 +293,7 @@ fn gets_through(alloc: Global, place: usize, kind: usize) -> Result<bool, Fail> 
         }
     };
     let mut link = Wired::with_fates(alloc, m328p(alloc)?, fates(alloc, place, 0, fate)?);
-    let mut host = Host::new(&Parts::none().find("m328p")?);
+    let mut host = Host::new(Parts::none().find("m328p")?);
     let opened = host.open(&mut link, false) == Ok([0x1E, 0x95, 0x0F]);
     let closed = host.close(&mut link) == Ok(());
     Ok(opened && closed && link.chip().byte(Mem::Flash, 0) == Some(0xFF))

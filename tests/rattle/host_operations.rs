@@ -63,7 +63,7 @@ fn erases_and_writes_runs_of_eeprom(rt: HostRuntime) -> Result<(), Fail> {
         &[0x15, 0x00],
     ];
     let mut link = answering(rt.alloc(), bodies)?;
-    let mut host = Host::new(&part);
+    let mut host = Host::new(part);
     assert!(rt; host.erase(&mut link) == Ok(()));
     assert!(rt; host.write(&mut link, Mem::Eeprom, &image) == Ok(()));
     assert_eq!(rt; link.sent(), RUNS.as_slice());
@@ -76,9 +76,9 @@ fn reads_a_fuse_and_finds_it_different(rt: HostRuntime) -> Result<(), Fail> {
     let image = image(rt.alloc(), &part, Mem::Lfuse, 0xE2)?;
     let bodies: &[&[u8]] = &[&[0x18, 0x00, 0x62, 0x00], &[0x18, 0x00, 0x62, 0x00]];
     let mut link = answering(rt.alloc(), bodies)?;
-    let mut host = Host::new(&part);
+    let mut host = Host::new(part);
     let mut bytes = Vec::new(rt.alloc());
-    let differs = HostFault::Differs { mem: Mem::Lfuse, addr: 0, want: 0xE2, found: 0x62 };
+    let differs = HostFault::Differs(Mem::Lfuse, 0, 0xE2, 0x62);
     assert!(rt; host.verify(rt.alloc(), &mut link, Mem::Lfuse, &image) == Err(differs));
     assert!(rt; host.read(&mut link, Mem::Lfuse, &mut bytes) == Ok(()));
     assert_eq!(rt; bytes.as_slice(), [0x62].as_slice());
@@ -105,13 +105,13 @@ fn a_fuse_is_verified_by_a_new_host(rt: HostRuntime) -> Result<(), Fail> {
     let rows = [
         (
             "1B0100040E180062006A",
-            HostFault::Differs { mem: Mem::Lfuse, addr: 0, want: 0xE2, found: 0x62 },
+            HostFault::Differs(Mem::Lfuse, 0, 0xE2, 0x62),
         ),
-        ("1B0100040E1880000088", HostFault::Refused { command: 0x18, status: 0x80 }),
+        ("1B0100040E1880000088", HostFault::Refused(0x18, 0x80)),
     ];
     for (reply, fault) in rows {
         let mut link = giving(alloc, reply)?;
-        let verified = Host::new(&part).verify(alloc, &mut link, Mem::Lfuse, &image);
+        let verified = Host::new(part.copied()).verify(alloc, &mut link, Mem::Lfuse, &image);
         assert!(rt; verified == Err(fault));
         assert_eq!(rt; link.sent(), b"\x1B\x01\x00\x06\x0E\x18\x04\x50\x00\x00\x00\x5E".as_slice());
     }
@@ -123,7 +123,7 @@ fn the_signature_is_read_only(rt: HostRuntime) -> Result<(), Fail> {
     let alloc = rt.alloc();
     let part = part()?;
     let mut link = giving(alloc, "")?;
-    let written = Host::new(&part).write(&mut link, Mem::Signature, &Image::new(alloc, 3)?);
+    let written = Host::new(part).write(&mut link, Mem::Signature, &Image::new(alloc, 3)?);
     assert!(rt; written == Err(HostFault::ReadOnly(Mem::Signature)));
     assert!(rt; link.sent().is_empty());
     Ok(())
@@ -158,7 +158,7 @@ fn an_eeprom_is_read_in_eight_frames(rt: HostRuntime) -> Result<(), Fail> {
     }
     let mut link = TapeLink::new(alloc, items, 281);
     let mut bytes = Vec::new(alloc);
-    assert!(rt; Host::new(&part()?).read(&mut link, Mem::Eeprom, &mut bytes) == Ok(()));
+    assert!(rt; Host::new(part()?).read(&mut link, Mem::Eeprom, &mut bytes) == Ok(()));
     assert_eq!(rt; bytes.as_slice(), [0xFFu8; 1024].as_slice());
     assert!(rt; link.sent() == wanted.as_slice());
     Ok(())
@@ -167,7 +167,7 @@ fn an_eeprom_is_read_in_eight_frames(rt: HostRuntime) -> Result<(), Fail> {
 #[test]
 fn after_the_end_no_call_sends_anything(rt: HostRuntime) -> Result<(), Fail> {
     let alloc = rt.alloc();
-    let mut host = Host::new(&part()?);
+    let mut host = Host::new(part()?);
     let mut link = giving(alloc, "")?;
     let ended = Err(HostFault::LinkEnded);
     assert!(rt; host.erase(&mut link) == ended);
@@ -194,7 +194,7 @@ fn two_pages_are_written(rt: HostRuntime) -> Result<(), Fail> {
     image.put(0x82, 0x22)?;
     let replies = "1B0100020E0600101B0200020E1300061B0300020E0600121B0400020E130000";
     let mut link = giving(alloc, replies)?;
-    assert!(rt; Host::new(&part).write(&mut link, Mem::Flash, &image) == Ok(()));
+    assert!(rt; Host::new(part).write(&mut link, Mem::Flash, &image) == Ok(()));
     let mut wanted = Vec::new(alloc);
     let mut frame = ArrayVec::new();
     for (seq, address, place, byte) in [(1u8, 0u8, 0usize, 0x11u8), (3, 0x40, 2, 0x22)] {

@@ -12,7 +12,7 @@ const SIGNATURE: [u8; 3] = [0x1E, 0x95, 0x0F];
 
 fn host() -> Result<Host, PartFault> {
     let part = Parts::none().find("m328p")?;
-    Ok(Host::new(&part))
+    Ok(Host::new(part))
 }
 
 /// Returns a link that gives these bytes, then ends.
@@ -159,7 +159,7 @@ fn enter_is_refused(rt: HostRuntime) -> Result<(), Fail> {
         rt.alloc(),
         &answers,
         false,
-        Err(HostFault::Refused { command: 0x10, status: 0xC1 }),
+        Err(HostFault::Refused(0x10, 0xC1)),
         &sent,
     )?;
     Ok(())
@@ -177,7 +177,7 @@ fn enter_fails_at_once(rt: HostRuntime) -> Result<(), Fail> {
         rt.alloc(),
         &refused,
         false,
-        Err(HostFault::Refused { command: 0x10, status: 0xC0 }),
+        Err(HostFault::Refused(0x10, 0xC0)),
         &sent,
     )?;
     // the reply to another command
@@ -287,13 +287,13 @@ fn silences_ends_and_faults_of_devices(rt: HostRuntime) {
 
 #[test]
 fn a_refusal_has_names(rt: HostRuntime) {
-    let refused = HostFault::Refused { command: 0x12, status: 0x81 };
+    let refused = HostFault::Refused(0x12, 0x81);
     assert_eq!(rt; refused.command_name(), Some("CMD_CHIP_ERASE_ISP"));
     assert_eq!(rt; refused.status_name(), Some("STATUS_RDY_BSY_TOUT"));
     assert_eq!(rt;
         HostFault::BadAnswer(0x1D).command_name(),
         Some("CMD_SPI_MULTI")
     );
-    assert_eq!(rt; HostFault::Refused { command: 0x04, status: 0x01 }.command_name(), None);
-    assert_eq!(rt; HostFault::Refused { command: 0x04, status: 0x01 }.status_name(), None);
+    assert_eq!(rt; HostFault::Refused(0x04, 0x01).command_name(), None);
+    assert_eq!(rt; HostFault::Refused(0x04, 0x01).status_name(), None);
 }

@@ -323,7 +323,7 @@ fn written_chip(rt: &impl Abort, alloc: Global) -> Result<Vec<u8>, PartFault> {
         ([0xAC, 0xE0, 0, 0xFC], [0, 0xAC, 0xE0, 0]),
     ];
     obeys(rt, &mut chip, &rows);
-    chip.to_bytes(alloc)
+    chip.to_bytes()
 }
 
 /// Reads an ATmega328P from this chip file.

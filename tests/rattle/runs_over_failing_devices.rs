@@ -51,14 +51,14 @@ const SESSION: SoundRun = SoundRun {
     told: &[],
 };
 
-/// Writes an empty file to flash: five frames open the session, then come the erase, 64 frames of verifying, and LEAVE.
+/// Writes an empty file to flash: five frames open the session, then come the erase, 256 frames of verifying, and LEAVE.
 const EMPTY_FLASH: SoundRun = SoundRun {
-    part: "t85",
+    part: "m328p",
     row: Row {
-        words: &["-p", "t85", "-U", "flash:w:e.bin:r"],
+        words: &["-p", "m328p", "-U", "flash:w:e.bin:r"],
         output: "",
         messages: &[
-            "device signature = 1E 93 0B",
+            "device signature = 1E 95 0F",
             "chip erased",
             "flash: 0 bytes written",
             "flash: 0 bytes verified",
@@ -68,7 +68,7 @@ const EMPTY_FLASH: SoundRun = SoundRun {
     },
     size: 0,
     is_late: false,
-    link_calls: 2 * 71,
+    link_calls: 2 * 263,
     desk_calls: 2 + 5,
     told: &[
         (1, &["error: e.bin: cannot be opened"]),

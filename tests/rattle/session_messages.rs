@@ -120,7 +120,7 @@ fn failed_calls_show_as_their_lines(rt: HostRuntime) -> Result<(), Fail> {
 fn faults_of_answers_show_as_their_lines(rt: HostRuntime) -> Result<(), Fail> {
     let alloc = rt.alloc();
     let refused = answers_then(alloc, 17, &[0x1B, 0x02, 0x00, 0x02, 0x0E, 0x10, 0xC0, 0xC5])?;
-    let fault = HostFault::Refused { command: 0x10, status: 0xC0 };
+    let fault = HostFault::Refused(0x10, 0xC0);
     assert!(rt; ends_with(alloc, READ, refused, fault)?);
     let other = answers_then(alloc, 17, &[0x1B, 0x02, 0x00, 0x02, 0x0E, 0x11, 0x00, 0x04])?;
     assert!(rt; ends_with(alloc, READ, other, HostFault::BadAnswer(0x10))?);
@@ -132,7 +132,7 @@ fn another_byte_shows_as_its_line(rt: HostRuntime) -> Result<(), Fail> {
     let alloc = rt.alloc();
     let fuse = [0x1B, 0x06, 0x00, 0x04, 0x0E, 0x18, 0x00, 0x62, 0x00, 0x6D];
     let items = answers_then(alloc, 55, &fuse)?;
-    let fault = HostFault::Differs { mem: Mem::Lfuse, addr: 0, want: 0xE2, found: 0x62 };
+    let fault = HostFault::Differs(Mem::Lfuse, 0, 0xE2, 0x62);
     assert!(rt; ends_with(alloc, "lfuse:v:0xE2:m", items, fault)?);
     Ok(())
 }

@@ -161,11 +161,16 @@ impl Image {
     /// ```
     pub fn as_slice(&self) -> &[u8]
         ensures filled { result.now ≡ filled_bytes self.now 0 (length self.now) }
-
-        // States what the list alone doesn't show: its values are bytes, and fewer than 2 to the power 32.
-        ensures image { IsImage self.now }
     {
         self.bytes.as_slice()
+    }
+
+    /// States what the list alone doesn't show: its values are bytes, and fewer than 2 to the power 32. It is a law, and
+    /// no code.
+    pub fn is_sound(&self)
+        ensures { IsImage self.now }
+    {
+        let _inside = &self.bytes;
     }
 
     /// Iterates over the longest runs of bytes without a gap, by rising address.

@@ -40,10 +40,10 @@ fn read_chip(alloc: Global, part: Part, bytes: &[u8]) -> Result<Chip, AllocError
     Ok(chip)
 }
 
-fn write_chip(alloc: Global, chip: &Chip) -> Result<Vec<u8>, AllocError>
+fn write_chip(chip: &Chip) -> Result<Vec<u8>, AllocError>
     ensures { IfOk result (λ v. v.items ≡ chip_file chip.now) }
 {
-    let mut bytes = Vec::with_capacity(alloc, chip.part.chip_file_size() as usize)?;
+    let mut bytes = Vec::with_capacity(chip.alloc, chip.part.chip_file_size() as usize)?;
     bytes.extend_from_slice(chip.flash.as_slice())?;
     bytes.extend_from_slice(chip.eeprom.as_slice())?;
     bytes.extend_from_slice(&[chip.lfuse, chip.hfuse, chip.efuse, chip.lock])?;
@@ -79,12 +79,12 @@ impl Chip {
     ///
     /// ```text
     /// let chip = Chip::fresh(alloc, Parts::none().find("t85")?)?;
-    /// assert_eq!(rt; chip.to_bytes(alloc)?.len(), 8192 + 512 + 4);
+    /// assert_eq!(rt; chip.to_bytes()?.len(), 8192 + 512 + 4);
     /// ```
-    pub fn to_bytes(&self, alloc: Global) -> Result<Vec<u8>, PartFault>
+    pub fn to_bytes(&self) -> Result<Vec<u8>, PartFault>
         ensures bytes { IfOk result (λ v. v.items ≡ chip_file self.now) }
         ensures memory { IfErr result (λ e. e ≡ PartFault.Memory) }
     {
-        write_chip(alloc, self).map_err(|_| PartFault::Memory)
+        write_chip(self).map_err(|_| PartFault::Memory)
     }
 }

@@ -94,9 +94,16 @@ impl Plan {
     /// Returns the tasks in the order given. Each image has the size of its memory.
     pub fn tasks(&self) -> &[Task]
         ensures value { result.now ≡ self.now.tasks }
-        ensures fitted { All (IsFitted self.now.part) self.now.tasks }
     {
         self.tasks.as_slice()
+    }
+
+    /// States that each image has the size of its memory, and that what is written can be written. It is a law, and no
+    /// code.
+    pub fn is_sound(&self)
+        ensures { All (IsFitted self.now.part) self.now.tasks }
+    {
+        let _inside = &self.tasks;
     }
 
     /// Returns the options that are on or off.

@@ -2,7 +2,7 @@
 
 ghost use Rattle.std.specs.Prelude.{◌≡◌, ◌<◌, ◌≤◌, ◌↔◌, ◌++◌, [], false, length, IsTrue};
 ghost use Rattle.avr_records.specs.Text.{IsLine, IsThisLine, address_size};
-ghost use Rattle.avr_records.specs.Sparse.{file_rows, last_held, new_upper as spec_new_upper, row_size as spec_row_size, row_text};
+ghost use Rattle.avr_records.specs.Sparse.{IsMemory, file_rows, last_held, new_upper as spec_new_upper, row_size as spec_row_size, row_text};
 ghost use Rattle.avr_records.specs.Writing.{left};
 
 use crate::address_size::AddressSize;
@@ -15,7 +15,8 @@ use arrayvec::ArrayVec;
 
 /// Returns the last address that holds a byte, or 0.
 fn last_held_of<M: Sparse>(memory: &M) -> u64
-    ensures { result ≡ last_held 0 0 (M.held memory.now) }
+    ensures last { result ≡ last_held 0 0 (M.held memory.now) }
+    ensures memory { IsMemory (M.held memory.now) }
 {
     let mut last = 0;
     let mut addr = 0;
@@ -62,13 +63,14 @@ impl Cursor {
     /// assert_eq!(rt; Cursor::new(Kind::Srec, &image).address_size, AddressSize::Three);
     /// ```
     pub fn new<M: Sparse>(kind: Kind, memory: &M) -> Cursor
-        ensures { result ≡ record {
+        ensures start { result ≡ record {
           kind = kind;
           addr = 0;
           upper = 0;
           address_size = address_size (last_held 0 0 (M.held memory.now));
           ended = false;
         } }
+        ensures memory { IsMemory (M.held memory.now) }
     {
         Cursor {
             kind,

@@ -45,8 +45,7 @@ impl Sparse for Image {
     ghost held = { λ image. image };
 
     fn next_held(&self, addr: u64) -> Option<u32> {
-        // Ghost call: brings "an image holds bytes" into scope for the proof.
-        let _ = self.as_slice();
+        self.is_sound();
         match u32::try_from(addr) {
             Ok(addr) => self.first_from(addr),
             Err(_) => None,

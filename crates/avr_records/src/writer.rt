@@ -54,8 +54,6 @@ impl<'a, M: Sparse> Writer<'a, M> {
         ensures reads_back { image_in_text kind result (length (M.held memory.now))
             ≡ Ok (M.held memory.now, Ending.Ended) }
     {
-        // Ghost call: brings "a memory holds bytes below 2 to the power 32" into scope for the proof.
-        let _ = memory.next_held(0);
         Writer {
             memory,
             cursor: Cursor::new(kind, memory),

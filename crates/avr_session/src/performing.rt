@@ -63,7 +63,7 @@ impl<'a, D: Desk, L: Link> Session<'a, D, L> {
         Session {
             alloc,
             plan,
-            host: Host::new(plan.part()),
+            host: Host::new(plan.part().copied()),
             desk,
             link,
         }

@@ -27,6 +27,7 @@ impl<'a, D: Desk, L: Link> Session<'a, D, L> {
     {
         self.open()?;
         self.erase_if_due()?;
+        self.plan.is_sound();
         self.perform_all(self.plan.tasks())
     }
 

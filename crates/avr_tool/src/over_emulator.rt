@@ -20,13 +20,18 @@ use avr_desk::{ChipDesk, Desk};
 use avr_plan::{Plan, plan};
 use avr_session::drive;
 use std::alloc::Global;
-use stk_emu::{Fates, Wired};
+use stk_emu::{Fates, Recorder, Wired};
 
 /// Runs the session of a plan over a wire to the emulated programmer, as [`avr_session::drive`] does over any link.
 /// Returns the status: 0 if there was no fault, otherwise 1.
 ///
 /// The wire must be new: nothing sent or received yet. The chip may be of another part than the plan's.
-pub fn drive_wired<D: Desk>(alloc: Global, plan: &Plan, desk: &mut D, wire: &mut Wired) -> u8
+pub fn drive_wired<D: Desk, R: Recorder>(
+    alloc: Global,
+    plan: &Plan,
+    desk: &mut D,
+    wire: &mut Wired<R>,
+) -> u8
     requires fresh { IsFresh wire.old }
     // It is a run of the session: what is sent, output and returned.
     ensures runs { RunsSession plan.now (devices (wired_link wire.old) (D.view desk.old))
@@ -41,17 +46,15 @@ pub fn drive_wired<D: Desk>(alloc: Global, plan: &Plan, desk: &mut D, wire: &mut
         → OverAnyLine plan.now wire.old wire.new (D.view desk.old) (D.view desk.new) result }
     ensures stays { Stays D.comes_of desk.old desk.new }
 {
-    // Ghost calls: bring into scope that each image has its memory's size, and the chip's memories their part's
-    // sizes.
-    let _tasks = plan.tasks();
-    let _part = wire.chip().part();
+    // two laws that the proof cites
+    plan.is_sound();
+    wire.chip().is_sound();
     drive(alloc, plan, desk, wire)
 }
 
 /// Saves the chip of a wire if anything was sent over it, unlocks its file, and returns the run's status.
-fn save_if_sent<D: ChipDesk>(
-    alloc: Global,
-    wire: &Wired,
+fn save_if_sent<D: ChipDesk, R: Recorder>(
+    wire: &Wired<R>,
     file: &str,
     desk: &mut D,
     status: u8,
@@ -61,11 +64,11 @@ fn save_if_sent<D: ChipDesk>(
     ensures follows { Follows (D.view desk.old) (D.view desk.new) }
     ensures stays { Stays D.comes_of desk.old desk.new }
 {
-    if wire.sent().is_empty() {
+    if wire.sent_nothing() {
         desk.release();
         return status;
     }
-    save_after(alloc, wire.chip(), file, desk, status)
+    save_after(wire.chip(), file, desk, status)
 }
 
 /// Makes the plan of a run, and runs it over an emulated programmer. The port of the settings must be
@@ -97,10 +100,10 @@ pub fn run_emu<D: ChipDesk>(alloc: Global, settings: &Settings, desk: &mut D) ->
         Ok(chip) => chip,
         Err(status) => return status,
     };
-    // Ghost calls, as above.
-    let _tasks = plan.tasks();
-    let _part = chip.part();
-    let mut wire = Wired::with_fates(alloc, chip, Fates::none(alloc));
+    // two laws that the proof cites
+    plan.is_sound();
+    chip.is_sound();
+    let mut wire = Wired::unlogged(alloc, chip, Fates::none(alloc));
     let status = drive_wired(alloc, &plan, desk, &mut wire);
-    save_if_sent(alloc, &wire, file, desk, status)
+    save_if_sent(&wire, file, desk, status)
 }

@@ -13,7 +13,7 @@ use avr_desk::Desk;
 use avr_plan::plan;
 use avr_session::drive;
 use std::alloc::Global;
-use stk_emu::Wired;
+use stk_emu::{Recorder, Wired};
 use stk_host::Link;
 
 /// Makes the plan of a run, runs its session over a link, and reports it at the desk. Returns the status: 0 if there
@@ -73,7 +73,12 @@ pub fn run<D: Desk, L: Link>(alloc: Global, settings: &Settings, desk: &mut D, l
 /// assert_eq!(rt; run_wired(alloc, &settings, &mut desk, &mut wire), 0);
 /// assert_eq!(rt; wire.failures(), 0);
 /// ```
-pub fn run_wired<D: Desk>(alloc: Global, settings: &Settings, desk: &mut D, wire: &mut Wired) -> u8
+pub fn run_wired<D: Desk, R: Recorder>(
+    alloc: Global,
+    settings: &Settings,
+    desk: &mut D,
+    wire: &mut Wired<R>,
+) -> u8
     requires fresh { IsFresh wire.old }
     ensures runs { RunsWired settings.now wire.old wire.new (D.view desk.old) (D.view desk.new) result }
     ensures stays { Stays D.comes_of desk.old desk.new }

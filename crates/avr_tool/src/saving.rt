@@ -6,7 +6,6 @@ ghost use Rattle.ghosts.specs.Stays.{Stays};
 
 use avr_desk::{ChipDesk, memory_message, not_written_message, refuse};
 use avr_part::Chip;
-use std::alloc::Global;
 
 /// Saves a chip: replaces the file by the chip's memories, whole, as [`crate::load_chip`] reads them. The file is
 /// then unlocked.
@@ -15,17 +14,12 @@ use std::alloc::Global;
 ///
 /// The status 1 if the file can't be replaced or allocation fails. The line of the reason was printed, as far as the
 /// desk takes it. The file is as it was, unless the desk replaced it before it failed.
-pub fn save_chip<D: ChipDesk>(
-    alloc: Global,
-    chip: &Chip,
-    file: &str,
-    desk: &mut D,
-) -> Result<(), u8>
+pub fn save_chip<D: ChipDesk>(chip: &Chip, file: &str, desk: &mut D) -> Result<(), u8>
     ensures saves { Saves (D.view desk.old) (D.view desk.new) file.now (chip_file chip.now) result }
     ensures follows { Follows (D.view desk.old) (D.view desk.new) }
     ensures stays { Stays D.comes_of desk.old desk.new }
 {
-    let bytes = match chip.to_bytes(alloc) {
+    let bytes = match chip.to_bytes() {
         Ok(bytes) => bytes,
         Err(_) => {
             desk.release();
@@ -42,18 +36,12 @@ pub fn save_chip<D: ChipDesk>(
 }
 
 /// Saves a chip, and returns this status, or 1 if the chip can't be saved.
-pub(crate) fn save_after<D: ChipDesk>(
-    alloc: Global,
-    chip: &Chip,
-    file: &str,
-    desk: &mut D,
-    status: u8,
-) -> u8
+pub(crate) fn save_after<D: ChipDesk>(chip: &Chip, file: &str, desk: &mut D, status: u8) -> u8
     ensures saved { SavesAfter status (D.view desk.old) (D.view desk.new) file.now (chip_file chip.now) result }
     ensures follows { Follows (D.view desk.old) (D.view desk.new) }
     ensures stays { Stays D.comes_of desk.old desk.new }
 {
-    match save_chip(alloc, chip, file, desk) {
+    match save_chip(chip, file, desk) {
         Ok(()) => status,
         Err(_) => 1,
     }

@@ -93,7 +93,7 @@ pub fn serve_chip<D: ChipDesk, L: Link>(
     let mut emulator = Emulator::new(chip);
     let served = answer_all(&mut emulator, link, turns);
     tell_end(desk, served);
-    save_after(alloc, emulator.chip(), file, desk, status_of(served))
+    save_after(emulator.chip(), file, desk, status_of(served))
 }
 
 /// Serves the chip of this part over a link as [`serve_chip`] does. The chip is loaded from this file, or fresh if

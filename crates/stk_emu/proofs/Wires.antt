@@ -4,3 +4,4 @@ pub mod NoiseCuts
 pub mod Waiting
 pub mod Kept
 pub mod Arrivals
+pub mod Unsent

@@ -1,6 +1,6 @@
 //! A wire as a link.
 
-ghost use Rattle.std.specs.Prelude.{◌≡◌, ◌+◌, ◌<◌, ◌≤◌, [], length, take, drop, IfOk, OnOk, OnErr};
+ghost use Rattle.std.specs.Prelude.{◌≡◌, ◌==◌, ◌+◌, ◌<◌, ◌≤◌, [], length, take, drop, IfOk, OnOk, OnErr};
 ghost use Rattle.stk_host.specs.Tape.{bytes_of};
 ghost use Rattle.stk_host.specs.Transcript as transcript;
 ghost use Rattle.ghosts.specs.Failures.{counted};
@@ -13,6 +13,7 @@ ghost use Rattle.stk_emu.specs.Wired.{Start, wired_link, ComesOf, IsFresh, Passe
 use crate::arrival::Arrivals;
 use crate::fate::Fate;
 use crate::fates::Fates;
+use crate::recorder::{Recorder, Unlogged};
 use crate::wire::Wire;
 use avr_part::Chip;
 use std::alloc::{AllocError, Global};
@@ -25,27 +26,27 @@ use stk_host::{Heard, Link, LinkFault, Log};
 /// all are [`Fate::Good`].
 ///
 /// What a frame brings waits until it is received; if nothing waits, a timeout is received. If allocation fails, the
-/// link has failed: it counts this, and nothing else changes. It keeps the transcript.
+/// link has failed: it counts this, and nothing else changes. It keeps the transcript, unless it is [`Wired::unlogged`].
 ///
 /// ```text
 /// let part = Parts::none().find("t85")?;
 /// let chip = Chip::fresh(alloc, part.copied())?;
 /// let mut wire = Wired::new(alloc, chip, Vec::new(alloc));
-/// let mut host = Host::new(&part);
+/// let mut host = Host::new(part);
 /// host.open(&mut wire, false)?;
 /// host.close(&mut wire)?;
 /// assert_eq!(rt; wire.failures(), 0);
 /// ```
 #[derive(Drop)]
-pub struct Wired {
+pub struct Wired<R: Recorder = Log> {
     reader: FrameReader,
     wire: Wire,
     waits: Arrivals,
-    log: Log,
+    log: R,
     failures: u64,
 }
 
-impl Model for Wired {
+impl<R: Recorder> Model for Wired<R> {
     ghost use Rattle.stk_emu.specs.Wired.{WiredState};
 
     ghost Value = { WiredState };
@@ -54,7 +55,7 @@ impl Model for Wired {
       held = wired.reader;
       wire = wired.wire;
       waits = wired.waits.tape;
-      transcript = wired.log.transcript;
+      transcript = R.transcript wired.log;
       failures = wired.failures;
     } };
 }
@@ -69,7 +70,7 @@ impl Wired {
     /// let mut fates = Vec::new(alloc);
     /// fates.push(Fate::LostCommand)?;
     /// let mut wire = Wired::new(alloc, chip, fates);
-    /// Host::new(&part).open(&mut wire, false)?;
+    /// Host::new(part).open(&mut wire, false)?;
     /// ```
     pub fn new(alloc: Global, chip: Chip, fates: Vec<Fate>) -> Wired
         requires { AreLawful fates.items }
@@ -99,6 +100,78 @@ impl Wired {
         ensures fresh { IsFresh result }
     {
         Wired::new(alloc, chip, fates.into_all())
+    }
+
+    /// Returns the bytes sent.
+    ///
+    /// ```text
+    /// let chip = Chip::fresh(alloc, Parts::none().find("t85")?)?;
+    /// let mut wire = Wired::new(alloc, chip, Vec::new(alloc));
+    /// wire.send(b"\x1B")?;
+    /// assert!(rt; wire.sent() == b"\x1B".as_slice());
+    /// ```
+    pub fn sent(&self) -> &[u8]
+        ensures { result.now ≡ transcript.sent self.now.transcript }
+    {
+        self.log.sent()
+    }
+
+    /// Returns the bytes received, without the timeouts.
+    ///
+    /// ```text
+    /// let chip = Chip::fresh(alloc, Parts::none().find("t85")?)?;
+    /// let mut wire = Wired::new(alloc, chip, Vec::new(alloc));
+    /// wire.send(b"\x1B\x01\x00\x01\x0E\x01\x15")?;
+    /// wire.recv(&mut [0; 3])?;
+    /// assert!(rt; wire.heard() == b"\x1B\x01\x00".as_slice());
+    /// ```
+    pub fn heard(&self) -> &[u8]
+        ensures { result.now ≡ bytes_of (transcript.heard self.now.transcript) }
+    {
+        self.log.heard()
+    }
+}
+
+impl Wired<Unlogged> {
+    /// Creates a wire as [`Wired::with_fates`] does, which keeps nothing of what passes: it can't be asked for the
+    /// bytes sent and received.
+    ///
+    /// ```text
+    /// let chip = Chip::fresh(alloc, Parts::none().find("t85")?)?;
+    /// let mut wire = Wired::unlogged(alloc, chip, Fates::none(alloc));
+    /// wire.send(b"\x1B")?;
+    /// assert!(rt; !wire.sent_nothing());
+    /// ```
+    pub fn unlogged(alloc: Global, chip: Chip, fates: Fates) -> Wired<Unlogged>
+        ensures held { result.held ≡ [] }
+        ensures wire { result.wire ≡ fresh_wire (fresh_programmer chip) fates }
+        ensures waits { result.waits ≡ [] }
+        ensures transcript { result.transcript ≡ [] }
+        ensures sound { result.failures ≡ 0 }
+        ensures fresh { IsFresh result }
+    {
+        Wired {
+            reader: FrameReader::new(),
+            wire: Wire::new(chip, fates.into_all()),
+            waits: Arrivals::new(alloc),
+            log: Unlogged::new(),
+            failures: 0,
+        }
+    }
+}
+
+impl<R: Recorder> Wired<R> {
+    /// Returns whether no byte was sent.
+    ///
+    /// ```text
+    /// let chip = Chip::fresh(alloc, Parts::none().find("t85")?)?;
+    /// let wire = Wired::new(alloc, chip, Vec::new(alloc));
+    /// assert!(rt; wire.sent_nothing());
+    /// ```
+    pub fn sent_nothing(&self) -> bool
+        ensures { result ≡ (length (transcript.sent self.now.transcript) == 0) }
+    {
+        self.log.sent_nothing()
     }
 
     /// Returns the chip as all whole frames sent have left it.
@@ -142,35 +215,6 @@ impl Wired {
         self.failures
     }
 
-    /// Returns the bytes sent.
-    ///
-    /// ```text
-    /// let chip = Chip::fresh(alloc, Parts::none().find("t85")?)?;
-    /// let mut wire = Wired::new(alloc, chip, Vec::new(alloc));
-    /// wire.send(b"\x1B")?;
-    /// assert!(rt; wire.sent() == b"\x1B".as_slice());
-    /// ```
-    pub fn sent(&self) -> &[u8]
-        ensures { result.now ≡ transcript.sent self.now.transcript }
-    {
-        self.log.sent()
-    }
-
-    /// Returns the bytes received, without the timeouts.
-    ///
-    /// ```text
-    /// let chip = Chip::fresh(alloc, Parts::none().find("t85")?)?;
-    /// let mut wire = Wired::new(alloc, chip, Vec::new(alloc));
-    /// wire.send(b"\x1B\x01\x00\x01\x0E\x01\x15")?;
-    /// wire.recv(&mut [0; 3])?;
-    /// assert!(rt; wire.heard() == b"\x1B\x01\x00".as_slice());
-    /// ```
-    pub fn heard(&self) -> &[u8]
-        ensures { result.now ≡ bytes_of (transcript.heard self.now.transcript) }
-    {
-        self.log.heard()
-    }
-
     /// Counts a failure.
     fn fail(&mut self) -> LinkFault
         ensures fails { self.new ≡ record self.old { failures = counted (self.old.failures + 1) } }
@@ -181,7 +225,7 @@ impl Wired {
     }
 }
 
-impl Link for Wired {
+impl<R: Recorder> Link for Wired<R> {
     ghost view = { wired_link };
 
     ghost Start = { Start };
@@ -232,7 +276,7 @@ impl Link for Wired {
     }
 }
 
-impl fmt::Debug for Wired {
+impl<R: Recorder> fmt::Debug for Wired<R> {
     fn fmt<W: fmt::Write>(&self, f: &mut fmt::Formatter<W>) -> fmt::Result {
         f.debug_struct("Wired")
             .field("part", &self.chip().part().id())

@@ -19,12 +19,7 @@ fn compare_run(mem: Mem, addr: u32, run: &[u8], bytes: &[u8]) -> Result<(), Host
     for (i, want) in run.iter().enumerate() {
         let found = bytes[i];
         if found != *want {
-            return Err(HostFault::Differs {
-                mem,
-                addr: addr + i as u32,
-                want: *want,
-                found,
-            });
+            return Err(HostFault::Differs(mem, addr + i as u32, *want, found));
         }
     }
     Ok(())

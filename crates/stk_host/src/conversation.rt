@@ -58,14 +58,12 @@ fn reply_to(reader: &FrameReader, reading: Reading, command: &Command<'_>) -> Re
     match reading {
         Reading::Answered => match Answer::read(command, reader.body()) {
             Ok(_) => Reply::Data,
-            Err(FrameFault::CheckSum) => Reply::Again(StepFault::Refused {
-                command: command.code(),
-                status: STATUS_CKSUM_ERROR,
-            }),
-            Err(FrameFault::Status(status)) => Reply::Stop(StepFault::Refused {
-                command: command.code(),
-                status,
-            }),
+            Err(FrameFault::CheckSum) => {
+                Reply::Again(StepFault::Refused(command.code(), STATUS_CKSUM_ERROR))
+            }
+            Err(FrameFault::Status(status)) => {
+                Reply::Stop(StepFault::Refused(command.code(), status))
+            }
             Err(FrameFault::WrongCommand | FrameFault::WrongLength) => {
                 Reply::Stop(StepFault::BadAnswer(command.code()))
             }

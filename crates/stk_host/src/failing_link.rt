@@ -17,7 +17,7 @@ use std::marker::Model;
 /// let tape = TapeLink::new(alloc, Vec::new(alloc), 281);
 /// let mut link = FailingLink::new(tape, 1, 281);
 /// let part = Parts::none().find("m328p")?;
-/// assert_eq!(rt; Host::new(&part).open(&mut link, false), Err(HostFault::SendFailed));
+/// assert_eq!(rt; Host::new(part).open(&mut link, false), Err(HostFault::SendFailed));
 /// ```
 #[derive(Debug, Drop)]
 pub struct FailingLink<L> {

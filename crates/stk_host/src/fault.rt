@@ -18,7 +18,7 @@ pub enum StepFault {
     /// The last attempt got 4,096 bytes without a reply.
     Babble,
     /// The programmer refused this command with this status.
-    Refused { command: u8, status: u8 },
+    Refused(u8, u8),
     /// The reply to this command doesn't fit it.
     BadAnswer(u8),
 }
@@ -32,7 +32,7 @@ impl StepFault {
             StepFault::NoAnswer => HostFault::NoAnswer,
             StepFault::LinkEnded => HostFault::LinkEnded,
             StepFault::Babble => HostFault::Babble,
-            StepFault::Refused { command, status } => HostFault::Refused { command, status },
+            StepFault::Refused(command, status) => HostFault::Refused(command, status),
             StepFault::BadAnswer(command) => HostFault::BadAnswer(command),
         }
     }
@@ -41,12 +41,12 @@ impl StepFault {
 /// Why a call of a host failed.
 ///
 /// ```text
-/// let fault = HostFault::Differs { mem: Mem::Eeprom, addr: 0x10, want: 0x55, found: 0xFF };
+/// let fault = HostFault::Differs(Mem::Eeprom, 0x10, 0x55, 0xFF);
 /// assert_eq!(rt; (fault.number(), fault.command_name()), (8, None));
 /// // a line on which nobody replies
 /// let part = Parts::none().find("m328p")?;
 /// let mut silent = TapeLink::new(alloc, vec![in alloc; Item::Silence; 8]?, 281);
-/// assert_eq!(rt; Host::new(&part).open(&mut silent, false), Err(HostFault::NoAnswer));
+/// assert_eq!(rt; Host::new(part).open(&mut silent, false), Err(HostFault::NoAnswer));
 /// ```
 #[derive(Clone, Copy, Drop, PartialEq, Eq, Error)]
 pub enum HostFault {
@@ -64,25 +64,17 @@ pub enum HostFault {
     #[error("no answer in 4096 bytes")]
     Babble,
     /// The programmer refused this command with this status (AVR068, "Status constants").
-    #[error("command {command:02X} refused with status {status:02X}")]
-    Refused {
-        command: u8,
-        status: u8,
-    },
+    #[error("command {0:02X} refused with status {1:02X}")]
+    Refused(u8, u8),
     /// The reply to this command doesn't fit it.
     #[error("command {0:02X}: bad answer")]
     BadAnswer(u8),
     /// The signature read from the part, which isn't the wanted one.
     #[error("signature is {:02X} {:02X} {:02X}", .0[0], .0[1], .0[2])]
     WrongSignature([u8; 3]),
-    /// The lowest byte address at which image and memory differ. The image has `want`, the memory `found`.
-    #[error("{}: address {addr:08X}: {want:02X} expected, {found:02X} found", .mem.name())]
-    Differs {
-        mem: Mem,
-        addr: u32,
-        want: u8,
-        found: u8,
-    },
+    /// The memory, the lowest byte address at which it differs from the image, the image's byte, and the memory's.
+    #[error("{}: address {:08X}: {:02X} expected, {:02X} found", .0.name(), .1, .2, .3)]
+    Differs(Mem, u32, u8, u8),
     /// The memory can't be written: it is the signature or the calibration.
     #[error("{} is read-only", .0.name())]
     ReadOnly(Mem),
@@ -108,10 +100,10 @@ impl HostFault {
             HostFault::LinkEnded => 2,
             HostFault::SendFailed => 3,
             HostFault::Babble => 4,
-            HostFault::Refused { .. } => 5,
+            HostFault::Refused(..) => 5,
             HostFault::BadAnswer(_) => 6,
             HostFault::WrongSignature(_) => 7,
-            HostFault::Differs { .. } => 8,
+            HostFault::Differs(..) => 8,
             HostFault::ReadOnly(_) => 9,
             HostFault::Memory => 10,
             HostFault::RecvFailed => 11,
@@ -122,7 +114,7 @@ impl HostFault {
     /// and if the command byte has no name.
     ///
     /// ```text
-    /// let refused = HostFault::Refused { command: 0x12, status: 0xC0 };
+    /// let refused = HostFault::Refused(0x12, 0xC0);
     /// assert_eq!(rt; refused.command_name(), Some("CMD_CHIP_ERASE_ISP"));
     /// assert_eq!(rt; HostFault::NoAnswer.command_name(), None);
     /// ```
@@ -130,7 +122,7 @@ impl HostFault {
         ensures { option_map (λ name. name.now) result ≡ command_named self.now }
     {
         match self {
-            HostFault::Refused { command, .. } | HostFault::BadAnswer(command) => {
+            HostFault::Refused(command, _) | HostFault::BadAnswer(command) => {
                 stk_frame::command_name(*command)
             }
             _ => None,
@@ -141,7 +133,7 @@ impl HostFault {
     /// status byte has no name.
     ///
     /// ```text
-    /// let refused = HostFault::Refused { command: 0x12, status: 0xC0 };
+    /// let refused = HostFault::Refused(0x12, 0xC0);
     /// assert_eq!(rt; refused.status_name(), Some("STATUS_CMD_FAILED"));
     /// assert_eq!(rt; HostFault::BadAnswer(0x12).status_name(), None);
     /// ```
@@ -149,7 +141,7 @@ impl HostFault {
         ensures { option_map (λ name. name.now) result ≡ status_named self.now }
     {
         match self {
-            HostFault::Refused { status, .. } => stk_frame::status_name(*status),
+            HostFault::Refused(_, status) => stk_frame::status_name(*status),
             _ => None,
         }
     }

@@ -8,7 +8,7 @@ use std::marker::Model;
 
 /// What passed at one call of a link.
 #[derive(Clone, Copy, Drop)]
-pub(crate) enum Piece<'a> {
+pub enum Piece<'a> {
     /// This many of the bytes were sent.
     Sent(&'a [u8], usize),
     /// A send that failed had taken this many of the bytes.
@@ -17,7 +17,7 @@ pub(crate) enum Piece<'a> {
     Received(&'a Heard, &'a [u8]),
 }
 
-/// All pieces sent and received, in order. Only clauses read it, as `items`.
+/// All pieces sent and received, in order, for a link that keeps none of their bytes. Only clauses read it, as `items`.
 #[derive(Drop)]
 pub struct History {
     pub ghost items: { Transcript },
@@ -30,6 +30,7 @@ impl Model for History {
 impl History {
     ghost use Rattle.stk_host.specs.Transcript.{passed};
 
+    /// Creates an empty transcript.
     pub fn new() -> History
         ensures { result.items ≡ [] }
     {
@@ -38,7 +39,7 @@ impl History {
 
     /// Adds this piece.
     #[inline(always)]
-    pub(crate) fn then(&self, piece: &Piece<'_>) -> History
+    pub fn then(&self, piece: &Piece<'_>) -> History
         ensures { result.items ≡ self.now.items ++ passed piece.now ∷ [] }
     {
         History {}

@@ -36,7 +36,7 @@ use stk_frame::Command;
 /// image.put_slice(0, &[0x0C, 0x94, 0x34, 0x00])?;
 /// let chip = Chip::fresh(alloc, part.copied())?;
 /// let mut wire = Wired::with_fates(alloc, chip, Fates::none(alloc));
-/// let mut host = Host::new(&part);
+/// let mut host = Host::new(part);
 /// let signature = host.open(&mut wire, false)?;
 /// host.erase(&mut wire)?;
 /// host.write(&mut wire, Mem::Flash, &image)?;
@@ -133,13 +133,13 @@ impl Host {
     ///
     /// ```text
     /// let part = Parts::none().find("m328p")?;
-    /// let host = Host::new(&part);
+    /// let host = Host::new(part);
     /// ```
-    pub fn new(part: &Part) -> Self
-        ensures { result ≡ record { part = part.now; progress = record { next = 1; unread = [] }; broken = None } }
+    pub fn new(part: Part) -> Self
+        ensures { result ≡ record { part = part; progress = record { next = 1; unread = [] }; broken = None } }
     {
         Host {
-            part: part.copied(),
+            part,
             conversation: Conversation::new(),
             broken: None,
         }
@@ -160,7 +160,7 @@ impl Host {
     /// let part = Parts::none().find("m328p")?;
     /// let chip = Chip::fresh(alloc, part.copied())?;
     /// let mut wire = Wired::with_fates(alloc, chip, Fates::none(alloc));
-    /// let signature = Host::new(&part).open(&mut wire, false)?;
+    /// let signature = Host::new(part).open(&mut wire, false)?;
     /// assert!(rt; signature == [0x1E, 0x95, 0x0F]);
     /// ```
     pub fn open<L: Link>(&mut self, link: &mut L, force: bool) -> Result<[u8; 3], HostFault>
@@ -191,7 +191,7 @@ impl Host {
     /// let part = Parts::none().find("m328p")?;
     /// let replies = b"\x1B\x01\x00\x02\x0E\x12\x00\x04";
     /// let mut link = StreamLink::new(replies.as_slice(), Vec::new(alloc));
-    /// Host::new(&part).erase(&mut link)?;
+    /// Host::new(part).erase(&mut link)?;
     /// ```
     pub fn erase<L: Link>(&mut self, link: &mut L) -> Result<(), HostFault>
         ensures calls { Calls false erasing self.old self.new (L.view link.old) (L.view link.new) result }
@@ -223,7 +223,7 @@ impl Host {
     /// let image = parse_immediate(alloc, "0xE2", part.size_of(Mem::Lfuse))?;
     /// let replies = b"\x1B\x01\x00\x03\x0E\x17\x00\x00\x00";
     /// let mut link = StreamLink::new(replies.as_slice(), Vec::new(alloc));
-    /// Host::new(&part).write(&mut link, Mem::Lfuse, &image)?;
+    /// Host::new(part).write(&mut link, Mem::Lfuse, &image)?;
     /// ```
     pub fn write<L: Link>(&mut self, link: &mut L, mem: Mem, image: &Image) -> Result<(), HostFault>
         requires { length image.now ≤ size_of mem self.old.part }
@@ -257,7 +257,7 @@ impl Host {
     /// let replies = b"\x1B\x01\x00\x04\x0E\x18\x00\x62\x00\x6A";
     /// let mut link = StreamLink::new(replies.as_slice(), Vec::new(alloc));
     /// let mut bytes = Vec::new(alloc);
-    /// Host::new(&part).read(&mut link, Mem::Lfuse, &mut bytes)?;
+    /// Host::new(part).read(&mut link, Mem::Lfuse, &mut bytes)?;
     /// assert!(rt; bytes.as_slice() == [0x62].as_slice());
     /// ```
     pub fn read<L: Link>(
@@ -301,8 +301,8 @@ impl Host {
     /// let image = parse_immediate(alloc, "0xE2", part.size_of(Mem::Lfuse))?;
     /// let replies = b"\x1B\x01\x00\x04\x0E\x18\x00\x62\x00\x6A";
     /// let mut link = StreamLink::new(replies.as_slice(), Vec::new(alloc));
-    /// let verified = Host::new(&part).verify(alloc, &mut link, Mem::Lfuse, &image);
-    /// let differs = HostFault::Differs { mem: Mem::Lfuse, addr: 0, want: 0xE2, found: 0x62 };
+    /// let verified = Host::new(part).verify(alloc, &mut link, Mem::Lfuse, &image);
+    /// let differs = HostFault::Differs(Mem::Lfuse, 0, 0xE2, 0x62);
     /// assert!(rt; verified == Err(differs));
     /// ```
     pub fn verify<L: Link>(
@@ -342,7 +342,7 @@ impl Host {
     /// let part = Parts::none().find("m328p")?;
     /// let replies = b"\x1B\x01\x00\x02\x0E\x11\x00\x07";
     /// let mut link = StreamLink::new(replies.as_slice(), Vec::new(alloc));
-    /// Host::new(&part).close(&mut link)?;
+    /// Host::new(part).close(&mut link)?;
     /// ```
     pub fn close<L: Link>(&mut self, link: &mut L) -> Result<(), HostFault>
         ensures calls { Calls false closing self.old self.new (L.view link.old) (L.view link.new) result }

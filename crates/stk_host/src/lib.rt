@@ -8,7 +8,7 @@
 //! let fuse = parse_immediate(alloc, "0xE2", part.size_of(Mem::Lfuse))?;
 //! // an emulated programmer with its part; a `StreamLink` is over a reader and a writer
 //! let mut link = Wired::with_fates(alloc, Chip::fresh(alloc, part.copied())?, Fates::none(alloc));
-//! let mut host = Host::new(&part);
+//! let mut host = Host::new(part);
 //! let signature = host.open(&mut link, false)?;
 //! host.write(&mut link, Mem::Lfuse, &fuse)?;
 //! host.close(&mut link)?;
@@ -41,6 +41,7 @@ mod laws;
 
 pub use failing_link::FailingLink;
 pub use fault::{HostFault, StepFault};
+pub use history::{History, Piece};
 pub use host::Host;
 pub use laws::{
     a_call_sends_at_most_four_times_its_commands, a_record_of_streams_is_true,

@@ -25,7 +25,7 @@ use std::{fmt, io};
 /// ```text
 /// let mut link = StreamLink::new(b"".as_slice(), Vec::new(alloc));
 /// let part = Parts::none().find("m328p")?;
-/// assert_eq!(rt; Host::new(&part).open(&mut link, false), Err(HostFault::LinkEnded));
+/// assert_eq!(rt; Host::new(part).open(&mut link, false), Err(HostFault::LinkEnded));
 /// let (_, sent) = link.into_inner();
 /// // SIGN_ON went out, as the first frame
 /// assert!(rt; sent.as_slice() == b"\x1B\x01\x00\x01\x0E\x01\x14".as_slice());

@@ -3,7 +3,7 @@
 //= HostFault::SendFailed HostFault::Babble HostFault::BadAnswer HostFault::WrongSignature HostFault::ReadOnly
 //= HostFault::Memory HostFault::RecvFailed Link::send Link::recv LinkFault::number TapeLink::new TapeLink::sent
 //= StreamLink::new Host::open Host::erase Host::write Host::verify Host::close HostFault::number FailingLink::new
-//= FailingLink::inner
+//= FailingLink::inner Host::new HostFault::Refused HostFault::Differs
 use avr_image::Image;
 use avr_part::{Mem, Parts};
 use std::test::Fail;
@@ -40,7 +40,7 @@ fn hosts(rt: HostRuntime) -> Result<(), Fail> {
     let alloc = rt.alloc();
     let mut streams = StreamLink::new(b"".as_slice(), Vec::new(alloc));
     let part = Parts::none().find("m328p")?;
-    let mut host: Host = Host::new(&part);
+    let mut host: Host = Host::new(part);
     let opened: Result<[u8; 3], HostFault> = host.open(&mut streams, false);
     assert!(rt; opened == Err(HostFault::LinkEnded));
     let erased: Result<(), HostFault> = host.erase(&mut streams);
@@ -64,10 +64,10 @@ fn numbers(rt: HostRuntime) {
         (HostFault::LinkEnded, 2),
         (HostFault::SendFailed, 3),
         (HostFault::Babble, 4),
-        (HostFault::Refused { command: 0x10, status: 0xC1 }, 5),
+        (HostFault::Refused(0x10, 0xC1), 5),
         (HostFault::BadAnswer(0x10), 6),
         (HostFault::WrongSignature([0x1E, 0x95, 0x14]), 7),
-        (HostFault::Differs { mem: Mem::Lfuse, addr: 0, want: 0xE2, found: 0x62 }, 8),
+        (HostFault::Differs(Mem::Lfuse, 0, 0xE2, 0x62), 8),
         (HostFault::ReadOnly(Mem::Signature), 9),
         (HostFault::Memory, 10),
         (HostFault::RecvFailed, 11),

@@ -2,7 +2,7 @@
 //= Mem::Signature Mem::Calibration PartFault::NotToml PartFault::Missing PartFault::BadValue PartFault::BadSizes
 //= PartFault::NoSuchPart PartFault::BadChipFile PartFault::Memory Parts::none Parts::find parse_parts Mem::name
 //= Mem::writable Part::size_of Part::page_of Chip::fresh Chip::spi Chip::byte Chip::from_bytes Chip::part
-//= PartFault::number
+//= PartFault::number Chip::to_bytes
 use avr_part::{Chip, Field, Mem, Part, PartFault, Parts, parse_parts};
 use std::test::Fail;
 
@@ -43,7 +43,7 @@ fn chips(rt: HostRuntime) -> Result<(), Fail> {
     assert!(rt; byte == Some(0xFF));
     let of: &Part = chip.part();
     assert!(rt; of.id() == "m328p");
-    let saved = chip.to_bytes(alloc)?;
+    let saved = chip.to_bytes()?;
     assert!(rt; saved.len() == 33_796);
     let read: Result<Chip, PartFault> =
         Chip::from_bytes(alloc, Parts::none().find("m328p")?, &[0; 100]);

@@ -4,4 +4,4 @@ use Rattle.avr_tool.proofs.over_emulator.drive_wired.Goals as goal
 
 pub returns-clause-line : goal.returns-clause-line
 returns-clause-line g c =
-    let sound = rw c.chip.ensures at c.part-part.ensures.sound in search (rules, over_any_line, c.drive.ensures.comes)
+    let sound = rw c.chip.ensures at c.is_sound-2.ensures in search (rules, over_any_line, c.drive.ensures.comes)

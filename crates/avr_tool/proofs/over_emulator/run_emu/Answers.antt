@@ -8,11 +8,11 @@ returns-in-Err-clause-runs g c =
 
 pub returns-clause-runs : goal.returns-clause-runs
 returns-clause-runs g c =
-    let begun = c.with_fates-wire.ensures in
+    let begun = c.unlogged-wire.ensures in
     let made = rw c.in-Ok.is at c.plan.ensures.goes in
     let part = rw (c.part.ensures, c.in-Ok-hold_chip.is) at c.hold_chip.ensures.part in
     let loads = rw (c.part.ensures, c.in-Ok-hold_chip.is) at c.hold_chip.ensures.loads in
     let ran = c.drive_wired-status.ensures in
     inl (runs_over_emulator _ _ _ _ _ _ begun.held (rw c.none.ensures at begun.wire) begun.waits begun.transcript
-    begun.sound c.tasks-tasks.ensures.fitted part c.part-part.ensures.sound _ _ _ _ _ _ _ made loads
+    begun.sound c.is_sound.ensures part c.is_sound-2.ensures _ _ _ _ _ _ _ made loads
     c.save_if_sent.ensures.follows ran.runs ran.comes ran.line c.save_if_sent.ensures.saved)

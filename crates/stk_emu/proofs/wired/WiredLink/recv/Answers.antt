@@ -8,7 +8,7 @@ use Rattle.stk_emu.proofs.wired.WiredLink.recv.Goals as goal
 use Rattle.stk_emu.proofs.wired.WiredLink.recv.Goals.{then-count-eq0, else-count-eq0}
 
 pub returns-clause-heard : goal.returns-clause-heard
-returns-clause-heard c = elim c.if-count-eq0.branch [
+returns-clause-heard g c = elim c.if-count-eq0.branch [
   | then-count-eq0 w ↦
       let ok = rw w.heard-is at c.in-Ok.ensures.ok in rw w.heard-is (search (rules, heard_state))
   | else-count-eq0 w ↦
@@ -17,12 +17,12 @@ returns-clause-heard c = elim c.if-count-eq0.branch [
 ]
 
 pub returns-clause-next : goal.returns-clause-next
-returns-clause-next c = elim c.if-count-eq0.branch [
+returns-clause-next g c = elim c.if-count-eq0.branch [
   | then-count-eq0 w ↦ rw w.heard-is (search (rules, silence_next))
   | else-count-eq0 w ↦ rw w.heard-is (search (rules, length-map, bytes_next))
 ]
 
 pub returns-clause-comes : goal.returns-clause-comes
-returns-clause-comes c = λ start keeps.
-    subst (ComesOf start) (sym (returns-clause-heard c))
-    (keeps_hearing c.args.self.now _ start.programmer start.fates (returns-clause-next c) keeps)
+returns-clause-comes g c = λ start keeps.
+    subst (ComesOf start) (sym (returns-clause-heard g c))
+    (keeps_hearing c.args.self.now _ start.programmer start.fates (returns-clause-next g c) keeps)

@@ -5,7 +5,7 @@ use Rattle.stk_emu.proofs.Wires.Kept.{keeps_passing}
 use Rattle.stk_emu.proofs.wired.WiredLink.send.Goals as goal
 
 pub returns-clause-passes : goal.returns-clause-passes
-returns-clause-passes c =
+returns-clause-passes g c =
     rw (← c.self.view_is) (record {
       found = frames_of_event c.feed-used.result.1 c.feed-used.new.self;
       are_frames = found_frames c.feed-used.result.1 c.feed-used.new.self c.feed-used.ensures.tells;
@@ -16,6 +16,6 @@ returns-clause-passes c =
     })
 
 pub returns-clause-comes : goal.returns-clause-comes
-returns-clause-comes c = λ start keeps.
+returns-clause-comes g c = λ start keeps.
     keeps_passing c.args.self.now _ (take c.feed-used.result.0 c.args.bytes.now) start.programmer start.fates
-    (returns-clause-passes c) keeps
+    (returns-clause-passes g c) keeps
