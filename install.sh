@@ -204,7 +204,9 @@ add 755 "$front" bin/avrstk
 add 644 "$stamp" lib/avrstk/avrstk.stamp
 add 755 "$top/avrstk-serial" bin/avrstk-serial
 add 755 "$top/avrstk-serve" bin/avrstk-serve
-add 644 "$top/avrstk_common.py" lib/avrstk/avrstk_common.py
+for file in "$top"/lib/avrstk/*; do
+    add 644 "$file" "lib/avrstk/${file##*/}"
+done
 for file in "$top"/parts/*; do
     add 644 "$file" "share/avrstk/${file##*/}"
 done

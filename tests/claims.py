@@ -590,7 +590,7 @@ def what_check_quotes():
 def the_first_change():
     """CONTRIBUTING's first change can be made: the text is once in the script, and once in the test."""
     begun = re.search(r"replace `([^`]*)`\s+by", " ".join(text("CONTRIBUTING.md").split()))[1]
-    for file in ("avrstk-serial", "tests/serial.py"):
+    for file in ("lib/avrstk/avrstk_hints.py", "tests/serial.py"):
         same(f"{file}: {begun}", text(file).count(begun), 1)
     count = len(re.findall(r"^        \(\[", re.search(r"^def refused\(\):.*?^    def ran", text("tests/serial.py"), re.M | re.S)[0], re.M))
     for told in (f"{count - 1} passed, 1 failed, 0 left out", f"{count} passed, 0 failed, 0 left out"):

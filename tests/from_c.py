@@ -11,6 +11,7 @@ import importlib.util
 import os
 import random
 import re
+import shlex
 import shutil
 import subprocess
 import sys
@@ -189,6 +190,22 @@ def files_come_back(library):
         same(f"{name} printed", library.printed(file, 32_768), shown(image))
 
 
+def typed_as_shown(library):
+    """The commands of docs/LIBRARY run as typed; this library's folder is in place of the one that the first one makes."""
+    section = (ROOT / "docs/LIBRARY.md").read_text().split("## From C and Python\n")[1].split("\n## ")[0]
+    first, *commands = re.findall(r"^    \$ (.*)$", section, re.M)
+    same("the first one", first, "examples/c/build.sh out/c")
+    commands = [it.replace("out/c", shlex.quote(str(library.folder))) for it in commands]
+    printed = [subprocess.run(["sh", "-c", it], cwd=ROOT, capture_output=True, check=True).stdout for it in commands]
+    image = parse((ROOT / "examples/blink.hex").read_bytes())
+    same("C's", (printed[0], parse(printed[1])), (b"", image))
+    same("Python's", printed[2].decode().splitlines(), shown(image))
+    without = os.environ | {"AVR_RECORDS_LIBRARY": "/nowhere"}
+    ran = subprocess.run(["sh", "-c", commands[2].partition(" ")[2]], cwd=ROOT, capture_output=True, text=True, env=without)
+    told = ran.stderr.endswith(": examples/c/build.sh builds the library, and ./install.sh --with-c installs it\n")
+    same("without a library", (ran.returncode, ran.stderr.count("\n"), told), (1, 1, True))
+
+
 def images_come_back(library):
     for seed in range(IMAGES):
         file = library.folder / f"seed {seed}"
@@ -360,6 +377,7 @@ def only_its_calls_are_seen(library):
 
 def main():
     looks = named(
+        typed_as_shown,
         files_come_back,
         images_come_back,
         pieces_join,

@@ -390,7 +390,7 @@ def examples_run():
 
 # where else each option's letter stands, and how
 LETTERS = {
-    "avrstk-serial": r'(?m)^SHORT = "([^"]*)"',
+    "lib/avrstk/avrstk_words.py": r'(?m)^SHORT = "([^"]*)"',
     "tools/hint.sh": r'getopts "(:[^"]*)"',
     "completions/_avrstk": r"""['"*{]-(\w)[+\[,]""",
     "completions/avrstk.fish": r"""(?:-s | (?=\w:['"\w]))(\w)""",

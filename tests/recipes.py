@@ -20,7 +20,7 @@ import textwrap
 from pathlib import Path
 
 from cases import PATIENCE, leave_out, named, run_cases, same, see
-from program import LISTENS, PROGRAM, TOP, free_port, has_avrdude
+from program import LISTENS, PROGRAM, TOP, has_avrdude, kept_port, port_of
 from serial import Board
 
 # commands that are no step of using the tool, or that start proofs
@@ -83,14 +83,16 @@ class Clone:
 
     def types(self, commands):
         """Types commands, one after another, into one shell; returns what it printed."""
-        port = free_port()
+        kept = kept_port()
+        port = port_of(kept)
         path = f"{self.folder}/bin:{self.folder}/home/.local/bin:{os.environ['PATH']}"
         own = {"PATH": path, "HOME": str(self.folder / "home"), "NOTED": str(self.noted)}
         environment = {name: it for name, it in (os.environ | own).items() if name != "AVRSTK"}
         typed = [f"{it} || echo 'FAILED here'" for it in commands]
         text = WAITS.format(LISTENS.format(port)) + "\n".join(typed).replace("5000", str(port))
         how = {"stdin": subprocess.DEVNULL, "stdout": subprocess.PIPE, "stderr": subprocess.STDOUT, "text": True}
-        return subprocess.run(["bash", "-c", text], cwd=self.top, env=environment, timeout=PATIENCE, **how).stdout
+        with kept:
+            return subprocess.run(["bash", "-c", text], cwd=self.top, env=environment, timeout=PATIENCE, **how).stdout
 
     def tries(self, commands):
         """Types the commands of one block, if they can run here."""

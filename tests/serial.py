@@ -30,14 +30,16 @@ from functools import lru_cache
 from pathlib import Path
 
 from cases import PATIENCE, leave_out, named, run_cases, same, see, wait_until
-from line import frames_of
-from program import PROGRAM, TOP, Room, Server, forks, frame, free_port, has_avrdude, lines, listens_at, read_whole
+from line import frame_size, frames_of
+from program import PROGRAM, TOP, Room, Server, forks, frame, has_avrdude, kept_port, lines, listens_at, port_of, read_whole
 
-SCRIPT, SHARED = TOP / "avrstk-serial", TOP / "avrstk_common.py"
+SCRIPT, SHARED = TOP / "avrstk-serial", TOP / "lib"
 PYTHON = shutil.which("python3", path="/usr/bin:/bin") or sys.executable
 SIGNATURE = "device signature = 1E 95 0F"
 FIRMWARE = [SIGNATURE, "chip erased", "flash: 228 bytes written", "flash: 228 bytes verified", "done"]
 FLASH = ["-p", "m328p", "-U", "flash:w:blink.hex:i"]
+SESSION = next(it for it in [PROGRAM.parent, PROGRAM.parents[2] / "avrstk_session/out"] if (it / "avrstk_session").exists())
+SESSION /= "avrstk_session"
 CALL = "avrstk -p m328p -P net:127.0.0.1:5000 -U flash:w:firmware.hex:i"
 room = Room()
 boards = itertools.count()
@@ -154,12 +156,13 @@ class Bootloader:
     end = stop
 
 
-def start(words, **more):
-    """Starts avrstk-serial with these options, in the room."""
+def start(words, closed="", **more):
+    """Starts avrstk-serial with these options, in the room. `closed` has shell redirections."""
     how = {"cwd": room.folder, "stdin": subprocess.DEVNULL, "stdout": subprocess.PIPE, "stderr": subprocess.PIPE} | more
     how["env"] = os.environ | {"AVRSTK": str(PROGRAM)} | how.get("env", {})
+    shell = ["sh", "-c", f'exec "$0" "$@" {closed}'] if closed else []
     with forks:
-        return subprocess.Popen([sys.executable, str(SCRIPT), *words], **how)
+        return subprocess.Popen([*shell, sys.executable, str(SCRIPT), *words], **how)
 
 
 def run(words, **more):
@@ -178,14 +181,20 @@ def speed(line):
     return held[9], held[10]
 
 
+def over(words, board=None, **more):
+    """Runs these options over a board. Returns what `run` does, and the chip."""
+    it = Board(**(board or {}))
+    return *run([*words, "-P", it.device], **more), it.end()
+
+
 def run_as_anyone(words, program):
     """Runs the script as nobody if this is root, who may do everything. (PYTHON must not be one that only root can run.)"""
     how = {"user": 65534, "group": 65534, "extra_groups": []} if os.geteuid() == 0 else {}
     with tempfile.TemporaryDirectory(dir="/tmp") as folder:
         os.chmod(folder, 0o755)
-        copied = [shutil.copy(it, folder) for it in [SCRIPT, SHARED]]
+        shutil.copytree(SHARED, f"{folder}/lib")
         how |= {"stdin": subprocess.DEVNULL, "capture_output": True, "cwd": "/", "timeout": PATIENCE}
-        return subprocess.run([PYTHON, copied[0], *words], env=os.environ | {"AVRSTK": str(program)}, **how)
+        return subprocess.run([PYTHON, shutil.copy(SCRIPT, folder), *words], env=os.environ | {"AVRSTK": str(program)}, **how)
 
 
 def terminal():
@@ -206,24 +215,6 @@ def stand_in(text, folder=None):
     file.write_text(begin + port + text)
     file.chmod(0o755)
     return {"AVRSTK": str(file)}
-
-
-# what avrstk_session prints of an image: the address and length of each page that it writes
-PAGES = {"blink.hex": ["0 128", "128 128"], "late.hex": ["16384 128"], "1,2": ["0 128"], "gap.hex": ["0 128", "256 128"]}
-
-
-def planned(runs='exec {0} "$@"'):
-    """Returns the environment for a stand-in of avrstk_session, which prints its plan: so many frames, and PAGES."""
-    folder = room.folder / "planned"
-    folder.mkdir(exist_ok=True)
-    room.given.add("planned")
-    rows = f"PAGES = {PAGES}\nprint('frames 300')\nfor it in sys.argv[1:]:\n    file = (it.split(':') + ['', ''])[2]\n"
-    texts = {"avrstk": f"#!/bin/sh\n{runs.format(PROGRAM)}\n"}
-    texts["avrstk_session"] = f"#!{PYTHON}\nimport sys\n{rows}    for row in PAGES.get(file, []):\n        print('flash', row)\n"
-    for name, text in texts.items():
-        (folder / name).write_text(text)
-        (folder / name).chmod(0o755)
-    return {"AVRSTK": str(folder / "avrstk")}
 
 
 @lru_cache
@@ -247,20 +238,14 @@ def side_by_side(call, given):
 def flashes(words, **board):
     """Runs these options, with a board's device after -P. Returns the status, the lines of avrstk, whether the chip has
     the firmware, and the script's own lines."""
-    # on a busy machine a run can miss the short time in which a board replies, as on a real one
-    for _ in range(3):
-        it = Board(**board)
-        status, _, told, own = run([word.replace("DEVICE", it.device) for word in words])
-        chip = it.end()
-        if status == 0:
-            break
-    return status, told, chip == flashed(), own
+    it = Board(**board)
+    status, _, told, own = run([word.replace("DEVICE", it.device) for word in words])
+    return status, told, it.end() == flashed(), own
 
 
 def words_of_avrdude():
     """Tests options in AVRDUDE's forms."""
     flashed()
-    room.clear()
     long = "ATmega328P"
     recipe = ["-C/etc/avrdude.conf", "-v", "-patmega328p", "-cwiring", "-PDEVICE", "-b115200", "-Uflash:w:blink.hex:i"]
     room.put("blink.HEX", room.read("blink.hex"))
@@ -273,7 +258,6 @@ def words_of_avrdude():
         *(([f"-p{it}", "-PDEVICE", "-Uflash:w:blink.hex:i"], []) for it in [long, long.lower()]),
         (recipe, ["ignored: -C /etc/avrdude.conf"]),
         ([*FLASH, "-us", "-P", "DEVICE"], ["ignored: -u, -s"]),
-        (["-vp=m328p", "-P=DEVICE", "-b=115200", "-U=blink.hex"], [named]),
         (["--wait", "0", *FLASH, "-P", "DEVICE"], []),
         *(([f"--wait={it}", *FLASH, "-P", "DEVICE"], []) for it in ["2.5", "3"]),
         *(([*FLASH, "-P", "DEVICE", "-b", it], []) for it in ["9600", "1000000"]),
@@ -286,41 +270,18 @@ def words_of_avrdude():
         same(" ".join(words), found, (0, lines(*FIRMWARE), True, own))
 
 
-def speed_and_line():
-    """The device has the speed, eight bits, no parity and one stop bit, and passes every byte."""
-    room.clear()
-    it = Board(deaf=1000)
-    started = start([*FLASH, "-P", it.device, "-b", "250000"])
-    wait_until(lambda: it.heard)
-    same("the speed", speed(it.line), (250_000, 250_000))
-    read, written, control, local, *_ = termios.tcgetattr(it.line)
-    same("bytes that are read are left alone", read, termios.IGNPAR)
-    same("bytes that are written, and the terminal", (written, local), (0, 0))
-    same("8N1", control & (termios.CSIZE | termios.PARENB | termios.CSTOPB | termios.CRTSCTS), termios.CS8)
-    started.send_signal(signal.SIGTERM)
-    started.communicate(timeout=PATIENCE)
-    it.end()
-
-
 def reads():
     """A read goes to standard output, and a write takes standard input."""
-    room.clear()
-    it = Board()
-    status, output, _, own = run(["-p", "m328p", "-P", it.device, "-U", "lfuse:r:-:h"])
-    it.end()
+    status, output, _, own, _ = over(["-p", "m328p", "-U", "lfuse:r:-:h"])
     same("a fuse is read", (status, output, own), (0, b"0xff\n", []))
-    wanted = flashed()
-    room.clear()
-    it = Board()
     with open(TOP / "examples/blink.hex", "rb") as given:
-        status, *_ = run(["-p", "m328p", "-P", it.device, "-U", "flash:w:-:i"], stdin=given)
-    see("flash of standard input", (status, it.end() == wanted) == (0, True), status)
+        status, _, _, own, chip = over(["-p", "m328p", "-U", "flash:w:-:i"], stdin=given)
+    see("flash of standard input", (status, own, chip == flashed()) == (0, [], True), (status, own))
 
 
 def boards_that_reset():
     """Tests a board that is deaf at first, and starts its application soon."""
     flashed()
-    room.clear()
     longer = ["--wait", "1.5", *FLASH, "-P", "DEVICE"]
     for words, deaf, gone in [([*FLASH, "-P", "DEVICE"], 0.25, 1.2), (longer, 1.4, 3.5)]:
         found = flashes(words, deaf=deaf, gone=gone)
@@ -330,21 +291,12 @@ def boards_that_reset():
 def parts():
     """Tests the part file that comes with it."""
     wanted = emulated("-e", part="t85")
-    room.clear()
-    it = Board(part="t85")
-    status, _, _, own = run(["-p", "attiny85", "-P", it.device, "-e"])
-    see("attiny85", (status, own, it.end() == wanted) == (0, [], True), own)
-    room.clear()
+    status, _, _, own, chip = over(["-p", "attiny85", "-e"], {"part": "t85"})
+    see("attiny85", (status, own, chip == wanted) == (0, [], True), own)
     classic = ["--parts", str(TOP / "parts/classic.toml")]
-    it = Board(part="m32u4", words=classic)
-    status, _, _, own = run(["-p", "m32u4", "-P", it.device, "-e"])
-    it.end()
-    same("m32u4", (status, own), (0, []))
-    room.clear()
-    it = Board()
-    status, _, told, own = run(["--parts", "parts.toml", "-p", "atmega32u4", "-P", it.device, "-e"])
-    see("a given part file counts alone", (status, b"no part atmega32u4" in told, it.opened) == (1, True, 0), told)
-    it.end()
+    same("m32u4", over(["-p", "m32u4", "-e"], {"part": "m32u4", "words": classic})[::3][:2], (0, []))
+    status, _, told, own, _ = over(["--parts", "parts.toml", "-p", "atmega32u4", "-e"])
+    see("a given part file counts alone", (status, b"no part atmega32u4" in told, own[0][-len(UNOPENED) :]) == (1, True, UNOPENED), told)
     status, output, told, own = run(["-p", "?"])
     rows = output.decode().splitlines()
     see("-p ? lists the parts", (status, told, own, len(rows)) == (0, b"", [], 74), (status, rows))
@@ -357,6 +309,8 @@ def parts():
     others = [row for row in rows if tuple(row.split()[:3]) not in theirs]
     same("AVRDUDE has each under the same names", others, [])
 
+
+UNOPENED = "nothing was sent, and the device was not opened"
 
 # texts that are no firmware, and updates of images without a byte
 TEXTS = {
@@ -373,8 +327,7 @@ EMPTY = {"end.hex": b":00000001FF\n", "end.srec": b"S0030000FC\nS5030000FC\nS903
 
 def refused():
     """A refused run opens no device, and reports why."""
-    note = "nothing was sent, and the device was not opened"
-    room.clear()
+    note = UNOPENED
     good = room.read("blink.hex")
     room.put("an x.elf", b"\x7fELF\x01\x01\x01")
     room.put("note.hex", b"# a note\n" + good)
@@ -398,7 +351,7 @@ def refused():
         (["--wait"], "option --wait requires argument"),
         (["-z"], "option -z not recognized"),
         (["--serve", "5000"], "--serve is for a programmer without a device"),
-        (["-P", "COM3"], "COM3: there is no such device (Linux calls it /dev/ttyACM0 or /dev/ttyUSB0; -P ? lists"),
+        (["-P", "COM3"], "COM3: there is no such device (Linux calls it /dev/ttyACM0 or /dev/ttyUSB0; -P ? lists w"),
         (["-P", "localhost:5000"], "localhost:5000: there is no such device (a port of a network is -P net:localhost:5000)"),
         (["-P", "net:localhost"], "-P net:localhost: a port of a network is -P net:HOST:PORT"),
         (["-p", "uno"], "-p takes the chip's name, not the board's: m328p for Uno, m2560 for Mega 2560, m32u4"),
@@ -407,9 +360,9 @@ def refused():
         (["-U", "lfuse", "w", "0xE2", "m"], "an update is one word: give -U lfuse:w:0xE2:m"),
         (["-U", "flash:w:blink.hex:hex"], f"a format is one letter: give -U flash:w:blink.hex; {note}"),
         (["--backup", ".", "-e"], "--backup only reads: leave out -U and -e, and use a programmer, not a boot"),
-        (["--backup", "."], f".: File exists: {note}"),
-        (["--backup", ""], f": No such file or directory: {note}"),
-        (["-l", "no/where"], f"no/where: No such file or directory: {note}"),
+        (["--backup", "."], ".: File exists"),
+        (["--backup", ""], ": No such file or directory"),
+        (["-l", "no/where"], "no/where: No such file or directory"),
         (["-l", "./blink.hex", "-U", "flash:w:blink.hex"], f"-l ./blink.hex: that is the file of an update: {note}"),
         (["-P", "usb"], "-P usb is for programmers without a serial device: use avrdude"),
         (["-p", "m9"], f"-p ? lists the parts; others need a part file (--parts); {note}"),
@@ -456,14 +409,12 @@ def refused():
 
 def no_firmware():
     """A text without records and an image without a byte are refused, unless the text's format is given."""
-    room.clear()
     why = {**dict.fromkeys(TEXTS, "is text without records: name its format"), **dict.fromkeys(EMPTY, "is empty (did its build fail?)")}
     for name, content in {**TEXTS, **EMPTY}.items():
         room.put(name, content)
         for update in [f"flash:w:{name}", f"eeprom:v:{name}", f"flash:w:{name}:{'a' if name in TEXTS else 'i'}"]:
             found = run(["-p", "m328p", "-P", "emu:no.bin", "-U", update])
-            wanted = f"{name} {why[name]}: nothing was sent, and the device was not opened"
-            same(update, found, (1, b"", b"", [wanted]))
+            same(update, found, (1, b"", b"", [f"{name} {why[name]}: {UNOPENED}"]))
     status, *_ = run(["-p", "m328p", "-P", "emu:no.bin", "-U", "eeprom:w:m.c:r"])
     same("a text as raw bytes", (status, room.read("no.bin")[32_768:][: len(TEXTS["m.c"])]), (0, TEXTS["m.c"]))
 
@@ -471,7 +422,6 @@ def no_firmware():
 def ports_of_avrstk():
     """One of avrstk's own ports goes to avrstk, with the script's options adapted. -c ? lists the programmers."""
     wanted = flashed()
-    room.clear()
     words = ["-C", "x.conf", "-c", "wiring", "-b", "9600", "-p", "atmega328p", "-U", "blink.hex"]
     notes = ["ignored: -C x.conf", "blink.hex is read as Intel HEX (:i)"]
     status, _, told, own = run([*words, "-P", "emu:chip.bin"])
@@ -481,14 +431,12 @@ def ports_of_avrstk():
         server.end()
     same("net:", (status, told, own, room.read("served.bin") == wanted), (0, lines(*FIRMWARE), notes, True))
     status, output, told, own = run(["-c", "?"])
-    names = [row.split()[0] for row in output.decode().splitlines()]
-    same("-c ?", (status, told, own, names), (0, b"", [], ["avrispv2", "stk500", "stk500v2", "wiring"]))
+    same("-c ?", (status, told, own, output.split()), (0, b"", [], [b"avrispv2", b"stk500", b"stk500v2", b"wiring"]))
 
 
 def devices():
     """Tests devices that don't exist, or can't be used."""
-    line, slave = pty.openpty()
-    device = os.ttyname(slave)
+    line, device = terminal()
     here = str(room.folder)
     for words, wanted in [
         (["-P", "/dev/no such device"], "/dev/no such device: there is no such device (is the cable in?)"),
@@ -509,156 +457,117 @@ def devices():
         ran = run_as_anyone([*FLASH, "-P", device], shutil.which("true"))
         wanted = f"{device}: you may not read and write it {wanted if os.geteuid() == 0 else belongs}"
         see(f"no right to it, of group {group}, mode {mode:o}", wanted.encode() in ran.stderr, ran.stderr)
-    os.close(slave)
-    os.close(line)
+    os.chmod(device, 0o666)
     with tempfile.TemporaryDirectory(dir="/tmp") as folder:
         os.chmod(folder, 0o755)
         closed = Path(folder, "closed.hex")
         closed.write_bytes(b"x")
         closed.chmod(0)
         error = f"sys.stderr.write('avrstk: error: {closed}: cannot be opened\\n')\nsys.exit(1)\n"
-        line, device = terminal()
-        os.chmod(device, 0o666)
         program = stand_in(error, Path(folder))["AVRSTK"]
         ran = run_as_anyone(["-p", "m328p", "-P", device, "-U", f"flash:w:{closed}:i"], program)
         see("no right to a file", b"avrstk-serial: you may not read it; nothing was sent" in ran.stderr, ran.stderr)
-        os.close(line)
+    os.close(line)
 
 
 def what_is_missing():
-    """Tests its messages if something is missing."""
-    line, slave = pty.openpty()
-    device = os.ttyname(slave)
-    status, _, _, own = run(["-p", "m328p", "-P", device], env={"AVRSTK": "/nowhere/avrstk"})
-    see("no avrstk", status == 1 and own[0].startswith("/nowhere/avrstk is not there, or can't be run"), own)
-    alone = room.folder / "alone"
-    (alone / "bin").mkdir(parents=True)
-    (alone / "lib/avrstk").mkdir(parents=True)
-    shutil.copy(SCRIPT, alone / "bin")
-    # (a link to the script finds the module too)
-    (alone / "avrstk-serial").symlink_to("bin/avrstk-serial")
-    words = [sys.executable, str(alone / "avrstk-serial"), "-p", "atmega328p", "-P", device]
-    for wanted in ["avrstk_common.py is not there", "atmega328p: the part file classic.toml is not there"]:
-        ran = subprocess.run(words, capture_output=True, text=True, env=os.environ | {"AVRSTK": str(PROGRAM)})
-        see(wanted, ran.returncode == 1 and ran.stderr.startswith(f"avrstk-serial: {wanted}"), ran.stderr)
-        shutil.copy(SHARED, alone / "lib/avrstk")
-    same("no file is written", sorted(it.name for it in alone.rglob("*.pyc")), [])
-    shutil.rmtree(alone)
-    os.close(slave)
+    """It says what is missing. If no program is named, it runs the one beside it. (tests/build.py has that of a clone.)"""
+    needed = "is not there, or can't be run: avrstk is needed beside this script, or named by AVRSTK"
+    line, device = terminal()
+    same("no avrstk", run([*FLASH, "-P", device], env={"AVRSTK": "/nowhere/it"})[::3], (1, [f"/nowhere/it {needed}"]))
     os.close(line)
+    environment = {name: value for name, value in os.environ.items() if name != "AVRSTK"}
+    with tempfile.TemporaryDirectory() as folder:
+        front, link = Path(folder, "bin/avrstk"), Path(folder, "a link")
+        front.parent.mkdir()
+        shutil.copy(SCRIPT, front.parent)
+        # (a link to the script finds all, too)
+        link.symlink_to("bin/avrstk-serial")
+
+        def ran(*words, part="m328p"):
+            command = [sys.executable, str(link), *words, "-p", part, "-P", "emu:x"]
+            it = subprocess.run(command, capture_output=True, text=True, env=environment, timeout=PATIENCE)
+            return it.returncode, it.stdout, it.stderr
+
+        modules = "avrstk_serial is not there: its modules are in lib/avrstk, here or beside this folder"
+        same("no modules", ran(), (1, "", f"avrstk-serial: {modules}\n"))
+        shutil.copytree(SHARED, Path(folder, "lib"))
+        same("no program", ran(), (1, "", f"avrstk-serial: {front} {needed}\n"))
+        front.write_text("#!/bin/sh\necho $0 $1\n")
+        front.chmod(0o755)
+        same("the one beside it", ran(), (0, f"{front} -P\n", ""))
+        same("--unproved", ran("--unproved"), (0, f"{front} --unproved\n", ""))
+        no_file = "the part file classic.toml is not there (install.sh puts it under share/avrstk)"
+        same("no part file", ran(part="atmega328p"), (1, "", f"avrstk-serial: atmega328p: {no_file}\n"))
+        same("no file is written", [*Path(folder).rglob("*.pyc")], [])
     # (2: Python keeps no docstrings)
-    for word, level in [("--help", "0"), ("-h", "0"), ("-?", "0"), ("--help", "2")]:
-        status, output, told, own = run([word], env={"PYTHONOPTIMIZE": level})
-        see(f"{word}, {level}", (status, told, own) == (0, b"", []) and output.startswith(b"Runs avrstk with a programmer"), output)
+    for words, level in [([], "0"), (["--help"], "0"), (["-h"], "0"), (["-?"], "0"), (["--help"], "2")]:
+        status, output, told, own = run(words, env={"PYTHONOPTIMIZE": level})
+        begins = output.startswith(b"Runs avrstk with a programmer")
+        same(f"{words}, {level}", (status, told, own, begins), (0, b"", [], True))
 
 
 def failing(cases):
     """Makes runs that fail. Each has a name, options, a part of its one hint, a line of avrstk, and a board. Returns the
     chips."""
-    room.clear()
-    room.put("mine.toml", (TOP / "parts/classic.toml").read_bytes())
-
     def ran(case):
         _, words, _, _, board = case
         it, begun = Board(**board), time.monotonic()
         status, _, others, own = run([*words, "-P", it.device])
         return status, others, own, it.end(), time.monotonic() - begun
 
-    def is_right(case, found):
-        (_, _, wanted, told, _), (status, others, own, _, _) = case, found
-        return (status, len(own)) == (1, 1) and wanted in own[0] and told.encode() in others
-
-    chips = []
-    for case, found in zip(cases, side_by_side(ran, cases)):
-        # (on a busy machine a reply can come too late: such a run is made again, alone)
-        for _ in range(2):
-            found = found if is_right(case, found) else ran(case)
-        name, _, wanted, told, _ = case
-        see(f"{name}: it ends by itself soon", found[4] < 40, found[4])
-        see(f"{name}: {wanted}: {told}", is_right(case, found), found[:3])
-        chips.append(found[3])
-    return chips
+    found = side_by_side(ran, cases)
+    for (name, _, wanted, told, _), (status, others, own, _, seconds) in zip(cases, found):
+        see(f"{name}: it ends by itself soon", seconds < 40, seconds)
+        is_right = (status, len(own)) == (1, 1) and wanted in own[0] and told.encode() in others
+        see(f"{name}: {wanted}: {told}", is_right, (status, others, own))
+    return [it[3] for it in found]
 
 
-# runs a script, and prints each request that sets or clears lines of a modem
-PULSES = """
-import fcntl, runpy, sys, termios, time
-sys.argv[:1] = []
-do, begun = fcntl.ioctl, time.monotonic()
-def ioctl(device, request, *given):
-    if request in (termios.TIOCMBIC, termios.TIOCMBIS):
-        print(request == termios.TIOCMBIS, given[0][0], time.monotonic(), flush=True)
-        raise OSError({fault}, "")
-    return do(device, request, *given)
-fcntl.ioctl = ioctl
-runpy.run_path(sys.argv[0], run_name="__main__")
-"""
-
-
-# runs a script with a device whose speed is 9600
-SLOW = """
-import fcntl, runpy, sys
-sys.argv[:1] = []
-do = fcntl.ioctl
-def ioctl(device, request, *given):
-    found = do(device, request, *given)
-    return found[:40] + (9600).to_bytes(4, sys.byteorder) if request == 0x802C542A else found
-fcntl.ioctl = ioctl
-runpy.run_path(sys.argv[0], run_name="__main__")
-"""
+def patched(text, words):
+    """Runs the script with `ioctl` replaced by this text. Returns the status, the output and the last line."""
+    begin = "import fcntl, runpy, sys, termios, time\nsys.argv[:1] = []\ndo = fcntl.ioctl\n"
+    end = "fcntl.ioctl = ioctl\nrunpy.run_path(sys.argv[0], run_name='__main__')\n"
+    how = {"env": os.environ | {"AVRSTK": str(PROGRAM)}, "capture_output": True, "text": True, "timeout": PATIENCE}
+    command = [sys.executable, "-c", f"{begin}def ioctl(device, request, *given):\n{text}\n{end}", str(SCRIPT), *words]
+    ran = subprocess.run(command, cwd=room.folder, **how)
+    return ran.returncode, ran.stdout, ran.stderr.splitlines()[-1]
 
 
 def speeds_that_a_device_has_not():
-    """A device that keeps another speed is refused. One that is a little off is not."""
-    room.clear()
-
-    def ran(device, baud):
-        words = ["-c", SLOW, str(SCRIPT), "-p", "m328p", "-P", device, "-b", baud]
-        how = {"env": os.environ | {"AVRSTK": str(PROGRAM)}, "capture_output": True, "text": True, "timeout": PATIENCE}
-        found = subprocess.run([sys.executable, *words], **how)
-        return found.returncode, found.stderr.splitlines()[-1]
-
-    line, device = terminal()
-    wanted = f"avrstk-serial: {device}: cannot be set to 115200 baud: it takes 9600"
-    same("another speed", ran(device, "115200"), (1, wanted))
-    os.close(line)
-    it = Board()
-    same("a little off", ran(it.device, "9500"), (0, "avrstk: done"))
-    it.end()
+    """A device that keeps another speed, here 9600, is refused. One that is a little off is not."""
+    slow = "    found = do(device, request, *given)\n"
+    slow += "    return found[:40] + (9600).to_bytes(4, sys.byteorder) if request == 0x802C542A else found"
+    for baud, end in [("115200", "avrstk-serial: {}: cannot be set to 115200 baud: it takes 9600"), ("9500", "avrstk: done")]:
+        it = Board()
+        found = patched(slow, ["-p", "m328p", "-P", it.device, "-b", baud])
+        same(f"{baud} at 9600", found, (int(baud != "9500"), "", end.format(it.device)))
+        it.end()
 
 
 def lines_of_a_board():
-    """With -c wiring DTR and RTS are released, and after 50 ms asserted, as AVRDUDE does. Other programmers are not reset."""
-    room.clear()
-    for words, fault, wanted in [
-        (["-c", "wiring"], "25", 2),
-        (["-cWiring"], "22", 2),
-        (["-c", "wiring"], "5", 1),
-        ([], "25", 0),
-        (["-c", "stk500"], "25", 0),
-    ]:
+    """With -c wiring DTR and RTS are released, and after 50 ms asserted, as AVRDUDE does. Others are not reset."""
+    noted = "    if request in (termios.TIOCMBIC, termios.TIOCMBIS):\n"
+    noted += "        print(request == termios.TIOCMBIS, given[0][0], time.monotonic(), flush=True)\n"
+    noted += "        raise OSError({fault}, '')\n    return do(device, request, *given)"
+    both = termios.TIOCM_DTR | termios.TIOCM_RTS
+    for words, fault, wanted in [(["-c", "wiring"], 25, 2), (["-cWiring"], 22, 2), ([], 25, 0), (["-c", "stk500"], 25, 0)]:
         it = Board()
-        script = ["-c", PULSES.replace("{fault}", fault), str(SCRIPT), "-p", "m328p", "-P", it.device, *words]
-        how = {"env": os.environ | {"AVRSTK": str(PROGRAM)}, "capture_output": True, "timeout": PATIENCE}
-        ran = subprocess.run([sys.executable, *script], cwd=room.folder, **how)
+        status, output, _ = patched(noted.format(fault=fault), ["-p", "m328p", "-P", it.device, *words])
         it.end()
-        pulses = [row.split() for row in ran.stdout.decode().splitlines()]
-        same(f"{words} {fault}: the status", ran.returncode, int(fault == "5"))
-        lines_set = [(asserts, int(given)) for asserts, given, _ in pulses]
-        both = termios.TIOCM_DTR | termios.TIOCM_RTS
-        same(f"{words} {fault}: the lines", lines_set, [("False", both), ("True", both)][:wanted])
-        see(f"{words} {fault}: 50 ms", wanted < 2 or float(pulses[1][2]) - float(pulses[0][2]) >= 0.05, pulses)
+        pulses = [row.split() for row in output.splitlines()]
+        same(f"{words}: the status", status, 0)
+        same(f"{words}: the lines", [row[:2] for row in pulses], [["False", f"{both}"], ["True", f"{both}"]][:wanted])
+        see(f"{words}: 50 ms", wanted < 2 or float(pulses[1][2]) - float(pulses[0][2]) >= 0.05, pulses)
 
 
 def bits_that_do_not_exist():
     """Bits of a fuse or the lock that the part doesn't have are named before anything is sent, and given as 1."""
-    room.clear()
     note = "of atmega328p has no bits"
     recipe = ["-e", "-Ulock:w:0x3F:m", "-Uefuse:w: 0X05,:m", "-Uhfuse:w:0xDE:m", "-Ulfuse:w:255:m"]
     shown = [f"lock {note} 6, 7; given as 1: lock:w:0xFF:m", f"efuse {note} 3, 4, 5, 6, 7; given as 1: efuse:w:0xFD:m"]
-    it = Board()
-    status, _, _, own = run(["-patmega328p", "-P", it.device, *recipe])
-    same("a recipe of the Arduino IDE", (status, own, it.end()[-4:].hex()), (0, shown, "ffdefdff"))
+    status, _, _, own, chip = over(["-patmega328p", *recipe])
+    same("a recipe of the Arduino IDE", (status, own, chip[-4:].hex()), (0, shown, "ffdefdff"))
     status, _, _, own = run(["-patmega328p", "-P", "emu:chip.bin", *recipe, "-Uefuse:v:0B101:m"])
     shown.append(f"efuse {note} 3, 4, 5, 6, 7; given as 1: efuse:v:0xFD:m")
     same("the same over emu:", (status, own, room.read("chip.bin")[-4:].hex()), (0, shown, "ffdefdff"))
@@ -670,14 +579,10 @@ def bits_that_do_not_exist():
 
 
 def lists():
-    """Tests -P ? and --version: the build's stamp says what the program is."""
-    status, output, told, own = run(["-P", "?"])
-    found = [row.split()[0] for row in output.decode().splitlines()]
+    """Tests -P ? (tests/serve.py has --version)."""
     here = sorted(str(it) for kind in ("ACM", "USB") for it in Path("/dev").glob(f"tty{kind}*"))
-    same("-P ?", (status, told, own, found), (0, b"", [], here or ["there"]))
-    version = (TOP / "VERSION").read_text().strip()
-    status, output, told, own = run(["--version"])
-    see("--version", (status, told, own) == (0, b"", []) and re.match(rf"avrstk {version}\n(not known|(un)?proved\ncommit: )", output.decode()), output)
+    wanted = "\n".join(here) or "there is none here now"
+    same("-P ?", run(["-P", "?"]), (0, f"{wanted}\n".encode(), b"", []))
 
 
 class Boards:
@@ -687,7 +592,6 @@ class Boards:
         self.chip, self.each, self.device = f"served{next(boards)}.bin", each, room.folder / f"device{next(boards)}"
         self.ends = terminal()
         self.device.symlink_to(self.ends[1])
-        self.count = 0
         self.thread = threading.Thread(target=self.live, daemon=True)
         self.thread.start()
 
@@ -696,7 +600,6 @@ class Boards:
             it = Board(chip=self.chip, ends=self.ends, **board)
             it.thread.join(PATIENCE)
             it.server.end()
-            self.count += 1
             if it.vanish is not None:
                 self.device.unlink()
                 time.sleep(0.5)
@@ -718,7 +621,6 @@ def silent(command):
 def retries():
     """With --retry the same command is given again after no answer, a lost link or a mismatch."""
     wanted = flashed()
-    room.clear()
     again = lambda error, *numbers: [f"{error}: the same command again, {it} of 2" for it in numbers]
     wrong = {"answer": lambda it: changes(0x14, bytes([0x14, 0, *bytes(256), 0]))(it) if it[2:4] == b"\1\3" else it}
     compared = "flash: address 00000000: 0C expected, 00 found"
@@ -751,19 +653,19 @@ def retries():
 
 def retries_that_are_refused():
     """--retry is refused at the beginning for a command that a second run may not heal."""
-    flashed()
-    room.clear()
-    text = room.read("blink.hex")
     room.put("late.hex", hex_of([(0x4000, b"late")]))
     os.mkfifo(room.folder / "pipe")
     line, device = terminal()
-    fails = planned("exit 1")
+    fails = stand_in("sys.exit(1)\n")
 
     def ran(*words):
         status, _, _, own = run(["-p", "m328p", "-P", device, "--retry", "1", *words], env=fails)
         return status, own[0].partition("may not heal this one: ")[2]
 
     whole, kept = ["-U", "flash:w:blink.hex:i"], "a second one may erase EEPROM that this one keeps"
+    same("--retry without avrstk_session", ran(*whole, "-U", "flash:w:late.hex:i"), (1, "it writes a page of flash twice"))
+    # (what prints the pages of a plan is beside avrstk)
+    (room.folder / "avrstk_session").symlink_to(SESSION)
     for words, why in [
         (["-U", "lfuse:v:0xE2:m"], "it compares lfuse, which it didn't write before"),
         (["-U", "flash:v:blink.hex:i", *whole], "it compares flash, which it didn't write before"),
@@ -789,8 +691,6 @@ def retries_that_are_refused():
         ([*whole, "-D", "-U", "hfuse:w:0xD9:m"], ""),
     ]:
         same(f"--retry {words}", ran(*words), (1, why))
-    fails = stand_in("sys.exit(1)\n")
-    same("--retry without avrstk_session", ran(*whole, "-U", "flash:w:late.hex:i"), (1, "it writes a page of flash twice"))
     for text in ["-1", "x", "100", "\u0663"]:
         status, _, _, own = run([*FLASH, "-P", device, f"--retry={text}"])
         same(f"--retry {text}", (status, own), (1, [f"--retry {text}: not a number from 0 to 99"]))
@@ -800,7 +700,6 @@ def retries_that_are_refused():
 def the_part_of_the_chip():
     """-p auto reads the signature first, and takes the one part that has it."""
     wanted = flashed()
-    room.clear()
     words = ["-p", "auto", "-U", "flash:w:blink.hex:i", "-U", "lock:w:0x3F:m"]
     it = Boards(silent(0x1B), {}, {})
     status, _, told, own = run([*words, "--retry", "1", "-P", str(it.device)])
@@ -818,38 +717,12 @@ def the_part_of_the_chip():
         (given, f"-p auto: the chip has the signature 1E 93 0F, which {two}"),
         (silent(0x01), "no reply; the chip is unchanged. Check: the speed"),
     ]:
-        it = Boards(board)
-        status, _, told, own = run([*words, "-P", str(it.device)])
+        status, _, told, own, chip = over(words, board)
         see(hint, (status, len(own)) == (1, 1) and own[0].startswith(hint), (status, told, own))
-        chip = it.end()
         see(f"{hint}: the chip", set(chip) == {0xFF}, chip[-4:])
     for more in [["-P", "emu:chip.bin"], ["--parts", classic[1], "-P", os.devnull]]:
         status, _, told, own = run([*words, *more])
         see(f"{more}", (status, told) == (1, b"") and own[-1].startswith("-p auto is for a device"), own)
-
-
-def programs():
-    """If no program is named, it runs the one beside it. (tests/build.py has what ./avrstk of a clone runs.)"""
-    room.clear()
-    folder = room.folder / "beside"
-    folder.mkdir()
-    front = folder / "avrstk"
-    for it in [SCRIPT, SHARED]:
-        shutil.copy(it, folder)
-    environment = {name: value for name, value in os.environ.items() if name != "AVRSTK"}
-
-    def ran(*words):
-        command = [sys.executable, str(folder / "avrstk-serial"), *words, "-p", "m328p", "-P", "emu:x"]
-        it = subprocess.run(command, capture_output=True, text=True, env=environment, timeout=PATIENCE)
-        return it.returncode, it.stdout, it.stderr
-
-    needed = "avrstk is needed beside this script, or named by AVRSTK"
-    same("nothing", ran(), (1, "", f"avrstk-serial: {front} is not there, or can't be run: {needed}\n"))
-    front.write_text("#!/bin/sh\necho $0 $1\n")
-    front.chmod(0o755)
-    same("the one beside it", ran(), (0, f"{front} -P\n", ""))
-    same("--unproved", ran("--unproved"), (0, f"{front} --unproved\n", ""))
-    shutil.rmtree(folder)
 
 
 def screen(text):
@@ -865,8 +738,12 @@ def screen(text):
     return [row.rstrip() for row in rows]
 
 
+def frames_in(heard):
+    return 1 + frames_in(heard[frame_size(heard) :]) if heard else 0
+
+
 def on_a_terminal(words, answer=None, **more):
-    """Returns a terminal's text if it is standard error, and the status."""
+    """Returns a terminal's text if it is standard error, the status, and what the board has heard."""
     it = Board(answer=answer)
     line, slave = pty.openpty()
     started = start([*words, "-P", it.device], stderr=slave, **more)
@@ -877,13 +754,11 @@ def on_a_terminal(words, answer=None, **more):
     kills.cancel()
     it.end()
     os.close(line)
-    return got.decode(), started.wait(PATIENCE)
+    return got.decode(), started.wait(PATIENCE), it.heard
 
 
 def progress():
     """Only a terminal shows progress, and the message lines stay as they are."""
-    flashed()
-    room.clear()
     rows = [it.decode() for it in lines(*FIRMWARE).splitlines()]
 
     def slow(answer):
@@ -891,42 +766,26 @@ def progress():
         return answer
 
     read = itertools.count()
-    got, status = on_a_terminal(FLASH, slow, env=planned())
+    got, status, heard = on_a_terminal([*FLASH, "--wait", "0"], slow)
+    count = frames_in(heard)
     same("the lines that stay", (status, screen(got)), (0, [*rows, ""]))
     # (six frames come before the first page, and two are for each)
-    for text in ["writing flash: 128 bytes, 2 %", "writing flash: 256 bytes, 3 %", "reading flash: 256 bytes, 4 %"]:
-        see(text, f"\ravrstk-serial: {text}" in got, got)
-    left = re.search(r"\ravrstk-serial: reading flash: 1,\d+ bytes, \d %, (\d+) s left", got)
-    see("the time that is left", left and int(left[1]) > 20, got)
+    for text, sent in [("writing flash: 128 bytes", 8), ("writing flash: 256 bytes", 10), ("reading flash: 256 bytes", 12)]:
+        see(text, f"\ravrstk-serial: {text}, {100 * sent // count} %" in got, (count, got))
+    left = re.search(r"\ravrstk-serial: reading flash: 1,\d+ bytes, \d+ %, (\d+) s left", got)
+    see("the time that is left", left and int(left[1]) > 5, got)
     names = lambda: re.findall(r"\ravrstk-serial: (\w+ \w+)", got)
     updates = ["flash:r:back.hex:i", "eeprom:w:whole.bin:r", "flash:w:blink.hex", "eeprom:r:back.bin"]
-    got, status = on_a_terminal(["-p", "m328p", *(word for it in updates for word in ("-U", it))])
+    got, status, _ = on_a_terminal(["-p", "m328p", *(word for it in updates for word in ("-U", it))])
     wanted = ["reading flash", "writing eeprom", "reading eeprom", "reading flash", "writing flash"]
     same("each has its name", (status, set(names())), (0, set(wanted)))
-    got, status = on_a_terminal([*FLASH, "-q"])
+    got, status, _ = on_a_terminal([*FLASH, "-q"])
     same("-q", (status, got), (0, ""))
-
-
-def plans():
-    """avrstk_session prints the frames that a run sends, and the pages that it writes."""
-    flashed()
-    room.clear()
-    session = next((it for it in [PROGRAM.parent, PROGRAM.parents[2] / "avrstk_session/out"] if (it / "avrstk_session").exists()))
-    command = [session / "avrstk_session", "-P", "stdio:", *FLASH]
-    found = subprocess.run(command, cwd=room.folder, capture_output=True, text=True, stdin=subprocess.DEVNULL)
-    it = Board()
-    run([*FLASH, "-P", it.device, "--wait", "0"])
-    it.end()
-    count = at = 0
-    while at < len(it.heard):
-        at, count = at + 6 + int.from_bytes(it.heard[at + 2 : at + 4], "big"), count + 1
-    same("the plan", found.stdout.splitlines(), [f"frames {count}", *(f"flash {row}" for row in PAGES["blink.hex"])])
 
 
 def few_lines():
     """-q twice prints errors alone, and -l keeps all lines in a file, over a device and over a port of avrstk."""
     flashed()
-    room.clear()
     quiet = ["-C", "x.conf", "-q", "-q", "-p", "auto", "--retry", "1", "-U", "blink.hex", "-U", "efuse:w:5:m", "-U", "lfuse:w:0:m"]
     it = Boards({}, silent(0x13), {})
     same("-q twice", run([*quiet, "-P", str(it.device)])[::3], (0, []))
@@ -941,14 +800,11 @@ def few_lines():
 
 def backups():
     """--backup reads six memories, and prints the command that restores them into another chip."""
-    room.clear()
     old = bytes(it % 241 for it in range(700)).ljust(32_768, b"\xff") + bytes(it % 239 for it in range(1024))
     for fuses in ["E2D1FDFF", "62D907FE", "E2D1FDFC"]:
         room.put("old.bin", old + bytes.fromhex(fuses))
         shutil.rmtree(room.folder / "a backup", ignore_errors=True)
-        it = Board(chip="old.bin")
-        status, output, _, own = run(["-p", "auto" if fuses == "x" else "m328p", "-P", it.device, "--backup", "a backup"])
-        it.end()
+        status, output, _, own, _ = over(["-p", "m328p", "--backup", "a backup"], {"chip": "old.bin"})
         if fuses[-2:] == "FC":
             wanted = ["the chip is locked, so flash and EEPROM can't be read: this is no backup of them"]
             same("a locked chip", (status, output, own), (1, b"", wanted))
@@ -968,7 +824,6 @@ def backups():
 def warnings():
     """Fuses that can make a chip unreachable are warned of before the device is opened (bits by the data sheets), and an
     image that leaves out a bootloader's pages."""
-    room.clear()
     out = lambda update, what: f"warning: {update} turns {what}: no ISP programmer reaches the chip then"
     reset = "the reset pin off (RSTDISBL)"
     for part, update, wanted in [
@@ -994,28 +849,25 @@ def warnings():
     ]:
         room.put("gap.hex", hex_of([(0, b"x"), (256, b"x")]))
         room.put("late.hex", hex_of([(0x4000, b"late")]))
-        own = run(["-p", "m328p", "-P", "emu:no.bin", "-U", f"flash:w:{file}:i", *words], env=planned())[3]
+        own = run(["-p", "m328p", "-P", "emu:no.bin", "-U", f"flash:w:{file}:i", *words])[3]
         see(f"{file} {words}", bool(own) == is_warned and all(it.startswith(leaves_out) for it in own), own)
 
 
 def images_that_are_read_once():
     """An image may be a pipe, which only avrstk opens, and once. Only the port is replaced on the command line."""
     wanted, text = flashed(), room.read("blink.hex")
-    room.clear()
     os.mkfifo(room.folder / "pipe")
     writer = threading.Thread(target=lambda: room.put("pipe", text), daemon=True)
     writer.start()
-    got, status = on_a_terminal(["-p", "m328p", "-U", "flash:w:pipe:i"])
+    got, status, _ = on_a_terminal(["-p", "m328p", "-U", "flash:w:pipe:i"])
     rows = [it.decode() for it in lines(*FIRMWARE).splitlines()]
     same("a named pipe", (status, screen(got)), (0, [*rows, ""]))
     reader, writer = os.pipe()
     os.write(writer, text)
     os.close(writer)
-    it = Board()
-    words = ["-p", "m328p", "-U", f"flash:w:/dev/fd/{reader}:i", "-P", it.device]
-    status, _, told, own = run(words, pass_fds=[reader])
+    status, _, told, own, chip = over(["-p", "m328p", "-U", f"flash:w:/dev/fd/{reader}:i"], pass_fds=[reader])
     os.close(reader)
-    same("a shell's pipe", (status, told, own, it.end() == wanted), (0, lines(*FIRMWARE), [], True))
+    same("a shell's pipe", (status, told, own, chip == wanted), (0, lines(*FIRMWARE), [], True))
     room.put("net:", text)
     line, device = terminal()
     told = "sys.stderr.write('avrstk: error: ' + ' '.join(sys.argv[1:]).replace(str(port), 'PORT') + '\\n')\nsys.exit(1)\n"
@@ -1025,16 +877,6 @@ def images_that_are_read_once():
     for word in ["--wait=\u0663", "-b\u0661\u0662\u0660\u0660"]:
         status, _, told, own = run([*FLASH, "-P", device, word])
         see(f"{word}: other digits", (status, told) == (1, b"") and ": not a " in own[0], (told, own))
-
-
-def a_child_that_is_not_waited_for():
-    """The status is avrstk's, also if SIGCHLD is ignored at the start, as some daemons leave it."""
-    line, device = terminal()
-    fails = stand_in("sys.stderr.write('avrstk: error: no answer\\n')\nsys.exit(1)\n")
-    ignores = lambda: signal.signal(signal.SIGCHLD, signal.SIG_IGN)
-    status, _, told, own = run([*FLASH, "-P", device], env=fails, preexec_fn=ignores)
-    same("its status and hint", (status, told, len(own)), (1, b"avrstk: error: no answer\n", 1))
-    os.close(line)
 
 
 def changes(command, body):
@@ -1074,14 +916,9 @@ def hints():
     ]
     chips = failing(cases)
     same("the chip of the silent one", chips[0], b"\xff" * 33_796)
-    it = Board()
-    shell = ["sh", "-c", 'exec "$0" "$@" >&-', sys.executable, str(SCRIPT), *reading, "lfuse:r:-:h", "-P", it.device]
-    how = {"cwd": room.folder, "env": os.environ | {"AVRSTK": str(PROGRAM)}, "capture_output": True, "text": True}
-    ran = subprocess.run(shell, **how, timeout=PATIENCE)
-    last = ran.stderr.splitlines()[-1]
-    it.end()
-    wanted = f"avrstk-serial: standard output is closed or full; {stays}"
-    same("a closed output", (ran.returncode, "-: cannot be written" in ran.stderr, last), (1, True, wanted))
+    status, _, told, own, _ = over([*reading, "lfuse:r:-:h"], closed=">&-")
+    wanted = [f"standard output is closed or full; {stays}"]
+    same("a closed output", (status, b"-: cannot be written" in told, own), (1, True, wanted))
 
 
 def hex_of(runs):
@@ -1150,7 +987,6 @@ def elf_files():
     """Each memory gets from an ELF file what avr-objcopy takes from it, over a device and avrstk's own ports alike."""
     if not shutil.which("avr-gcc"):
         return leave_out("ELF", "avr-gcc is not installed")
-    room.clear()
     linked("main.elf", ELF)
     others = [it for name in ["eeprom", "fuse", "lock", "signature"] for it in ("-R", f".{name}")]
     take = lambda *words: subprocess.run(["avr-objcopy", "-O", "binary", *words], cwd=room.folder, check=True)
@@ -1184,16 +1020,11 @@ def elf_files():
         ("flash:w:cut.elf", "cut.elf is damaged, or no linked ELF file for AVR"),
     ]:
         _, _, told, own = run(["-p", "m328p", "-P", "emu:no.bin", "-U", text])
-        same(text, (told, own), (b"", [f"{why}: nothing was sent, and the device was not opened"]))
-    room.put("both.hex", good_and(0x810000, b"eeprom"))
-    for memory, at in [("flash", 0), ("eeprom", 32_768)]:
-        wanted_there = lambda chip: (flash if at == 0 else eeprom) + chip[len(flash if at == 0 else eeprom) :]
-        walk(memory, ["-p", "m328p", "-U", f"{memory}:w:both.hex"], lambda chip: chip[:at] + wanted_there(chip[at:]))
-
-
-def good_and(at, more):
-    """Returns a firmware with these bytes of another memory, as Intel HEX."""
-    return b"".join((TOP / "examples/blink.hex").read_bytes().splitlines(True)[:-1]) + hex_of([(at, more)])
+        same(text, (told, own), (b"", [f"{why}: {UNOPENED}"]))
+    room.put("both.hex", b"".join(room.read("blink.hex").splitlines(True)[:-1]) + hex_of([(0x810000, b"eeprom")]))
+    for memory, at, held in [("flash", 0, flash), ("eeprom", 32_768, eeprom)]:
+        there = lambda chip: chip[:at] + held + chip[at + len(held) :]
+        walk(memory, ["-p", "m328p", "-U", f"{memory}:w:both.hex"], there)
 
 
 # What a reader does after a hint: the words that he finds in it, and the next command with the files of its case. After a
@@ -1266,7 +1097,6 @@ def without_bits(answer):
 def hints_over_each_memory():
     """Hints over each memory, kind of board and kind of part file end at the wanted bytes, or no run ends well."""
     image = flashed()[:228]
-    room.clear()
     room.put("mine.toml", (TOP / "parts/classic.toml").read_bytes())
     room.put("mega.hex", hex_of([(0, bytes(300))]))
     # (the updates, the place in the chip's file, the wanted bytes, and the bits that the part has)
@@ -1312,7 +1142,6 @@ def hints_over_each_memory():
 def hints_that_are_followed():
     """Follows each hint as typed until a run ends well. It never ends with status 0 and another image in the chip."""
     firmware, good = flashed(), room.read("blink.hex")
-    room.clear()
     image = bytes(it % 251 for it in range(700))
     old = bytes(it % 241 for it in range(32_768))
     rows = good.splitlines(True)
@@ -1368,7 +1197,6 @@ def signals():
         (signal.SIGTERM, 0x13, "ended by SIGTERM: the chip is erased or partly written"),
         (signal.SIGHUP, 0x13, "ended by SIGHUP: the chip is erased or partly written"),
     ]:
-        room.clear()
         reached = threading.Event()
 
         def held(answer):
@@ -1392,18 +1220,16 @@ def signals():
 
 def cut_lines():
     """If a signal cuts a line of avrstk, the script ends that line before its own."""
-    room.clear()
     halts = room.folder / "halts"
     halts.write_text("#!/bin/sh\nprintf 'avrstk: error: ' >&2\n: >told\nexec sleep 60\n")
     halts.chmod(0o700)
-    line, slave = pty.openpty()
-    started = start([*FLASH, "-P", os.ttyname(slave)], env={"AVRSTK": str(halts)})
+    line, device = terminal()
+    started = start([*FLASH, "-P", device], env={"AVRSTK": str(halts)})
     wait_until((room.folder / "told").exists)
     started.send_signal(signal.SIGHUP)
     _, told = started.communicate(timeout=PATIENCE)
     wanted = ["avrstk: error: ", "avrstk-serial: ended by SIGHUP: nothing was sent: the chip is unchanged"]
     same("a line that is cut", (started.returncode, told.decode().splitlines()), (1, wanted))
-    os.close(slave)
     os.close(line)
 
 
@@ -1412,29 +1238,26 @@ CALLS = "line = socket.create_connection(('127.0.0.1', port))\nline.sendall(b'x'
 
 
 def echo(line):
-    """Sends back one byte once the device is opened. The returned list gets the speed at that time."""
-    speeds = []
+    """Sends back one byte once the device is opened. The returned list gets its speed and its settings at that time."""
+    found = []
 
     def live():
         wait_until(lambda: is_open(line))
         heard = os.read(line, 1)
-        speeds.append(speed(line))
+        found.extend([speed(line), termios.tcgetattr(line)[:4]])
         os.write(line, heard)
 
     threading.Thread(target=live, daemon=True).start()
-    return speeds
+    return found
 
 
 def closed_streams():
     """Messages never go to the board. If they can't be printed, the run goes on to its end."""
     wanted = flashed()
-    room.clear()
     for closed in ["2>&-", "0<&- 2>&-", "1>&- 2>&-", "2>/dev/full"]:
         it = Board()
-        words = [sys.executable, str(SCRIPT), *FLASH, "-P", it.device]
-        shell = ["sh", "-c", f'exec "$0" "$@" {closed}', *words]
-        ran = subprocess.run(shell, cwd=room.folder, env=os.environ | {"AVRSTK": str(PROGRAM)}, timeout=PATIENCE)
-        same(f"{closed}: the chip and the status", (it.end() == wanted, ran.returncode), (True, 1))
+        status = start([*FLASH, "-P", it.device], closed).wait(PATIENCE)
+        same(f"{closed}: the chip and the status", (it.end() == wanted, status), (True, 1))
         see(f"{closed}: no message at the board", it.heard and b"avrstk" not in it.heard, it.heard)
     for words in [["-p", "?"], ["-c", "?"], ["--help"]]:
         with open("/dev/full", "w") as full:
@@ -1446,7 +1269,6 @@ def closed_streams():
 def messages_that_nobody_reads():
     """A pipe that is closed after the first line, or full, doesn't block the run."""
     wanted = flashed()
-    room.clear()
     it = Board()
     started = start([*FLASH, "-P", it.device])
     same("the first line", started.stderr.readline(), lines(SIGNATURE))
@@ -1472,7 +1294,6 @@ def messages_that_nobody_reads():
 
 def one_run_at_a_time():
     """A second run over a device is refused and doesn't change its settings, also for root. Runs in turn are accepted."""
-    room.clear()
     line, device = terminal()
     fake = stand_in(CALLS)
     first = start([*FLASH, "-P", device, "-b", "57600", "--wait", "0"], env=fake)
@@ -1498,7 +1319,6 @@ def one_run_at_a_time():
 
 def settings_that_are_kept():
     """After a run the device has its old settings."""
-    room.clear()
     line, device = terminal()
     kept = os.open(device, os.O_RDWR | os.O_NOCTTY)
     it = termios.tcgetattr(kept)
@@ -1509,7 +1329,9 @@ def settings_that_are_kept():
     before = termios.tcgetattr(kept)
     during = echo(line)
     status, *_ = run([*FLASH, "-P", device, "-b", "74880", "--wait", "0"], env=stand_in(CALLS))
-    same("the speed of a run", during, [(74_880, 74_880)])
+    (read, written, control, local), size = during[1], termios.CSIZE | termios.PARENB | termios.CSTOPB | termios.CRTSCTS
+    same("the speed of a run", during[0], (74_880, 74_880))
+    same("it passes each byte as it is, by 8N1", (read, written, local, control & size), (termios.IGNPAR, 0, 0, termios.CS8))
     same("settings after it", (status, termios.tcgetattr(kept)), (0, before))
     os.close(kept)
     os.close(line)
@@ -1517,7 +1339,6 @@ def settings_that_are_kept():
 
 def devices_that_go():
     """Tests a device that disappears while the script waits for its board."""
-    room.clear()
     line, device = terminal()
     started = start([*FLASH, "-P", device, "--wait", "1"])
     wait_until(lambda: is_open(line))
@@ -1532,7 +1353,6 @@ def devices_that_go():
 def strangers():
     """If another program of the machine calls the script's port first, it receives nothing from the board."""
     wanted = flashed()
-    room.clear()
     it = Board()
     # (the program that starts avrstk may keep running beside it)
     late = f"while not os.path.exists('go'):\n    time.sleep(0.01)\nimport subprocess\n"
@@ -1553,8 +1373,19 @@ def strangers():
     same("the run", (started.returncode, told, it.end() == wanted), (0, line + lines(*FIRMWARE), True))
 
 
+# Python loads this at its start: it sends Ctrl-C before a module is loaded
+SENDS = b"""import os, signal, sys
+class Sends:
+    def find_spec(name, *_):
+        if name == os.environ.get("SENDS_AT"):
+            os.kill(os.getpid(), signal.SIGINT)
+sys.meta_path.insert(0, Sends)
+"""
+
+
 def names_and_interrupts():
     """Tests names with control bytes and bytes that are not UTF-8, and Ctrl-C before a run."""
+    room.put("sitecustomize.py", SENDS)
     for device, shown in [
         (b"/dev/\xff\xc3\xa9", "/dev/\\xff\u00e9"),
         ("/dev/\x1b[31m\nx\x7f\u009b".encode(), "/dev/\\x1b[31m\\x0ax\\x7f\\xc2\\x9b"),
@@ -1563,34 +1394,22 @@ def names_and_interrupts():
         _, told = started.communicate(timeout=PATIENCE)
         wanted = f"avrstk-serial: {shown}: there is no such device (is the cable in?)\n".encode()
         same(f"the name {device}", (started.returncode, told), (1, wanted))
-    # this module is loaded in place of Python's own, and sends Ctrl-C
-    modules = room.folder / "modules"
-    modules.mkdir()
-    (modules / "glob.py").write_text("import os, signal, time\nos.kill(os.getpid(), signal.SIGINT)\ntime.sleep(1)\n")
-    started = start(["-p", "?"], env={"PYTHONPATH": str(modules)})
-    found = (*started.communicate(timeout=PATIENCE), started.returncode)
-    same("Ctrl-C at once", found, (b"", b"", -signal.SIGINT))
-    shutil.rmtree(modules)
+    for name in ["avrstk_serial", "avrstk_common", "glob"]:
+        started = start(["-p", "?"], env={"PYTHONPATH": str(room.folder), "SENDS_AT": name})
+        found = (*started.communicate(timeout=PATIENCE), started.returncode)
+        same(f"Ctrl-C before {name} is loaded", found, (b"", b"", -signal.SIGINT))
 
 
 def recipe(begin):
     """Returns the command of docs/USAGE with this beginning."""
-    found = re.findall(rf"^ {{4,}}({re.escape(begin)}.*)$", (TOP / "docs/USAGE.md").read_text(), re.M)
-    if len(found) != 1:
-        raise SystemExit(f"docs/USAGE has {len(found)} commands that begin with '{begin}'")
-    return found[0]
+    (found,) = re.findall(rf"^ {{4,}}({re.escape(begin)}.*)$", (TOP / "docs/USAGE.md").read_text(), re.M)
+    return found
 
 
 def typed(command, device, port=0):
     """Starts a command with this device, port and firmware, and with the programs of this repository."""
-    tools = room.folder / "bin"
-    if not tools.exists():
-        tools.mkdir()
-        room.given.add("bin")
-        (tools / "avrstk").symlink_to(PROGRAM)
-        (tools / "avrstk-serial").symlink_to(SCRIPT)
     here = command.replace("/dev/ttyACM0", device).replace("5000", str(port)).replace("firmware.hex", "blink.hex")
-    environment = os.environ | {"PATH": f"{tools}:{os.environ['PATH']}", "AVRSTK": str(PROGRAM)}
+    environment = os.environ | {"PATH": f"{PROGRAM.parent}:{TOP}:{os.environ['PATH']}", "AVRSTK": str(PROGRAM)}
     how = {"cwd": room.folder, "env": environment, "stdin": subprocess.DEVNULL, "stderr": subprocess.PIPE}
     return subprocess.Popen(["bash", "-c", f"exec {here}"], **how)
 
@@ -1605,7 +1424,6 @@ def ended(started):
 def recipe_of_the_script():
     for begin, part, more in [("avrstk-serial -p m328p -P /dev/", "m328p", []), ("avrstk-serial -C/etc", "m2560", ["-D"])]:
         firmware = emulated(*more, *FLASH[2:], part=part)
-        room.clear()
         it = Board(part=part)
         status, _ = ended(typed(recipe(begin), it.device))
         same(begin, (status, it.end() == firmware), (0, True))
@@ -1620,15 +1438,15 @@ def recipe_of_a_plain_bridge():
         ({}, (0, lines(*FIRMWARE), True)),
         ({"deaf": 0.25, "gone": 0.8}, (1, lines("error: no answer"), False)),
     ]:
-        room.clear()
         it = Board(**board)
-        port = free_port()
+        kept = kept_port()
+        port = port_of(kept)
         bridge = typed(recipe("socat TCP-LISTEN:5000,bind=127.0.0.1,reuseaddr FILE"), it.device, port)
         wait_until(lambda: listens_at(port))
         found = ended(typed(recipe(CALL), it.device, port))
         bridge.communicate(timeout=PATIENCE)
         same("a plain bridge", (*found, it.end() == firmware), wanted)
-    room.clear()
+        kept.close()
     it = Board()
     found = ended(typed(recipe("socat EXEC"), it.device))
     same("stdio:", (*found, it.end() == firmware), (0, lines(*FIRMWARE), True))
@@ -1638,9 +1456,9 @@ def recipe_of_ser2net():
     if not shutil.which("ser2net"):
         return leave_out("the recipe with ser2net", "ser2net is not installed")
     firmware = flashed()
-    room.clear()
     it = Board()
-    port = free_port()
+    kept = kept_port()
+    port = port_of(kept)
     text = "".join(recipe(begin) + "\n" for begin in ["connection:", "  accepter:", "  connector:"])
     room.put("ser2net.yaml", text.replace("/dev/ttyACM0", it.device).replace("5000", str(port)).encode())
     server = subprocess.Popen(["ser2net", "-n", "-c", room.folder / "ser2net.yaml"], stderr=subprocess.DEVNULL)
@@ -1651,55 +1469,21 @@ def recipe_of_ser2net():
     finally:
         server.terminate()
         server.wait()
+        kept.close()
 
 
 CASES = named(
-    words_of_avrdude,
-    speed_and_line,
-    reads,
-    boards_that_reset,
-    parts,
-    refused,
-    no_firmware,
-    devices,
-    what_is_missing,
-    ports_of_avrstk,
-    speeds_that_a_device_has_not,
-    lines_of_a_board,
-    bits_that_do_not_exist,
-    lists,
-    retries,
-    retries_that_are_refused,
-    the_part_of_the_chip,
-    programs,
-    hints,
-    elf_files,
-    hints_over_each_memory,
-    hints_that_are_followed,
-    progress,
-    plans,
-    few_lines,
-    backups,
-    warnings,
-    images_that_are_read_once,
-    a_child_that_is_not_waited_for,
-    signals,
-    cut_lines,
-    closed_streams,
-    messages_that_nobody_reads,
-    one_run_at_a_time,
-    settings_that_are_kept,
-    devices_that_go,
-    strangers,
-    names_and_interrupts,
-    recipe_of_the_script,
-    recipe_of_a_plain_bridge,
-    recipe_of_ser2net,
+    *(words_of_avrdude, reads, boards_that_reset, parts, refused, no_firmware, devices, what_is_missing),
+    *(ports_of_avrstk, speeds_that_a_device_has_not, lines_of_a_board, bits_that_do_not_exist, lists, retries),
+    *(retries_that_are_refused, the_part_of_the_chip, hints, elf_files, hints_over_each_memory, hints_that_are_followed),
+    *(progress, few_lines, backups, warnings, images_that_are_read_once, signals, cut_lines, closed_streams),
+    *(messages_that_nobody_reads, one_run_at_a_time, settings_that_are_kept, devices_that_go, strangers),
+    *(names_and_interrupts, recipe_of_the_script, recipe_of_a_plain_bridge, recipe_of_ser2net),
 )
 
 # a board that replies for a time, or a signal at a moment
-TIMED = ["boards_that_reset", "retries", "the_part_of_the_chip", "hints_over_each_memory", "hints_that_are_followed"]
+TIMED = ["words_of_avrdude", "boards_that_reset", "hints", "retries", "the_part_of_the_chip", "hints_over_each_memory", "hints_that_are_followed"]
 TIMED += ["progress", "signals", "devices_that_go", "names_and_interrupts", "recipe_of_a_plain_bridge", "recipe_of_ser2net"]
 
 if __name__ == "__main__":
-    sys.exit(run_cases(CASES, __doc__, timed=TIMED))
+    sys.exit(run_cases({name: lambda it=it: (room.clear(), it()) for name, it in CASES.items()}, __doc__, timed=TIMED))

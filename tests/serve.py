@@ -8,6 +8,7 @@ a port, the log, what fails in a session, and how it ends.
 import ast
 import os
 import resource
+import select
 import shutil
 import signal
 import socket
@@ -20,12 +21,21 @@ from pathlib import Path
 
 from cases import PATIENCE, leave_out, named, run_cases, same, see, wait_until
 from program import ANSWERS, CHIP_FILE, ENDS, FRAMES, NAMED, PROGRAM, TOP, Room
-from program import frame, free_port, has_avrdude, kept_port, lines, port_of, read_whole
+from program import frame, has_avrdude, kept_port, lines, port_of, read_whole
 
 SCRIPT = TOP / "avrstk-serve"
 M328P = ["-p", "m328p", "--chip", "chip.bin"]
 LFUSE = 33_792
+# the program of a run: beside the built avrstk, or in a folder of its own
+SESSIONS = [PROGRAM.parent / "avrstk_session", PROGRAM.parents[2] / "avrstk_session/out/avrstk_session"]
 room = Room()
+
+
+def ran(words, script=SCRIPT, **own):
+    """Returns the status, the messages and the output of the script. `own` are variables of its environment."""
+    how = {"cwd": room.folder, "env": environment() | own, "capture_output": True, "text": True, "timeout": PATIENCE}
+    it = subprocess.run([script, *words], **how)
+    return it.returncode, it.stderr, it.stdout
 
 
 class Serving:
@@ -45,10 +55,9 @@ class Serving:
     def call(self):
         return socket.create_connection(("127.0.0.1", self.port), PATIENCE)
 
-    def writes_fuse(self, value):
-        """Returns the status and messages of a client that writes the low fuse."""
-        status, _, messages = room.run(["-p", "m328p", "-P", f"net:127.0.0.1:{self.port}", "-U", f"lfuse:w:{value}:m"])
-        return status, messages
+    def writes_fuse(self, value, address="127.0.0.1"):
+        """Returns the status of a client that writes the low fuse."""
+        return room.run(["-p", "m328p", "-P", f"net:{address}:{self.port}", "-U", f"lfuse:w:{value}:m"])[0]
 
     def end(self, *numbers, group=False):
         """Sends these signals and returns its status and messages. Checks that no run is left."""
@@ -106,47 +115,41 @@ def begins(client):
 
 
 def listens():
-    """It prints its port: a given one, or any free one."""
-    room.clear()
+    """It prints its port: a given one, or any free one. A second server at the port ends with a line."""
     with Serving() as it:
         same("its line", it.said, f"serving at 127.0.0.1:{it.port}\n".encode())
         for value in [0x60, 0x61, 0x62]:
-            same(f"fuse {value}", it.writes_fuse(value)[0], 0)
+            same(f"fuse {value}", it.writes_fuse(value), 0)
             wait_until(lambda: fuse() == value)
-        with Serving(port=str(it.port)) as other:
-            wanted = (b"", 1, f"avrstk-serve: port {it.port}: Address already in use\n")
-            same("a port that is taken", (other.said, other.started.wait(), other.messages.read_text()), wanted)
-        room.put("messages", b"")
-        it.messages.write_text("")
-        same("it ends", it.end()[0], 0)
-    port = str(free_port())
-    with Serving(port=port) as it:
-        same("a port that is given", it.said, f"serving at 127.0.0.1:{port}\n".encode())
-        same("its chip is the one before", it.writes_fuse(0x63)[0], 0)
-        same("it ends too", it.end(), (0, ""))
-    with Serving(port=port) as it:
-        same("the same port at once", it.said, f"serving at 127.0.0.1:{port}\n".encode())
-    for part in ["atmega328p", "ATmega328P"]:
-        with Serving(chip=["-p", part, "--chip", "chip.bin"]) as it:
-            same(f"the part {part}", it.writes_fuse(0x64)[0], 0)
+        told = f"avrstk-serve: port {it.port}: Address already in use\n"
+        same("a port that is taken", ran([str(it.port), *M328P]), (1, told, ""))
+        same("it ends", it.end(), (0, ""))
+    kept = kept_port()
+    port = str(port_of(kept))
+    for part in ["m328p", "atmega328p", "ATmega328P"]:
+        with Serving(port=port, chip=["-p", part, "--chip", "chip.bin"]) as it:
+            same("a port that is given", it.said, f"serving at 127.0.0.1:{port}\n".encode())
+            same(f"the part {part}", it.writes_fuse(0x63), 0)
+            same("it ends too", it.end(), (0, ""))
+    kept.close()
 
 
 def clients_that_send_nothing():
-    """A client that only connects starts no run and delays no other client, before, while or after that one is served."""
-    room.clear()
-    with Serving() as it:
+    """A client that only connects starts no run and delays no other client, before, while or after that one is served. It
+    needs few open files for them."""
+    with Serving(before=lambda: resource.setrlimit(resource.RLIMIT_NOFILE, (20, 20))) as it:
         for _ in range(100):
             it.call().close()
         silent = [it.call() for _ in range(100)]
         # (a later client is served only after the server has seen these)
-        same("a client after them", it.writes_fuse(0x60)[0], 0)
+        same("a client after them", it.writes_fuse(0x60), 0)
         wait_until(lambda: fuse() == 0x60)
         with it.call() as client:
             see("a session", begins(client))
             for _ in range(10):
                 it.call().close()
             silent += [it.call() for _ in range(10)]
-        same("the next client", it.writes_fuse(0x61)[0], 0)
+        same("the next client", it.writes_fuse(0x61), 0)
         for client in silent:
             client.close()
         wait_until(lambda: fuse() == 0x61)
@@ -164,18 +167,12 @@ def clients_that_send_nothing():
 
 def one_after_another():
     """A client waits until the one before it has hung up, and gets the chip that it left."""
-    room.clear()
     with Serving() as it:
         first = it.call()
         see("the first session", begins(first))
         second = it.call()
         second.sendall(FRAMES[0])
-        second.settimeout(0.3)
-        try:
-            same("the second one waits", second.recv(1), None)
-        except socket.timeout:
-            see("the second one waits", True)
-        second.settimeout(PATIENCE)
+        same("the second one waits", select.select([second], [], [], 0.3)[0], [])
         first.close()
         same("and then is served", heard(second, ENDS[0]), ANSWERS[: ENDS[0]])
         second.close()
@@ -184,7 +181,6 @@ def one_after_another():
 
 def half_closed():
     """A client that has closed its sending side gets all replies."""
-    room.clear()
     with Serving() as it, it.call() as client:
         client.sendall(b"".join(FRAMES))
         client.shutdown(socket.SHUT_WR)
@@ -195,10 +191,9 @@ def half_closed():
 
 def clients_that_reset():
     """Each second client resets the connection in the middle of a session, and the others are served."""
-    room.clear()
     with Serving() as it:
         for value in range(0x60, 0x68):
-            same(f"fuse {value}", it.writes_fuse(value)[0], 0)
+            same(f"fuse {value}", it.writes_fuse(value), 0)
             with it.call() as client:
                 see("a session", begins(client))
                 client.setsockopt(socket.SOL_SOCKET, socket.SO_LINGER, struct.pack("ii", 1, 0))
@@ -212,7 +207,6 @@ def failed(how):
 
 def a_chip_in_use():
     """If another run holds the chip, the client's connection is closed, and the next client is served."""
-    room.clear()
     os.mkfifo(room.folder / "pipe")
     with Serving() as it:
         holder = room.start(["-p", "m328p", "-P", "emu:chip.bin", "-U", "eeprom:r:pipe:r"])
@@ -222,14 +216,13 @@ def a_chip_in_use():
             same("the connection is closed", heard(client, 1), b"")
         holder.kill()
         holder.communicate()
-        same("the next client", it.writes_fuse(0x65)[0], 0)
+        same("the next client", it.writes_fuse(0x65), 0)
         told = lines("error: chip.bin: in use by another run").decode() + failed("status 1")
         same("the messages", it.end(), (1, told))
 
 
 def idle_clients():
     """With --idle the server hangs up on an idle client, and its chip is saved."""
-    room.clear()
     with Serving("--idle", "0.4") as it:
         with it.call() as silent, it.call() as client:
             see("a session", begins(client))
@@ -239,7 +232,7 @@ def idle_clients():
             same("the connection of an idle one is closed", client.recv(1), b"")
             same("and one that has sent nothing", silent.recv(1), b"")
         see("the chip is saved", len(room.read("chip.bin") or b"") == CHIP_FILE)
-        same("the next client", it.writes_fuse(0x60)[0], 0)
+        same("the next client", it.writes_fuse(0x60), 0)
         same("the messages", it.end(), (0, "avrstk-serve: a client sent nothing for 0.4 seconds: hung up\n"))
     with Serving() as it, it.call() as client:
         see("a session", begins(client))
@@ -249,9 +242,15 @@ def idle_clients():
         it.end()
 
 
-# the frame that writes the low fuse, as AVRDUDE sends it (SPI_MULTI: AC A0 00 value)
-def programs_fuse(number, value):
-    return frame(number, 0x1D, 4, 4, 0, 0xAC, 0xA0, 0, value)
+def changes_fuse(it, value):
+    """Writes the low fuse as AVRDUDE does, and returns the connection, whose session goes on, and the run."""
+    client = it.call()
+    for sent in [*FRAMES[:2], frame(3, 0x1D, 4, 4, 0, 0xAC, 0xA0, 0, value)]:
+        client.sendall(sent)
+        see("a reply", heard(client, 6)[:1] == b"\x1b")
+        client.recv(100)
+    (run,) = runs()
+    return client, run
 
 
 def ends_at_a_signal():
@@ -265,11 +264,8 @@ def ends_at_a_signal():
         with Serving() as it, it.call():
             same(f"{name}: a silent client", it.end(number, group=group), (0, ""))
         same(f"{name}: no chip is made", room.read("chip.bin"), None)
-        with Serving() as it, it.call() as client:
-            for frame in [*FRAMES[:2], programs_fuse(3, 0x63)]:
-                client.sendall(frame)
-                see(f"{name}: a reply", heard(client, 6)[:1] == b"\x1b")
-                client.recv(100)
+        with Serving() as it:
+            client, _ = changes_fuse(it, 0x63)
             same(f"{name}: a session", it.end(number, group=group), (0, ""))
             same(f"{name}: its client's connection is closed", client.recv(1), b"")
         same(f"{name}: its chip is saved", fuse(), 0x63)
@@ -278,9 +274,8 @@ def ends_at_a_signal():
             same(f"{name}: a client that takes no replies", it.end(number, group=group)[0], 0)
     # (a module in place of one that it loads)
     room.put("getopt.py", b"import os, signal, time\nos.kill(os.getpid(), signal.SIGTERM)\ntime.sleep(60)")
-    how = {"env": environment() | {"PYTHONPATH": str(room.folder)}, "cwd": room.folder, "capture_output": True}
     for words, status in [(["0", *M328P], 0), (["0", *M328P, "--", "true"], 143)]:
-        same(f"{words}: SIGTERM while it is loaded", subprocess.run([SCRIPT, *words], **how).returncode, status)
+        same(f"{words}: SIGTERM while it is loaded", ran(words, PYTHONPATH=str(room.folder)), (status, "", ""))
     (room.folder / "getopt.py").unlink()
     with Serving() as it, it.call() as client:
         see("a session", begins(client))
@@ -289,20 +284,18 @@ def ends_at_a_signal():
 
 def refused():
     """It reports errors before it listens, and ends with status 1."""
-    room.clear()
+    os.mkfifo(room.folder / "pipe")
     taken = kept_port()
     taken.listen()
     rows = [
         ([], 0, ""),
         (["--help"], 0, ""),
-        (["x", *M328P], 1, "avrstk-serve: x: not a port from 0 to 65535\n"),
         (["65536", *M328P], 1, "avrstk-serve: 65536: not a port from 0 to 65535\n"),
         (["-1", *M328P], 1, "avrstk-serve: option -1 not recognized\n"),
         (M328P, 1, "avrstk-serve: one port is needed: avrstk-serve PORT -p PART --chip FILE\n"),
         (["0", "5000", *M328P], 1, "avrstk-serve: one port is needed: avrstk-serve PORT -p PART --chip FILE\n"),
         ([str(port_of(taken)), *M328P], 1, f"avrstk-serve: port {port_of(taken)}: Address already in use\n"),
         (["0", *M328P, "--idle", "0"], 1, "avrstk-serve: --idle 0: not a number of seconds\n"),
-        (["0", *M328P, "--idle", "a"], 1, "avrstk-serve: --idle a: not a number of seconds\n"),
         (["0", *M328P, "-e"], 1, "avrstk-serve: option -e not recognized\n"),
         (["0", "--chip", "chip.bin"], 1, "avrstk: error: no part given (-p)\n"),
         (["0", "-p", "m328p"], 1, "avrstk-serve: no chip file given (--chip)\n"),
@@ -320,21 +313,20 @@ def refused():
         (["\x1b[31m\udcff", *M328P], 1, "avrstk-serve: \\x1b[31m\\xff: not a port from 0 to 65535\n"),
         (["0", "-p", "none", "--chip", "chip.bin"], 1, "avrstk: error: no part none\n"),
         (["0", "-p", "m328p", "--chip", "blink.hex"], 1, None),
-        (["0", *M328P, "--parts", "nowhere"], 1, "avrstk: error: nowhere: cannot be opened\n"),
+        (["0", *M328P, "--parts", "nowhere"], 1, "avrstk-serve: --parts nowhere: not a file that each client can read\n"),
+        (["0", *M328P, "--parts", "pipe"], 1, "avrstk-serve: --parts pipe: not a file that each client can read\n"),
     ]
     for words, status, told in rows:
-        how = {"cwd": room.folder, "env": environment(), "capture_output": True, "text": True, "timeout": PATIENCE}
-        ran = subprocess.run([SCRIPT, *words], **how)
-        same(f"{words}: the status", ran.returncode, status)
-        see(f"{words}: its messages", ran.stderr == told if told is not None else ran.stderr.count("\n") == 1, ran.stderr)
-        see(f"{words}: it doesn't serve", "serving at 127.0.0.1:" not in ran.stdout.replace("`serving at", ""), ran.stdout)
+        found, messages, output = ran(words)
+        same(f"{words}: the status", found, status)
+        see(f"{words}: its messages", messages == told if told is not None else messages.count("\n") == 1, messages)
+        see(f"{words}: it doesn't serve", "serving at 127.0.0.1:" not in output, output)
     taken.close()
     # (Python 3.7 gets as far as the line that names the version it needs)
-    for name in ["avrstk-serve", "avrstk_common.py"]:
-        ast.parse((TOP / name).read_text(), feature_version=(3, 7))
+    for it in [SCRIPT, TOP / "avrstk-serial", *(TOP / "lib/avrstk").glob("*.py")]:
+        ast.parse(it.read_text(), feature_version=(3, 7))
     # (Python keeps no docstrings then)
-    ran = subprocess.run([SCRIPT, "--help"], env=environment() | {"PYTHONOPTIMIZE": "2"}, capture_output=True, text=True)
-    see("--help without docstrings", ran.returncode == 0 and "avrstk-serve PORT" in ran.stdout, ran.stderr)
+    see("--help without docstrings", "avrstk-serve PORT" in ran(["--help"], PYTHONOPTIMIZE="2")[2])
     for closed, status in [(">&-", 1), (">/dev/full", 1), ("<&- 2>&-", 0)]:
         text = f'exec "$0" 0 -p m328p --chip chip.bin {closed}'
         how = {"cwd": room.folder, "env": environment(), "stdout": subprocess.PIPE, "stderr": subprocess.DEVNULL}
@@ -344,142 +336,72 @@ def refused():
             started.terminate()
         same(f"{closed}: the status", started.wait(timeout=PATIENCE), status)
         started.stdout.close()
-    without = os.environ | {"AVRSTK": "/nowhere/avrstk"}
-    ran = subprocess.run([SCRIPT, "0", *M328P], cwd=room.folder, env=without, capture_output=True, text=True)
-    same("no program", (ran.returncode, ran.stdout, ran.stderr.count("\n")), (1, "", 1))
+    status, messages, output = ran(["0", *M328P], AVRSTK="/nowhere/avrstk")
+    same("no program", (status, messages.count("\n"), output), (1, 1, ""))
 
 
 def installed():
     """If it is installed, it finds the program, the part file, and the stamp of the build, as in a clone."""
-    room.clear()
     with tempfile.TemporaryDirectory() as folder:
         subprocess.run([TOP / "install.sh", folder], env=environment(), stdout=subprocess.DEVNULL, check=True)
-        how = {"cwd": room.folder, "env": {name: it for name, it in os.environ.items() if name != "AVRSTK"}}
-        how |= {"capture_output": True, "text": True, "timeout": PATIENCE}
         script = Path(folder, "bin/avrstk-serve")
-        same("it serves", subprocess.run([script, "0", "-p", "atmega32u4", "--chip", "chip.bin", "--", "true"], **how).returncode, 0)
-        shown = [subprocess.run([it, "--version"], **how).stdout.splitlines() for it in (SCRIPT, script)]
-        stamp = subprocess.run([TOP / "avrstk", "--stamp-of", PROGRAM], **how).stdout.splitlines()
+        served = ran(["0", "-p", "atmega32u4", "--chip", "chip.bin", "--", "true"], script, AVRSTK="")
+        same("it serves", served, (0, "", ""))
+        shown = [ran(["--version"], it, AVRSTK="")[2].splitlines() for it in (SCRIPT, script)]
+        stamp = ran(["--stamp-of", PROGRAM], TOP / "avrstk", AVRSTK="")[2].splitlines()
         rows = [it for it in stamp if not it.startswith(("sources", "program"))] or ["not known whether it is proved"]
         wanted = [f"avrstk {(TOP / 'VERSION').read_text().strip()}", *rows]
         same("--version, installed", shown[1], wanted)
         same("--version, in the clone", NAMED or shown[0], NAMED or wanted)
         Path(folder, "lib/avrstk/avrstk.stamp").unlink()
-        told = subprocess.run([script, "--version"], **how).stdout
+        told = ran(["--version"], script, AVRSTK="")[2]
         same("without a stamp", told.splitlines()[1:], ["not known whether it is proved"])
-
-
-def session_program():
-    """Returns the program of a run, beside the built avrstk."""
-    found = PROGRAM.parent / "avrstk_session"
-    return found if found.exists() else PROGRAM.parents[2] / "avrstk_session/out/avrstk_session"
-
-
-def changes_fuse(it, value):
-    """Writes the low fuse and returns the connection, whose session goes on, and the run."""
-    client = it.call()
-    for frame in [*FRAMES[:2], programs_fuse(3, value)]:
-        client.sendall(frame)
-        see("a reply", heard(client, 6)[:1] == b"\x1b")
-        client.recv(100)
-    (run,) = runs()
-    return client, run
 
 
 def status_of_sessions():
     """Status 0 means that the chip of each session is saved, however the server is ended. Otherwise a line reports it."""
     term, hold, on, kill = signal.SIGTERM, signal.SIGSTOP, signal.SIGCONT, signal.SIGKILL
-
-    def to_all(it, run, client):
-        os.kill(run, term)
-        os.kill(it.started.pid, term)
-
-    def twice(it, run, client):
-        os.kill(it.started.pid, term)
-        time.sleep(0.004)
-        os.kill(it.started.pid, term)
-
-    def twice_and_slow(it, run, client):
-        os.kill(run, hold)
-        for _ in range(2):
-            os.kill(it.started.pid, term)
-            time.sleep(0.3)
-        os.kill(run, on)
-
-    def killed(it, run, client):
-        os.kill(run, kill)
-        same("its client is hung up on", client.recv(1), b"")
-        os.kill(it.started.pid, term)
-
-    def exchange():
-        """Puts another file in the chip's place, with the same bytes."""
-        shutil.copy(room.folder / "chip.bin", room.folder / "other.bin")
-        (room.folder / "other.bin").replace(room.folder / "chip.bin")
-
-    def exchanged(it, run, client):
-        exchange()
-        client.close()
-        wait_until(lambda: not runs())
-        os.kill(it.started.pid, term)
-
-    def exchanged_before(it, run, client):
-        exchange()
-        os.kill(it.started.pid, term)
-
-    def stuck(it, run, client):
-        os.kill(run, hold)
-        os.kill(it.started.pid, term)
-
-    unsaved = lines("error: chip.bin: cannot be written").decode() + failed("status 1")
+    # (what is sent to the server or its run, and the seconds after it)
     rows = [
-        ("one SIGTERM", lambda it, run, client: os.kill(it.started.pid, term), 0, ""),
-        ("SIGTERM to each process of a service", to_all, 0, ""),
-        ("two, 4 ms apart", twice, 0, ""),
-        ("two, and a slow run", twice_and_slow, 0, ""),
-        ("the run is killed", killed, 1, failed("ended by signal 9")),
-        ("another file is put in the chip's place", exchanged, 1, unsaved),
-        ("the same, and SIGTERM in the session", exchanged_before, 1, unsaved),
-        ("a run that doesn't end", stuck, 1, failed("ended by signal 9")),
+        ("one SIGTERM", [("server", term, 0)], 0, ""),
+        ("SIGTERM to each process of a service", [("run", term, 0), ("server", term, 0)], 0, ""),
+        ("two, 4 ms apart", [("server", term, 0.004), ("server", term, 0)], 0, ""),
+        ("two, and a slow run", [("run", hold, 0), *[("server", term, 0.3)] * 2, ("run", on, 0)], 0, ""),
+        ("the run is killed", [("run", kill, 0.2), ("server", term, 0)], 1, failed("ended by signal 9")),
+        ("a run that doesn't end", [("run", hold, 0), ("server", term, 0)], 1, failed("ended by signal 9")),
     ]
-    for name, act, status, told in rows:
+    for name, acts, status, told in rows:
         room.clear()
         same("a chip", room.run(["-p", "m328p", "-P", "emu:chip.bin", "-q", "-U", "lfuse:w:0x11:m"])[0], 0)
         with Serving() as it:
             client, run = changes_fuse(it, 0x22)
-            with client:
-                act(it, run, client)
-                same(f"{name}: the status", it.started.wait(timeout=PATIENCE), status)
+            for whom, number, pause in acts:
+                os.kill(run if whom == "run" else it.started.pid, number)
+                time.sleep(pause)
+            same(f"{name}: its client is hung up on", client.recv(1), b"")
+            same(f"{name}: the status", it.started.wait(timeout=PATIENCE), status)
+            client.close()
         same(f"{name}: its messages", it.messages.read_text(), told)
         same(f"{name}: the fuse", fuse(), 0x11 if status else 0x22)
         same(f"{name}: no run is left", runs(), [])
 
 
-def serves_a_command(*words, chip=M328P):
-    """Returns the status and messages of the script, with these words after its port and chip."""
-    how = {"cwd": room.folder, "env": environment(), "capture_output": True, "text": True, "timeout": PATIENCE}
-    ran = subprocess.run([SCRIPT, *chip, *words], **how)
-    same(f"{words}: no run is left", runs(), [])
-    return ran.returncode, ran.stderr, ran.stdout
-
-
 def a_command():
     """A command after -- is the client. Its end ends the server, whose status it is, or 1 if a chip was not saved."""
-    room.clear()
     client = [str(PROGRAM), "-p", "m328p", "-P", "net:{}", "-q", "-U", "lfuse:w:0x60:m"]
-    same("a client", serves_a_command("0", "--", *client), (0, "", ""))
+    same("a client", ran(["0", *M328P, "--", *client]), (0, "", ""))
     same("its fuse", fuse(), 0x60)
-    gone = "No such file or directory"
     rows = [
         (["sh", "-c", "[ {} = $AVRSTK_PORT ] && exit 7"], 7, ""),
         (["sh", "-c", "kill -9 $$"], 137, ""),
-        (["/nowhere/it"], 1, f"avrstk-serve: /nowhere/it can't be run: {gone}\n"),
+        (["/nowhere/it"], 1, "avrstk-serve: /nowhere/it: No such file or directory\n"),
         ([], 1, "avrstk-serve: no command after --\n"),
         (["sh", "-c", 'rm chip.bin; mkdir chip.bin; "$@"; exit 0', "sh", *client], 1, None),
         (["false"], 1, None),
     ]
     for words, status, told in rows:
-        found = serves_a_command("0", "--", *words)
-        same(f"{words}: the status", found[0], status)
+        found = ran(["0", *M328P, "--", *words])
+        same(f"{words}: the status, and no run is left", (found[0], runs()), (status, []))
         see(f"{words}: its messages", told is None or found[1:] == (told, ""), found)
     (room.folder / "chip.bin").rmdir()
     for command, status in [("echo begun; exec sleep 600", 143), ("trap '' TERM; echo begun; while :; do sleep 0.1; done", 137)]:
@@ -490,7 +412,6 @@ def a_command():
 
 def no_inner_port():
     """Nobody can come between a client and its run: the run has no socket of the network."""
-    room.clear()
     with Serving() as it:
         client, run = changes_fuse(it, 0x60)
         rows = "".join(Path(f"/proc/net/{name}").read_text() for name in ["tcp", "tcp6", "udp", "udp6"])
@@ -505,75 +426,31 @@ def no_inner_port():
 
 def errors_end_one_session():
     """If a run can't be started, the client is hung up on, and the next one is served."""
-    room.clear()
-    for name in [PROGRAM, session_program()]:
-        shutil.copy(name, room.folder / name.name)
+    for it in [PROGRAM, next(it for it in SESSIONS if it.exists())]:
+        shutil.copy(it, room.folder / it.name)
     copy = room.folder / "avrstk_session"
     with Serving(program=room.folder / PROGRAM.name) as it:
-        same("a client", it.writes_fuse(0x60)[0], 0)
+        same("a client", it.writes_fuse(0x60), 0)
         copy.rename(room.folder / "moved")
         with it.call() as client:
             client.sendall(FRAMES[0])
             same("one without a program is hung up on", client.recv(1), b"")
         (room.folder / "moved").rename(copy)
-        same("the next client", it.writes_fuse(0x61)[0], 0)
+        same("the next client", it.writes_fuse(0x61), 0)
         told = "avrstk-serve: a client can't be served: No such file or directory\n"
         same("it ends", it.end(), (1, told))
     same("its chip", fuse(), 0x61)
 
 
-def limited_files():
-    resource.setrlimit(resource.RLIMIT_NOFILE, (20, 20))
-
-
-def few_files():
-    """If it may open few files, it hangs up on clients that send nothing, and waits without using the processor."""
-    room.clear()
-    with Serving(before=limited_files) as it:
-        silent = [it.call() for _ in range(40)]
-        time.sleep(0.5)
-        spent = lambda: sum(int(time) for time in Path(f"/proc/{it.started.pid}/stat").read_text().split()[13:15])
-        before = spent()
-        time.sleep(1)
-        see("it rests", spent() - before < 30, str(spent() - before))
-        same("a client beside them", it.writes_fuse(0x60)[0], 0)
-        same("it ends", it.end(), (0, ""))
-        for client in silent:
-            client.close()
-
-
-def two_at_once():
-    """If two servers begin at one port at the same moment, one of them ends with a line."""
-    for _ in range(3):
-        room.clear()
-        how = {"cwd": room.folder, "env": environment(), "stdout": subprocess.PIPE, "stderr": subprocess.PIPE}
-        port = str(free_port())
-        both = [subprocess.Popen([SCRIPT, port, *M328P[:3], f"chip{number}.bin"], **how) for number in (1, 2)]
-        wait_until(lambda: any(it.poll() is not None for it in both))
-        refused, other = sorted(both, key=lambda it: it.poll() is None)
-        see("one serves", other.stdout.readline().startswith(b"serving at "))
-        told = f"avrstk-serve: port {port}: Address already in use\n".encode()
-        same("the other one ends", (*refused.communicate(), refused.returncode), (b"", told, 1))
-        other.terminate()
-        other.communicate()
-
-
-def nothing_hangs():
-    """A part file that is a pipe, and signals that were ignored when it began, hold up no end and change no status."""
-    room.clear()
-    os.mkfifo(room.folder / "pipe")
-    how = {"cwd": room.folder, "env": environment(), "stdout": subprocess.PIPE, "stderr": subprocess.PIPE}
-    started = subprocess.Popen([SCRIPT, "0", "-p", "m328p", "--parts", "pipe", "--chip", "chip.bin"], **how)
-    wait_until(runs)
-    started.terminate()
-    same("a pipe as part file", (*started.communicate(timeout=PATIENCE), started.returncode), (b"", b"", 0))
-    same("no run is left", runs(), [])
+def signals_that_are_ignored():
+    """Signals that were ignored when it began change no status, and hold up no end."""
+    how = {"cwd": room.folder, "env": environment(), "capture_output": True, "timeout": PATIENCE}
     how["preexec_fn"] = lambda: signal.signal(signal.SIGCHLD, signal.SIG_IGN)
-    words = [SCRIPT, "0", "-p", "none", "--chip", "chip.bin"]
-    ran = subprocess.run(words, **how, timeout=PATIENCE)
-    same("SIGCHLD was ignored", (ran.returncode, ran.stderr), (1, lines("error: no part none")))
+    it = subprocess.run([SCRIPT, "0", "-p", "none", "--chip", "chip.bin"], **how)
+    same("SIGCHLD", (it.returncode, it.stderr), (1, lines("error: no part none")))
     with Serving(before=lambda: signal.signal(signal.SIGTERM, signal.SIG_IGN)) as it:
-        same("SIGTERM was ignored", it.writes_fuse(0x60)[0], 0)
+        it.started.terminate()
+        same("SIGTERM", it.writes_fuse(0x60), 0)
         same("another signal ends it", it.end(signal.SIGINT), (0, ""))
 
 
@@ -588,21 +465,15 @@ def other_addresses():
             if shown:
                 same(f"{address}: its line", it.said, f"serving at {shown}:{it.port}\n".encode())
             place = shown if shown and shown != "0.0.0.0" else "127.0.0.1"
-            ran = room.run(["-p", "m328p", "-P", f"net:{place}:{it.port}", "-q", "-U", "lfuse:w:0x60:m"])
-            same(f"{address}: a client", (ran[0], ran[2]), (0, b""))
+            same(f"{address}: a client", it.writes_fuse(0x60, place), 0)
             if address == "127.0.0.2":
-                try:
-                    it.call().close()
-                    see(f"{address}: nobody listens elsewhere", False)
-                except ConnectionRefusedError:
-                    see(f"{address}: nobody listens elsewhere", True)
+                same(f"{address}: nobody listens elsewhere", it.writes_fuse(0x61), 1)
             same(f"{address}: it ends", it.end(), (0, ""))
         same(f"{address}: the fuse", fuse(), 0x60)
 
 
 def devices():
     """With --pty a client opens a link to a terminal, and is served as at a port."""
-    room.clear()
     link = room.folder / "device"
     # (a run under load takes a while until its first reply)
     with Serving("--pty", "device", "--idle", "3", port=None) as it:
@@ -649,10 +520,9 @@ def avrdudes_in_a_row():
     """Many runs of AVRDUDE, one right after the other, at one device: each ends."""
     if not has_avrdude():
         return leave_out("AVRDUDE at a device", "AVRDUDE 7.1 is not installed")
-    room.clear()
     command = 'for _ in $(seq 25); do timeout 60 avrdude -qq -c stk500v2 -p m2560 -P "$0" -U lfuse:v:0xff:m || exit; done'
     chip = ["-p", "m2560", "--chip", "chip.bin"]
-    same("all end", serves_a_command("--pty", "device", "--", "bash", "-c", command, "{}", chip=chip)[0], 0)
+    same("all end", ran([*chip, "--pty", "device", "--", "bash", "-c", command, "{}"])[0], 0)
 
 
 def marks():
@@ -662,7 +532,6 @@ def marks():
 
 def logged():
     """With --log each command of a client has a line, with what became of it; noise and bad headers have none."""
-    room.clear()
     spoiled = bytearray(frame(3, 0x12, 9, 0, 0xAC, 0x80, 0, 0))
     spoiled[-1] ^= 1
     with Serving("--log", "log") as it:
@@ -734,7 +603,7 @@ def faults():
             room.clear()
             same("an old firmware", room.run(emulated)[0], 0)
             words = [*client, "-p", "m328p", "-P", "net:{}", "-qq", *(["-D"] if "-D" in options else []), "-U", "flash:w:blink.hex:i"]
-            status, told, _ = serves_a_command("0", "--log", "log", *own, "--", *words)
+            status, told, _ = ran(["0", *M328P, "--log", "log", *own, "--", *words])
             chip = room.read("chip.bin")
             found = status, state_of(chip[:1024], old), state_of(chip[32_768:LFUSE], old)
             same(f"{options}: {client[0]}: status, flash, EEPROM", found, wanted)
@@ -747,12 +616,12 @@ def faults():
 CASES = named(
     *(listens, clients_that_send_nothing, one_after_another, half_closed, clients_that_reset, a_chip_in_use),
     *(idle_clients, ends_at_a_signal, refused, installed, status_of_sessions, a_command),
-    *(no_inner_port, errors_end_one_session, few_files, two_at_once, nothing_hangs, other_addresses, devices, logged),
+    *(no_inner_port, errors_end_one_session, signals_that_are_ignored, other_addresses, devices, logged),
     *(avrdudes_in_a_row, faults),
 )
 
-# an idle time, AVRDUDE's own timeouts, or a port that nobody keeps
-TIMED = ["listens", "idle_clients", "devices", "logged", "avrdudes_in_a_row", "faults", "a_command"]
+# an idle time, or AVRDUDE's own timeouts
+TIMED = ["idle_clients", "devices", "logged", "avrdudes_in_a_row", "faults", "a_command"]
 
 if __name__ == "__main__":
-    sys.exit(run_cases(CASES, __doc__, timed=TIMED))
+    sys.exit(run_cases({name: lambda it=it: (room.clear(), it()) for name, it in CASES.items()}, __doc__, timed=TIMED))

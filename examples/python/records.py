@@ -46,7 +46,10 @@ class Piece(ctypes.Structure):
 
 
 def load():
-    library = ctypes.CDLL(os.environ.get("AVR_RECORDS_LIBRARY", SONAME))
+    try:
+        library = ctypes.CDLL(os.environ.get("AVR_RECORDS_LIBRARY", SONAME))
+    except OSError as fault:
+        sys.exit(f"{fault}: examples/c/build.sh builds the library, and ./install.sh --with-c installs it")
     octet = ctypes.c_uint8
     slice_of = [ctypes.POINTER(octet), ctypes.c_size_t]
     for name, arguments, result in (

@@ -1,0 +1,138 @@
+"""The faults and the log of avrstk-serve: what becomes of the frames between a client and its run."""
+
+from avrstk_common import READ, Frames, is_frame, came, ready, refuse, say
+
+import collections
+import functools
+import operator
+import os
+import random
+import re
+import time
+
+# the names of the commands in a log
+COMMANDS = {
+    **{0x01: "SIGN_ON", 0x02: "SET_PARAMETER", 0x03: "GET_PARAMETER", 0x06: "LOAD_ADDRESS"},
+    **{0x10: "ENTER_PROGMODE", 0x11: "LEAVE_PROGMODE", 0x12: "CHIP_ERASE", 0x13: "PROGRAM_FLASH", 0x14: "READ_FLASH"},
+    **{0x15: "PROGRAM_EEPROM", 0x16: "READ_EEPROM", 0x17: "PROGRAM_FUSE", 0x18: "READ_FUSE", 0x19: "PROGRAM_LOCK"},
+    **{0x1A: "READ_LOCK", 0x1B: "READ_SIGNATURE", 0x1C: "READ_OSCCAL", 0x1D: "SPI_MULTI"},
+}
+CHIP_ERASE, PROGRAM_FLASH, SPI_MULTI = 0x12, 0x13, 0x1D
+
+# the options for faults of single commands, and what a log has of them
+FAULTS = {
+    **{"--lose": "lost", "--lose-reply": "reply lost", "--corrupt": "corrupted", "--corrupt-reply": "reply corrupted"},
+    **{"--late": "reply late", "--drop": ""},
+}
+
+# the commands that are refused
+REFUSED = {"--bootloader": {CHIP_ERASE, 0x17, 0x19, 0x1C}, "--no-chip": {0x10}}
+
+
+def seconds(option, given):
+    is_number = re.fullmatch(r"[0-9]{1,9}(\.[0-9]+)?", given) and float(given)
+    refuse((not is_number, f"{option} {given}: not a number of seconds"))
+    return float(given)
+
+
+def which(given, chance):
+    """Returns whether a command, by its number and its name, is one of these."""
+    share = re.fullmatch(r"([0-9]{1,2}(?:\.[0-9]+)?)%", given)
+    is_known = share or given in COMMANDS.values() or re.fullmatch("[1-9][0-9]{0,8}", given)
+    refuse((not is_known, f"{given}: not the name of a command in the log, its number, or a share such as 2%"))
+    return (lambda *_: chance() * 100 < float(share[1])) if share else lambda *it: given in it
+
+
+xor = functools.partial(functools.reduce, operator.xor)
+
+
+def framed(number, body):
+    """Returns a frame."""
+    whole = bytes([0x1B, number, *divmod(len(body), 256), 0x0E]) + body
+    return whole + bytes([xor(whole)])
+
+
+def spoiled(frame):
+    """Returns a frame with a bit of its body changed."""
+    return frame[:-2] + bytes([frame[-2] ^ 1, frame[-1]])
+
+
+class Traffic:
+    """The frames between clients and their runs: each command has a line in the log, and faults are made of some."""
+
+    def __init__(self, options):
+        """Takes the options in their order, each with its value."""
+        last = dict(options)
+        self.file = open(last.get("--log", os.devnull), "a", buffering=1, encoding="ascii")
+        self.is_bootloader = "--bootloader" in last
+        self.refused = set().union(*(codes for it, codes in REFUSED.items() if it in last))
+        self.client = self.count = 0
+        given = [(name, *value.partition(":" if name == "--late" else "\0")) for name, value in options if name in FAULTS]
+        self.lateness = seconds("--late", last["--late"].partition(":")[2]) if "--late" in last else 0
+        seed, each = last.get("--seed", str(random.randrange(1_000_000))), {"--drop": ["--lose", "--lose-reply"]}
+        chance = random.Random(seed).random
+        self.faults = [(it, which(value, chance)) for name, value, *_ in given for it in each.get(name, [name])]
+        if any("%" in value for _, value, *_ in given):
+            say(f"--seed {seed} makes the same faults again")
+
+    def begin(self):
+        """Takes the next client. Returns what changes the bytes that it sends, and those that it gets."""
+        self.client, self.has_erased = self.client + 1, False
+        # the commands without a reply so far: each has its line, or None if it is no client's, and its faults
+        self.waiting = collections.deque()
+        changed = lambda act, pieces: lambda more: b"".join(act(it) if is_frame(it) else it for it in pieces(more))
+        return changed(self.command, Frames().pieces), changed(self.reply, Frames().pieces)
+
+    def end(self):
+        """Notes the commands that got no reply."""
+        for line, _ in self.waiting:
+            self.note(line, ["no reply"])
+
+    def note(self, line, marks):
+        try:
+            self.file.write(f"{line}{': ' if marks else ''}{', '.join(marks)}\n" if line else "")
+        except OSError as fault:
+            say(f"--log: {fault.strerror}")
+
+    def command(self, frame):
+        """Returns what the run gets for a command."""
+        self.count += 1
+        body = frame[5:-1]
+        name, more = COMMANDS.get(body[0], "unknown"), " .." if len(body) > 16 else ""
+        when = time.strftime("%Y-%m-%d %H:%M:%S")
+        line = f"{when} client {self.client}, {frame[1]}: {name} {body[:16].hex(' ')}{more}"
+        faults = [it for it, is_meant in self.faults if is_meant(str(self.count), name)]
+        if "--lose" in faults:
+            self.note(line, ["lost"])
+            return b""
+        before, frame = (b"", frame) if xor(frame) else self.refusing(frame[1], body)
+        self.waiting.append((line, faults))
+        return before + (spoiled(frame) if "--corrupt" in faults else frame)
+
+    def refusing(self, number, body):
+        """Returns what comes before a command, and what the run gets for it, from a bootloader or without a chip."""
+        before = b""
+        if body[0] in self.refused:
+            # (a command without its fields is refused)
+            body = body[:1]
+        elif self.is_bootloader and body[0] == SPI_MULTI and body[4:5] == b"\xac":
+            # (it does nothing then, and so does this instruction)
+            body = body[:4] + bytes(len(body) - 4)
+        elif self.is_bootloader and body[0] == PROGRAM_FLASH and not self.has_erased:
+            self.has_erased = True
+            before = framed(number, bytes([CHIP_ERASE, 9, 0, 0xAC, 0x80, 0, 0]))
+            self.waiting.append((None, []))
+        return before, framed(number, body)
+
+    def reply(self, frame):
+        """Returns what the client gets for the reply to the first command that waits for one."""
+        line, faults = self.waiting.popleft() if self.waiting else (None, [])
+        if line is None:
+            return b""
+        marks = [FAULTS[it] for it in faults]
+        self.note(line, marks + [f"refused ({frame[5:-1][:2].hex(' ')})"] * (frame[6:7] != b"\0"))
+        if "--late" in faults:
+            ready({came: READ}, time.monotonic() + self.lateness)
+        if "--lose-reply" in faults:
+            return b""
+        return spoiled(frame) if "--corrupt-reply" in faults else frame

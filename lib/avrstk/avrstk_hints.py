@@ -1,0 +1,193 @@
+"""What avrstk-serial says after a failed run. A hint says what is sure, and asks where it can't know."""
+
+from avrstk_common import first, parts
+from avrstk_words import FORMATS, FUSES, MEMORIES, RECORD, UNOPENED, long_name, parts_of, rows_of
+
+import os
+import re
+import signal
+
+# STK500v2 commands: those that change a chip, and others
+CHANGING, SIGN_ON, LEAVE = {0x12, 0x13, 0x15, 0x17, 0x19, 0x1D}, 0x01, 0x11
+
+# what a programmer without a chip reads as its signature
+NO_SIGNATURES = {"00 00 00", "FF FF FF"}
+NO_CHIP = "the programmer finds no chip: check the wires and the power"
+SAME = "run the same command again"
+ONE_IMAGE = "give one image that begins at 0 and leaves out no page"
+POWER_CYCLE = "power-cycle the board"
+UNCHANGED = "the chip is unchanged"
+LACKED = "that the part doesn't have, so the value is right: -V leaves out the comparison"
+STAYS = f"everything reported above was done. The chip stays in programming mode: {POWER_CYCLE}"
+
+
+def state_of(run):
+    """Describes the state of the chip after a run that stopped early."""
+    sent = run.earlier | run.commands
+    return first(
+        (not sent, f"nothing was sent: {UNCHANGED}"),
+        (sent <= {SIGN_ON}, UNCHANGED),
+        (not CHANGING & sent, f"{UNCHANGED}, and may be held in reset: {POWER_CYCLE}"),
+        (True, f"the chip is erased or partly written, and may be held in reset: {SAME}"),
+    )
+
+
+def hint(run, number):
+    """Returns what to do after a failed run, judged by its first error. `number` is the signal that ended it."""
+    error, words, state = run.error, run.words, state_of(run)
+    speed, resets = f"the speed (-b {words.baud})", "that the board resets when the port opens"
+    others = f"{resets} (else press reset right after starting). Uno, Nano and USBasp use other protocols: use avrdude"
+    silenced = f"the device sends data, but no valid reply: its application is running, or {speed} is wrong"
+    is_silent = error == "no answer" and run.commands <= {SIGN_ON, LEAVE}
+    done = f"everything above was done; only the last command got no reply. {POWER_CYCLE.capitalize()}"
+    return first(
+        (number, number and f"ended by {signal.Signals(number).name}: {state}"),
+        (CHANGING & run.earlier and not CHANGING & run.commands, state),
+        (not run.was_opened, "; ".join([*matched(REFUSALS, error, words), UNOPENED])),
+        (run.silenced, f"{silenced}. Check {others}"),
+        (error == "no answer" and run.left_at_error, done),
+        (is_silent, f"no reply; {UNCHANGED}. Check: {speed}; that no serial monitor has the port open; {others}"),
+        (True, "".join(matched(ANSWERED, error, words, speed=speed, state=state)) or state),
+    )
+
+
+def matched(table, error, words, **fields):
+    """Returns the hint of the first row whose error begins so."""
+    for begin, text in table.items():
+        found = re.match(begin, error)
+        if found:
+            return [text(words, found) if callable(text) else text.format(**fields)]
+    return []
+
+
+def no_part(words, _):
+    """Returns why a part isn't there, if it is known."""
+    name = long_name(words.part)
+    package = re.sub(r"-\w+$", "", name)
+    known = rows_of("unsupported.txt") if words.parts_file is None else []
+    reason = next((reason.partition(". ")[0] for names, reason in known if name in names.lower().split()), None)
+    auto = "" if words.part else ", and -p auto reads which one it is"
+    chips = "-p takes the chip's name, not the board's: m328p for Uno, m2560 for Mega 2560, m32u4 for Leonardo"
+    return first(
+        (reason, f"{name} is not supported: {reason}. Use avrdude"),
+        (package != name and package in parts(), f"without the package: -p {package}"),
+        (re.match("uno|nano|mega|leonardo|micro", name), chips),
+        (True, f"-p ? lists the parts{auto}; others need a part file (--parts)"),
+    )
+
+
+def unread(words, found):
+    """Returns what to do with an image that avrstk refuses. (No other format makes a text firmware.)"""
+    name, line, fault, address = found.groups()
+    update = next((it for it in words.updates if name in (it.file, it.memory, *it.text.split(":"))), None)
+    if not update or not address and (fault != "no record mark" or line != "1"):
+        return "the file is damaged or cut short: build or download it again" if update else "is -p right?"
+    own, held = f"{update.memory}:{update.operation}", update.held(65_536)
+    size = words.field(f"{update.memory}_size") if update.memory in ("flash", "eeprom") else 1
+    room = f"has {size:,} byte{'s'[:size > 1]}" if size else "is smaller"
+    other = {b":": "i", b"S": "s", b"\x7f": "e"}.get(held[:1], update.format)
+    above = "something is above its first record: delete it if it is a comment, else build or download the file again"
+    return first(
+        (int(address or "0", 16) >= 0x810000, f"it has several memories: give the ELF file itself, as {own}:NAME.elf"),
+        (address and update.format == "m" and update.memory in FUSES, f"{update.memory} has 1 byte: give one value"),
+        (address, f"{update.memory} of {words.part} {room}; is -p right?"),
+        (other != update.format, f"it has {FORMATS.get(other)}: give {own}:{update.file}:{other}"),
+        (re.search(rb"^" + RECORD.pattern, held, re.M), above),
+        (True, f"it is not {FORMATS.get(update.format)}"),
+    )
+
+
+def unopened(words, found):
+    """Returns why a file can't be opened."""
+    file, front = found[1], found[1].rpartition(":")[0]
+    own = next((it for it in words.updates if it.file == file), None)
+    is_value = own and own.operation == "w" and re.fullmatch(r"(0[xb])?[0-9A-Fa-f, \t]+", file)
+    without = own and f"{own.memory}:{own.operation}:{front}"
+    return first(
+        (is_value, "a value needs :m after it, as lfuse:w:0xE2:m"),
+        (own and os.path.isfile(front), f"a format is one letter: give -U {without}"),
+        (not os.path.lexists(file), "there is no such file"),
+        (not os.path.exists(file), "it is a symbolic link to a missing file"),
+        (not os.access(file, os.R_OK), "you may not read it"),
+        (True, "the system refuses to open it"),
+    )
+
+
+def another_part(words, found):
+    """Returns the hint after a wrong signature."""
+    names = parts_of(found[1])
+    which = f"is {words.device} the right board? Its chip is {' or '.join(names[:4])} ({found[1]})"
+    what = first(
+        (found[1] in NO_SIGNATURES, NO_CHIP),
+        (not names, f"the chip is another part ({found[1]}), which is not known here"),
+        (True, f"{which}; if that is so, -p {''.join(names[:1])}, with firmware and fuses that are made for it"),
+    )
+    return f"{what}; nothing was written"
+
+
+def differs(words, found):
+    """Returns the hint after a failed comparison."""
+    memory, (address, wanted, held) = found[1], (int(it, 16) for it in found.groups()[1:])
+    compared, writes = ([it for it in words.updates if it.memory == memory and it.operation == op] for op in "vw")
+    bits = words.bits().get(memory)
+    locked = "a lock protects it: only an erase (-e) removes it, with flash and EEPROM"
+    # (a bit that a part doesn't have reads 1)
+    is_open = bits is None and memory in ("efuse", "lock") and not wanted & ~held
+    stay = ", ".join(str(it) for it in range(8) if (held & ~wanted) >> it & 1)
+    asks = f"bits {stay} stay 1. Does the data sheet have them? If not, the value is right: add -V. If so, {locked}"
+    always, other = f"{SAME}; if it always fails at the same address, ", ", ".join(it.file for it in compared)
+    # (without an erase, zeros remain)
+    remains = memory == "flash" and "-D" in words.flags and "-e" not in words.flags and not held & ~wanted
+    bootloader = "a page is worn" if remains and words.is_whole() else f"{ONE_IMAGE}, since it erases pages from 0 on"
+    old = f"old bytes remain without an erase. With a programmer leave out -D; with a bootloader {bootloader}"
+    is_far = memory == "eeprom" and words.is_wiring and address > 0xFF
+    return first(
+        (not writes, f"{memory} holds something else than {other}"),
+        (bits is not None and not (wanted ^ held) & bits, f"only bits differ {LACKED}"),
+        (is_open, asks),
+        (memory == "lock" and wanted & ~held, "only an erase removes a lock: -e, which erases flash and EEPROM too"),
+        (memory == "lock", SAME),
+        (memory in FUSES, f"{SAME}; if it fails again, {locked}"),
+        (is_far, "the bootloader reads only the first 256 bytes of EEPROM: use a programmer"),
+        (remains, old),
+        (compared, f"{always}{memory} holds something else than {other}"),
+        (len(writes) > 1, f"{always}two images overlap: give one"),
+        (memory == "eeprom", f"{always}a page is worn, or a lock protects it"),
+        (True, f"{always}a page is worn, or -U lock was given before: give it last"),
+    )
+
+
+# hints after errors of the Nth -U
+KINDS = {
+    "no such memory": f"the memories are {', '.join(MEMORIES)}",
+    "no such operation": "the operations are w (write), v (compare) and r (read)",
+    "no such format here": "the formats are i, s, r, e, a and m to write and compare, i, s, r, h, d, o and b to read",
+    "no file named": "a file comes last, as flash:w:firmware.hex:i",
+}
+
+# hints after errors before the device was opened, by the beginning of the error
+REFUSALS = {
+    rf"update (\d+): ({'|'.join(KINDS)})$": lambda words, it: f"-U {words.given[int(it[1]) - 1]}: {KINDS[it[2]]}",
+    ".*: not a number$": "a value is written as 0xE2, 0b11100010, 0342 or 226",
+    ".*: ELF is not read$": "an ELF file is read by its name, not from a pipe",
+    "(.*): cannot be opened$": unopened,
+    "no part ": no_part,
+    r"(.*?): (?:line (\d+): )?(bad |line too long|no record mark|address (\w{8}) out of range)": unread,
+}
+
+# and after it was opened
+ANSWERED = {
+    r"(\w+): address (\w+): (\w+) expected, (\w+) found": differs,
+    r"signature is (\w\w \w\w \w\w)": another_part,
+    "command 12 ": lambda words, _: "a bootloader can't erase the chip, which is unchanged: {}use -D{}".format(
+        "leave out -e, and " if "-e" in words.flags else "", "" if words.is_whole() else f", and {ONE_IMAGE}"
+    ),
+    "command 10 ": "the programmer can't reach the chip, which is unchanged: check wires, power, clock and reset pin",
+    "command (17|1C) ": "a bootloader can't write fuses or read the calibration: use a programmer",
+    "no answer$": "the programmer stopped replying: check the cable and the power; {state}",
+    "no answer in|.*bad answer$": "something else sends data (the board's application), or {speed} is wrong; {state}",
+    "link ": "the device is gone: check the cable; {state}",
+    "command ": "the programmer refused the command: {state}",
+    "-: cannot be (created|written)$": f"standard output is closed or full; {STAYS}",
+    ".*: cannot be (created|written)$": f"check the folder and free space; {STAYS}",
+}

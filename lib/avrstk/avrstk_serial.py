@@ -1,0 +1,486 @@
+"""avrstk-serial: the command line, and runs of avrstk with a programmer on a serial device."""
+
+from avrstk_common import HELP, READ, WRITE, Fault, Frames, Way, asked, came, ended_by, first, heed_signals
+from avrstk_common import is_frame, messages, parts, ready, refuse, run, say, show, version, wait
+from avrstk_hints import LEAVE, NO_CHIP, NO_SIGNATURES, ONE_IMAGE, SIGN_ON, hint, state_of
+from avrstk_words import DATA, FORMATS, FUSES, UNOPENED, Words, long_name, parts_of
+
+import contextlib
+import copy
+import errno
+import fcntl
+import glob
+import os
+import re
+import shlex
+import socket
+import stat
+import struct
+import subprocess
+import sys
+import termios
+import time
+
+REFUSED = {
+    "-B": "-B is not supported: leave it out; the programmer has its own clock (avrdude -B sets that of an STK500)",
+    "-E": "-E is not supported: the pins of a parallel port are for other programmers",
+    "-O": "-O is not supported: the oscillator is not calibrated; -U calibration:r:-:h reads the byte",
+    "-i": "-i is not supported: the programmer has its own clock for the chip's pins",
+    "-x": "-x is not supported: no parameter of the programmer is set",
+    **{it: f"{it} is not supported: read with -U MEMORY:r:-:h and write with -U MEMORY:w:FILE" for it in ("-t", "-T")},
+    **{it: f"{it} is not supported: erase cycles are not counted in EEPROM" for it in ("-y", "-Y")},
+    **{it: f"{it} is for a programmer without a device: give it to avrstk" for it in ("--serve", "--chip")},
+}
+
+# AVRDUDE's names of programmers with this protocol on a serial device, and of others that users often ask for
+SPEAKING = ["avrispv2", "stk500", "stk500v2", "wiring"]
+PROGRAMMERS = {
+    "arduino": "the bootloader of Uno and Nano (and Arduino as ISP), which speaks STK500 version 1",
+    **dict.fromkeys(["usbasp", "usbtiny"], "a programmer with a protocol of its own over USB, without a serial device"),
+    "avrispmkii": "a programmer on USB without a serial device, whose commands have no frames",
+}
+
+# the serial devices of USB that are here
+DEVICES, NONE_HERE = sorted(glob.glob("/dev/ttyACM*") + glob.glob("/dev/ttyUSB*")), "there is none here now"
+
+# Linux's tcgets2 and tcsets2. Their 44 bytes: four words of flags, a byte, 19 control characters, two speeds
+TCGETS2, TCSETS2, BOTHER = 0x802C542A, 0x402C542B, 0x1000
+
+# the commands that carry the bytes of a memory
+CARRYING = {0x13: "writing flash", 0x14: "reading flash", 0x15: "writing eeprom", 0x16: "reading eeprom"}
+
+# the fuse bit that turns the reset pin off, by parts' long names; others have none
+RESET_PINS = {
+    r"atmega(165|169|325|329|645|649)": ("efuse", 0x01),
+    r"at90usb162$|atmega(8|16|32)u2$": ("hfuse", 0x40),
+    r"attiny|at90pwm|atmega(88|168|328|32m1|64m1)": ("hfuse", 0x80),
+}
+
+
+def list_parts():
+    """Prints the parts as AVRDUDE does, with their signatures."""
+    known, rows = parts(), []
+    for name in sorted(it for it in known if not it.startswith("at")):
+        proper = re.sub("^at(mega|tiny|)(.*)", lambda it: f"AT{it[1]}{it[2].upper()}", long_name(name))
+        rows.append(f"  {name:8} = {proper:13} {bytes.fromhex(known[name]['signature']).hex(' ').upper()}")
+    show("\n".join(rows))
+
+
+def unhealed(words):
+    """Returns why a second run may not heal the chip; None if it does. (docs/TROUBLESHOOTING has the conditions.)"""
+    written = set()
+    for it in words.updates:
+        writes, pages, unwritten = it.operation == "w", [], f"it compares {it.memory}, which it didn't write before"
+        if writes and it.memory == "flash" and "flash" in written:
+            pages = sorted(words.plan()[1] or [(0, 2), (1, 1)])
+        why = first(
+            (it.is_stream(), f"{it.file} can't be {'written' if it.operation == 'r' else 'read'} twice"),
+            (it.operation == "v" and it.memory not in written, unwritten),
+            (writes and "lock" in written, "it writes after the lock"),
+            (any(sum(page) > later for page, (later, _) in zip(pages, pages[1:])), "it writes a page of flash twice"),
+        )
+        if why:
+            return why
+        written |= {it.memory} if writes else set()
+    # (it erases, and writes a high fuse that doesn't keep EEPROM at an erase)
+    bit = words.field("eesave_bit")
+    values = [it.value() for it in words.updates if it.operation == "w" and it.memory == "hfuse"]
+    keeps = all(it is not None and bit is not None and not it >> bit & 1 for it in values)
+    erases = "-e" in words.flags or "flash" in written and "-D" not in words.flags
+    return "a second one may erase EEPROM that this one keeps" if erases and not keeps else None
+
+
+def judge_device(device):
+    """Checks a device without opening it: opening can reset a board."""
+    here = "there are " + ", ".join(DEVICES) if DEVICES else NONE_HERE
+    refuse((not device, f"no device given (-P); {here}"))
+    why = first(
+        (re.fullmatch(r"COM\d+", device, re.I), "Linux calls it /dev/ttyACM0 or /dev/ttyUSB0; -P ? lists what is here"),
+        (re.fullmatch(r"[^/]+:\d+", device), f"a port of a network is -P net:{device}"),
+        (os.path.exists(f"/dev/{device}"), f"it is /dev/{device}"),
+        (True, "is the cable in?"),
+    )
+    refuse(
+        (re.match(r"usb(:|$)", device), f"-P {device} is for programmers without a serial device: use avrdude"),
+        (not os.path.exists(device), f"{device}: there is no such device ({why})"),
+    )
+    refuse((not stat.S_ISCHR(os.stat(device).st_mode), f"{device}: not a device"))
+    if not os.access(device, os.R_OK | os.W_OK):
+        owner, group, mode, number = asked("stat", "-L", "-c", "%U/%G/%a/%g", "--", device).split("/")
+        cure = first(
+            (number != "0" and int(mode, 8) & 0o60 == 0o60, f"often: sudo usermod -aG {group} $USER, and log in again"),
+            (True, f"its owner is {owner}, its group {group}, its mode {mode}"),
+        )
+        raise Fault(f"{device}: you may not read and write it ({cure})")
+
+
+class Device:
+    """The serial device, opened for this run alone. At the end it gets its old settings back."""
+
+    def __init__(self, name, baud, is_wiring):
+        self.file, self.old, act = None, None, "opened"
+        try:
+            self.file = os.open(name, os.O_RDWR | os.O_NOCTTY | os.O_NONBLOCK)
+            # the lock keeps out other runs, root's too; TIOCEXCL keeps out programs that don't lock
+            fcntl.flock(self.file, fcntl.LOCK_EX | fcntl.LOCK_NB)
+            act = f"set to {baud} baud"
+            self.old = fcntl.ioctl(self, TCGETS2, bytes(44))
+            fcntl.ioctl(self, termios.TIOCEXCL)
+            fcntl.ioctl(self, TCSETS2, settings(self.old, baud))
+            (speed,) = struct.unpack_from("=I", fcntl.ioctl(self, TCGETS2, bytes(44)), 40)
+            if abs(speed - baud) * 20 > baud:
+                raise OSError(errno.EINVAL, f"it takes {speed}")
+            if is_wiring:
+                self.pulse()
+        except OSError as fault:
+            self.close()
+            is_taken = fault.errno in (errno.EBUSY, errno.EWOULDBLOCK)
+            raise Fault(f"{name}: cannot be {act}: {'another program has it' if is_taken else fault.strerror}")
+
+    def pulse(self):
+        """Resets a board of -c wiring, as AVRDUDE does: releases DTR and RTS, and asserts them again."""
+        for request in (termios.TIOCMBIC, termios.TIOCMBIS):
+            # (a device may not have these lines)
+            with contextlib.suppress(OSError):
+                fcntl.ioctl(self, request, struct.pack("=I", termios.TIOCM_DTR | termios.TIOCM_RTS))
+            time.sleep(0.05)
+
+    def fileno(self):
+        return self.file
+
+    def close(self):
+        """Restores the device's settings and closes it. If the device is gone, only the close succeeds."""
+        restoring = [(termios.TCFLSH, termios.TCIOFLUSH), (TCSETS2, self.old), (termios.TIOCNXCL, 0)]
+        for request, given in restoring if self.old else []:
+            with contextlib.suppress(OSError):
+                fcntl.ioctl(self, request, given)
+        if self.file is not None:
+            os.close(self.file)
+
+
+def settings(old, baud):
+    """Returns the settings of a device, by its old ones: raw bytes, eight bits, no parity, one stop bit, `baud`."""
+    flags = termios.CS8 | termios.CREAD | termios.CLOCAL | termios.HUPCL | BOTHER
+    control = bytearray(old[17:36])
+    # (a read returns the bytes that are there)
+    control[termios.VMIN], control[termios.VTIME] = 1, 0
+    return struct.pack("=4IB19s2I", termios.IGNPAR, 0, flags, 0, old[16], bytes(control), baud, baud)
+
+
+def is_ours(ends, mark):
+    """Whether a process with this mark has the other end of a connection in this machine; None if that end is gone."""
+    ends = [f"{int.from_bytes(socket.inet_aton(host), sys.byteorder):08X}:{port:04X}" for host, port in ends]
+    with open("/proc/net/tcp", encoding="ascii") as rows:
+        inode = next((row.split()[9] for row in rows if row.split()[1:3] == ends), None)
+    for folder in glob.glob("/proc/[0-9]*") if inode else []:
+        # (another user's process, and one that has ended, can't be read)
+        with contextlib.suppress(OSError), open(f"{folder}/environ", "rb") as held:
+            has_mark = mark.encode() in held.read()
+            if has_mark and f"socket:[{inode}]" in [os.readlink(it) for it in glob.glob(f"{folder}/fd/*")]:
+                return True
+    return inode and False
+
+
+class Progress:
+    """Draws on a terminal what is written or read, the share of the run's frames that were sent, and the time left."""
+
+    def __init__(self, words):
+        self.is_wanted = os.isatty(2) and "-q" not in words.flags
+        self.total, self.begun = words.plan()[0] if self.is_wanted else 0, time.monotonic()
+        self.what, self.sent, self.drawn = None, 0, 0.0
+
+    def frame(self, body):
+        """Counts a command that goes to the device."""
+        self.sent += 1
+        what, now = CARRYING.get(body[0]), time.monotonic()
+        if not what or not self.is_wanted:
+            return
+        self.done = (self.done if what == self.what else 0) + int.from_bytes(body[1:3], "big")
+        self.what = what
+        if now > self.drawn + 0.1:
+            self.drawn = now
+            # (a command that is sent again counts too)
+            share = f", {100 * self.sent // self.total} %" if self.sent <= self.total else ""
+            left = round((now - self.begun) * (self.total - self.sent) / self.sent)
+            more = f", {left} s left" if share and now > self.begun + 1 and left else ""
+            messages.draw(f"avrstk-serial: {what}: {self.done:,} bytes{share}{more}")
+
+
+class Run:
+    """One run of avrstk. Once avrstk connects, the device is bridged to its port."""
+
+    def __init__(self, words, earlier=frozenset(), put=messages.put):
+        self.words, self.earlier, self.put = words, earlier, put
+        self.progress, self.frames, self.commands = Progress(words), Frames(), set()
+        self.error, self.kept, self.status = "", b"", None
+        self.left_at_error = self.silenced = self.was_opened = False
+        # the files to close, and the ways between avrstk and the device
+        self.port, self.ways = socket.create_server(("127.0.0.1", 0)), []
+        self.files = [self.port]
+        command = words.command(f"net:127.0.0.1:{self.port.getsockname()[1]}")
+        # (the mark is for avrstk and what it starts. A shell may have opened an image, as by <(COMMAND))
+        self.mark = os.urandom(16).hex()
+        how = {"stderr": subprocess.PIPE, "close_fds": False, "env": {**os.environ, "AVRSTK_SERIAL": self.mark}}
+        self.tool = subprocess.Popen(command, **how)
+        os.set_blocking(self.tool.stderr.fileno(), False)
+
+    def hear_messages(self):
+        """Passes on avrstk's complete lines. Returns False at the end of the stream, None if nothing is there."""
+        try:
+            heard = os.read(self.tool.stderr.fileno(), 65_536)
+        except BlockingIOError:
+            return None
+        *whole, self.kept = (self.kept + heard).split(b"\n")
+        for it in whole:
+            self.progress.what, self.progress.drawn = None, 0.0
+            self.put(it + b"\n")
+            text = os.fsdecode(it).partition("avrstk: ")[2]
+            if text.startswith("error: ") and not self.error:
+                self.left_at_error, self.error = LEAVE in self.commands, text[7:]
+        return bool(heard)
+
+    def called(self):
+        """Takes a call, and opens the device if the caller is avrstk, and not another program of this machine."""
+        line, peer = self.port.accept()
+        is_avrstk = is_ours((peer, line.getsockname()), self.mark)
+        if is_avrstk:
+            return self.open(line)
+        line.close()
+        if is_avrstk is False:
+            say("another program called the port of this run, and was refused")
+
+    def open(self, line):
+        """Opens the device and waits for the board. Only the last SIGN_ON that avrstk sends meanwhile is passed on."""
+        self.close()
+        self.files = [line]
+        line.setsockopt(socket.IPPROTO_TCP, socket.TCP_NODELAY, 1)
+        line.setblocking(False)
+        device = Device(self.words.device, int(self.words.baud), self.words.is_wiring)
+        self.files, self.was_opened = [line, device], True
+        there, back = self.ways = Way(line, device, self.note_commands), Way(device, line, self.note_replies)
+        ends = time.monotonic() + float(self.words.wait)
+        while ready({line: READ, came: READ}, ends) == {line} and not there.has_ended:
+            there.take()
+        there.held = there.held[-7:]
+        self.talks_until = time.monotonic() + 10
+        fcntl.ioctl(device, termios.TCFLSH, termios.TCIFLUSH)
+
+    def note_commands(self, piece):
+        for it in filter(is_frame, self.frames.pieces(piece)):
+            self.commands.add(it[5])
+            self.progress.frame(it[5:-1])
+        return piece
+
+    def note_replies(self, piece):
+        """Notes whether the device sends bytes after ten seconds, but sent no valid reply."""
+        self.silenced |= bool(piece) and time.monotonic() > self.talks_until and self.commands <= {SIGN_ON, LEAVE}
+        return piece
+
+    def close(self):
+        """Closes avrstk's connection and the device, or the port."""
+        for it in self.files:
+            it.close()
+        self.files, self.ways, self.port = [], [], None
+
+    def bridge(self):
+        """Passes bytes between avrstk and the device until avrstk has ended or a signal comes."""
+        while True:
+            watched = {came: READ, self.tool.stderr: READ, **({self.port: READ} if self.port else {})}
+            found = wait(self.ways, {**watched, **({2: WRITE} if messages.waiting else {})})
+            # (avrstk prints an error line before it sends LEAVE, so its lines are read before its frames)
+            if came in found or self.tool.stderr in found and self.hear_messages() is False:
+                return
+            messages.send()
+            try:
+                if self.port in found:
+                    self.called()
+                any([way.go_on(found) for way in self.ways])
+            except OSError:
+                self.close()
+            if self.silenced or any(way.has_ended for way in self.ways):
+                self.close()
+
+    def end(self):
+        """Ends avrstk and sets the status."""
+        if ended_by() and self.tool.poll() is None:
+            self.tool.terminate()
+        self.close()
+        self.status = 0 if self.tool.wait() == 0 and not ended_by() else 1
+        while self.hear_messages():
+            pass
+        if self.kept:
+            # avrstk ended in the middle of this line
+            messages.put(self.kept + b"\n")
+
+
+def judge(words):
+    """Refuses what can be refused without avrstk."""
+    name, wait = words.programmer.lower(), re.fullmatch(r"[0-9]+(\.[0-9]+)?", words.wait)
+    what = f" is {PROGRAMMERS[name]}" if name in PROGRAMMERS else ": this speaks STK500v2 only"
+    is_speed = re.fullmatch(r"[0-9]{1,9}", words.baud) and int(words.baud)
+    refuse(
+        (name not in SPEAKING, f"-c {words.programmer}{what}: use avrdude -c {words.programmer}"),
+        *((it in REFUSED, REFUSED.get(it)) for it in words.last),
+        (not is_speed, f"-b {words.baud}: not a speed"),
+        (not wait or float(words.wait) > 3, f"--wait {words.wait}: not a number of seconds from 0 to 3"),
+    )
+    for it in words.updates:
+        it.judge()
+    if not words.has_port:
+        judge_device(words.device)
+    is_number, is_retried = re.fullmatch(r"[0-9]{1,2}", words.retry), words.retry.strip("0")
+    refuse(
+        (re.fullmatch("net:[^:]*", words.device), f"-P {words.device}: a port of a network is -P net:HOST:PORT"),
+        (not is_number, f"--retry {words.retry}: not a number from 0 to 99"),
+    )
+    why = is_retried and ("avrstk's own ports are run once" if words.has_port else unhealed(words))
+    refuse((why, f"--retry: the same command again may not heal this one: {why}"))
+
+
+def warn(words):
+    """Warns of fuses that can make the chip unreachable, and of an image for a bootloader that leaves out pages."""
+    name, gone = long_name(words.part), "no ISP programmer reaches the chip then"
+    reset = next((it for names, it in RESET_PINS.items() if re.match(names, name)), (None, 0))
+    risks = {
+        "selects an external clock: the chip only works while a clock drives its pin XTAL1": ("lfuse", 0x0F, 0),
+        f"turns SPIEN off: {gone}": ("hfuse", 0x20, 0x20),
+        f"turns the reset pin off (RSTDISBL): {gone}": (*reset, 0),
+    }
+    writes = [it for it in words.updates if it.operation == "w" and it.value() is not None and words.parts_file is None]
+    for what, (memory, mask, risky) in risks.items():
+        found = [it.given for it in writes if it.memory == memory and it.value() & mask == risky]
+        if found:
+            words.note(f"warning: {' and '.join(found)} {what}")
+    if words.is_wiring and "-D" in words.flags and words.is_whole() is False:
+        words.note(f"warning: a bootloader erases pages from 0 on, other ones than this image writes: {ONE_IMAGE}")
+
+
+def ran(words, put=messages.put):
+    """Makes a run, and gives the command again after faults that a second run heals. Returns the last run."""
+    earlier, count = frozenset(), int(words.retry)
+    for number in range(1, count + 2):
+        run = Run(words, earlier, put)
+        try:
+            run.bridge()
+        except BaseException:
+            run.tool.kill()
+            if earlier:
+                say(state_of(run))
+            raise
+        finally:
+            run.end()
+        earlier |= run.commands
+        heals = re.match(r"no answer$|link |\w+: address \w+: \w+ expected, \w+ found$", run.error)
+        if number > count or ended_by() or not run.status or not heals:
+            return run
+        words.note(f"{run.error}: the same command again, {number} of {count}")
+        wait_for(words.device)
+
+
+def wait_for(device):
+    """Waits until a device is back; for at most ten seconds."""
+    ends = time.monotonic() + 10
+    while not ended_by() and time.monotonic() < ends:
+        with contextlib.suppress(Fault):
+            return judge_device(device)
+        time.sleep(0.1)
+
+
+def detect(words):
+    """Takes the part of the chip's signature for -p auto. The session writes nothing."""
+    why = "-p auto is for a device, and looks in the part file that comes with avrstk (without --parts)"
+    refuse((words.has_port or words.parts_file is not None, why))
+    session = copy.copy(words)
+    session.part, session.flags, session.updates = "m328p", ["-F", "-n"], []
+    lines = []
+    run = ran(session, lines.append)
+    found = re.search(rb"^avrstk: device signature = ((?:\w\w ?){3})$", b"".join(lines), re.M)
+    if run.status or not found:
+        messages.put(b"".join(lines))
+        raise Fault(hint(run, ended_by()))
+    signature = found[1].decode()
+    names = parts_of(signature)
+    has = f"the chip has the signature {signature}, which"
+    why = first(
+        (signature in NO_SIGNATURES, NO_CHIP),
+        (not names, f"{has} no part here has"),
+        (len(names) > 1, f"{has} several parts have: give one of them by -p: {', '.join(names)}"),
+    )
+    refuse((why, f"-p auto: {why}; nothing was written"))
+    words.note(f"the chip is {names[0]} ({signature})")
+    words.part = names[0]
+
+
+def run_own_port(words):
+    """Runs avrstk with one of its own ports. It replaces this script, unless that has something to do afterwards."""
+    command = words.command(words.device)
+    if words.backup is None and not messages.log:
+        messages.finish()
+        os.execvp(command[0], command)
+    tool = subprocess.Popen(command, stderr=subprocess.PIPE, close_fds=False)
+    for line in tool.stderr:
+        messages.put(line)
+    return tool.wait()
+
+
+def restoring(words):
+    """Returns the command that restores a backup."""
+    values = {it: asked("cat", f"{words.backup}/{it}.txt") for it in FUSES}
+    is_locked = not int(values["lock"], 16) & 2
+    refuse((is_locked, "the chip is locked, so flash and EEPROM can't be read: this is no backup of them"))
+    given = [it for name in ("--parts", "-b") if name in words.last for it in (name, words.last[name])]
+    # (if all of a memory is FF, the erase restores it)
+    images = [f"{it.memory}:w:{it.file}:i" for it in words.updates[:2] if DATA.search(it.held(1 << 26))]
+    images += [f"{it}:w:{values[it]}:m" for it in ["efuse", "hfuse", "lfuse", "lock"]]
+    given += ["-p", words.part, "-P", words.device, "-e", *(word for it in images for word in ("-U", it))]
+    return " ".join(map(shlex.quote, ["avrstk-serial", *given]))
+
+
+def prepare(words):
+    """Judges the command line, makes the log and the folder that it names, and prints what is understood otherwise."""
+    log = words.last.get("-l")
+    of_update = log is not None and os.path.realpath(log) in [os.path.realpath(it.file) for it in words.updates]
+    refuse((of_update, f"-l {log}: that is the file of an update: {UNOPENED}"))
+    if log is not None:
+        messages.log = open(log, "wb", 0)
+    if words.backup is not None:
+        os.mkdir(words.backup)
+    judge(words)
+    if words.left_out:
+        words.note(f"ignored: {', '.join(words.left_out)}")
+    for it in words.updates if "-q" not in words.flags else []:
+        place = f": its {it.memory} is {it.text.split(':')[2]}" if it.elf else ""
+        if it.named:
+            say(f"{it.file} is read as {FORMATS[it.named]} (:{it.named}){place}")
+
+
+def serve(words):
+    prepare(words)
+    if not words.has_port:
+        heed_signals()
+    if words.part == "auto":
+        detect(words)
+    bits = words.bits()
+    for it in words.updates:
+        lacks = it.mask(bits)
+        if lacks:
+            words.note(f"{it.memory} of {words.part} has {lacks}")
+    warn(words)
+    run = None if words.has_port else ran(words)
+    status = run.status if run else run_own_port(words)
+    refuse((run and status, run and status and hint(run, ended_by())))
+    if words.backup is not None and not status:
+        show(restoring(words))
+    return status
+
+
+def main():
+    words = Words(sys.argv[1:])
+    shown = first(
+        ({"-h", "-?", "--help"} & set(words.last) or not sys.argv[1:], lambda: show(HELP)),
+        ("--version" in words.last, lambda: show(version())),
+        (words.device == "?", lambda: show("\n".join(DEVICES) or NONE_HERE)),
+        (words.part == "?", list_parts),
+        (words.programmer == "?", lambda: show("\n".join(SPEAKING))),
+    )
+    return (shown or (lambda: serve(words)))()

@@ -1,0 +1,274 @@
+"""avrstk-serve: the clients at a port or a terminal, and the runs of avrstk_session for them."""
+
+from avrstk_common import ENDING, HELP, READ, Fault, Way, built, came, heed_signals, noted, part_words, readable
+from avrstk_common import ready, refuse, run, say, session_program, show, version, wait
+from avrstk_faults import FAULTS, REFUSED, Traffic, seconds
+
+import atexit
+import contextlib
+import getopt
+import os
+import re
+import select
+import signal
+import socket
+import subprocess
+import sys
+import threading
+import time
+import tty
+
+# the most clients kept that have sent nothing; beyond that the oldest is hung up on. (So few open files are enough)
+MOST_SILENT = 8
+
+# the most seconds that a run has to save its chip once its client is gone
+PATIENCE = 8
+
+LONG = ["parts=", "chip=", "idle=", "listen=", "pty=", "log=", "seed=", "locked", "version", "help"]
+LONG += [it[2:] + "=" for it in FAULTS] + [it[2:] for it in REFUSED]
+
+
+def ignore_signals():
+    """Ignores the signals that end the server."""
+    for number in ENDING:
+        signal.signal(number, signal.SIG_IGN)
+
+
+class Port:
+    """A TCP port and its clients that have sent nothing so far, each with its time limit."""
+
+    def __init__(self, address, port, idle):
+        self.address, self.port, self.idle, self.silent, self.door = address, port, idle, {}, None
+
+    def open(self):
+        """Lets clients call, and returns where."""
+        try:
+            address = os.fsencode(self.address)
+            family, _, _, _, place = socket.getaddrinfo(address, self.port, type=socket.SOCK_STREAM)[0]
+            self.door = socket.create_server(place, family=family)
+        except OSError as fault:
+            name = f"port {self.port}" if self.address == "127.0.0.1" else f"{self.address}, port {self.port}"
+            # (Python adds the address in brackets)
+            raise Fault(f"{name}: {fault.strerror.partition(' (')[0]}")
+        self.door.setblocking(False)
+        address, port = self.door.getsockname()[:2]
+        return f"[{address}]:{port}" if ":" in address else f"{address}:{port}"
+
+    def next_client(self):
+        """Returns the first client that has sent a byte; None after a signal. Hangs up on the oldest silent ones."""
+        while True:
+            oldest = next(iter(self.silent), None)
+            watched = dict.fromkeys([came, self.door, *self.silent], READ)
+            found = ready(watched, self.idle and self.silent.get(oldest))
+            if came in found:
+                return None
+            client = next((it for it in self.silent if it in found), None)
+            if client:
+                del self.silent[client]
+                if has_sent(client):
+                    return client
+                close(client)
+            elif not found or len(self.silent) == MOST_SILENT:
+                del self.silent[oldest]
+                close(oldest)
+            if self.door in found:
+                self.accept()
+
+    def accept(self):
+        # (a client may have gone meanwhile)
+        with contextlib.suppress(OSError):
+            client, _ = self.door.accept()
+            client.setblocking(False)
+            client.setsockopt(socket.IPPROTO_TCP, socket.TCP_NODELAY, 1)
+            self.silent[client] = time.monotonic() + (self.idle or 0)
+
+
+class Link:
+    """A link to the pseudo terminal of the next session. Closing the terminal of a session hangs up on its client."""
+
+    def __init__(self, link):
+        self.link, self.terminal, self.device = link, None, None
+        atexit.register(lambda: self.is_here() and os.unlink(link))
+
+    def open(self):
+        """Lets the next client call, and returns where. The link is never missing, nor another program's."""
+        try:
+            number, device = os.openpty()
+            tty.setraw(device)
+            leads_to, name = os.ttyname(device), f"{self.link}.avrstk-{os.getpid()}" if self.is_here() else self.link
+            # (once it was closed, the end of a client is seen)
+            os.close(device)
+            os.symlink(leads_to, name)
+            os.rename(name, self.link)
+        except OSError as fault:
+            raise Fault(f"{self.link}: {fault.strerror}")
+        os.set_blocking(number, False)
+        self.terminal, self.device = os.fdopen(number, "r+b", 0), leads_to
+        return self.link
+
+    def is_here(self):
+        """Whether the link is still the one made here."""
+        return self.device is not None and os.path.islink(self.link) and os.readlink(self.link) == self.device
+
+    def next_client(self):
+        """Returns the terminal whose client has sent a byte; None after a signal."""
+        with_input = select.poll()
+        with_input.register(self.terminal, select.POLLIN)
+        # (while no client has it open, a terminal is always ready, with its end)
+        while not any(events & select.POLLIN for _, events in with_input.poll(0)):
+            if ready({came: READ}, time.monotonic() + 0.02):
+                return None
+        client = self.terminal
+        self.open()
+        return client
+
+
+class Server:
+    """The clients at a door, and the runs of a program for them."""
+
+    def __init__(self, door, program, idle, traffic):
+        self.door, self.program, self.idle, self.traffic, self.has_failed = door, program, idle, traffic, False
+
+    def serve_all(self, command):
+        """Serves while this command runs, or until a signal comes. Returns the status."""
+        where = self.door.open()
+        if command:
+            command = [it.replace("{}", where) for it in command]
+            client = subprocess.Popen(command, env={**os.environ, "AVRSTK_PORT": where})
+            # its end ends the server, as a signal does
+            notes_end = lambda: (client.wait(), noted.send(bytes([signal.SIGCHLD])))
+            threading.Thread(target=notes_end, daemon=True).start()
+        else:
+            show(f"serving at {readable(where)}")
+        for it in iter(self.door.next_client, None):
+            try:
+                self.serve(it)
+            except OSError as fault:
+                self.has_failed = True
+                say(f"a client can't be served: {fault.strerror}")
+            close(it)
+        if command:
+            client.terminate()
+            end(client, PATIENCE)
+        # (a status is that of a shell if a signal has ended the command)
+        status = client.returncode if command else 0
+        return (128 - status if status < 0 else status) or int(self.has_failed)
+
+    def serve(self, client):
+        """Serves one client by a run of its own. On return the run has ended and saved the chip."""
+        line, other = socket.socketpair()
+        with line:
+            with other:
+                # (it saves its chip even if all processes of a service are sent a signal)
+                how = {"stdin": other, "stdout": other, "start_new_session": True, "preexec_fn": ignore_signals}
+                run = subprocess.Popen(self.program, **how)
+            try:
+                line.setblocking(False)
+                self.pass_on(client, line)
+            finally:
+                hang_up(line, run)
+                if self.traffic:
+                    self.traffic.end()
+        if run.returncode:
+            how = f"status {run.returncode}" if run.returncode > 0 else f"ended by signal {-run.returncode}"
+            self.has_failed = True
+            say(f"a session failed ({how}): its changes may not be in the chip file")
+
+    def pass_on(self, client, line):
+        """Passes bytes between a client and its run until either has gone, the client is idle, or a signal comes."""
+        changes = self.traffic.begin() if self.traffic else [lambda piece: piece] * 2
+        there, back = ways = Way(client, line, changes[0]), Way(line, client, changes[1])
+        moved = time.monotonic()
+        while not back.has_ended:
+            found = wait(ways, {came: READ}, self.idle and moved + self.idle)
+            if came in found:
+                return
+            if not found:
+                say(f"a client sent nothing for {self.idle:g} seconds: hung up")
+                return
+            try:
+                if any([way.go_on(found) for way in ways]):
+                    moved = time.monotonic()
+                if there.has_ended:
+                    line.shutdown(socket.SHUT_WR)
+            except OSError:
+                # (the client has reset the connection, or the run has ended)
+                return
+
+
+def hang_up(line, run):
+    """Ends what a run receives, and returns once it has saved the chip and ended, or was killed after too long."""
+    until = time.monotonic() + PATIENCE
+    # (if the run has ended, that is an error)
+    with contextlib.suppress(OSError):
+        line.shutdown(socket.SHUT_WR)
+        while ready({line: READ}, until) and line.recv(65_536):
+            pass
+    end(run, max(0, until - time.monotonic()))
+
+
+def end(run, seconds):
+    """Waits until a run has ended, and kills it if it hasn't after some seconds."""
+    try:
+        run.wait(seconds)
+    except subprocess.TimeoutExpired:
+        run.kill()
+        run.wait()
+
+
+def close(client):
+    """Hangs up on a client. Reads its unread bytes first, so that the client sees the end and not a reset."""
+    with contextlib.suppress(OSError):
+        # (a terminal can't be closed in one direction)
+        if isinstance(client, socket.socket):
+            client.shutdown(socket.SHUT_WR)
+        for _ in range(16):
+            os.read(client.fileno(), 65_536)
+    client.close()
+
+
+def door_of(places, options, idle):
+    """Returns what clients call: a port or a link."""
+    if "--pty" in options:
+        refuse((places or "--listen" in options, "a port and --pty: give one of the two"))
+        return Link(options["--pty"])
+    refuse((len(places) != 1, "one port is needed: avrstk-serve PORT -p PART --chip FILE"))
+    is_port = re.fullmatch("[0-9]{1,9}", places[0]) and int(places[0]) < 65_536
+    refuse((not is_port, f"{places[0]}: not a port from 0 to 65535"))
+    return Port(options.get("--listen", "127.0.0.1"), int(places[0]), idle)
+
+
+def has_sent(client):
+    with contextlib.suppress(OSError):
+        return bool(client.recv(1, socket.MSG_PEEK))
+
+
+def main():
+    at = sys.argv.index("--") if "--" in sys.argv else len(sys.argv)
+    client = sys.argv[at + 1 :]
+    refuse((sys.argv[-1] == "--", "no command after --"))
+    given, places = getopt.gnu_getopt(sys.argv[1:at], "p:h", LONG)
+    options = dict(given)
+    if {"-h", "--help", "--version"} & set(options) or not sys.argv[1:]:
+        return show(version() if "--version" in options else HELP)
+    idle = seconds("--idle", options["--idle"]) if "--idle" in options else None
+    door, chip, parts = door_of(places, options, idle), options.get("--chip"), options.get("--parts")
+    traffic = Traffic(given) if {"--log", *FAULTS, *REFUSED} & set(options) else None
+    refuse(
+        (chip is None, "no chip file given (--chip)"),
+        (re.search(r"[\udc80-\udcff]", chip or ""), f"--chip {chip}: the name is not UTF-8"),
+        (parts is not None and not os.path.isfile(parts), f"--parts {parts}: not a file that each client can read"),
+    )
+    # (avrstk_session itself reports a missing part)
+    words = [*part_words(options.get("-p"), parts), "-P", f"emu:{chip}"]
+    command = [session_program(), *words]
+    # runs that serve nobody check the options and set the lock. They report why they fail
+    runs = [[*command, "-n"], [built(), *words, "-q", "-q", "-U", "lock:w:0xFC:m"]][: 1 + ("--locked" in options)]
+    if any(subprocess.run(it, stdin=subprocess.DEVNULL, stdout=subprocess.DEVNULL).returncode for it in runs):
+        return 1
+    heed_signals()
+    try:
+        return Server(door, command, idle, traffic).serve_all(client)
+    finally:
+        # (while Python ends, another signal would end it by that signal)
+        ignore_signals()
