@@ -4,4 +4,5 @@ pub mod AnyTape
 pub mod WireTapes
 pub mod InTurn
 pub mod NoFrame
+pub mod Damaged
 pub mod Rows

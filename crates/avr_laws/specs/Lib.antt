@@ -1,6 +1,7 @@
 -- what a link does to a conversation with the emulated programmer, and what holds along it
 pub mod AnyTape
 pub mod NoFrame
+pub mod Damaged
 pub mod Few
 pub mod Tallies
 -- what a run makes of a chip, does and reports, over any link

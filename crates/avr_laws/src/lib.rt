@@ -13,6 +13,8 @@ mod any_line;
 mod few_bad_frames;
 // a conversation over any link
 mod conversations;
+// links that damage frames
+mod damaged_frames;
 // what a plan writes, address by address
 mod written;
 
@@ -30,6 +32,7 @@ pub use conversations::{
     a_wire_is_an_honest_line, few_bad_fates_bring_all_data,
     over_a_wire_a_conversation_goes_along_turns, over_any_tape_a_conversation_goes_along_turns,
 };
+pub use damaged_frames::a_link_that_damages_one_byte_forges_no_frame;
 pub use few_bad_frames::a_run_with_few_bad_frames_is_its_expected_run;
 pub use written::{
     a_byte_of_flash_is_made_by_images, a_plan_writes_what_its_tasks_write,
