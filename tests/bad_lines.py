@@ -1,6 +1,8 @@
 #!/usr/bin/env python3
 """Makes 150 runs to the served programmer, as two processes at the ends of a bad link. The random generators have fixed seeds.
 
+Not proved: That two processes and their sockets are such a link; how often a run succeeds.
+
     tests/bad_lines.py [CASE ..]    needs a built program (program.py)
 
     cuts      all bytes arrive at once, in pieces: each run succeeds
@@ -203,6 +205,7 @@ def many(name, numbers, plans, link_of):
 
 
 def cuts():
+    """All bytes arrive at once, in pieces."""
     plans = [Plan(it) for it in range(10)]
     SUCCEEDED["cuts"], _ = many("cuts", range(45), plans, lambda draw: (draw.choice([1, 7, 40, 300]), lambda _: ""))
 
@@ -212,11 +215,14 @@ def drawn(draw, rate, kinds):
 
 
 def stalls():
+    """Frames, or their rests, come just before the next one."""
     link_of = lambda draw: (draw.choice([3, 20, 300]), drawn(draw, 5, STALLS))
     SUCCEEDED["stalls"], _ = many("stalls", range(42), [Plan(it, False) for it in range(10)], link_of)
 
 
 def lags():
+    """From some exchange on each reply comes late."""
+
     def link_of(draw):
         first = draw.randint(1, 40)
         return 300, lambda number: "late answer" if number >= first else ""
@@ -225,6 +231,7 @@ def lags():
 
 
 def losses():
+    """Frames are lost, changed and late at random."""
     plan, count = Plan("lossy", False), 16
     for rate in RATES:
         good, forged = many(f"{rate} %", range(count), [plan], lambda draw: (300, drawn(draw, rate, LOSSES)))

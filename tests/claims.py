@@ -2,6 +2,8 @@
 """Tests sentences of README and docs/USAGE about `written` and status 0, files, commands after an error, timeouts, and
 AVRDUDE.
 
+Not proved: Time, signals and standard streams; that sentences of the documents say what the program does.
+
     tests/claims.py        needs a built program (program.py); rows with AVRDUDE 7.1 are left out without it
 """
 

@@ -1,6 +1,8 @@
 #!/usr/bin/env python3
 """Compares what docs/CHECK and CONTRIBUTING quote of sources with these, and the logic that documents name with the kit's.
 
+Not proved: Documents are not code.
+
     tests/documents.py
 """
 

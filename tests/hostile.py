@@ -2,6 +2,8 @@
 """Runs the built program in a failing environment: outputs that are closed or full, files that can't be read or created,
 programmers that disconnect, and callers that send garbage.
 
+Not proved: What the system does with closed, full and broken streams, files and sockets.
+
     tests/hostile.py [CASE ..]      needs a built program (program.py)
 """
 

@@ -3,6 +3,8 @@
 runs only if named, proves the link of examples/library too, whose ghost members only a proof reads. That takes minutes if no
 rt ci at work has proved the crates below it.
 
+Not proved: Scripts of the shell.
+
     tests/vendor.py [CASE ..]
 """
 
