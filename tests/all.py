@@ -36,10 +36,10 @@ PROVED = TOP / "crates/avrstk/out/avrstk"
 # the crates that are programs
 PROGRAMS = {it.parent.parent.name: it.parent.parent / "out" for it in TOP.glob("crates/*/src/main.rt")}
 
-# scripts that only read
-CHECKED = ("measure --check", "reach --check", "api")
+# scripts of tools/, which only read
+CHECKED = ("measure --check", "reach --check", "api", "tests_page")
 # scripts that run no program of this project, or compile it themselves; the longest first
-SOURCES = ("rattle names", "rattle tests", "rattle programs", "rattle refused", "vendor", "build", *CHECKED)
+SOURCES = ("rattle tests", "rattle programs", "rattle refused", "rattle names", "vendor", "build", "documents", *CHECKED)
 # scripts over the library for C, which takes minutes to prove and build, so that only --all runs them
 LIBRARY = ("from_c", "others")
 # scripts that take seconds
@@ -51,7 +51,7 @@ BOTH = ("runs", "lines")
 # counts of bench/run.py
 BENCH = ("calls", "count")
 # scripts that --all runs with the proved program; the longest first
-PROGRAM = ("faults", "cuts_and_stalls", "mega", "vendor proof", *BENCH, *QUICK)
+PROGRAM = ("faults", "mega", "vendor proof", *BENCH, *QUICK)
 
 LANES = len(os.sched_getaffinity(0))
 # scripts that no proof waits for give way to rt ci (but not what `rt try` starts, in a session of its own)
@@ -152,7 +152,8 @@ def run(what, command, each=None, **environment):
 def script(name, kind="", before=(), **environment):
     """Runs a script. The log names it with the `kind` of program that it runs."""
     file, *words = name.split()
-    command = [TOP / "bench/run.py", f"--{file}"] if file in BENCH else [TOP / f"tests/{file}.py", *words]
+    path = TOP / f"{'tools' if name in CHECKED else 'tests'}/{file}.py"
+    command = [TOP / "bench/run.py", f"--{file}"] if file in BENCH else [path, *words]
     command = [*before, *command]
     once = lambda again="": run(f"{kind}{name}{again}", command, PYTHONUNBUFFERED="1", **environment)
     done = once()

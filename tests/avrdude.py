@@ -2,6 +2,8 @@
 """Runs AVRDUDE 7.1 as the client of the programmer that this program serves. AVRDUDE's writes, reads and erases must have
 the same results as this program's over `emu:`.
 
+Not proved: AVRDUDE is a program of others.
+
     tests/avrdude.py [CASE ..]    needs a built program (program.py) and AVRDUDE 7.1; without it all is left out
 
 For an ATmega328P, an ATtiny85 and an ATmega2560, each request is made twice with the same options: by AVRDUDE over `net:`

@@ -1,18 +1,16 @@
 #!/usr/bin/env python3
-"""Tests sentences of README, docs/USAGE, docs/PROTOCOL and docs/FORMATS. They are about `written` and status 0, commands
-after an error, timeouts, the detection of file formats, and AVRDUDE. Compares what docs/CHECK, CONTRIBUTING and
-tests/rattle/README quote of sources with these.
+"""Tests sentences of README and docs/USAGE about `written` and status 0, files, commands after an error, timeouts, and
+AVRDUDE.
+
+Not proved: Time, signals and standard streams; that sentences of the documents say what the program does.
 
     tests/claims.py        needs a built program (program.py); rows with AVRDUDE 7.1 are left out without it
-
-README's and WHY's figures are compared with the scripts that make them.
 """
 
 import fcntl
 import os
 import re
 import shlex
-import shutil
 import signal
 import socket
 import struct
@@ -20,7 +18,7 @@ import subprocess
 import sys
 import time
 
-from cases import PATIENCE, leave_out, named, run_cases, same, see
+from cases import PATIENCE, leave_out, named, run_cases, see
 from line import BadLine, Peer, frames_of
 from program import CHIP_FILE, PROGRAM, TOP, Room, Server, frame, has_avrdude, lines
 
@@ -37,11 +35,6 @@ LOCKED = NEW[:-1] + b"\xfe"
 FULL = bytes(FLASH) + NEW[FLASH:]
 ENTER = bytes.fromhex("10 C8 64 19 20 00 53 03 AC 53 00 00")
 LEAVE = 0x11
-# the line at the end of a crate's check, as docs/CHECK has it
-PROVED = (
-    "logic=proved functions=.. sum=.. native=nat,char,string logic-built=trusted libraries-built=trusted"
-    " statements=trusted incremental=trusted"
-)
 
 
 def run(name, words, told, status=0, chip=None, **files):
@@ -76,25 +69,6 @@ def written_is_no_more_than_answered():
     run("and old bytes", ["-D", "-U", "flash:w:0x12,0x34:m"], told, 1, FULL)
 
 
-def what_is_written_is_there():
-    words = ["-V", "-U", "flash:w:0x12,0x34:m", "-U", "lfuse:w:0xE2:m"]
-    told = [*ERASED, "flash: 2 bytes written", "lfuse: 1 bytes written", "done"]
-    for name, chip in [("a locked chip that is erased before", LOCKED), ("a full one", FULL)]:
-        found = run(f"written: {name}", words, told, chip=chip)
-        is_flash = found[:FLASH] == b"\x12\x34" + b"\xff" * (FLASH - 2)
-        see(f"it is there: {name}", is_flash and found[LFUSE] == 0xE2)
-
-
-def a_locked_chip_without_an_erase():
-    told = [SIGNATURE, "eeprom: 1 bytes written", "eeprom: 1 bytes verified", "done"]
-    run("bytes that are there", ["-U", "eeprom:w:255:m"], told, chip=LOCKED)
-    told = [SIGNATURE, "eeprom: 1024 bytes read", "done"]
-    run("a read", ["-U", "eeprom:r:out.bin:r"], told, chip=LOCKED)
-    told = [SIGNATURE, "eeprom: 1 bytes written", "error: eeprom: address 00000000: 01 expected, FF found"]
-    for attempt in ["", ", and once more"]:
-        run(f"other bytes{attempt}", ["-U", "eeprom:w:1:m"], told, 1, LOCKED)
-
-
 def plans_that_no_second_run_heals():
     told = [*ERASED, "lock: 1 bytes written", "lock: 1 bytes verified", "lock: 1 bytes written"]
     words = ["-e", "-U", "lock:w:0xFD:m", "-U", "lock:w:0xFF:m"]
@@ -111,11 +85,6 @@ def what_another_tool_left_stays_elsewhere():
     chip = run("a chip of 00 everywhere", ["-U", "flash:w:1:m"], told, chip=bytes(CHIP_FILE))
     see("its fuses stay", chip[LFUSE:LOCK] == bytes(3), chip[LFUSE:])
     see("its EEPROM too, as its fuse keeps it", chip[FLASH:LFUSE] == bytes(EEPROM))
-
-
-def comparisons_look_at_the_image_alone():
-    told = [SIGNATURE, "flash: 2 bytes verified", "done"]
-    run("other bytes elsewhere", ["-U", "flash:v:0x42,0x42:m"], told, chip=b"\x42" * (CHIP_FILE - 1) + b"\xff")
 
 
 # ---- files
@@ -163,48 +132,6 @@ def a_bad_file_leaves_the_chip():
     see("the chip is as it was", chip == FULL)
     chip = run("a name misspelt", ["-U", "flash:w:nofile.hex:i"], ["error: nofile.hex: cannot be opened"], 1, FULL)
     see("and there", chip == FULL)
-
-
-def headers_and_starts_are_dropped():
-    """docs/FORMATS: start addresses and S0 are read, and not written."""
-    hexes = ":0400000300003000C9\n:040000050000010CEA\n:0100000055AA\n:00000001FF\n"
-    srecs = "S00600004844521B\nS104000055A6\nS9030100FB\n"
-    for name, content, letter in [("Intel HEX", hexes, "i"), ("S-records", srecs, "s")]:
-        words = ["-U", f"flash:w:image.hex:{letter}", "-U", f"flash:r:out:{letter}"]
-        told = [*ERASED, "flash: 1 bytes written", "flash: 1 bytes verified", "flash: 2 bytes read", "done"]
-        run(f"a header or start address of {name}", words, told, image_hex=content)
-        kinds = [it[7:9] if letter == "i" else it[:2] for it in (room.read("out") or b"").decode().split()]
-        see(f"{name} without them", kinds == (["00", "01"] if letter == "i" else ["S1", "S9"]), kinds)
-
-
-def what_files_hold():
-    """Tests docs/FORMATS by single runs: each file, its name, and the lines about it."""
-    data, end = ":0100000055AA\n", ":00000001FF\n"
-    digit = ["error: image.hex: line 1: bad digit"]
-    read = [*ERASED, "flash: 1 bytes written", "flash: 1 bytes verified", "done"]
-    for name, content, letter, told in [
-        ("nothing after the end record is judged", data + end + "x" * 700, "a", read),
-        ("blanks of 600 bytes say nothing", " " * 600 + "\n" + data + end, "i", read),
-        ("of 601 they are too long", " " * 601 + "\n" + data + end, "i", ["error: image.hex: line 1: line too long"]),
-        ("blank lines are passed over by detection", "\n \t\r\n" + data + end, "a", read),
-        ("lower-case digits, no last line end", ":0100000055aa\n:00000001ff", "a", read),
-        ("lines that end with CR alone", (data + end).replace("\n", "\r"), "i", digit),
-        ("a later byte wins", ":0100000011EE\n" + data + end, "i", read),
-    ]:
-        chip = run(name, ["-U", f"flash:w:image.hex:{letter}"], told, int(told != read), image_hex=content)
-        see(f"{name}: the byte", told != read or chip[0] == 0x55)
-    for value, told in [
-        ("08", "value 1: not a number"),
-        ("0o7", "value 1: not a number"),
-        ("+1", "value 1: not a number"),
-        (" ", "value 1: not a number"),
-        ("256", "value 1: above 255"),
-        ("1,2", "address 00000001 out of range"),
-    ]:
-        run(f"value {value}", ["-U", f"lfuse:w:{value}:m"], [f"error: lfuse: {told}"], 1)
-    told = [SIGNATURE, "eeprom: 3 bytes written", "eeprom: 3 bytes verified", "eeprom: 1024 bytes read", "done"]
-    run("separators count for nothing", ["-U", "eeprom:w:,1,,0x2 0b11,:m", "-U", "eeprom:r:out:o"], told)
-    see("a list in octal", room.read("out") == b"1,2,3" + b",0377" * 1021 + b"\n", room.read("out"))
 
 
 # ---- frames
@@ -377,26 +304,6 @@ def loaded_for_its_caller():
     see("the file is left as it is", room.read("chip.bin") == b"abc")
 
 
-def enter_and_the_mode():
-    """docs/PROTOCOL: a failing ENTER turns programming mode off; an ENTER with a wrong length doesn't."""
-    fuse = bytes.fromhex("18 04 50 00 00 00")
-    polled = ENTER[:6] + b"\x54" + ENTER[7:]
-    server, caller = served()
-    with caller:
-        answers = frames_of(caller)
-        for number, (name, body, wanted) in enumerate([
-            ("ENTER", ENTER, "10 00"),
-            ("ENTER of another length fails", ENTER[:-1], "10 C0"),
-            ("the mode is still on", fuse, "18 00 FF 00"),
-            ("ENTER with another value to poll fails", polled, "10 C0"),
-            ("the mode is off", fuse, "18 C0"),
-        ], 1):
-            caller.sendall(frame(number, body))
-            found = next(answers)
-            see(name, found == frame(number, bytes.fromhex(wanted)), found.hex(" "))
-    server.end()
-
-
 class ByteOnly(BadLine):
     """A link to a part that can't write EEPROM by the page: such a write needs other instructions."""
 
@@ -510,150 +417,14 @@ def no_answer():
         other.wait()
 
 
-# ---- figures
-
-
-def near(name, shown, found):
-    """Checks a rounded figure of a document: at most 5 % from the counted one."""
-    shown = int(shown.replace(",", ""))
-    see(f"{name}: {shown}", abs(shown - found) * 20 <= found, found)
-
-
-def figures():
-    """The figures of README and WHY are those of the scripts that count them."""
-    readme, why = (" ".join(text(it).split()) for it in ("README.md", "docs/WHY.md"))
-    made = sum(map(int, re.findall(r"(?:list|many)\(range\((\d+)\)", text("tests/cuts_and_stalls.py"))))
-    for page, found in [("README", r"(\d+) runs over a link that cuts"), ("WHY", r"makes (\d+) runs of two processes")]:
-        same(f"{page}: runs of cuts_and_stalls", int(re.search(found, readme if page == "README" else why)[1]), made)
-    counted = lambda *words: subprocess.run([sys.executable, *words], cwd=TOP, capture_output=True, text=True, check=True).stdout
-    code, _, _, proofs = map(int, re.findall(r"\d+", re.search(r"in all \|(.*)", counted("tests/measure.py"))[1])[:4])
-    lines_, proved, mutants = re.search(r"([\d,]+) lines of code, with ([\d,]+) of proofs; (\d+) mutants", readme).groups()
-    near("lines of code", lines_, code)
-    near("lines of proofs", proved, proofs)
-    near("mutants", mutants, len(list(TOP.glob("crates/*/must-fail/*.edit"))))
-    row = re.search(r"^\| status 0 means the images, over any link \|([^|]*)", text("docs/PROOFS.md"), re.M)[1]
-    reached = counted("tests/reach.py", *re.findall(r"`([^`]*)`", row))
-    shown = re.search(r"about ([\d,]+) lines for status 0", readme)[1]
-    near("lines of definitions", shown, int(re.search(r"(\d+) lines", reached)[1]))
-    ours, others = (re.search(found, readme)[1] for found in (r"\| (\d+), and others by a part file", r"with ISP \| (\d+) "))
-    groups = re.findall(r"^\| [^|]* \| (\d+) \|", text("docs/PARTS.md"), re.M)
-    listed = re.search(r"of (\d+) classic AVRs", text("docs/PARTS.md"))[1]
-    same("parts", (ours, int(others)), (listed, int(listed) + sum(map(int, groups))))
-
-
-def the_time_of_a_comparison():
-    """README: the bytes that read 256 kB of flash, each of ten bits."""
-    block = [frame(1, 0x06, bytes(4)), frame(1, 0x06, 0), frame(1, 0x14, bytes(3)), frame(1, 0x14, bytes(258))]
-    seconds = 262_144 // 256 * sum(map(len, block)) * 10 / 115_200
-    see("README has it", f"the whole memory: {seconds:.0f} s at 115,200 baud" in text("README.md"), seconds)
-    see("WHY too", f"*Why does it take {seconds:.0f} seconds?*" in text("docs/WHY.md"), seconds)
-
-
-# ---- the toolchain
-
-
-def the_time_of_the_whole():
-    """README and CONTRIBUTING give the time of `./test --all` in one sentence, by the limit of tests/all.py."""
-    most = re.search(r"^MOST = (\d+)$", text("tests/all.py"), re.M)[1]
-    sentence = f"From nothing, `./test --all` takes at most the processor time of {most} first checks of stk_frame"
-    for document in ("README.md", "CONTRIBUTING.md"):
-        see(f"{document}: the time of the whole", sentence in " ".join(text(document).split()))
-
-
-def the_mutants():
-    most = re.search(r"All crates together have at most (\d+)", text("CONTRIBUTING.md"))
-    edits = len(list(TOP.glob("crates/*/must-fail/*.edit")))
-    see("CONTRIBUTING: the number of mutants", most and edits <= int(most[1]), edits)
-
-
-def what_check_quotes():
-    """The law, mutants, files and lines of code that docs/CHECK quotes are there, and the mutant is tried."""
-    page = text("docs/CHECK.md")
-    law = re.search(r"^    \$ rt check --only laws::(\w+)$", page, re.M)[1]
-    see("the law", f"pub fn {law}()\n" in text("crates/avr_tool/src/laws.rt") and f"avr_tool::laws::{law}: proved" in page, law)
-    files = {it.rstrip(".") for it in re.findall(r"\bcrates/\w+(?:/[\w.-]+)*", page)}
-    for file in sorted(files):
-        see(f"there is {file}", (TOP / file).exists())
-    tried = re.search(r"^    \$ rt must-fail (\w+)$", page, re.M)[1]
-    see("the mutant is of that crate", f"crates/{tried}/must-fail/any_sequence.edit" in files, files)
-    words = lambda it: " ".join(it.split())
-    quoted = [it for it in page.splitlines() if it.startswith("    ") and not it.startswith(("    $", "    fn ", "    only="))]
-    sources = [f"crates/{it}" for it in (
-        "stk_host/must-fail/any_sequence.edit", "stk_host/src/listen.rt", "avr_image/must-fail/later_byte_loses.edit",
-        "avr_image/src/image.rt", "avr_image/specs/Image.antt")]
-    known = {words(row) for it in sources for row in text(it).splitlines()} | {words(PROVED)}
-    for row in quoted:
-        see(f"is in the sources: {row.strip()}", words(row) in known)
-    see("quotes something", len(quoted) > 20, quoted)
-
-
-def the_first_change():
-    """CONTRIBUTING's first change can be made: the text is once in the script, and once in the test."""
-    begun = re.search(r"replace `([^`]*)`\s+by", " ".join(text("CONTRIBUTING.md").split()))[1]
-    for file in ("lib/avrstk/avrstk_hints.py", "tests/serial.py"):
-        same(f"{file}: {begun}", text(file).count(begun), 1)
-    count = len(re.findall(r"^        \(\[", re.search(r"^def refused\(\):.*?^    def ran", text("tests/serial.py"), re.M | re.S)[0], re.M))
-    for told in (f"{count - 1} passed, 1 failed, 0 left out", f"{count} passed, 0 failed, 0 left out"):
-        see(f"the counts: {told}", f"`{told}`" in text("CONTRIBUTING.md"))
-
-
-def files_of_recipes():
-    """The files that CONTRIBUTING's table of changes names are there, each in the crate named before it."""
-    rows = re.search(r"^\| Change \| Files \|.*?\n\n", text("CONTRIBUTING.md"), re.M | re.S)[0]
-    crates = {it.name for it in (TOP / "crates").iterdir()}
-    crate = None
-    for word in re.findall(r"[\w/.]*\w", rows):
-        crate = word if word in crates else crate
-        if word.startswith("src/"):
-            see(f"{crate}/{word}", crate and (TOP / "crates" / crate / word).is_file() or word in ("src/messages.rt", "src/lib.rt"))
-        elif word.startswith("specs/") and word != "specs/Lines":
-            see(f"{crate}/{word}", crate and (TOP / "crates" / crate / f"{word}.antt").is_file())
-        elif word.startswith(("tests/", "tools/", "parts/")):
-            see(word, (TOP / word).exists())
-
-
-def counts_of_rattle():
-    """tests/rattle/README counts the calls of each run over failing devices as the test does."""
-    page, source = text("tests/rattle/README.md"), text("tests/rattle/runs_over_failing_devices.rs")
-    number = lambda it: eval(it, {"__builtins__": {}})
-    for what in ("link", "desk"):
-        counts = [number(it) for it in re.findall(rf"^    {what}_calls: ([\d +*]+),$", source, re.M)]
-        told = "{:,}, {:,}, {:,} and {:,}".format(*counts)
-        see(f"the calls of the {what}: {told}", f"({told})" in page, counts)
-
-
-def the_logic():
-    """The checksum of the logic in the documents is that of the installed kit."""
-    if not shutil.which("rt"):
-        return leave_out("the sum of the logic", "rt is not installed")
-    ran = subprocess.run(["rt", "version"], capture_output=True, text=True)
-    named = {it for it in ("README.md", "CONTRIBUTING.md", "docs/PROOFS.md", "docs/CHECK.md", "docs/LIBRARY.md") if "logic" in text(it)}
-    see("README names it", "README.md" in named)
-    for page in sorted(named):
-        sums = set(re.findall(r"logic\s+([0-9a-f]{16})", text(page)))
-        see(f"the logic that {page} names", sums <= set(ran.stdout.split()), (sums, ran.stdout))
-
-
 CASES = named(
-    the_logic,
-    the_time_of_the_whole,
-    the_mutants,
-    what_check_quotes,
-    the_first_change,
-    files_of_recipes,
-    counts_of_rattle,
     written_is_no_more_than_answered,
-    what_is_written_is_there,
-    a_locked_chip_without_an_erase,
     plans_that_no_second_run_heals,
     what_another_tool_left_stays_elsewhere,
-    comparisons_look_at_the_image_alone,
     files_are_written_over,
     text_is_flashed,
     an_empty_file_erases,
     a_bad_file_leaves_the_chip,
-    headers_and_starts_are_dropped,
-    what_files_hold,
     after_a_file_nothing_is_sent,
     silent_after_verified,
     a_silence_is_a_second_without_a_byte,
@@ -661,13 +432,10 @@ CASES = named(
     standard_streams_that_block,
     ended_from_outside,
     loaded_for_its_caller,
-    enter_and_the_mode,
     parts_that_want_others,
     the_recipe_of_an_ide,
     avrdude,
     no_answer,
-    figures,
-    the_time_of_a_comparison,
 )
 
 

@@ -3,6 +3,8 @@
 damaged files. Without a C compiler all is left out. AVR_RECORDS_C may name a folder for the library, which is built there
 if it has none.
 
+Not proved: The boundary to C and Python.
+
     tests/from_c.py [CASE ..]
 """
 

@@ -2,6 +2,8 @@
 """Runs the built program in a failing environment: outputs that are closed or full, files that can't be read or created,
 programmers that disconnect, and callers that send garbage.
 
+Not proved: What the system does with closed, full and broken streams, files and sockets.
+
     tests/hostile.py [CASE ..]      needs a built program (program.py)
 """
 
@@ -13,7 +15,7 @@ import sys
 import time
 
 from cases import PATIENCE, named, run_cases, same, see
-from line import BadLine, FrontOfAnswers
+from line import FrontOfAnswers
 from program import ANSWERS, CHIP_FILE, ENDS, FRAMES, Room, Server, frame, lines
 
 SIGNATURE = "device signature = 1E 95 0F"
@@ -94,20 +96,14 @@ def files_fail():
     """Tests missing files, folders in their place, and files that can't be created or written."""
     (room.folder / "folder").mkdir()
     room.given.add("folder")
-    room.put("short.bin", bytes(100))
-    room.given.add("short.bin")
-    erased = [SIGNATURE, "chip erased"]
     for words, told in [
-        ([*EMULATED, "-U", "flash:w:missing.hex"], ["error: missing.hex: cannot be opened"]),
         ([*EMULATED, "-U", "flash:w:folder"], ["error: folder: cannot be read"]),
         ([*EMULATED, "--parts", "folder"], ["error: folder: cannot be read"]),
         ([*EMULATED, "--parts", "missing.toml"], ["error: missing.toml: cannot be opened"]),
-        (["-p", "m328p", "-P", "emu:short.bin"], ["error: short.bin: 100 bytes, 33796 expected"]),
         ([*EMULATED, "-U", "flash:r:folder"], [SIGNATURE, "error: folder: cannot be created"]),
         ([*EMULATED, "-U", "flash:r:nowhere/out.hex"], [SIGNATURE, "error: nowhere/out.hex: cannot be created"]),
         ([*EMULATED, "-U", "eeprom:r:/dev/full"], [SIGNATURE, "error: /dev/full: cannot be written"]),
         (["-p", "m328p", "-P", "emu:nowhere/chip.bin", "-e"], ["error: nowhere/chip.bin: cannot be written"]),
-        (["-p", "m328p", "-P", "net:127.0.0.1:1", "-e"], ["error: port net:127.0.0.1:1 cannot be opened"]),
         (["-p", "m328p", "-P", "net:no such host:1"], ["error: port net:no such host:1 cannot be opened"]),
     ]:
         room.clear()
@@ -185,19 +181,6 @@ def answers_are_cut():
         see(f"{count} bytes and a reset", status == 1 and messages in faults, f"{status}, {messages}")
 
 
-def lines_are_bad():
-    """Makes whole runs over TCP to the served programmer, over a link that loses and delays frames."""
-    content = room.read("whole.bin")
-    for fates, frames in [({255: "late answer"}, 520), ({6: "lost command", 8: "lost answer"}, 521)]:
-        room.clear()
-        peer = BadLine(room, fates)
-        words = ["-p", "m328p", "-P", f"net:127.0.0.1:{peer.port}", "-V", "-U", "eeprom:w:whole.bin:r"]
-        found = room.run(words)
-        same(f"{fates}: frames", len(peer.end()), frames)
-        same(f"{fates}", found, (0, b"", lines(SIGNATURE, "eeprom: 1024 bytes written", "done")))
-        same(f"{fates}: EEPROM", room.read("served.bin")[32_768:33_792], content)
-
-
 def callers_are_odd():
     """Tests callers of the served emulator that send nothing, garbage or half a frame, or reset the connection."""
     command = bytes.fromhex("1B0900010E0518")
@@ -219,10 +202,6 @@ def callers_are_odd():
     faults = [lines(f"error: link cannot be {verb}") for verb in ("read", "written")]
     see("a caller that resets", status == 1 and messages in faults, f"{status}, {messages}")
     same("the chip after a reset", room.read("served.bin"), blank)
-    with socket.create_server(("127.0.0.1", 0)) as taken:
-        port = str(taken.getsockname()[1])
-        words = ["-p", "m328p", "--serve", port, "--chip", "served.bin"]
-        same("a port that is taken", room.run(words), (1, b"", lines(f"error: port {port} cannot be opened")))
 
 
 def a_second_caller():
@@ -306,7 +285,7 @@ def exchanged(caller, sent):
 
 CASES = named(
     *(output_fails, input_fails, descriptors_are_closed, closed_streams_stay_closed, files_fail, files_are_full),
-    *(no_file_may_grow, answers_are_cut, lines_are_bad, nothing_is_read, callers_are_odd, a_second_caller),
+    *(no_file_may_grow, answers_are_cut, nothing_is_read, callers_are_odd, a_second_caller),
 )
 
 if __name__ == "__main__":

@@ -2,6 +2,8 @@
 """Makes the built program print each line that a user can meet, and compares it with docs/TROUBLESHOOTING. Checks that no
 line there is left out.
 
+Not proved: The text of a line, byte for byte, as a user sees it; how many writes it takes.
+
     tests/lines.py [CASE ..]      needs a built program (program.py)
 """
 
@@ -116,6 +118,7 @@ def help_is_printed():
         status, output, messages = room.run([word])
         same(f"{word}: status and messages", (status, messages), (0, b""))
         text = output.decode()
+        see(f"{word}: begins with what it is for", text.startswith(texts[0] + "\n"), text)
         for option, told in HELP.items():
             see(f"{word}: {option}", re.search(rf"^ +{option}\b.*{told}", text, re.M), text)
         same(f"{word}: texts that are cut", [it for it in texts if it not in text], [])
@@ -382,6 +385,18 @@ def long_lines():
     for length in (most - 1, most, most + 1, 3 * most):
         name = "x" * length
         refused(f"a name of {length} bytes", [*EMULATED, "-U", f"flash:w:{name}"], f"{name}: cannot be opened")
+    for name in ("x" * 65, "x" * 256, "x" * most):
+        for words, told in [
+            (["-p", name, "-P", "emu:chip.bin"], f"no part {name}"),
+            ([*EMULATED, "--parts", name], f"{name}: cannot be opened"),
+            ([*PART, "-P", name], f"port {name} is not known"),
+            ([*PART, "-P", f"net:{name}:0"], f"port net:{name}:0 is not known"),
+            ([*PART, "--serve", name, "--chip", "chip.bin"], f"port {name} is not known"),
+        ]:
+            refused(f"{words[-3:]} of {len(name)} bytes", words, told)
+    for name in ("x" * 256, "x" * most):
+        for words in ([*PART, "-P", f"emu:{name}"], [*PART, "--serve", "5000", "--chip", name]):
+            refused(f"a chip file of {len(name)} bytes", words, f"{name}: cannot be written")
 
 
 def a_line_is_one_write():

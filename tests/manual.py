@@ -1,6 +1,8 @@
 #!/usr/bin/env python3
 """Compares the man pages with the manual (docs/USAGE, EMULATOR, TROUBLESHOOTING, BOARDS), and both with the programs.
 
+Not proved: Documents and man pages are not code.
+
     tests/manual.py [CASE ..]  docs/*.1 have the manual's text, a man page's sections, and every option of --help;
                                mandoc and groff give no warning; USAGE, the completions and docs/PART name the options and
                                parts of the program's --help; runs over `emu:` print what README and the manual show; USAGE's

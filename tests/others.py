@@ -2,6 +2,8 @@
 """Exchanges record files with other programs: srec_cat, avr-objcopy and python3-intelhex. A tool that isn't installed is
 left out, and reported.
 
+Not proved: The formats as other programs read and write them.
+
     tests/others.py [TOOL ..]        needs a C compiler, for examples/c/records.c with the library for C (from_c.py)
 
 This project writes random images with gaps, from fixed seeds, as Intel HEX and S-records, and each other program reads

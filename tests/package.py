@@ -3,6 +3,8 @@
 both clones are identical. They contain what install.sh installs and name their sources. They can be installed, run and
 removed.
 
+Not proved: Scripts of the shell, and Debian's package tools.
+
     tests/package.py [CASE ..]
 """
 

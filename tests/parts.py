@@ -5,6 +5,8 @@ program loads each name. AVRDUDE writes flash, EEPROM and fuses of a dozen parts
 as after the program's own run over `emu:`. Holds the two other files of parts/ to their sources: bits.txt to AVRDUDE's
 configuration, and unsupported.txt to docs/PARTS.
 
+Not proved: The part files are made from sources of others.
+
     tests/parts.py [CASE ..]  needs a built program (program.py); checks that need avrdude, or avr-gcc
                               with avr-libc, are left out without them
     tests/parts.py --all      runs a session for each part

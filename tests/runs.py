@@ -3,6 +3,8 @@
 chip at the end. Each run is made over `emu:`, and again over TCP to the served emulator to see its frames. Then runs
 over bad links are made at the same time, because each timeout takes a second.
 
+Not proved: That the compiled program does what its proof says, over the system's files and sockets.
+
     tests/runs.py [CASE ..]        needs a built program (program.py)
 """
 

@@ -3,6 +3,8 @@
 takes, ignores or refuses, and each hint after a failed run. Covers boards that are deaf after a reset, disappear, don't
 reply or send other data, and signals. Runs the recipes of docs/USAGE for a serial link as they are printed there.
 
+Not proved: avrstk-serial is Python over serial devices.
+
     tests/serial.py [CASE ..]      needs a built program (program.py); recipes with socat or ser2net
                                    are left out if these are not installed
 """

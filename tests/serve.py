@@ -2,6 +2,8 @@
 """Tests avrstk-serve: clients in turn, clients that send nothing, reset the connection or are idle, a device in place of
 a port, the log, what fails in a session, and how it ends.
 
+Not proved: avrstk-serve is Python over sockets and terminals.
+
     tests/serve.py [CASE ..]        needs a built program (program.py)
 """
 

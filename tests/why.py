@@ -2,6 +2,8 @@
 """Runs examples/lossy/compare.py and compares the tables of docs/WHY and README with its output. Then compares the frames
 that docs/WHY shows with those of two such runs.
 
+Not proved: AVRDUDE is a program of others; time.
+
     tests/why.py        needs a built program (program.py); rows and frames of AVRDUDE 7.1 are left out without it
 """
 

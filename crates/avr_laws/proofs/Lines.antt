@@ -2,3 +2,4 @@
 pub mod AnyTape
 pub mod NoFrame
 pub mod MadeFrame
+pub mod Damaged

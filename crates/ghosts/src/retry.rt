@@ -58,10 +58,11 @@ pub fn write_some<W: Write>(writer: &mut W, bytes: &[u8]) -> io::Result<usize>
 ///
 /// # Errors
 ///
-/// The writer's error.
+/// The writer's error, which is never `Interrupted`; `Other` after 2^64 - 1 interruptions.
 pub fn flush<W: Outlet>(writer: &mut W) -> io::Result<()>
     ensures bytes { Keeps (W.contents writer.old) (W.contents writer.new) }
     ensures out { OnOk result (W.is_out writer.new) }
+    ensures again { IfErr result (λ error. error_kind error ≢ ErrorKind.Interrupted) }
 {
     for _ in 0..u64::MAX {
         match writer.flush_out() {

@@ -1,11 +1,11 @@
 #!/usr/bin/env python3
 """Counts how large the sources are and how they read.
 
-    tests/measure.py            prints the table that docs/ARCHITECTURE has
-    tests/measure.py -v         also lists lines over 120 columns, the widest definitions, and names with several meanings
-    tests/measure.py --write    writes the table into docs/ARCHITECTURE
-    tests/measure.py --check    fails if the table there is out of date, or if a document has a sentence over 30 words
-    tests/measure.py --words    counts words that the style rules of CONTRIBUTING avoid, and long sentences of documents
+    tools/measure.py            prints the table that docs/ARCHITECTURE has
+    tools/measure.py -v         also lists lines over 120 columns, the widest definitions, and names with several meanings
+    tools/measure.py --write    writes the table into docs/ARCHITECTURE
+    tools/measure.py --check    fails if the table there is out of date, or if a document has a sentence over 30 words
+    tools/measure.py --words    counts words that the style rules of CONTRIBUTING avoid, and long sentences of documents
 
 Only files known to git are read. Code is counted in src/, without tests and contracts. Contracts are the clauses of
 functions, definitions are in specs/, and proofs in proofs/. Blank lines, comments and `use` lines are never counted. Wide
@@ -276,7 +276,7 @@ def main():
         words()
         return
     if "--check" in sys.argv:
-        wrong = [f"{PAGE.name} has other figures: tests/measure.py --write"] if with_figures(page) != page else []
+        wrong = [f"{PAGE.name} has other figures: tools/measure.py --write"] if with_figures(page) != page else []
         wrong += [f"{name} has a sentence over {LONG} words: {it}" for name in documents() for it in long_sentences(name)]
         print("\n".join([*wrong, f"{int(not wrong)} passed, {len(wrong)} failed"]))
         sys.exit(int(bool(wrong)))

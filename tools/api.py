@@ -1,8 +1,8 @@
 #!/usr/bin/env python3
 """Writes the pages of docs/api: what the crates of `CRATES` export, from the comments and signatures of their sources.
 
-    tests/api.py             fails if a page is out of date, or if docs/LIBRARY has no link to it
-    tests/api.py --write     writes the pages
+    tools/api.py             fails if a page is out of date, or if docs/LIBRARY has no link to it
+    tools/api.py --write     writes the pages
 
 A page has the crate's own text, a table of its exports, and then each type, trait and call: its signature without ghost
 members and private fields, its text, and its contract, folded. Laws (functions with an empty body) come last. An export
@@ -12,7 +12,9 @@ of a crate without a page is here, too; one of another page is a link. Sources a
 import re
 import sys
 from collections import namedtuple
+from pathlib import Path
 
+sys.path.append(str(Path(__file__).resolve().parent.parent / "tests"))
 from rattle import EXPORT, MORE, TOP
 
 CRATES = "avr_image avr_records avr_part stk_frame stk_host stk_emu avr_desk avr_cli avr_plan avr_session avr_tool".split()
@@ -144,6 +146,6 @@ if __name__ == "__main__":
         if sys.argv[1:] == ["--write"]:
             file.write_text(made)
         elif not file.exists() or file.read_text() != made:
-            wrong.append(f"{file.name} is out of date: tests/api.py --write")
+            wrong.append(f"{file.name} is out of date: tools/api.py --write")
     print("\n".join([*wrong, f"{2 * len(CRATES) - len(wrong)} passed, {len(wrong)} failed"]))
     sys.exit(int(bool(wrong)))

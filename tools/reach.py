@@ -1,9 +1,9 @@
 #!/usr/bin/env python3
 """Measures how much a reader has to read: the definitions that a contract reaches.
 
-    tests/reach.py FILE.NAME ..      for these definitions of specs/; CRATE.FILE.NAME if several crates have one
-    tests/reach.py -v ..             also lists them, file by file
-    tests/reach.py --check           compares the table of docs/PROOFS with the figures; --write writes them there. It also
+    tools/reach.py FILE.NAME ..      for these definitions of specs/; CRATE.FILE.NAME if several crates have one
+    tools/reach.py -v ..             also lists them, file by file
+    tools/reach.py --check           compares the table of docs/PROOFS with the figures; --write writes them there. It also
                                      looks for each definition (`File.name`) and law that the documents name
 
 A definition reaches the definitions that its text names, in its own file or brought in by `use` lines. Definitions of std,
@@ -158,7 +158,7 @@ def main(words):
         return PAGE.write_text(with_figures(PAGE.read_text()))
     if words == ["--check"]:
         page = PAGE.read_text()
-        wrong = [] if with_figures(page) == page else [f"{PAGE.name} has other figures: tests/reach.py --write"]
+        wrong = [] if with_figures(page) == page else [f"{PAGE.name} has other figures: tools/reach.py --write"]
         wrong += lacking()
         print("\n".join([*wrong, f"{int(not wrong)} passed, {len(wrong)} failed"]))
         return sys.exit(int(bool(wrong)))

@@ -1,0 +1,89 @@
+#!/usr/bin/env python3
+"""Compares what docs/CHECK and CONTRIBUTING quote of sources with these, and the logic that documents name with the kit's.
+
+Not proved: Documents are not code.
+
+    tests/documents.py
+"""
+
+import re
+import shutil
+import subprocess
+import sys
+from pathlib import Path
+
+from cases import leave_out, named, run_cases, same, see
+
+TOP = Path(__file__).resolve().parent.parent
+
+# the line at the end of a crate's check, as docs/CHECK has it
+PROVED = (
+    "logic=proved functions=.. sum=.. native=nat,char,string logic-built=trusted libraries-built=trusted"
+    " statements=trusted incremental=trusted"
+)
+
+
+def text(name):
+    return (TOP / name).read_text()
+
+
+def what_check_quotes():
+    """The law, mutants, files and lines of code that docs/CHECK quotes are there, and the mutant is tried."""
+    page = text("docs/CHECK.md")
+    law = re.search(r"^    \$ rt check --only laws::(\w+)$", page, re.M)[1]
+    see("the law", f"pub fn {law}()\n" in text("crates/avr_tool/src/laws.rt") and f"avr_tool::laws::{law}: proved" in page, law)
+    files = {it.rstrip(".") for it in re.findall(r"\bcrates/\w+(?:/[\w.-]+)*", page)}
+    for file in sorted(files):
+        see(f"there is {file}", (TOP / file).exists())
+    tried = re.search(r"^    \$ rt must-fail (\w+)$", page, re.M)[1]
+    see("the mutant is of that crate", f"crates/{tried}/must-fail/any_sequence.edit" in files, files)
+    words = lambda it: " ".join(it.split())
+    quoted = [it for it in page.splitlines() if it.startswith("    ") and not it.startswith(("    $", "    fn ", "    only="))]
+    sources = [f"crates/{it}" for it in (
+        "stk_host/must-fail/any_sequence.edit", "stk_host/src/listen.rt", "avr_image/must-fail/later_byte_loses.edit",
+        "avr_image/src/image.rt", "avr_image/specs/Image.antt")]
+    known = {words(row) for it in sources for row in text(it).splitlines()} | {words(PROVED)}
+    for row in quoted:
+        see(f"is in the sources: {row.strip()}", words(row) in known)
+    see("quotes something", len(quoted) > 20, quoted)
+
+
+def the_first_change():
+    """CONTRIBUTING's first change can be made: the text is once in the script, and once in the test."""
+    begun = re.search(r"replace `([^`]*)`\s+by", " ".join(text("CONTRIBUTING.md").split()))[1]
+    for file in ("lib/avrstk/avrstk_hints.py", "tests/serial.py"):
+        same(f"{file}: {begun}", text(file).count(begun), 1)
+    count = len(re.findall(r"^        \(\[", re.search(r"^def refused\(\):.*?^    def ran", text("tests/serial.py"), re.M | re.S)[0], re.M))
+    for told in (f"{count - 1} passed, 1 failed, 0 left out", f"{count} passed, 0 failed, 0 left out"):
+        see(f"the counts: {told}", f"`{told}`" in text("CONTRIBUTING.md"))
+
+
+def files_of_recipes():
+    """The files that CONTRIBUTING's table of changes names are there, each in the crate named before it."""
+    rows = re.search(r"^\| Change \| Files \|.*?\n\n", text("CONTRIBUTING.md"), re.M | re.S)[0]
+    crates = {it.name for it in (TOP / "crates").iterdir()}
+    crate = None
+    for word in re.findall(r"[\w/.]*\w", rows):
+        crate = word if word in crates else crate
+        if word.startswith("src/"):
+            see(f"{crate}/{word}", crate and (TOP / "crates" / crate / word).is_file() or word in ("src/messages.rt", "src/lib.rt"))
+        elif word.startswith("specs/") and word != "specs/Lines":
+            see(f"{crate}/{word}", crate and (TOP / "crates" / crate / f"{word}.antt").is_file())
+        elif word.startswith(("tests/", "tools/", "parts/")):
+            see(word, (TOP / word).exists())
+
+
+def the_logic():
+    """The checksum of the logic in the documents is that of the installed kit."""
+    if not shutil.which("rt"):
+        return leave_out("the sum of the logic", "rt is not installed")
+    ran = subprocess.run(["rt", "version"], capture_output=True, text=True)
+    named = {it for it in ("README.md", "CONTRIBUTING.md", "docs/PROOFS.md", "docs/CHECK.md", "docs/LIBRARY.md") if "logic" in text(it)}
+    see("README names it", "README.md" in named)
+    for page in sorted(named):
+        sums = set(re.findall(r"logic\s+([0-9a-f]{16})", text(page)))
+        see(f"the logic that {page} names", sums <= set(ran.stdout.split()), (sums, ran.stdout))
+
+
+if __name__ == "__main__":
+    sys.exit(run_cases(named(what_check_quotes, the_first_change, files_of_recipes, the_logic), __doc__))

@@ -1,0 +1,66 @@
+#!/usr/bin/env python3
+"""Writes tests/README.md, the page that says what is tried where, from the heads of the scripts and of their cases.
+
+    tools/tests_page.py             fails if the page is out of date
+    tools/tests_page.py --write     writes it
+
+A script's head begins with what it tries. Its paragraph `Not proved: ..` says why no proof shows that. A case has its
+name and the first sentence of its text.
+"""
+
+import ast
+import re
+import sys
+from pathlib import Path
+
+TOP = Path(__file__).resolve().parent.parent
+PAGE = TOP / "tests/README.md"
+# the modules that the scripts share, and the runner
+SHARED = ("all", "cases", "checks", "line", "program", "proved")
+
+HEAD = """# What is tried where
+
+Made by `tools/tests_page.py --write` from the heads of the scripts. `./test` runs the quick ones, `./test NAME ..` those
+named, `./test --all` all; `tests/NAME.py CASE ..` runs cases of one. [tests/rattle](rattle/README.md) has what is tried by
+the crates' own calls.
+
+| Script | What it tries | Why that is not proved |
+| --- | --- | --- |
+"""
+
+
+def sentence(text):
+    """Returns the first sentence of a text."""
+    return re.split(r"(?<=[.:]) (?=[A-Z`*(])", " ".join((text or "").split()))[0]
+
+
+def cases(tree):
+    """Yields the functions that a script lists as its cases, with their texts."""
+    texts = {it.name: ast.get_docstring(it) for it in tree.body if isinstance(it, ast.FunctionDef)}
+    lists = [it for it in tree.body if isinstance(it, (ast.Assign, ast.AugAssign, ast.If))]
+    named = [it.id for part in lists for it in ast.walk(part) if isinstance(it, ast.Name) and it.id in texts]
+    return {it: texts[it] for it in dict.fromkeys(named) if not it.startswith(("main", "named", "in_a"))}
+
+
+def page():
+    """Returns the page."""
+    rows, parts = [], []
+    for file in sorted((TOP / "tests").glob("*.py")):
+        if file.stem in SHARED:
+            continue
+        tree = ast.parse(file.read_text())
+        head = ast.get_docstring(tree)
+        why = re.search(r"Not proved: (.*?)(?:\n\n|$)", head, re.S)[1]
+        rows.append(f"| [{file.stem}]({file.name}) | {sentence(head)} | {' '.join(why.split())} |")
+        said = [f"- `{name}`: {sentence(text)}" if text else f"- `{name}`" for name, text in cases(tree).items()]
+        parts += ["", f"## {file.stem}", "", *said] if said else []
+    return HEAD + "\n".join(rows + parts) + "\n"
+
+
+if __name__ == "__main__":
+    made = page()
+    if sys.argv[1:] == ["--write"]:
+        PAGE.write_text(made)
+    is_made = PAGE.exists() and PAGE.read_text() == made
+    print("" if is_made else "tests/README.md is out of date: tools/tests_page.py --write\n", f"{int(is_made)} passed, {int(not is_made)} failed", sep="")
+    sys.exit(int(not is_made))
