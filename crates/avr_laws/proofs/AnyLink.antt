@@ -19,42 +19,13 @@ use Rattle.avr_laws.proofs.Lines.NoFrame.{no_frame_honest}
 use Rattle.stk_emu.specs.Turn.{Turn, Became}
 use Rattle.stk_emu.specs.Device.{device, after_frames}
 use Rattle.stk_emu.specs.Programmer.{Programmer}
-use Rattle.avr_laws.proofs.Lines.InTurn.{sends_whole, frames_prefix, frames_sent, shown_prefix}
+use Rattle.avr_tool.proofs.Lines.InTurn.{sends_whole, frames_prefix, frames_sent, shown_prefix}
 use Rattle.avr_laws.proofs.Lines.AnyTape.{goes_as, through_after}
-use Rattle.avr_laws.specs.AnyLine.{OverTurns, WholeOverTurns}
-use Rattle.avr_laws.proofs.OverTurns.{asks, over_turns, comes_over_turns}
+use Rattle.avr_laws.specs.AnyLink.{ReportsOverTurns, WholeOverTurns}
+use Rattle.avr_tool.proofs.OverTurns.{asks}
+use Rattle.avr_tool.proofs.WirePlays.{sent_first}
+use Rattle.avr_laws.proofs.ReportsOverTurns.{ends_over_turns, reports_over_turns}
 use Rattle.avr_laws.proofs.Reports.OverTape.{by_tape}
-
--- the transcript of a session is in turn, and the bytes sent are a prefix of what it sends over what was received
-abbrev pub IsFirst : Plan → Transcript → Type 0
-IsFirst plan transcript = InTurn (session plan) start transcript
-    × IsPrefixOf (sent transcript) (bytes_sent (played (session plan) 1 (heard transcript)).events)
-
-pub sent_first : (plan : Plan) (old new : Devices) (status : ℕ) → old.link.transcript ≡ []
-    → RunsSession plan old new status
-    → IsFirst plan new.link.transcript
-sent_first plan old new status silent runs = elim runs [
-  | inl whole ↦
-      let ran = whole.1 in
-      now ran.during ran.grows (
-        ran.plays.in_turn,
-        (
-          [],
-          append-nil (sent ran.during) ∙ (sym ran.plays.all_sent
-              ∙ ap (λ x. bytes_sent x.events) (sym (ap (played (session plan) 1) (sym (append-nil (heard ran.during)))
-              ∙ ran.plays.plays []))),
-        ),
-      )
-  | inr broke ↦
-      let b = broke.0 in
-      let prefix = shown_prefix SaidPart b.shown (played (session plan) 1 (heard b.during)).events b.breaks.prefix in
-      search rules
-]
-  where
-    now : (during : Transcript) → Grows old.link.transcript during new.link.transcript → IsFirst plan during
-        → IsFirst plan new.link.transcript
-    now during grows first =
-        search rules
 
 module _ (plan : Plan) (begun : Programmer) (is_sound : IsSoundChip begun.chip) (part_is : begun.chip.part ≡ plan.part)
     (fitted : All (IsFitted plan.part) plan.tasks) where
@@ -89,9 +60,9 @@ module _ (plan : Plan) (begun : Programmer) (is_sound : IsSoundChip begun.chip) 
           ≡ (along device count (session plan) begun turns).programmer
       stands = sym (goes.programmer count fewer ∙ ap (λ fs. after_pieces device fs becames begun) first_frames)
 
-      pub over_any_end : OverTurns plan begun (after_pieces device (frames bytes) becames begun) turns bytes
+      pub over_any_end : ReportsOverTurns plan begun (after_pieces device (frames bytes) becames begun) turns bytes
           events_played
-      over_any_end = search (rules, over_turns, stands, by_tape)
+      over_any_end = search (rules, reports_over_turns, stands, by_tape)
 
     -- a whole session
     module _ (bytes : List ℕ) (left : Tape) (events : List (Event OutputEvent)) (status next : ℕ)
@@ -113,9 +84,9 @@ module _ (plan : Plan) (begun : Programmer) (is_sound : IsSoundChip begun.chip) 
           events
           status
       over_any_line = (
-        subst (OverTurns plan begun (after_pieces device (frames bytes) becames begun) turns bytes)
+        subst (ReportsOverTurns plan begun (after_pieces device (frames bytes) becames begun) turns bytes)
             (ap (λ p. p.events) is) (over_any_end bytes all_sent),
-        comes_over_turns plan begun is_sound part_is fitted turns (after_pieces device (frames bytes) becames begun)
+        ends_over_turns plan begun is_sound part_is fitted turns (after_pieces device (frames bytes) becames begun)
             bytes (stands bytes all_sent) (outputs events) status comes said,
       )
 
@@ -139,11 +110,11 @@ module _ (plan : Plan) (begun : Programmer) (is_sound : IsSoundChip begun.chip) 
         (over_any_line tape (became_by through) honest_bytes bytes left events status next is sent_is)
 
     pub end_bytes : IsPrefixOf bytes (bytes_sent (played (session plan) 1 tape).events)
-        → OverTurns plan begun (after_frames device (frames got) begun)
+        → ReportsOverTurns plan begun (after_frames device (frames got) begun)
         (turns_heard (session plan) 1 tape (became_by through)) bytes
         (played (session plan) 1 tape).events
     end_bytes prefix =
-        subst (λ q. OverTurns plan begun q (turns_heard (session plan) 1 tape (became_by through)) bytes
+        subst (λ q. ReportsOverTurns plan begun q (turns_heard (session plan) 1 tape (became_by through)) bytes
         (played (session plan) 1 tape).events) left_bytes
         (over_any_end tape (became_by through) honest_bytes bytes prefix)
 
@@ -156,7 +127,7 @@ module _ (plan : Plan) (begun : Programmer) (is_sound : IsSoundChip begun.chip) 
     pub over_any_run : RunsSession plan old new status
         → CameThrough got (frames (sent transcript)) through
         → MakesNoFrame device (session plan) 1 (heard transcript) begun (became_by through) []
-        → OverTurns plan begun (after_frames device (frames got) begun)
+        → ReportsOverTurns plan begun (after_frames device (frames got) begun)
         (turns_heard (session plan) 1 (heard transcript) (became_by through)) (sent transcript)
         (played (session plan) 1 (heard transcript)).events
     over_any_run runs came none =

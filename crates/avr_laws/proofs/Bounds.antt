@@ -1,5 +1,3 @@
--- How much a session asks, sends and receives.
-pub mod Weights
+-- How much a session asks and receives.
 pub mod Questions
 pub mod Listening
-pub mod WireFrames

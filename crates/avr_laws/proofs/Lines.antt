@@ -1,8 +1,6 @@
--- Runs over any tape and over a wire are runs along turns.
-pub mod Plays
+-- Runs over any tape are runs along turns, and a link that forges a frame.
 pub mod AnyTape
-pub mod WireTapes
-pub mod InTurn
 pub mod NoFrame
 pub mod Damaged
 pub mod Rows
+pub mod MadeFrame

@@ -1,6 +1,3 @@
--- What a verified run leaves in the memories.
-pub mod ExpectedAgrees
-pub mod LaidImages
-pub mod VerifiedRuns
+-- How bytes of images come to be in the memories.
 pub mod FlashBytes
 pub mod WrittenThere

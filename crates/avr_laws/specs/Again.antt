@@ -6,8 +6,8 @@ use Rattle.avr_part.specs.Part.{Part}
 use Rattle.avr_part.specs.declared.part.Mem.TheVariants.{Hfuse}
 use Rattle.avr_plan.specs.Plan.{Plan}
 use Rattle.stk_emu.specs.Effect.{Item, Write, Memories}
-use Rattle.avr_laws.specs.Agrees.{Agrees}
-use Rattle.avr_laws.specs.ExpectedRun.{expected_run}
+use Rattle.avr_tool.specs.Agrees.{Agrees}
+use Rattle.avr_tool.specs.ExpectedRun.{expected_run}
 
 -- A byte of the high fuse that keeps EEPROM, or none.
 abbrev pub is_keeping : Part → Option ℕ → Bool

@@ -40,7 +40,3 @@ lost = Wrong Kept Nothing
 -- Every second command is lost: three of any six consecutive frames go wrong, and four of these seven.
 abbrev pub each_second : List Turn
 each_second = lost ∷ Right ∷ lost ∷ Right ∷ lost ∷ Right ∷ lost ∷ []
-
-abbrev pub AreGood : List Turn → Type 0
-AreGood [] = Unit {0}
-AreGood (turn ∷ turns) = (turn ≡ Right) × AreGood turns

@@ -19,8 +19,8 @@ use Rattle.stk_host.specs.declared.fault.StepFault.{StepFault}
 use Rattle.stk_emu.specs.Device.{Device, after_frame}
 use Rattle.stk_emu.specs.Effect.{Image, Item, Erase, Write, Memories, effect, effects, memory_in}
 use Rattle.stk_emu.specs.Turn.{Turn, after_turn, turn_reading, first_turn, other_turns}
-use Rattle.avr_laws.specs.Agrees.{Shows}
-use Rattle.avr_laws.specs.Items.{items}
+use Rattle.avr_tool.specs.Agrees.{Shows}
+use Rattle.avr_tool.specs.Items.{items}
 
 -- Each output of a dialog along a link holds of the programmer that obeyed the questions before it.
 abbrev pub TellsTrue : {E R P : Type 0} → Device P → (P → E → Type 0) → ℕ → Dialog E R → P → List Turn → Type 0

@@ -7,10 +7,10 @@ ghost use Rattle.avr_plan.specs.Plan.{Plan, IsFitted};
 ghost use Rattle.stk_emu.specs.Effect.{Memories, erase_keeps_eeprom, effects};
 ghost use Rattle.stk_emu.specs.Settled.{FitsPart};
 ghost use Rattle.avr_laws.specs.Again.{AreKeeping, AgreesAnyway, Heals};
-ghost use Rattle.avr_laws.specs.Agrees.{Agrees};
-ghost use Rattle.avr_laws.specs.ExpectedRun.{expected_run};
-ghost use Rattle.avr_laws.specs.Items.{items, has_erase};
-ghost use Rattle.avr_laws.specs.Outcome.{page_writes, IsTouched, IsDone};
+ghost use Rattle.avr_tool.specs.Agrees.{Agrees};
+ghost use Rattle.avr_tool.specs.ExpectedRun.{expected_run};
+ghost use Rattle.avr_tool.specs.Items.{items, has_erase};
+ghost use Rattle.avr_tool.specs.Outcome.{page_writes, IsTouched, IsDone};
 
 /// States that a plan leaves the same memories if some of its first writes were made before. If the plan erases and
 /// the chip keeps EEPROM at an erase, each byte that it writes to the high fuse must keep it too.

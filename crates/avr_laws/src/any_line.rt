@@ -2,7 +2,8 @@
 #![tactic(auto)]
 
 ghost use Rattle.std.specs.Prelude.{◌≡◌, ◌*◌, ◌++◌, ℕ, Bool, List, [], All, Some, take};
-ghost use Rattle.avr_desk.specs.Record.{DeskState};
+ghost use Rattle.avr_cli.specs.declared.settings.Settings.{Settings};
+ghost use Rattle.avr_desk.specs.Record.{Bytes, DeskState};
 ghost use Rattle.avr_desk.specs.Said.{OutputEvent, SaidPart};
 ghost use Rattle.avr_part.specs.Part.{IsPart};
 ghost use Rattle.avr_plan.specs.Plan.{Plan, IsFitted};
@@ -15,8 +16,10 @@ ghost use Rattle.stk_emu.specs.Device.{device, after_frames};
 ghost use Rattle.stk_emu.specs.Effect.{Memories, effects, memories_of};
 ghost use Rattle.stk_emu.specs.Programmer.{Programmer, fresh_programmer};
 ghost use Rattle.stk_emu.specs.Settled.{Idle, FitsPart};
-ghost use Rattle.avr_laws.specs.Tallies.{Tallies};
-ghost use Rattle.stk_emu.specs.Wired.{WiredState, wired_link};
+ghost use Rattle.avr_tool.specs.Tallies.{Tallies};
+ghost use Rattle.stk_emu.specs.Wired.{WiredState, ComesOf, IsFresh, wired_link};
+ghost use Rattle.avr_tool.specs.Emulated.{RunsOverEmulator, new_wire};
+ghost use Rattle.ghosts.specs.Stays.{Stays};
 ghost use Rattle.stk_emu.specs.Turn.{Turn, Became};
 ghost use Rattle.avr_laws.specs.AnyTape.{AreHonest, CameThrough, after_pieces, became_by, turns_heard};
 ghost use Rattle.avr_laws.specs.NoFrame.{MakesNoFrame};
@@ -29,14 +32,15 @@ ghost use Rattle.stk_emu.specs.Wire.{turns_of};
 ghost use Rattle.stk_host.specs.Tape.{Tape};
 ghost use Rattle.stk_host.specs.Dialog.{Done, Event, played, bytes_sent};
 ghost use Rattle.stk_host.specs.Bound.{SendsAtMost, commands_in};
-ghost use Rattle.avr_laws.specs.AnyLine.{OverAnyLine, OverTurns, WholeOverTurns, Stopped, WereTrue};
+ghost use Rattle.avr_tool.specs.AnyLine.{Stopped};
+ghost use Rattle.avr_laws.specs.AnyLink.{OverAnyWire, ReportsOverTurns, WholeOverTurns, WereTrue};
 ghost use Rattle.avr_session.specs.PlanSteps.{run_steps};
 ghost use Rattle.avr_laws.specs.Bound.{ListensAtMost};
-ghost use Rattle.avr_laws.specs.ExpectedRun.{expected_run};
-ghost use Rattle.avr_laws.specs.Foretold.{SaysFirst, IsForetold, EndsAsForetold};
-ghost use Rattle.avr_laws.specs.Made.{made_by};
+ghost use Rattle.avr_tool.specs.ExpectedRun.{expected_run};
+ghost use Rattle.avr_tool.specs.Foretold.{SaysFirst, IsForetold, EndsAsForetold};
+ghost use Rattle.avr_tool.specs.Made.{made_by};
 ghost use Rattle.avr_laws.specs.Told.{TellsTrue, IsTrue};
-ghost use Rattle.avr_laws.specs.Outcome.{page_writes};
+ghost use Rattle.avr_tool.specs.Outcome.{page_writes};
 
 /// States that at each moment of a session the memories are those of the first writes of its plan, in order: those
 /// completed, and perhaps one more.
@@ -75,11 +79,11 @@ pub fn what_a_run_tells_is_true()
 /// session that ran whole, and all whole events of one that stopped.
 pub fn what_was_told_was_true()
     ensures played { (plan : Plan) (w v : WiredState) (d e : DeskState) (status : ℕ)
-        → w.transcript ≡ [] → OverAnyLine plan w v d e status
+        → w.transcript ≡ [] → OverAnyWire plan w v d e status
         → (whole : IsPlayed (session plan) (devices (wired_link w) d) (devices (wired_link v) e) status)
         → WereTrue plan (fresh_programmer w.wire.programmer.chip) (turns_of w.wire.fates) whole.1.events }
     ensures stopped { (plan : Plan) (w v : WiredState) (d e : DeskState) (status : ℕ)
-        → w.transcript ≡ [] → OverAnyLine plan w v d e status
+        → w.transcript ≡ [] → OverAnyWire plan w v d e status
         → (stopped : Stopped plan w v d e)
         → WereTrue plan (fresh_programmer w.wire.programmer.chip) (turns_of w.wire.fates) stopped.breaks.prefix.whole }
 {}
@@ -103,6 +107,21 @@ pub fn a_session_outputs_its_expected_run_up_to_a_fault()
         → (later : List OutputEvent) × ((expected_run plan m).says ≡ says ++ later) }
 {}
 
+/// States what more holds of a session over a new wire to a chip of its plan's part, whatever the fates of its frames.
+/// The premises are what avr_tool's `drive_wired` and `run_emu` state of a call.
+// Proof: `over_any_wire` and `emulated_wire` (AnyWire), by `ends_over_turns` (ReportsOverTurns).
+pub fn a_session_over_a_wire_can_be_believed()
+    ensures wire { (plan : Plan) (w v : WiredState) (d e : DeskState) (status : ℕ)
+        → IsFresh w → Stays ComesOf w v
+        → IsSoundChip w.wire.programmer.chip → w.wire.programmer.chip.part ≡ plan.part
+        → All (IsFitted plan.part) plan.tasks
+        → RunsSession plan (devices (wired_link w) d) (devices (wired_link v) e) status
+        → OverAnyWire plan w v d e status }
+    ensures emulator { (settings : Settings) (file : Bytes) (old now : DeskState) (status : ℕ)
+        → (r : RunsOverEmulator settings file old now status)
+        → OverAnyWire r.plan (new_wire r.chip []) r.after r.loaded_desk r.played_desk r.ran }
+{}
+
 /// States what a session does over any link that forges no frame, with a programmer in any state. The link may lose,
 /// spoil, cut, delay and hold anything, and repeat replies. The session goes along the turns of its questions, which
 /// follow from what was read and what happened to the programmer. It does what the page says.
@@ -113,7 +132,7 @@ pub fn a_session_outputs_its_expected_run_up_to_a_fault()
 ///
 /// `end` holds however a session ends, so that any prefix of its bytes was sent. The memories are those of its first
 /// writes. Its output is the expected run's, up to the line of a failed step.
-// Proof: `over_any_line`, `over_bytes` and `over_any_end` (AnyLink), by `comes_over_turns` (OverTurns).
+// Proof: `over_any_line`, `over_bytes` and `over_any_end` (AnyLink), by `comes_over_turns` (ReportsOverTurns).
 pub fn a_session_over_any_line()
     ensures turns { (plan : Plan) (p : Programmer) (becames : List Became) (bytes : List ℕ)
         (tape left : Tape) (events : List (Event OutputEvent)) (status next : ℕ)
@@ -136,7 +155,7 @@ pub fn a_session_over_any_line()
         → IsSoundChip p.chip → p.chip.part ≡ plan.part → All (IsFitted plan.part) plan.tasks
         → AreHonest device (session plan) 1 tape p becames
         → IsPrefixOf bytes (bytes_sent (played (session plan) 1 tape).events)
-        → OverTurns plan p (after_pieces device (frames bytes) becames p)
+        → ReportsOverTurns plan p (after_pieces device (frames bytes) becames p)
         (turns_heard (session plan) 1 tape becames) bytes (played (session plan) 1 tape).events }
 {}
 
@@ -150,7 +169,7 @@ pub fn whatever_becomes_of_a_session_its_first_page_writes_were_made()
         → old.link.transcript ≡ [] → RunsSession plan old new status
         → CameThrough got (frames (sent new.link.transcript)) through
         → MakesNoFrame device (session plan) 1 (heard new.link.transcript) p (became_by through) []
-        → OverTurns plan p (after_frames device (frames got) p)
+        → ReportsOverTurns plan p (after_frames device (frames got) p)
         (turns_heard (session plan) 1 (heard new.link.transcript) (became_by through)) (sent new.link.transcript)
         (played (session plan) 1 (heard new.link.transcript)).events }
 {}

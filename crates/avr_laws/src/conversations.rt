@@ -25,7 +25,8 @@ ghost use Rattle.stk_emu.specs.Effect.{Memories};
 ghost use Rattle.stk_emu.specs.Settled.{Ready, FitsPart};
 ghost use Rattle.stk_emu.specs.PageWrites.{IsStep, AreSteps};
 ghost use Rattle.stk_emu.specs.Given.{given_by, all_given};
-ghost use Rattle.avr_laws.specs.Few.{AreFew, FewOf, lost, each_second, AreGood};
+ghost use Rattle.avr_laws.specs.Few.{AreFew, FewOf, lost, each_second};
+ghost use Rattle.avr_tool.specs.AnyLine.{AreGood};
 ghost use Rattle.stk_host.specs.declared.fault.StepFault.TheVariants.{NoAnswer};
 ghost use Rattle.stk_frame.specs.declared.command.Command.TheVariants.{LoadAddress};
 

@@ -15,7 +15,7 @@ ghost use Rattle.stk_emu.specs.Programmer.{Programmer};
 ghost use Rattle.stk_emu.specs.Settled.{Idle, FitsPart};
 ghost use Rattle.stk_emu.specs.Turn.{Turn};
 ghost use Rattle.avr_session.specs.PlanSteps.{run_steps};
-ghost use Rattle.avr_laws.specs.ExpectedRun.{expected_run};
+ghost use Rattle.avr_tool.specs.ExpectedRun.{expected_run};
 
 /// States when a session is its expected run: if at most three of any seven consecutive frames go wrong, and a
 /// restart of the programmer counts as four. It is done after at most four times its commands, with the expected

@@ -1,10 +1,11 @@
-//! Laws of what a run leaves in the chip, whatever the link loses, delays and spoils: its expected run.
+//! Laws of runs above the program: whatever the link loses, delays and spoils, and whatever becomes of a run.
 //!
-//! There is no code here: a law is a function with an empty body, and its contract is a theorem about definitions
-//! alone. The session of a plan goes along the turns of its link command by command, and at each moment the memories
-//! are those of its first writes.
+//! There is no code here, and no program depends on it. A law is a function with an empty body, and its contract is a
+//! theorem about definitions alone. What a call itself promises is in the contracts of avr_tool.
 #![tactic(auto)]
 
+// what a plan asks of files
+mod planning;
 // a second run after a first one
 mod again;
 // what a run leaves, reports and sends over any link
@@ -17,6 +18,13 @@ mod conversations;
 mod damaged_frames;
 // what a plan writes, address by address
 mod written;
+// runs from settings to a status, and worked ones
+mod runs;
+// runs over the emulator and its chip file, and what a crash leaves of it
+mod chip_file;
+mod crashes;
+// a session and a server in two processes
+mod two_processes;
 
 pub use again::{
     a_second_run_heals_the_first, the_same_run_again_heals, what_agrees_on_two_chips_agrees_on_all,
@@ -24,16 +32,41 @@ pub use again::{
 pub use any_line::{
     a_run_listens_at_most_once_for_each_frame, a_run_makes_its_page_writes_in_order,
     a_run_sends_at_most_four_times_its_commands, a_session_outputs_its_expected_run_up_to_a_fault,
-    a_session_over_any_line, what_a_run_tells_is_true, what_was_told_was_true,
-    whatever_becomes_of_a_session_its_first_page_writes_were_made,
+    a_session_over_a_wire_can_be_believed, a_session_over_any_line, what_a_run_tells_is_true,
+    what_was_told_was_true, whatever_becomes_of_a_session_its_first_page_writes_were_made,
+};
+pub use chip_file::{
+    a_further_run_over_its_chip_file_heals, a_run_finds_and_leaves_the_chip_of_its_file,
+    the_chip_file_holds_the_images,
 };
 pub use conversations::{
     a_conversation_in_turn_is_never_idle, a_line_that_makes_no_frame_is_honest,
     a_wire_is_an_honest_line, few_bad_fates_bring_all_data,
     over_a_wire_a_conversation_goes_along_turns, over_any_tape_a_conversation_goes_along_turns,
 };
-pub use damaged_frames::a_link_that_damages_one_byte_forges_no_frame;
+pub use crashes::{
+    a_crash_leaves_the_old_chip_or_the_new_one, a_crash_leaves_the_old_chip_or_the_served_one,
+};
+pub use damaged_frames::{
+    a_link_that_damages_one_byte_forges_no_frame,
+    over_a_link_that_damages_one_byte_status_0_means_the_images,
+};
 pub use few_bad_frames::a_run_with_few_bad_frames_is_its_expected_run;
+pub use planning::{
+    a_plan_fits_its_part, a_plan_is_of_whole_files, a_plan_is_the_one_asked_for,
+    a_plan_only_reads_and_warns, a_sound_plan_is_refused_aloud,
+};
+pub use runs::{
+    a_further_run_heals, a_made_frame_voids_the_promise, a_run_in_memory_has_one_outcome,
+    a_run_in_memory_is_a_function_of_its_files, a_sound_run_is_its_expected_run,
+    a_worked_run_has_one_outcome, a_wrong_outcome_is_refused, status_0_means_the_images,
+};
+pub use two_processes::{
+    a_prompt_line_brings_the_expected_run, a_server_sends_the_answers_to_what_it_heard,
+    a_session_and_a_server_are_one_run, an_unordered_line_is_refused, two_processes_have_a_run,
+    two_processes_never_both_wait, what_a_host_hears_of_a_server_is_honest,
+    whatever_becomes_of_both_some_page_writes_were_made,
+};
 pub use written::{
     a_byte_of_flash_is_made_by_images, a_plan_writes_what_its_tasks_write,
     a_verified_run_leaves_its_images, an_expected_run_succeeds_if_it_agrees,

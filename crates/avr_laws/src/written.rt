@@ -11,11 +11,12 @@ ghost use Rattle.avr_plan.specs.Plan.{Plan, IsFitted};
 ghost use Rattle.avr_plan.specs.declared.planned.Task.{Task};
 ghost use Rattle.stk_emu.specs.Effect.{Image, Item, Write, Memories, effects};
 ghost use Rattle.stk_emu.specs.Settled.{FitsPart};
-ghost use Rattle.avr_laws.specs.Agrees.{Agrees, Shows};
-ghost use Rattle.avr_laws.specs.ExpectedRun.{expected_run};
-ghost use Rattle.avr_laws.specs.Items.{asked_items, items};
-ghost use Rattle.avr_laws.specs.Outcome.{page_writes, IsTouched, IsDone};
-ghost use Rattle.avr_laws.specs.Written.{IsMade, IsTaken, IsWritten, byte_in, written_to};
+ghost use Rattle.avr_tool.specs.Agrees.{Agrees, Shows};
+ghost use Rattle.avr_tool.specs.ExpectedRun.{expected_run};
+ghost use Rattle.avr_tool.specs.Items.{asked_items, items};
+ghost use Rattle.avr_tool.specs.Outcome.{page_writes, IsTouched, IsDone};
+ghost use Rattle.avr_tool.specs.Written.{IsWritten, byte_in, written_to};
+ghost use Rattle.avr_laws.specs.WrittenBytes.{IsMade, IsTaken};
 
 /// States what a plan does to a chip, in terms of its switches and tasks. A dry run does nothing. Any other run
 /// erases if an erase is due, and then makes the writes of its tasks in order.

@@ -1,4 +1,3 @@
 -- in the order in which to read; the list beside a folder says what the folder holds
 pub mod Files
 pub mod Stages
-pub mod Rows

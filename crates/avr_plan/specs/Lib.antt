@@ -7,9 +7,6 @@ pub mod Plan
 pub mod Planning
 pub mod PlanFaults
 pub mod Taking
-pub mod OnlyReading
-pub mod FilesRead
-pub mod AskedPlan
 -- inside: representations, and contracts of private functions
 pub mod Intake
 -- of the crates below, the definitions that public contracts cite

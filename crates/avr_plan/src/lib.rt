@@ -25,15 +25,9 @@ mod planned;
 mod messages;
 mod plan_fault;
 mod planning;
-// laws
-mod laws;
 
 pub use image_file::{ReadFault, read_image};
 pub use intake::BadFile;
-pub use laws::{
-    a_plan_fits_its_part, a_plan_is_of_whole_files, a_plan_is_the_one_asked_for,
-    a_plan_only_reads_and_warns, a_sound_plan_is_refused_aloud,
-};
 pub use messages::read_only_message;
 pub use part_choice::{chosen_part, given_parts};
 pub use plan_fault::{PartsFault, PlanFault, TaskFault};

@@ -1,4 +1,4 @@
-//! The session of a plan, over a link and at a desk; and a run, from settings to status.
+//! The session of a plan, over a link and at a desk.
 ghost use Rattle.std.specs.Prelude.{◌≡◌, None, Err};
 ghost use Rattle.avr_desk.specs.Fault.{Follows};
 ghost use Rattle.avr_session.specs.Standing.{Fine, Faulty};
@@ -8,15 +8,14 @@ ghost use Rattle.avr_session.specs.Outcomes.{ComesTo, EndsTold};
 ghost use Rattle.avr_session.specs.Performing.{EndsSession, PlaysSession};
 ghost use Rattle.avr_session.specs.Runs.{devices};
 ghost use Rattle.ghosts.specs.Stays.{Stays};
-ghost use Rattle.avr_session.specs.Run.{RunsBetween, RunsSession};
+ghost use Rattle.avr_session.specs.Run.{RunsSession};
 
 use crate::ending::{End, conclude};
 use crate::outcome::{Outcome, outcome_of};
 use crate::performing::Session;
 use crate::reports::report_closing;
-use avr_cli::Settings;
 use avr_desk::Desk;
-use avr_plan::{Plan, plan};
+use avr_plan::Plan;
 use std::alloc::Global;
 use stk_host::{HostFault, Link};
 
@@ -126,28 +125,4 @@ pub fn drive<D: Desk, L: Link>(alloc: Global, plan: &Plan, desk: &mut D, link: &
     ensures stays { Stays D.comes_of desk.old desk.new }
 {
     drive_outcome(alloc, plan, desk, link).status()
-}
-
-/// Makes the plan of a run, runs its session over a link, and reports it at the desk. Returns the status: 0 if there
-/// was no fault, otherwise 1. A refusal is reported before any frame is sent or file created.
-///
-/// ```text
-/// let settings = Settings::for_link(alloc, "nobody")?;
-/// let mut desk = MemDesk::empty(alloc);
-/// let mut link = TapeLink::new(alloc, Vec::new(alloc), 281);
-/// assert_eq!(rt; run(alloc, &settings, &mut desk, &mut link), 1);
-/// assert!(rt; desk.messages() == b"avrstk: error: no part nobody\n".as_slice());
-/// assert!(rt; link.sent().is_empty());
-/// ```
-pub fn run<D: Desk, L: Link>(alloc: Global, settings: &Settings, desk: &mut D, link: &mut L) -> u8
-    ensures runs { RunsBetween D.view D.comes_of settings.now (L.view link.old) (L.view link.new)
-        desk.old desk.new result }
-    ensures follows { Follows (D.view desk.old) (D.view desk.new) }
-    ensures comes { Stays L.comes_of link.old link.new }
-    ensures stays { Stays D.comes_of desk.old desk.new }
-{
-    match plan(alloc, settings, desk) {
-        Ok(plan) => drive(alloc, &plan, desk, link),
-        Err(status) => status,
-    }
 }

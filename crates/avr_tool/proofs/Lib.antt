@@ -1,7 +1,26 @@
 -- in the order in which to read; the list beside a folder says what the folder holds
 pub mod Printed
-pub mod Runs
-pub mod KnownFiles
+-- a session over any line
+pub mod Each
+pub mod Leads
 pub mod Lines
-pub mod ChipFile
-pub mod Rows
+pub mod Given
+pub mod Hosts
+pub mod PageWrites
+pub mod Plans
+pub mod Memories
+pub mod AnyLine
+pub mod Bounds
+pub mod Sure
+pub mod OverTurns
+pub mod WirePlays
+-- chips of files; serving: transcripts and answers, a piece and its answers, read after read; a run over the emulator
+pub mod Chips
+pub mod Transcripts
+pub mod Answers
+pub mod Replies
+pub mod ReadByRead
+pub mod ServedRuns
+pub mod Emulating
+-- planning and session as one run
+pub mod Runs

@@ -1,2 +1,4 @@
--- A link that forges a frame.
-pub mod MadeFrame
+-- Runs over a wire are runs along turns.
+pub mod Plays
+pub mod WireTapes
+pub mod InTurn

@@ -18,7 +18,7 @@ use Rattle.avr_desk.specs.Stage.{StageAnswer, Made, Refused, Unread}
 use Rattle.avr_session.specs.Run.{LacksPlan, RunsSession, StopsSession, WithPlan}
 use Rattle.avr_session.specs.Runs.{Devices, devices, start, Cause, NoneFailed, cause_line}
 use Rattle.avr_session.specs.Session.{session}
-use Rattle.avr_laws.specs.AnyLine.{OverAnyLine, wire_and_desk}
+use Rattle.avr_tool.specs.AnyLine.{OverAnyLine, wire_and_desk}
 use Rattle.stk_emu.specs.Wired.{WiredState}
 use Rattle.stk_host.specs.Dialog.{Event, Said, Played, played, behind, bytes_sent, outputs}
 use Rattle.stk_host.specs.Play.{InTurn, IsPrefixOfEvents}

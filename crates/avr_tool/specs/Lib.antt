@@ -1,27 +1,18 @@
 -- what callers of the front door cite
-pub use Rattle.avr_emulator.specs.Saving
-pub use Rattle.avr_laws.specs.Again
-pub use Rattle.avr_laws.specs.AnyLine
 pub use Rattle.avr_session.specs.PlanSteps
-pub use Rattle.avr_laws.specs.ExpectedRun
-pub use Rattle.avr_laws.specs.Items
-pub use Rattle.avr_laws.specs.Outcome
-pub use Rattle.avr_laws.specs.Written
 pub use Rattle.avr_desk.specs.Fault
 pub use Rattle.avr_desk.specs.Memory
 pub use Rattle.avr_desk.specs.Named
+pub use Rattle.avr_desk.specs.Playing
 pub use Rattle.avr_desk.specs.Record
 pub use Rattle.avr_desk.specs.Said
 pub use Rattle.avr_desk.specs.Shown
 pub use Rattle.avr_desk.specs.Truth
-pub use Rattle.avr_emulator.specs.Emulated
 pub use Rattle.avr_part.specs.ChipFile
 pub use Rattle.avr_part.specs.Part
 pub use Rattle.avr_part.specs.Sound
 pub use Rattle.avr_part.specs.State
 pub use Rattle.avr_plan.specs.Plan
-pub use Rattle.avr_emulator.specs.ServedRun
-pub use Rattle.avr_emulator.specs.Serving
 pub use Rattle.avr_session.specs.Run
 pub use Rattle.avr_session.specs.Runs
 pub use Rattle.avr_session.specs.Session
@@ -42,20 +33,32 @@ pub use Rattle.stk_host.specs.Links
 pub use Rattle.stk_host.specs.Play
 pub use Rattle.stk_host.specs.Transcript
 pub use Rattle.stk_host.specs.Tape
-pub use Rattle.avr_laws.specs.AnyTape
-pub use Rattle.avr_laws.specs.Few
-pub use Rattle.avr_laws.specs.NoFrame
--- its own
+-- what a plan makes of a chip, over any line
+pub mod Items
+pub mod Tallies
+pub mod Agrees
+pub mod ExpectedRun
+pub mod Foretold
+pub mod Written
+pub mod Made
+pub mod Outcome
+pub mod AnyLine
+-- the chip file; serving; inside, contracts of private functions
 pub mod Lines
+pub mod Loading
+pub mod Holding
+pub mod Saving
+pub mod Serving
+pub mod Replying
+pub mod ServedRun
+pub mod Emulated
+-- ports
 pub mod Ports
 pub mod Sockets
 pub mod OverNet
 pub mod ServedNet
+-- the headline, and the program
 pub mod Headline
-pub mod InMemory
-pub mod ChipFound
-pub mod Promise
-pub mod Worked
 pub mod Asked
 pub mod Texts
 pub mod Program

@@ -15,6 +15,12 @@ abbrev pub IsServed : Port → Type 0
 IsServed (Served port chip) = Unit {0}
 IsServed port = ⊥
 
+-- The port has a chip file.
+abbrev pub HasChip : Port → Type 0
+HasChip (Emulated file) = Unit {0}
+HasChip (Served port chip) = Unit {0}
+HasChip port = ⊥
+
 -- the name of its chip file
 abbrev pub chip_file_of : Port → List ℕ
 chip_file_of (Emulated file) = file

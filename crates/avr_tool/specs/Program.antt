@@ -12,7 +12,7 @@ use Rattle.avr_cli.specs.declared.settings.Settings.{Settings}
 use Rattle.avr_cli.specs.declared.settings.SettingsFault.TheVariants.{Memory}
 use Rattle.avr_desk.specs.Record.{Bytes}
 use Rattle.avr_desk.specs.Said.{Tells}
-use Rattle.avr_emulator.specs.Emulated.{RunsEmulator}
+use Rattle.avr_tool.specs.Emulated.{RunsEmulator}
 use Rattle.avr_session.specs.Refusal.{refusal_line}
 use Rattle.avr_session.specs.Runs.{Devices}
 use Rattle.avr_desk.specs.declared.desk.DeskFault.{DeskFault}

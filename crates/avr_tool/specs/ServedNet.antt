@@ -1,11 +1,9 @@
 -- Serving an emulated programmer to a client at a port of this machine, from settings to status.
-use mathlib.Core.Logic.{inl, inr}
 use Rattle.std.specs.Prelude.{ℕ, ◌≡◌, ◌⊎◌, [], Option, Some, None, Ok, Err}
 use Rattle.avr_cli.specs.declared.settings.Settings.{Settings}
 use Rattle.avr_desk.specs.Record.{DeskState, Bytes}
 use Rattle.avr_desk.specs.Said.{Tells}
-use Rattle.avr_emulator.specs.Killed.{chip_of_part}
-use Rattle.avr_emulator.specs.ServedRun.{JudgesPart, ServesPart}
+use Rattle.avr_tool.specs.ServedRun.{JudgesPart, ServesPart}
 use Rattle.avr_part.specs.Part.{Part}
 use Rattle.avr_session.specs.Runs.{devices}
 use Rattle.avr_tool.specs.Lines.{unopened_line}
@@ -29,12 +27,3 @@ ServesNet unused over settings port file old new status =
     ((part : Part) × (judged : DeskState) × JudgesPart settings file old judged (Ok part)
     × ServesOn over part port file judged new status)
     ⊎ (JudgesPart settings file old new (Err status) × unused)
-
--- The file of the chip as a service has left it, if there was a client and a chip was loaded for it.
-abbrev pub chip_of_service : (unused : Type 0) (over : Option LinkState → Type 0) (settings : Settings)
-    (port file : Bytes) (old new : DeskState) (status : ℕ) → ServesNet unused over settings port file old new status
-    → Option Bytes
-chip_of_service unused over settings port file old new status (inl (part, judged, is, inl (link, on, serves))) =
-    chip_of_part part file 16777216 (devices new_link judged) (devices link new) status serves
-chip_of_service unused over settings port file old new status (inl (part, judged, is, inr none)) = None
-chip_of_service unused over settings port file old new status (inr refused) = None

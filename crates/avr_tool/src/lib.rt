@@ -25,10 +25,19 @@
 //! ```
 #![tactic(auto)]
 
-// the network: a run over a connection, and serving at a port
+// the chip file
+mod holding;
+mod loading;
 mod messages;
+mod saving;
+// the emulated programmer with its chip file: a run over it; serving it: the replies to what is received, from settings
+// to status
+mod answering;
+mod ending;
+mod over_emulator;
+mod served_run;
+// the network: a run over a connection, and serving at a port
 mod network;
-mod of_port;
 mod over_net;
 mod ports;
 mod serving;
@@ -50,14 +59,7 @@ pub use avr_cli::{
     make_command, parse_update, port_number, read_settings, read_settings as settings, read_words,
 };
 pub use avr_session::refuse;
-pub use laws::{
-    a_crash_leaves_the_old_chip_or_the_served_one, a_further_run_heals,
-    a_further_run_over_its_chip_file_heals, a_made_frame_voids_the_promise,
-    a_run_finds_and_leaves_the_chip_of_its_file, a_run_in_memory_has_one_outcome,
-    a_run_is_one_function, a_sound_run_is_its_expected_run, a_stop_is_a_prefix,
-    a_worked_run_has_one_outcome, a_wrong_outcome_is_refused, status_0_means_the_images,
-    the_chip_file_holds_the_images,
-};
+pub use laws::{a_run_is_one_function, a_session_over_a_wire, a_stop_is_a_prefix};
 // what a run reads and writes beside its link
 pub use avr_desk::{
     Bytes, ChipDesk, Desk, DeskCall, DeskFault, FailingDesk, FileSystem, FileUse, MemDesk, Opening,
@@ -65,17 +67,24 @@ pub use avr_desk::{
     print_information, print_warning, write_all,
 };
 // from settings to a status, over any link
-pub use avr_emulator::drive_wired;
 pub use avr_plan::{PartsFault, Plan, PlanFault, Task, TaskFault, plan, plan_or_fault};
 pub use avr_session::{Outcome, drive, drive_outcome, frame_count};
 pub use ghosts::Outlet;
 pub use network::{Callers, Network, Side};
 pub use numbers::the_numbers_are;
-pub use of_port::{run_emu, run_net, serve, serve_for, serve_net, serve_on};
+pub use over_emulator::{drive_wired, run_emu};
+pub use over_net::run_net;
 pub use ports::{accept, listen};
 pub use program::{run_program, run_words};
-pub use running::{run, run_in_memory, run_streams, run_streams_in_memory, run_wired};
+pub use running::{run, run_wired};
+pub use served_run::{READS, judge_part, serve, serve_chip, serve_for, serve_part};
+pub use serving::{serve_net, serve_on};
 pub use texts::refuse_text;
+// the emulated programmer and the chip file
+pub use answering::{Served, answer_all};
+pub use holding::hold_chip;
+pub use loading::load_chip;
+pub use saving::save_chip;
 // parts, their chips and the contents of their memories
 pub use avr_image::Image;
 pub use avr_part::{Chip, Mem, Part, PartFault, Parts};

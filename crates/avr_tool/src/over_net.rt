@@ -1,32 +1,42 @@
 //! A run over a port of the network, from settings to status.
 ghost use Rattle.avr_tool.specs.OverNet.{RunsOverNet};
+ghost use Rattle.avr_tool.specs.Ports.{IsNetwork, port_place};
 ghost use Rattle.avr_tool.specs.Sockets.{IsOverAddress};
 ghost use Rattle.ghosts.specs.Stays.{Stays};
 
 use crate::messages::unopened_message;
 use crate::network::Network;
-use crate::ports::{close, connect};
+use crate::ports::{close, connect, place_of};
 use avr_cli::Settings;
 use avr_desk::{Desk, refuse};
 use avr_plan::plan;
 use avr_session::drive;
 use std::alloc::Global;
 
-/// Makes the plan of a run, and runs it over the programmer behind `HOST:PORT`.
+/// Makes the plan of a run, and runs it over the programmer behind the `HOST:PORT` of the settings' port, which must
+/// be [`Port::Network`](avr_cli::Port::Network).
 ///
 /// Returns the status: 0 if there was no fault, otherwise 1. Every fault has its line, and a refusal is reported
 /// without a connection. A read times out after one second. A connection that was reset is a failure of the
 /// link.
+///
+/// ```text
+/// let mut settings = Settings::for_link(alloc, "nobody")?;
+/// settings.port = Port::Network(Text::new(alloc, "localhost:5000")?);
+/// let mut desk = MemDesk::empty(alloc);
+/// // the part is judged before a connection is opened
+/// assert_eq!(rt; run_net(&rt, alloc, &settings, &mut desk), 1);
+/// ```
 pub fn run_net<N: Network, D: Desk>(
     network: N,
     alloc: Global,
     settings: &Settings,
-    address: &str,
     desk: &mut D,
 ) -> u8
-    ensures runs { RunsOverNet N.unused
-        (IsOverAddress N.Network N.Stream.Read N.Stream.Write N.Stream.closed address.now) settings.now address.now
-        (D.view desk.old) (D.view desk.new) result }
+    requires port { IsNetwork settings.now.port }
+    ensures runs { RunsOverNet N.unused (IsOverAddress N.Network N.Stream.Read N.Stream.Write N.Stream.closed
+        (port_place settings.now.port)) settings.now (port_place settings.now.port) (D.view desk.old)
+        (D.view desk.new) result }
     ensures stays { Stays D.comes_of desk.old desk.new }
 {
     let plan = match plan(alloc, settings, desk) {
@@ -36,6 +46,7 @@ pub fn run_net<N: Network, D: Desk>(
             return status;
         }
     };
+    let address = place_of(&settings.port);
     let mut link = match connect(network, address) {
         Ok(link) => link,
         Err(_) => return refuse(desk, &unopened_message("net:", address)),

@@ -1,10 +1,34 @@
-//! Links over sockets.
-ghost use Rattle.std.specs.Prelude.{IfOk, OnErr};
+//! Ports of settings, and links over sockets.
+ghost use Rattle.std.specs.Prelude.{◌≡◌, IfOk, OnErr};
+ghost use Rattle.avr_tool.specs.Ports.{chip_file_of, port_place};
 ghost use Rattle.avr_tool.specs.Sockets.{IsNewLink};
 
 use crate::network::{Callers, Network, Side};
+use avr_cli::Port;
 use std::io;
 use stk_host::StreamLink;
+
+/// Returns the name of the chip file of a port; of a port without one the empty name.
+pub(crate) fn chip_file(port: &Port) -> &str
+    ensures { result.now ≡ chip_file_of port.now }
+{
+    match port {
+        Port::Emulated(file) => file.as_str(),
+        Port::Served { chip, .. } => chip.as_str(),
+        Port::Stdio | Port::Network(_) => "",
+    }
+}
+
+/// Returns where a port is: `HOST:PORT` of a connection, the digits of a service, otherwise the empty text.
+pub(crate) fn place_of(port: &Port) -> &str
+    ensures { result.now ≡ port_place port.now }
+{
+    match port {
+        Port::Network(address) => address.as_str(),
+        Port::Served { port, .. } => port.as_str(),
+        Port::Stdio | Port::Emulated(_) => "",
+    }
+}
 
 /// Connects to `HOST:PORT`. The timeout of this link is one second.
 pub(crate) fn connect<N: Network>(

@@ -10,13 +10,13 @@ ghost use Rattle.ghosts.specs.Stays.{Stays};
 
 use crate::asking::{NotAsked, asked};
 use crate::network::Network;
+use crate::over_emulator::run_emu;
 use crate::over_net::run_net;
-use crate::running::run_streams;
+use crate::running::run;
 use crate::serving::serve_net;
 use crate::texts::print_text;
 use avr_cli::{Port, Settings, SettingsFault};
 use avr_desk::{ChipDesk, Desk, DeskFault, Stream};
-use avr_emulator::run_emu;
 use avr_session::refuse;
 use clap::Error;
 use clap::error::ErrorKind;
@@ -43,16 +43,14 @@ fn run_port<N: Network, D: ChipDesk, R: Read + Drop, W: Write + Drop>(
     match &settings.port {
         Port::Stdio => {
             network.leave();
-            run_streams(alloc, settings, desk, link)
+            run(alloc, settings, desk, link)
         }
-        Port::Emulated(file) => {
+        Port::Emulated(_) => {
             network.leave();
-            run_emu(alloc, settings, file.as_str(), desk)
+            run_emu(alloc, settings, desk)
         }
-        Port::Network(address) => run_net(network, alloc, settings, address.as_str(), desk),
-        Port::Served { port, chip } => {
-            serve_net(network, alloc, settings, port.as_str(), chip.as_str(), desk)
-        }
+        Port::Network(_) => run_net(network, alloc, settings, desk),
+        Port::Served { .. } => serve_net(network, alloc, settings, desk),
     }
 }
 

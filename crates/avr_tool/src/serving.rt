@@ -1,16 +1,17 @@
 //! Serves an emulated programmer at a port of this machine, from settings to status.
-ghost use Rattle.std.specs.Prelude.{IfOk, OnErr, ⊤};
+ghost use Rattle.std.specs.Prelude.{IfOk, OnErr};
 ghost use Rattle.avr_cli.specs.Port.{port_number as number_of};
+ghost use Rattle.avr_tool.specs.Ports.{IsServed, chip_file_of, port_place};
 ghost use Rattle.avr_tool.specs.ServedNet.{ServesNet, ServesOn};
 ghost use Rattle.avr_tool.specs.Sockets.{IsNewLink, IsOverCaller, IsOverPort};
 ghost use Rattle.ghosts.specs.Stays.{Stays};
 
 use crate::messages::unopened_message;
 use crate::network::{Callers, Network};
-use crate::ports::{accept, close, listen};
+use crate::ports::{accept, chip_file, close, listen, place_of};
+use crate::served_run::{READS, judge_part, serve_part};
 use avr_cli::{Settings, port_number};
 use avr_desk::{ChipDesk, refuse};
-use avr_emulator::{READS, judge_part, serve_part};
 use avr_part::Part;
 use std::alloc::Global;
 use std::io;
@@ -42,30 +43,45 @@ fn serve_called<L: Callers, D: ChipDesk>(
 }
 
 /// Serves the emulated programmer of the settings' part to the first client of a listener, in at most 16,777,216
-/// reads.
+/// reads. The port of the settings must be [`Port::Served`](avr_cli::Port::Served); the network is left unused.
 ///
 /// The part and the chip file are checked before a connection is accepted; if they are refused, no client is waited
 /// for. The chip is loaded from the file when the client has connected, and saved to it when the client is gone. If
-/// no connection can be accepted, this is reported for `port`, the text of `--serve`, and no file is written.
+/// no connection can be accepted, this is reported for the port of the settings, and no file is written.
 ///
 /// Returns the status: 0 if the client closed the connection and the chip was saved, otherwise 1.
-pub fn serve_on<L: Callers + Drop, D: ChipDesk>(
+///
+/// ```text
+/// let mut settings = Settings::for_link(alloc, "m328p")?;
+/// let [port, chip] = [Text::new(alloc, "0")?, Text::new(alloc, "chip.bin")?];
+/// settings.port = Port::Served { port, chip };
+/// let mut desk = MemDesk::empty(alloc);
+/// let listener = listen(&rt, 0)?;
+/// let client = TcpStream::connect(&rt, listener.local_addr()?)?;
+/// client.shutdown(Shutdown::Write)?;
+/// assert_eq!(rt; serve_on(&rt, alloc, &settings, listener, &mut desk), 0);
+/// assert!(rt; desk.file("chip.bin").is_some());
+/// ```
+pub fn serve_on<N: Network, D: ChipDesk>(
+    network: N,
     alloc: Global,
     settings: &Settings,
-    port: &str,
-    file: &str,
-    listener: L,
+    listener: N::Listener,
     desk: &mut D,
 ) -> u8
-    ensures serves { ServesNet ⊤ (IsOverCaller L.Callers L.Stream.Read L.Stream.Write L.Stream.closed listener)
-        settings.now port.now file.now (D.view desk.old) (D.view desk.new) result }
+    requires port { IsServed settings.now.port }
+    ensures serves { ServesNet N.unused (IsOverCaller N.Listener.Callers N.Stream.Read N.Stream.Write N.Stream.closed
+        listener) settings.now (port_place settings.now.port) (chip_file_of settings.now.port) (D.view desk.old)
+        (D.view desk.new) result }
     ensures stays { Stays D.comes_of desk.old desk.new }
 {
-    let part = match judge_part(alloc, settings, file, desk) {
+    network.leave();
+    let part = match judge_part(alloc, settings, desk) {
         Ok(part) => part,
         Err(status) => return status,
     };
-    serve_called::<L, D>(alloc, &part, port, file, accept(listener), desk)
+    let (port, file) = (place_of(&settings.port), chip_file(&settings.port));
+    serve_called::<N::Listener, D>(alloc, &part, port, file, accept(listener), desk)
 }
 
 /// Opens the port and serves a chip of this part to the first client. The port is closed when that client has
@@ -95,29 +111,38 @@ fn serve_at<N: Network, D: ChipDesk>(
 }
 
 /// Serves the emulated programmer of the settings' part at a port of 127.0.0.1, to the first client, as [`serve_on`]
-/// does. The part and the chip file are checked before the port is opened.
+/// does. The port of the settings must be [`Port::Served`](avr_cli::Port::Served). The part and the chip file are
+/// checked before the port is opened.
 ///
-/// The port is closed when the first client has connected, so a second one is refused. `port` is the text of
-/// `--serve`. A port that can't be opened is reported, and no file is written.
+/// The port is closed when the first client has connected, so a second one is refused. A port that can't be opened is
+/// reported, and no file is written.
+///
+/// ```text
+/// let mut settings = Settings::for_link(alloc, "nobody")?;
+/// let [port, chip] = [Text::new(alloc, "5000")?, Text::new(alloc, "chip.bin")?];
+/// settings.port = Port::Served { port, chip };
+/// let mut desk = MemDesk::empty(alloc);
+/// // the part is judged before anybody is waited for
+/// assert_eq!(rt; serve_net(&rt, alloc, &settings, &mut desk), 1);
+/// ```
 pub fn serve_net<N: Network, D: ChipDesk>(
     network: N,
     alloc: Global,
     settings: &Settings,
-    port: &str,
-    file: &str,
     desk: &mut D,
 ) -> u8
+    requires port { IsServed settings.now.port }
     ensures serves { ServesNet N.unused (IsOverPort N.Network N.Listener.Callers N.Stream.Read N.Stream.Write
-        N.Stream.closed (number_of port.now)) settings.now port.now file.now (D.view desk.old)
-        (D.view desk.new) result }
+        N.Stream.closed (number_of (port_place settings.now.port))) settings.now (port_place settings.now.port)
+        (chip_file_of settings.now.port) (D.view desk.old) (D.view desk.new) result }
     ensures stays { Stays D.comes_of desk.old desk.new }
 {
-    let part = match judge_part(alloc, settings, file, desk) {
+    let part = match judge_part(alloc, settings, desk) {
         Ok(part) => part,
         Err(status) => {
             network.leave();
             return status;
         }
     };
-    serve_at(network, alloc, &part, port, file, desk)
+    serve_at(network, alloc, &part, place_of(&settings.port), chip_file(&settings.port), desk)
 }

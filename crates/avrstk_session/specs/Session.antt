@@ -13,7 +13,7 @@ use Rattle.avr_cli.specs.declared.settings.SettingsFault.{SettingsFault}
 use Rattle.avr_desk.specs.Lines.{error, memory_pieces}
 use Rattle.avr_desk.specs.Record.{Bytes, DeskState}
 use Rattle.avr_desk.specs.Said.{Tells}
-use Rattle.avr_emulator.specs.ServedRun.{JudgesPart, RunsServed}
+use Rattle.avr_tool.specs.ServedRun.{JudgesPart, RunsServed}
 use Rattle.avr_part.specs.Part.{Part}
 use Rattle.avr_session.specs.Refusal.{refusal_line}
 use Rattle.avr_session.specs.Runs.{Devices}

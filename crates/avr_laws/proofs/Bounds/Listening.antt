@@ -17,11 +17,11 @@ use Rattle.stk_host.specs.Tape.{Tape, Reading, on_tape, bytes_in, answer, read_t
 use Rattle.stk_host.specs.declared.link.Item.TheVariants.{Byte, Silence}
 use Rattle.stk_host.proofs.Dialogs.Questions.{sends_most}
 use Rattle.stk_emu.specs.Along.{AsksBodies}
-use Rattle.avr_laws.proofs.Lines.InTurn.{sends_whole, frames_sent, due_at}
-use Rattle.avr_laws.proofs.Given.LaterAnswers.{used_within}
+use Rattle.avr_tool.proofs.Lines.InTurn.{sends_whole, frames_sent, due_at}
+use Rattle.avr_tool.proofs.Given.LaterAnswers.{used_within}
 use Rattle.avr_session.specs.PlanSteps.{run_steps}
 use Rattle.avr_laws.specs.Bound.{silences, bytes_on, ListensAtMost}
-use Rattle.avr_laws.proofs.AnyLine.FrameSizes.{session_asks}
+use Rattle.avr_tool.proofs.AnyLine.FrameSizes.{session_asks}
 use Rattle.avr_laws.proofs.Bounds.Questions.{session_most}
 
 -- ---- tapes

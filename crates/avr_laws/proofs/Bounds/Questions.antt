@@ -9,9 +9,9 @@ use Rattle.stk_frame.specs.declared.command.Command.{Command}
 use Rattle.stk_host.specs.Bound.{AsksAtMost, SendsAtMost, commands_in}
 use Rattle.stk_host.specs.Dialog.{Dialog, Done, Say, Ask}
 use Rattle.stk_host.proofs.Dialogs.Questions.{sends_asked}
-use Rattle.avr_laws.specs.AnyLine.{Weight, weighed, bodies_in}
+use Rattle.avr_tool.specs.AnyLine.{Weight, weighed, bodies_in}
 use Rattle.avr_session.specs.PlanSteps.{run_steps}
-use Rattle.avr_laws.proofs.Bounds.Weights.{WeighsAtMost, weighed_append, session_weighs}
+use Rattle.avr_tool.proofs.Bounds.Weights.{WeighsAtMost, weighed_append, session_weighs}
 
 abbrev one : Weight
 one bytes = 1

@@ -1,6 +1,6 @@
 -- A session over a link on which few frames go wrong goes as its expected run. It is done after at most four times its
 -- commands.
-use Rattle.std.proofs.Common.{◌≡◌, ℕ, ◌*◌, ◌≤◌, List, ap, ◌∙◌, All, inl, inr}
+use Rattle.std.proofs.Common.{◌≡◌, ℕ, ◌*◌, ◌≤◌, List, ap, ◌∙◌, All}
 use Rattle.avr_part.specs.Part.{IsPart}
 use Rattle.avr_plan.specs.Plan.{Plan, IsFitted}
 use Rattle.stk_host.specs.Dialog.{Done}
@@ -13,29 +13,21 @@ use Rattle.stk_emu.specs.Effect.{Memories, memories_of}
 use Rattle.stk_emu.specs.Settled.{Idle, FitsPart}
 use Rattle.avr_session.specs.Session.{session}
 use Rattle.avr_session.specs.PlanSteps.{run_steps}
-use Rattle.avr_laws.proofs.AnyLine.Sessions.{at_last}
 use Rattle.avr_laws.proofs.Bounds.Questions.{session_most}
-use Rattle.avr_laws.proofs.FewBad.Calls.{AtFew, no_failure, few_opens}
-use Rattle.avr_laws.proofs.Given.FewBadTurns.{done_within}
-use Rattle.avr_laws.proofs.Hosts.Outputs.{at_moment}
-use Rattle.avr_laws.proofs.Reports.Truth.{T, session_prints_true}
-use Rattle.avr_laws.specs.ExpectedRun.{expected_run}
+use Rattle.avr_tool.proofs.Sure.Sessions.{session_ends}
+use Rattle.avr_laws.proofs.FewBad.Turns.{done_within, few_sure}
+use Rattle.avr_tool.specs.ExpectedRun.{expected_run}
 use Rattle.avr_laws.specs.Few.{AreFew}
-use Rattle.avr_laws.specs.Outcome.{IsExpectedRun}
+use Rattle.avr_tool.specs.Outcome.{IsExpectedRun}
 
 module _ (plan : Plan) (sound : IsPart plan.part) (fitted : All (IsFitted plan.part) plan.tasks) where
-  pub session_ends : (m : Memories) (p : Programmer) (turns : List Turn) → FitsPart plan.part m → Idle plan.part m p
-      → AreFew turns
+  pub few_session_ends : (m : Memories) (p : Programmer) (turns : List Turn) → FitsPart plan.part m
+      → Idle plan.part m p → AreFew turns
       → (k : ℕ) (status : ℕ) → (along device k (session plan) p turns).dialog ≡ Done status
       → IsExpectedRun plan m (memories_of (along device k (session plan) p turns).programmer.chip)
       (said_along device k (session plan) p turns) status
-  session_ends m p turns sizes idle few k status e =
-      elim ((at_moment (T plan sound m sizes) (at_last plan m ⊥) k
-      (session_prints_true plan sound m sizes fitted (AtFew plan.part) ⊥ (no_failure plan.part sound plan.switches)
-      (p, turns) (few_opens plan.part sound plan.switches m (p, turns) sizes idle few))).after status e).1 [
-        | inl own ↦ own
-        | inr broke ↦ absurd broke.0
-      ]
+  few_session_ends m p turns sizes idle few k status e =
+      session_ends plan sound fitted AreFew few_sure m p turns sizes idle few k status e
 
   -- it is done after at most four times its commands
   pub session_done : (m : Memories) (k : ℕ) (p : Programmer) (turns : List Turn) → FitsPart plan.part m
@@ -44,4 +36,4 @@ module _ (plan : Plan) (sound : IsPart plan.part) (fitted : All (IsFitted plan.p
   session_done m k p turns sizes idle few le =
       let within : (r : ℕ) × ((along device k (session plan) p turns).dialog ≡ Done r) =
       done_within (4 * commands_in (run_steps plan)) k (session plan) p turns (session_most plan) le in
-      within.1 ∙ ap (λ r. Done r) (session_ends m p turns sizes idle few k within.0 within.1).status_is
+      within.1 ∙ ap (λ r. Done r) (few_session_ends m p turns sizes idle few k within.0 within.1).status_is

@@ -14,8 +14,8 @@ use Rattle.stk_emu.specs.Lawful.{IsBody}
 use Rattle.stk_emu.specs.Turn.{Became, Obeyed, Anew, Nothing, Turn, Wrong, after_became, after_turn, turn_reading, IsHonest}
 use Rattle.stk_emu.specs.Along.{along, AsksBodies}
 use Rattle.avr_laws.specs.AnyTape.{first_became, other_becames, on_answer, AreHonest, after_pieces, turn_by, turns_from, turns_heard, GoesAs, let_through, CameThrough, became_by}
-use Rattle.avr_laws.proofs.Given.LaterAnswers.{answer_extends}
-use Rattle.avr_laws.proofs.Lines.Plays.{played_along, said_played, done_played, waits_played}
+use Rattle.avr_tool.proofs.Given.LaterAnswers.{answer_extends}
+use Rattle.avr_tool.proofs.Lines.Plays.{played_along, said_played, done_played, waits_played}
 
 -- every honest reading is a turn
 abbrev IsTurn : {P : Type 0} → Device P → List ℕ → P → Became → Reading → Turn → Type 0

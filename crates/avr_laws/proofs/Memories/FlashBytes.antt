@@ -8,9 +8,9 @@ use Rattle.avr_part.specs.declared.part.Mem.TheVariants.{Flash}
 use Rattle.avr_plan.specs.Plan.{Plan}
 use Rattle.stk_emu.specs.Effect.{Image, Item, Erase, Write, Memories, and_in, are_locked, effect, effects}
 use Rattle.stk_emu.proofs.Memories.LaidImages.{length-and_in, get_and_in}
-use Rattle.avr_laws.specs.Items.{items, has_erase}
-use Rattle.avr_laws.specs.Outcome.{page_writes, IsTouched, IsDone}
-use Rattle.avr_laws.specs.Written.{IsThere, AreThere, and_all, IsMade}
+use Rattle.avr_tool.specs.Items.{items, has_erase}
+use Rattle.avr_tool.specs.Outcome.{page_writes, IsTouched, IsDone}
+use Rattle.avr_laws.specs.WrittenBytes.{IsThere, AreThere, and_all, IsMade}
 
 are_later : (item : Item) (xs : List Item) (addr : ℕ) (bytes : List ℕ) → AreThere xs addr bytes
     → AreThere (item ∷ xs) addr bytes

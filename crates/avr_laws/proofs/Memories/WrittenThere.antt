@@ -9,14 +9,14 @@ use Rattle.avr_part.specs.declared.part.Mem.{Mem}
 use Rattle.avr_part.specs.declared.part.Mem.TheVariants.{Flash, Lock}
 use Rattle.stk_emu.specs.Effect.{Image, Item, Erase, Write, Memories, with_image, and_in, and_with, effect, effects, write_effect, memory_in}
 use Rattle.stk_emu.specs.Given.{HoldsImage}
-use Rattle.avr_laws.proofs.Given.Comparisons.{and_from_blank, laid_holds}
+use Rattle.avr_tool.proofs.Given.Comparisons.{and_from_blank, laid_holds}
 use Rattle.stk_emu.proofs.Memories.LaidImages.{length-and_in, get_and_in}
-use Rattle.avr_laws.proofs.PageWrites.Pages.{effects_on}
-use Rattle.avr_laws.specs.Agrees.{Shows}
-use Rattle.avr_laws.specs.Items.{has_erase}
-use Rattle.avr_laws.specs.Written.{LeaveFree, IsErasedFor, IsTaken}
-use Rattle.avr_laws.proofs.PageWrites.EachMemory.{same_memory, size_stays, others_stay}
-use Rattle.avr_laws.proofs.Memories.LaidImages.{write_keeps}
+use Rattle.avr_tool.proofs.PageWrites.Pages.{effects_on}
+use Rattle.avr_tool.specs.Agrees.{Shows}
+use Rattle.avr_tool.specs.Items.{has_erase}
+use Rattle.avr_laws.specs.WrittenBytes.{LeaveFree, IsErasedFor, IsTaken}
+use Rattle.avr_tool.proofs.PageWrites.EachMemory.{same_memory, size_stays, others_stay}
+use Rattle.avr_tool.proofs.Memories.LaidImages.{write_keeps}
 
 -- ---- an erased place stays blank until an image has a byte for it
 

@@ -14,7 +14,7 @@ use Rattle.avr_plan.specs.declared.planned.Task.TheVariants as task
 use Rattle.avr_session.specs.Lines.{fault_line}
 use Rattle.stk_emu.specs.Effect.{Image, Memories, Item, Write, effects}
 use Rattle.avr_laws.specs.Again.{chip_of}
-use Rattle.avr_laws.specs.Items.{items}
+use Rattle.avr_tool.specs.Items.{items}
 use Rattle.avr_laws.specs.Told.{count_line, IsTrue}
 use Rattle.avr_laws.proofs.SecondRun.PlanRows.{tiny, erasing}
 

@@ -1,5 +1,5 @@
 -- What a run reports is true at that moment, action by action.
-use Rattle.std.proofs.Common.{◌≡◌, ℕ, List, [], ◌∷◌, ◌++◌, length, append_assoc, refl, sym, ap, ◌∙◌, subst, arith, inl, inr, Ok, Err, Result, Bool, true, false, rules}
+use Rattle.std.proofs.Common.{◌≡◌, ℕ, zero, suc, List, [], ◌∷◌, ◌++◌, length, append_assoc, refl, sym, ap, ◌∙◌, subst, arith, inl, inr, Ok, Err, Result, Bool, true, false, rules}
 use Rattle.std.proofs.lemmas.List.{append-nil}
 use Rattle.std.proofs.lemmas.List.Elements.{Contains-append_right}
 use Rattle.std.specs.Prelude.{All, Contains, ⊤, codes, nat_lt, if◌then◌else◌}
@@ -16,7 +16,7 @@ use Rattle.avr_session.specs.Actions.{TheErase, TheWrite, Action, OpenSession, E
 use Rattle.avr_session.specs.FileText.{file_text}
 use Rattle.avr_session.specs.Lines.{informs, fault_line}
 use Rattle.avr_session.specs.Session.{opening_says, saving_says, bytes_say, written_says, verified_says, read_says, standing, session}
-use Rattle.stk_host.specs.Dialog.{Done}
+use Rattle.stk_host.specs.Dialog.{Dialog, Done, Say, Ask}
 use Rattle.stk_host.specs.Operations.{difference_from, comparison, host_fault}
 use Rattle.stk_host.specs.declared.fault.HostFault.{HostFault}
 use Rattle.stk_host.specs.declared.fault.StepFault.{StepFault}
@@ -24,22 +24,35 @@ use Rattle.stk_emu.specs.Turn.{Turn}
 use Rattle.stk_emu.specs.Along.{along, said_along}
 use Rattle.stk_emu.specs.Device.{device}
 use Rattle.stk_emu.specs.Effect.{Memories, Image, Item, Erase, Write, effect, effects, memories_of, memory_in}
-use Rattle.avr_laws.proofs.Leads.{Leads}
+use Rattle.avr_tool.proofs.Leads.{Leads}
 use Rattle.stk_emu.specs.Programmer.{Programmer}
 use Rattle.stk_emu.specs.Settled.{Idle, Settled, FitsPart}
-use Rattle.avr_laws.proofs.Given.Comparisons.{no_difference}
-use Rattle.avr_laws.proofs.PageWrites.Pages.{effects_on}
-use Rattle.avr_laws.specs.Items.{action_items, actions_items, items}
+use Rattle.avr_tool.proofs.Given.Comparisons.{no_difference}
+use Rattle.avr_tool.proofs.PageWrites.Pages.{effects_on}
+use Rattle.avr_tool.specs.Items.{action_items, actions_items, items}
 use Rattle.avr_laws.specs.Told.{TellsTrue, count_line, kept_in, IsTrue, ChipErased, BytesWritten, BytesVerified, Differed, BytesSaved, BytesRead, EraseLeftOut, WriteLeftOut, StepFailed, SessionDone}
-use Rattle.avr_laws.proofs.AnyLine.EachAction.{Comes, Passes, ActionTrue, ActionsTrue, opening_comes}
-use Rattle.avr_laws.proofs.AnyLine.Sessions.{AtMoment, AtEnd, at_last, anyhow, session_prints}
-use Rattle.avr_laws.proofs.Given.Comparisons.{bytes_same}
-use Rattle.avr_laws.proofs.Hosts.OneLink.{Spot, on_link}
-use Rattle.avr_laws.proofs.Hosts.Outputs.{AllTrue, Prints, Printed, at_moment, all_true}
-use Rattle.avr_laws.proofs.Memories.ExpectedAgrees.{no_difference_if_fine, expected_status, expected_memories}
-use Rattle.avr_laws.specs.Outcome.{IsTouched, IsDone, IsExpectedRun}
-use Rattle.avr_laws.proofs.Plans.Fits.{FitsAction, AllFitActions, work, work_fits}
-use Rattle.avr_laws.proofs.Plans.Items.{items_on, erase_first}
+use Rattle.avr_tool.proofs.AnyLine.EachAction.{Comes, Passes, ActionTrue, ActionsTrue, opening_comes}
+use Rattle.avr_tool.proofs.AnyLine.Sessions.{AtMoment, AtEnd, at_last, anyhow, session_prints}
+use Rattle.avr_tool.proofs.Given.Comparisons.{bytes_same}
+use Rattle.avr_tool.proofs.Hosts.OneLink.{Spot, on_link, this_link}
+use Rattle.avr_tool.proofs.Hosts.Outputs.{AllTrue, End, Moment, Prints, PrintsFrom}
+use Rattle.stk_host.proofs.Dialogs.Logic.{World}
+use Rattle.avr_tool.proofs.Memories.ExpectedAgrees.{no_difference_if_fine, expected_status, expected_memories}
+use Rattle.avr_tool.specs.Outcome.{IsTouched, IsDone, IsExpectedRun}
+use Rattle.avr_tool.proofs.Plans.Fits.{FitsAction, AllFitActions, work, work_fits}
+use Rattle.avr_tool.proofs.Plans.Items.{items_on, erase_first}
+
+abbrev link : World Spot ⊤
+link = this_link device
+
+-- each output event of a dialog that prints what is true is true at that moment
+all_true : (True : OutputEvent → Programmer → Type 0) {R : Type 0} (Now : Moment) (After : End R) (k : ℕ) (d : Dialog OutputEvent R) (z : Spot)
+    → PrintsFrom True Now After d z → TellsTrue device (λ q output. True output q) k d z.0 z.1
+all_true True Now After k (Done r) z h = tt
+all_true True Now After k (Say output d) z h =
+    (h.0, all_true True (λ x. Now (output ∷ x)) (λ r x. After r (output ∷ x)) k d z h.1)
+all_true True Now After zero (Ask bytes go_on) z h = tt
+all_true True Now After (suc k) (Ask bytes go_on) z h = all_true True Now After k (go_on _) (link.after bytes z tt) h.1
 
 hold_on : (T : OutputEvent → Programmer → Type 0) (xs ys : List OutputEvent) (q : Programmer) → AllTrue T xs q
     → AllTrue T ys q
@@ -188,30 +201,3 @@ module _ (plan : Plan) (sound : IsPart plan.part) (m0 : Memories) (f0 : FitsPart
   session_tells fitted k p turns idle =
       all_true T (AtMoment plan m0) (AtEnd plan m0 ⊤) k (session plan) (p, turns)
       (session_goes fitted p turns idle).holds
-
-  -- along any link
-  pub session_along : All (IsFitted plan.part) plan.tasks → (k : ℕ) (p : Programmer) (turns : List Turn)
-      → Idle plan.part m0 p → Printed (AtMoment plan m0) (AtEnd plan m0 ⊤) k (session plan) (p, turns)
-  session_along fitted k p turns idle = at_moment T (at_last plan m0 ⊤) k (session_goes fitted p turns idle)
-
-  -- with status 0 it is its expected run
-  pub session_succeeds : All (IsFitted plan.part) plan.tasks → (k status : ℕ) (p : Programmer) (turns : List Turn)
-      → Idle plan.part m0 p → (along device k (session plan) p turns).dialog ≡ Done status → status ≡ 0
-      → IsExpectedRun plan m0 (memories_of (along device k (session plan) p turns).programmer.chip)
-      (said_along device k (session plan) p turns) status
-  session_succeeds fitted k status p turns idle e zero = elim ((session_along fitted k p turns idle).after status e).1 [
-    | inl own ↦ own
-    | inr broke ↦ let one = broke.1.1 in absurd (omega (arith, zero, one))
-  ]
-
-  -- what it leaves
-  pub session_leaves : All (IsFitted plan.part) plan.tasks → (p : Programmer) (turns : List Turn) → Idle plan.part m0 p
-      → Leads device (session plan) p turns (λ q. IsTouched plan m0 (memories_of q.chip))
-      (λ status q. status ≡ 0 → IsDone plan m0 (memories_of q.chip))
-  session_leaves fitted p turns idle = record {
-    during = λ k. (session_along fitted k p turns idle).now.0;
-    after = λ k status e zero.
-        let run = session_succeeds fitted k status p turns idle e zero in
-        let agrees = (expected_status plan m0).0 (sym run.status_is ∙ zero) in
-        record { memories = run.memories ∙ expected_memories plan m0 agrees; agrees = agrees };
-  }

@@ -15,12 +15,12 @@ use Rattle.stk_emu.specs.Effect.{Memories}
 use Rattle.stk_emu.specs.Programmer.{Programmer}
 use Rattle.stk_emu.specs.Settled.{Idle, FitsPart}
 use Rattle.stk_emu.specs.Turn.{Turn, Became}
-use Rattle.avr_laws.proofs.AnyLine.FrameSizes.{session_asks}
+use Rattle.avr_tool.proofs.AnyLine.FrameSizes.{session_asks}
 use Rattle.avr_laws.proofs.Lines.AnyTape.{goes_as}
 use Rattle.avr_laws.proofs.Reports.Truth.{session_along}
 use Rattle.avr_laws.specs.AnyTape.{AreHonest, GoesAs}
-use Rattle.avr_laws.specs.ExpectedRun.{Expected, then_from, ◌then◌, action_expected, actions_expected, working_expected, ending_says, expected_run}
-use Rattle.avr_laws.specs.Foretold.{SaysFirst, IsForetold, EndsAsForetold}
+use Rattle.avr_tool.specs.ExpectedRun.{Expected, then_from, ◌then◌, action_expected, actions_expected, working_expected, ending_says, expected_run}
+use Rattle.avr_tool.specs.Foretold.{SaysFirst, IsForetold, EndsAsForetold}
 
 module _ (plan : Plan) (sound : IsPart plan.part) (fitted : All (IsFitted plan.part) plan.tasks) (m : Memories)
     (f : FitsPart plan.part m) where

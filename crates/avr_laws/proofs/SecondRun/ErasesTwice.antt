@@ -14,16 +14,16 @@ use Rattle.stk_host.specs.WriteSteps.{byte_steps, write_steps}
 use Rattle.stk_emu.specs.Effect.{Image, Memories, Item, Erase, Write, erase_keeps_eeprom, effect, effects}
 use Rattle.stk_emu.specs.Settled.{FitsPart}
 use Rattle.stk_emu.specs.PageWrites.{page_writes_of, all_steps, AllFitItems}
-use Rattle.avr_laws.proofs.PageWrites.Items.{items_do, effect_sizes}
-use Rattle.avr_laws.proofs.PageWrites.Pages.{page_writes_on}
+use Rattle.avr_tool.proofs.PageWrites.Items.{items_do, effect_sizes}
+use Rattle.avr_tool.proofs.PageWrites.Pages.{page_writes_on}
 use Rattle.avr_laws.specs.Again.{is_keeping, AreKeeping}
-use Rattle.avr_laws.specs.Items.{items, has_erase}
-use Rattle.avr_laws.specs.Outcome.{page_writes}
-use Rattle.avr_laws.proofs.PageWrites.NetWrites.{first_again, first_writes_again}
-use Rattle.avr_laws.proofs.Each.{Each, each_on}
-use Rattle.avr_laws.proofs.Plans.Fits.{work, work_fits, items_fit}
-use Rattle.avr_laws.proofs.Plans.Items.{writes, erase_if, tasks_write, items_are}
-use Rattle.avr_laws.proofs.AnyLine.FirstSteps.{effects_sizes}
+use Rattle.avr_tool.specs.Items.{items, has_erase}
+use Rattle.avr_tool.specs.Outcome.{page_writes}
+use Rattle.avr_tool.proofs.PageWrites.NetWrites.{first_again, first_writes_again}
+use Rattle.avr_tool.proofs.Each.{Each, each_on}
+use Rattle.avr_tool.proofs.Plans.Fits.{work, work_fits, items_fit}
+use Rattle.avr_tool.proofs.Plans.Items.{writes, erase_if, tasks_write, items_are}
+use Rattle.avr_tool.proofs.AnyLine.FirstSteps.{effects_sizes}
 
 -- a write, and if this is wanted one that keeps EEPROM
 abbrev Mild : Part → Type 0 → Item → Type 0

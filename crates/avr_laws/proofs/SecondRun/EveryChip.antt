@@ -13,11 +13,11 @@ use Rattle.avr_session.specs.Actions.{Action}
 use Rattle.stk_emu.specs.Effect.{Image, Memories, Erase, with_image, are_locked, write_effect, effect, effects, memory_in}
 use Rattle.stk_emu.specs.Given.{HoldsImage}
 use Rattle.stk_emu.specs.Settled.{FitsPart}
-use Rattle.avr_laws.proofs.PageWrites.EachMemory.{keeps_zeros, laid, spares, write_is}
+use Rattle.avr_tool.proofs.PageWrites.EachMemory.{keeps_zeros, laid, spares, write_is}
 use Rattle.avr_laws.specs.Again.{chip_of, AgreesAnyway}
-use Rattle.avr_laws.specs.Agrees.{Agrees, ActionAgrees, ActionsAgree}
-use Rattle.avr_laws.specs.Items.{action_items, actions_items, items, has_erase}
-use Rattle.avr_laws.proofs.Plans.Items.{tasks_write, plan_agrees}
+use Rattle.avr_tool.specs.Agrees.{Agrees, ActionAgrees, ActionsAgree}
+use Rattle.avr_tool.specs.Items.{action_items, actions_items, items, has_erase}
+use Rattle.avr_tool.proofs.Plans.Items.{tasks_write, plan_agrees}
 
 -- ---- bytes: if two agree, the third agrees with them
 

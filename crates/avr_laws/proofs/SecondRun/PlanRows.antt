@@ -7,7 +7,7 @@ use Rattle.avr_plan.specs.Plan.{Plan}
 use Rattle.avr_plan.specs.declared.planned.Task.{Task}
 use Rattle.avr_plan.specs.declared.planned.Task.TheVariants.{Write, Verify}
 use Rattle.avr_laws.specs.Again.{chip_of}
-use Rattle.avr_laws.specs.ExpectedRun.{expected_run}
+use Rattle.avr_tool.specs.ExpectedRun.{expected_run}
 
 -- four bytes of flash and two of EEPROM
 abbrev pub tiny : Part

@@ -8,14 +8,14 @@ use Rattle.avr_plan.specs.Plan.{Plan, IsFitted}
 use Rattle.stk_emu.specs.Effect.{Memories, erase_keeps_eeprom, effects}
 use Rattle.stk_emu.specs.Settled.{FitsPart}
 use Rattle.avr_laws.specs.Again.{AreKeeping, chip_of, AgreesAnyway, Heals}
-use Rattle.avr_laws.specs.Agrees.{Agrees}
-use Rattle.avr_laws.specs.ExpectedRun.{expected_run}
-use Rattle.avr_laws.specs.Items.{items, has_erase}
-use Rattle.avr_laws.specs.Outcome.{page_writes, IsTouched, IsDone}
+use Rattle.avr_tool.specs.Agrees.{Agrees}
+use Rattle.avr_tool.specs.ExpectedRun.{expected_run}
+use Rattle.avr_tool.specs.Items.{items, has_erase}
+use Rattle.avr_tool.specs.Outcome.{page_writes, IsTouched, IsDone}
 use Rattle.avr_laws.proofs.SecondRun.EveryChip.{agrees_anyway}
 use Rattle.avr_laws.proofs.SecondRun.ErasesTwice.{plan_again}
-use Rattle.avr_laws.proofs.Memories.ExpectedAgrees.{expected_status, expected_memories}
-use Rattle.avr_laws.proofs.AnyLine.FirstSteps.{effects_sizes}
+use Rattle.avr_tool.proofs.Memories.ExpectedAgrees.{expected_status, expected_memories}
+use Rattle.avr_tool.proofs.AnyLine.FirstSteps.{effects_sizes}
 
 chip_fits : (part : Part) (byte : ℕ) → byte < 256 → FitsPart part (chip_of part byte)
 chip_fits part byte l = grind (arith, common_steps, length-replicate)

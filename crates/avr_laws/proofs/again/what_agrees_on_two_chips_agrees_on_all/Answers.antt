@@ -1,7 +1,7 @@
 use Rattle.std.proofs.Common.{rules}
 use Rattle.avr_laws.proofs.SecondRun.EveryChip.{agrees_anyway}
 use Rattle.avr_laws.proofs.SecondRun.Status.{two_of_all}
-use Rattle.avr_laws.proofs.Memories.ExpectedAgrees.{expected_status}
+use Rattle.avr_tool.proofs.Memories.ExpectedAgrees.{expected_status}
 use Rattle.avr_laws.proofs.again.what_agrees_on_two_chips_agrees_on_all.Goals as goal
 
 pub returns-clause-agrees : goal.returns-clause-agrees

@@ -1,4 +1,4 @@
-use Rattle.avr_laws.proofs.WirePlays.{played_truly, stopped_truly}
+use Rattle.avr_laws.proofs.AnyWire.{played_truly, stopped_truly}
 use Rattle.avr_laws.proofs.any_line.what_was_told_was_true.Goals as goal
 
 pub returns-clause-played : goal.returns-clause-played

@@ -3,7 +3,7 @@ use Rattle.std.proofs.Common.{length, arith}
 use Rattle.stk_emu.specs.Device.{device}
 use Rattle.stk_emu.proofs.Answers.BodySizes.{answers_bodies}
 use Rattle.avr_laws.proofs.Lines.NoFrame.{prefix_came}
-use Rattle.avr_laws.proofs.Lines.WireTapes.{over_wire}
+use Rattle.avr_tool.proofs.Lines.WireTapes.{over_wire}
 use Rattle.avr_laws.proofs.conversations.a_wire_is_an_honest_line.Goals as goal
 
 pub returns-clause-wire : goal.returns-clause-wire

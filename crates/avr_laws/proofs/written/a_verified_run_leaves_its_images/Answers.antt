@@ -1,7 +1,7 @@
 use Rattle.std.proofs.Common.{rules}
-use Rattle.avr_laws.specs.Items.{asked_items}
-use Rattle.avr_laws.specs.Written.{written_to}
-use Rattle.avr_laws.proofs.Memories.VerifiedRuns.{run_written, shown_succeeds}
+use Rattle.avr_tool.specs.Items.{asked_items}
+use Rattle.avr_tool.specs.Written.{written_to}
+use Rattle.avr_tool.proofs.Memories.VerifiedRuns.{run_written, shown_succeeds}
 use Rattle.avr_laws.proofs.written.a_verified_run_leaves_its_images.Goals as goal
 
 pub returns-clause-images : goal.returns-clause-images

@@ -1,4 +1,4 @@
-use Rattle.avr_laws.proofs.Memories.ExpectedAgrees.{expected_status, expected_memories}
+use Rattle.avr_tool.proofs.Memories.ExpectedAgrees.{expected_status, expected_memories}
 use Rattle.avr_laws.proofs.written.an_expected_run_succeeds_if_it_agrees.Goals as goal
 
 pub returns-clause-status : goal.returns-clause-status

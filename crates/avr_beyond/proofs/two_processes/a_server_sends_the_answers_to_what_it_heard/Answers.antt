@@ -1,9 +1,0 @@
-use Rattle.avr_beyond.proofs.TwoProcesses.Meeting.{has_served}
-use Rattle.avr_beyond.proofs.two_processes.a_server_sends_the_answers_to_what_it_heard.Goals as goal
-use Rattle.std.proofs.Common.{sym}
-
-pub returns-clause-all : goal.returns-clause-all
-returns-clause-all c = λ p transcript left all. (sym all.answered, all.fed.obeyed)
-
-pub returns-clause-however : goal.returns-clause-however
-returns-clause-however c = has_served

@@ -1,9 +1,0 @@
-use Rattle.std.proofs.Common.{rules}
-use Rattle.avr_emulator.proofs.Killed.{run_killed, server_killed}
-use Rattle.avr_emulator.proofs.laws.a_crash_leaves_the_old_chip_or_the_new_one.Goals as goal
-
-pub returns-clause-run : goal.returns-clause-run
-returns-clause-run g c = search (rules, run_killed)
-
-pub returns-clause-server : goal.returns-clause-server
-returns-clause-server g c = search (rules, server_killed)

@@ -1,7 +1,0 @@
-use Rattle.std.proofs.Common.{rules}
-use Rattle.avr_laws.proofs.WirePlays.{over_any_line}
-use Rattle.avr_emulator.proofs.run.drive_wired.Goals as goal
-
-pub returns-clause-line : goal.returns-clause-line
-returns-clause-line g c =
-    let sound = rw c.chip.ensures at c.part-part.ensures.sound in search (rules, over_any_line, c.drive.ensures.comes)

@@ -1,0 +1,118 @@
+-- A session over a wire: its reports, and its end.
+use Rattle.std.proofs.Common.{◌≡◌, ℕ, [], List, All, length, sym, ap, ◌∙◌, subst, inl, inr, length-append, rules}
+use Rattle.std.proofs.lemmas.List.{append-nil}
+use Rattle.ghosts.specs.Stays.{Stays}
+use Rattle.avr_cli.specs.declared.settings.Settings.{Settings}
+use Rattle.avr_desk.specs.Record.{Bytes, DeskState, Passes}
+use Rattle.avr_desk.specs.Said.{OutputEvent, after_all}
+use Rattle.avr_part.specs.Sound.{IsSoundChip}
+use Rattle.avr_plan.specs.Plan.{Plan, IsFitted}
+use Rattle.avr_session.specs.Run.{RunsSession}
+use Rattle.avr_session.specs.Runs.{devices}
+use Rattle.avr_session.specs.Session.{session}
+use Rattle.avr_session.specs.Stopping.{IsPlayed}
+use Rattle.stk_frame.specs.Cut.{frames}
+use Rattle.stk_host.specs.Dialog.{Dialog, Event, bytes_sent, played, outputs, frames_in}
+use Rattle.stk_host.specs.Play.{InTurn, IsPrefixOf, progress_at}
+use Rattle.stk_host.specs.Transcript.{sent, heard}
+use Rattle.stk_emu.specs.Along.{AsksBodies}
+use Rattle.stk_emu.specs.Device.{device}
+use Rattle.stk_emu.specs.Effect.{Memories}
+use Rattle.stk_emu.specs.Programmer.{Programmer, fresh_programmer}
+use Rattle.stk_emu.specs.Turn.{Turn}
+use Rattle.stk_emu.specs.Wire.{AreLawful, turns_of, becames_of}
+use Rattle.stk_emu.specs.Wired.{WiredState, FollowsFates, ComesOf, IsFresh, wired_link}
+use Rattle.stk_emu.specs.declared.fate.Fate.{Fate}
+use Rattle.avr_tool.specs.AnyLine.{ComesOverTurns, OverAnyLine, Stopped, events_over, memories}
+use Rattle.avr_tool.specs.Emulated.{RunsOverEmulator, new_wire}
+use Rattle.avr_tool.proofs.Lines.InTurn.{frames_prefix, goes_along, never_idle, sends_whole}
+use Rattle.avr_tool.proofs.WirePlays.{asks_bodies, first, keeps, stands, whole_comes}
+use Rattle.avr_laws.specs.AnyLink.{OverAnyWire, ReportsOverTurns, WereTrue}
+use Rattle.avr_laws.specs.AnyTape.{AreHonest}
+use Rattle.avr_laws.proofs.Lines.AnyTape.{honest_prefix}
+use Rattle.avr_laws.proofs.ReportsOverTurns.{ends_over_turns, reports_over_turns}
+use Rattle.avr_laws.proofs.Reports.OverTape.{by_fates, said_prefix}
+
+-- what was received is honest, by the fates of all frames that the run over it sends
+pub honest_heard : {E R : Type 0} (d : Dialog E R) (n : ℕ) (p : Programmer) (fates : List Fate) (w : WiredState)
+    → AsksBodies d → AreLawful fates → FollowsFates p fates w → InTurn d (progress_at n []) w.transcript
+    → IsPrefixOf (sent w.transcript) (bytes_sent (played d n (heard w.transcript)).events) → AreHonest device d n (heard w.transcript) p
+    (becames_of (length (frames_in (played d n (heard w.transcript)).events)) fates)
+honest_heard d n p fates w asks lawful keeps turns prefix =
+    search (rules, frames_prefix, sends_whole, length-append, honest_prefix, never_idle, goes_along)
+
+module _ (plan : Plan) (w v : WiredState) (fresh : IsFresh w) (stays : Stays ComesOf w v)
+    (is_sound : IsSoundChip w.wire.programmer.chip)
+    (part_is : w.wire.programmer.chip.part ≡ plan.part) (fitted : All (IsFitted plan.part) plan.tasks)
+    (old now : DeskState) (status : ℕ) where
+  abbrev Runs : Type 0
+  Runs = RunsSession plan (devices (wired_link w) old) (devices (wired_link v) now) status
+
+  abbrev turns : List Turn
+  turns = turns_of w.wire.fates
+
+  reports : Runs → ReportsOverTurns plan (fresh_programmer w.wire.programmer.chip) v.wire.programmer turns
+      (sent v.transcript) (events_over plan v)
+  reports runs =
+      let all = length (frames_in (events_over plan v)) in
+      let p = fresh_programmer w.wire.programmer.chip in
+      let asks = asks_bodies plan w v fresh stays is_sound part_is fitted old now status in
+      let follows = keeps plan w v fresh stays is_sound part_is fitted old now status in
+      let is_first = first plan w v fresh stays is_sound part_is fitted old now status runs in
+      reports_over_turns plan p is_sound part_is fitted turns v.wire.programmer (sent v.transcript)
+      (stands plan w v fresh stays is_sound part_is fitted old now status runs) (heard v.transcript)
+      (becames_of all w.wire.fates) is_first.1
+      (honest_heard (session plan) 1 p w.wire.fates v asks fresh.lawful follows is_first.0 is_first.1)
+      (by_fates all w.wire.fates)
+
+  pub over_any_wire : Runs → OverAnyWire plan w v old now status
+  over_any_wire (inl whole) =
+      let c = whole_comes plan w v fresh stays is_sound part_is fitted old now status whole in
+      let stood = stands plan w v fresh stays is_sound part_is fitted old now status (inl whole) in record {
+        line = reports (inl whole);
+        end = inl (
+          ends_over_turns plan (fresh_programmer w.wire.programmer.chip) is_sound part_is fitted turns v.wire.programmer
+              (sent v.transcript) stood (outputs (events_over plan v)) status c.done c.said,
+          c.kept,
+        );
+      }
+  over_any_wire (inr broke) = record { line = reports (inr broke); end = inr broke }
+
+-- so of a run over the emulator
+pub emulated_wire : {settings : Settings} {file : Bytes} {old now : DeskState} {status : ℕ}
+    → (r : RunsOverEmulator settings file old now status)
+    → OverAnyWire r.plan (new_wire r.chip []) r.after r.loaded_desk r.played_desk r.ran
+emulated_wire r =
+    over_any_wire r.plan (new_wire r.chip []) r.after (search rules) r.comes r.sound r.part r.fitted r.loaded_desk
+    r.played_desk r.ran r.runs
+
+one_no : ◌≡◌ {A = ℕ} 1 0 → ⊥
+one_no e = cc
+
+-- a session with status 0, and one that sent no frame
+module _ (plan : Plan) (w v : WiredState) (d e : DeskState) (status : ℕ) (over : OverAnyLine plan w v d e status) where
+  abbrev said : List OutputEvent
+  said = outputs (events_over plan v)
+
+  pub came_to : status ≡ 0 → ComesOverTurns plan (memories w) (memories v) (turns_of w.wire.fates) said status
+      × Passes (after_all said) d e
+  came_to zero = elim over.end [ inl came ↦ came | inr broke ↦ absurd (one_no (sym broke.1 ∙ zero)) ]
+
+  pub untouched : frames (sent v.transcript) ≡ [] → memories v ≡ memories w
+  untouched none = search rules
+
+-- what was reported is a prefix of the output of the session over what was received
+module _ (plan : Plan) (w v : WiredState) (d e : DeskState) (status : ℕ) (silent : w.transcript ≡ [])
+    (over : OverAnyWire plan w v d e status) where
+  abbrev AreTrue : List (Event OutputEvent) → Type 0
+  AreTrue = WereTrue plan (fresh_programmer w.wire.programmer.chip) (turns_of w.wire.fates)
+
+  pub played_truly : (whole : IsPlayed (session plan) (devices (wired_link w) d) (devices (wired_link v) e) status)
+      → AreTrue whole.1.events
+  played_truly whole =
+      let over_heard = ap (λ t. (played (session plan) 1 t).events)
+      (search (rules, append-nil)) in
+      subst AreTrue (over_heard ∙ ap (λ x. x.events) (whole.1.plays.plays [])) over.line.believable
+
+  pub stopped_truly : (stopped : Stopped plan w v d e) → AreTrue stopped.breaks.prefix.whole
+  stopped_truly stopped = search (rules, said_prefix, over)

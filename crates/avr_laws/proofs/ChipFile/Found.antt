@@ -1,0 +1,104 @@
+-- A run over the emulator finds the chip of its file, and leaves it there.
+use Rattle.std.proofs.Common.{◌≡◌, ◌∙◌, ap, ℕ, List, [], ◌∷◌, ◌++◌, append_assoc, rules, arith}
+use Rattle.std.proofs.lemmas.Grind.{common_steps}
+use Rattle.avr_tool.specs.Loading.{chip_stage}
+use Rattle.avr_cli.specs.declared.settings.Settings.{Settings}
+use Rattle.avr_desk.proofs.Desks.InMemory.{all_true, true_behind}
+use Rattle.avr_desk.proofs.FileUses.Uses.{files_absent, files_append, files_used}
+use Rattle.avr_desk.specs.Memory.{MemDeskState, Stock, memory_state}
+use Rattle.avr_desk.specs.Playing.{Went}
+use Rattle.avr_desk.specs.Record.{Bytes, DeskState, all_files, all_uses, files_among}
+use Rattle.avr_desk.specs.Said.{after_opening}
+use Rattle.avr_desk.specs.Stage.{Made, next_opening}
+use Rattle.avr_desk.specs.Truth.{AreTrue, HoldsTrue, IsTrueOpening}
+use Rattle.avr_desk.specs.declared.record.FileUse.{FileUse}
+use Rattle.avr_desk.specs.declared.record.FileUse.TheVariants.{Opened, Created}
+use Rattle.avr_desk.specs.declared.record.Opening.{Opening}
+use Rattle.avr_desk.specs.declared.record.Opening.TheVariants.{Absent, Found}
+use Rattle.avr_desk.specs.declared.record.Writing.{Writing}
+use Rattle.avr_tool.specs.Emulated.{RunsOverEmulator}
+use Rattle.avr_part.specs.Part.{Part}
+use Rattle.avr_part.specs.State.{ChipState as Chip}
+use Rattle.avr_laws.proofs.Planning.OnlyReading.{only_reads}
+use Rattle.avr_laws.proofs.KnownFiles.PastUses.{ArePast, none_made, only_opened, opened, opened_past, past_shown, run_past, saved_past}
+use Rattle.avr_laws.specs.ChipFound.{IsChipOf, file_held}
+
+-- ---- the chip that an opening gives
+
+-- the name that was opened
+abbrev opened_name : Opening → Bytes
+opened_name (Absent name) = name
+opened_name (Found x) = x.name
+
+named : (name : Bytes) (openings : List Opening) → opened_name (next_opening name openings) ≡ name
+named name openings = search rules
+
+-- ---- the chip that is loaded
+
+-- the next opening is the chip's
+module _ (part : Part) (file : Bytes) (old new : DeskState) (chip : Chip)
+    (went : Went (chip_stage part file) old new (Made chip)) where
+  abbrev pub found : Opening
+  found = next_opening file (went.passed ++ [])
+
+  pub found_kept : new.kept ≡ after_opening found old.kept
+  found_kept = search rules
+
+-- ---- a run
+
+-- the first uses were true by themselves
+true_front : (stock : Stock) (made : List Writing) (first last : List FileUse) → AreTrue stock made (first ++ last)
+    → AreTrue stock made first
+true_front stock made [] last are = tt
+true_front stock made (Opened opening ∷ first) last are = (are.0, true_front stock made first last are.1)
+true_front stock made (Created file ∷ first) last are = true_front stock (made ++ file ∷ []) first last are
+
+module _ (settings : Settings) (file : Bytes) (stock : Stock) (old new : MemDeskState) (status : ℕ)
+    (holds : HoldsTrue stock new)
+    (r : RunsOverEmulator settings file (memory_state old) (memory_state new) status) where
+  -- the openings before the chip's file
+  before : (openings : List Opening) × (all_uses r.planned_desk.kept ≡ all_uses old.kept ++ opened openings)
+  before = search (rules, only_opened r.made.says old.kept (search (rules, only_reads settings (r.made.passed ++ []))))
+
+  abbrev first_uses : List FileUse
+  first_uses = all_uses old.kept ++ opened before.0
+
+  abbrev opening : Opening
+  opening = found r.plan.part file r.loaded.held_desk r.loaded_desk r.chip r.loaded.loaded
+
+  loaded_past : ArePast (first_uses ++ Opened opening ∷ []) r.loaded_desk.kept
+  loaded_past = search (rules, opened_past opening r.loaded.held_desk.kept)
+
+  played_past : ArePast (first_uses ++ Opened opening ∷ []) r.played_desk.kept
+  played_past = run_past (first_uses ++ Opened opening ∷ []) _ _ _ _ _ r.ran r.runs loaded_past
+
+  ended : (more : List FileUse) × (all_uses new.kept ≡ (first_uses ++ Opened opening ∷ []) ++ more)
+  ended =
+      past_shown (first_uses ++ Opened opening ∷ []) new.kept
+      (saved_past (first_uses ++ Opened opening ∷ []) _ r.played_desk (memory_state new) file _ r.ran status r.saved
+      played_past)
+
+  first_files : files_among first_uses ≡ all_files old.kept
+  first_files = search (rules, files_append, none_made)
+
+  -- until the session begins nothing is created
+  pub loaded_files : all_files r.loaded_desk.kept ≡ all_files old.kept
+  loaded_files =
+      ap all_files (found_kept r.plan.part file r.loaded.held_desk r.loaded_desk r.chip r.loaded.loaded)
+      ∙ (search (rules, files_absent, files_used, first_files))
+
+  every : AreTrue stock [] (first_uses ++ Opened opening ∷ ended.0)
+  every = search (rules, append_assoc, all_true, ended.1)
+
+  -- so were all uses when the plan was made
+  pub planned_true : AreTrue stock [] (all_uses r.planned_desk.kept)
+  planned_true = search (rules, true_front, every)
+
+  -- its opening was true by the files before the run
+  gave : IsTrueOpening stock (all_files old.kept) opening
+  gave =
+      let later : AreTrue stock (files_among first_uses) (Opened opening ∷ ended.0) =
+      true_behind stock [] first_uses (Opened opening ∷ ended.0) every in search (rules, first_files)
+
+  pub chip_found : IsChipOf r.plan.part (file_held stock old.kept file) r.chip
+  chip_found = grind (arith, common_steps, gave)

@@ -1,0 +1,87 @@
+-- Past uses of files stay, whatever is done at the desk from then on.
+use Rattle.std.proofs.lemmas.Grind.{common_steps}
+use Rattle.std.proofs.Common.{◌≡◌, ◌∙◌, ◌⊎◌, ap, subst, sym, refl, inl, inr, ℕ, Bool, List, [], ◌∷◌, ◌++◌, append_assoc, append-nil, map, rules, arith}
+use Rattle.avr_desk.specs.Record.{Bytes, DeskState, Record, all_uses, files_among, use_of, with_absent}
+use Rattle.avr_desk.specs.Said.{OutputEvent, Opens, Line, Creates, after, after_all, after_opening}
+use Rattle.avr_desk.specs.declared.record.FileUse.{FileUse}
+use Rattle.avr_desk.specs.declared.record.FileUse.TheVariants.{Opened}
+use Rattle.avr_desk.specs.declared.record.Opening.{Opening}
+use Rattle.avr_desk.specs.declared.record.Opening.TheVariants.{Absent, Found}
+use Rattle.avr_desk.specs.declared.record.Open.TheVariants.{ToRead}
+use Rattle.avr_desk.specs.declared.record.Reading.{Reading}
+use Rattle.avr_tool.specs.Emulated.{IsSaved}
+use Rattle.avr_laws.specs.OnlyReading.{OnlyReads}
+use Rattle.avr_session.specs.Runs.{RunsTo, Devices, Lacking}
+use Rattle.stk_host.specs.Dialog.{Dialog, outputs}
+
+-- These are the first uses at a desk. The file that it is reading may be the last of them; the file that it is writing
+-- isn't.
+abbrev pub ArePast : List FileUse → Record → Type 0
+ArePast uses r = ((more : List FileUse) × (r.uses ≡ uses ++ more))
+    ⊎ ((x : Reading) × (r.current ≡ ToRead x) × (r.uses ++ Opened (Found x) ∷ [] ≡ uses))
+
+pub past_shown : (uses : List FileUse) (r : Record) → ArePast uses r
+    → (more : List FileUse) × (all_uses r ≡ uses ++ more)
+past_shown uses r (inl (more, is)) = search (rules, append_assoc uses more (use_of r.current))
+past_shown uses r (inr (x, reads, is)) = ([], ap (λ o. r.uses ++ use_of o) reads ∙ is ∙ sym (append-nil uses))
+
+-- the open file is put by, and uses may follow it
+put_by : (uses later : List FileUse) (r s : Record) → ArePast uses r → s.uses ≡ all_uses r ++ later → ArePast uses s
+put_by uses later r s past is = search (rules, append_assoc)
+
+past_on : (uses : List FileUse) (output : OutputEvent) (r : Record) → ArePast uses r → ArePast uses (after output r)
+past_on uses (Opens (Absent name)) r past = put_by uses (Opened (Absent name) ∷ []) r (with_absent name r) past refl
+past_on uses (Opens (Found x)) r past = put_by uses [] r (after (Opens (Found x)) r) past
+    (sym (append-nil (all_uses r)))
+past_on uses (Line bytes) r past = past
+past_on uses (Creates name) r past = put_by uses [] r (after (Creates name) r) past (sym (append-nil (all_uses r)))
+past_on uses output r past = search rules
+
+pub past_all : (uses : List FileUse) (says : List OutputEvent) (r : Record) → ArePast uses r
+    → ArePast uses (after_all says r)
+past_all uses [] r past = past
+past_all uses (output ∷ says) r past = past_all uses says (after output r) (past_on uses output r past)
+
+-- ---- reading and reporting alone
+
+abbrev pub opened : List Opening → List FileUse
+opened openings = map Opened openings
+
+pub none_made : (openings : List Opening) → files_among (opened openings) ≡ []
+none_made [] = refl
+none_made (opening ∷ openings) = none_made openings
+
+pub only_opened : (says : List OutputEvent) (r : Record) → OnlyReads says
+    → (openings : List Opening) × (all_uses (after_all says r) ≡ all_uses r ++ opened openings)
+only_opened [] r reads = ([], sym (append-nil (all_uses r)))
+only_opened (Opens (Absent name) ∷ says) r reads =
+    let later = only_opened says (with_absent name r) reads in (
+      Absent name ∷ later.0,
+      (search (rules, append_assoc)),
+    )
+only_opened (Opens (Found x) ∷ says) r reads =
+    let later = only_opened says (after (Opens (Found x)) r) reads in
+    (Found x ∷ later.0, (search (rules, append_assoc)))
+only_opened (Line bytes ∷ says) r reads = only_opened says (after (Line bytes) r) reads
+only_opened (output ∷ says) r reads = absurd reads
+
+-- ---- what a session and a save do
+
+pub opened_past : (opening : Opening) (r : Record)
+    → ArePast (all_uses r ++ Opened opening ∷ []) (after_opening opening r)
+opened_past (Absent name) r = inl ([], sym (append-nil (all_uses r ++ Opened (Absent name) ∷ [])))
+opened_past (Found x) r = inr (x, refl, refl)
+
+pub run_past : (uses : List FileUse) (dialog : Dialog OutputEvent ℕ) (old new : Devices) (takes : Bool)
+    (Lacks : Lacking)
+    (status : ℕ)
+    → RunsTo dialog old new takes Lacks status → ArePast uses old.desk.kept → ArePast uses new.desk.kept
+run_past uses dialog old new takes Lacks status (inl (place, ran)) past =
+    subst (ArePast uses) (sym ran.kept) (past_all uses (outputs ran.events) old.desk.kept past)
+run_past uses dialog old new takes Lacks status (inr (broke, one)) past =
+    subst (ArePast uses) (sym broke.kept) (search (rules, past_all))
+
+pub saved_past : (uses : List FileUse) (sent : List ℕ) (old new : DeskState) (file bytes : Bytes) (ran status : ℕ)
+    → IsSaved sent old new file bytes ran status
+    → ArePast uses old.kept → ArePast uses new.kept
+saved_past uses sent old new file bytes ran status saved past = grind (arith, common_steps)

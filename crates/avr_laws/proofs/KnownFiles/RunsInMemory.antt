@@ -1,0 +1,287 @@
+-- A run over a desk in memory and a tape is the function of its files and that tape.
+use Rattle.std.proofs.Common.{◌≡◌, ◌∙◌, ◌⊎◌, inl, inr, ℕ, sym, ap, subst, refl, List, [], ◌∷◌, ◌++◌, append_assoc, append-nil, map, Option, rules}
+use Rattle.std.proofs.lemmas.List.{map-append}
+use Rattle.ghosts.specs.Stays.{Stays}
+use Rattle.avr_cli.specs.declared.settings.Settings.{Settings}
+use Rattle.avr_desk.proofs.Stages.Breaks.{openings_in, openings_shown}
+use Rattle.avr_desk.proofs.Stages.Outputs.{after_append}
+use Rattle.avr_desk.proofs.Desks.InMemory.{all_true, begins_true}
+use Rattle.avr_desk.proofs.FileUses.Uses.{absent_used, files_used, openings_used}
+use Rattle.avr_desk.specs.Memory.{MemDeskState, Stock, memory_state, stock_of}
+use Rattle.avr_desk.specs.Playing.{Went, WentRefused}
+use Rattle.avr_desk.specs.Record.{Bytes, DeskState, Record, all_files, all_openings, all_uses, file_of, files_among, nothing_kept, openings_among, written_on}
+use Rattle.avr_desk.specs.Said.{OutputEvent, Opens, Line, Creates, Writes, Outs, after, after_all}
+use Rattle.avr_desk.specs.Stage.{StageAnswer, Made, Refused, Unread, StageResult, all_told, told_in}
+use Rattle.avr_desk.specs.Truth.{AreTrue, HoldsTrue, IsTrueOpening}
+use Rattle.avr_desk.specs.declared.record.FileUse.{FileUse}
+use Rattle.avr_desk.specs.declared.record.FileUse.TheVariants.{Opened, Created}
+use Rattle.avr_desk.specs.declared.record.Open.{Open}
+use Rattle.avr_desk.specs.declared.record.Opening.{Opening}
+use Rattle.avr_desk.specs.declared.record.Writing.{Writing}
+use Rattle.avr_laws.proofs.Planning.FilesRead.{seen_first, seen_is_planned}
+use Rattle.avr_laws.proofs.Planning.OnlyReading.{only_reads}
+use Rattle.avr_laws.specs.FilesRead.{AreSeen, lines_in, planned_of}
+use Rattle.avr_laws.specs.OnlyReading.{OnlyReads}
+use Rattle.avr_plan.specs.Plan.{Plan}
+use Rattle.avr_plan.specs.Planning.{planned}
+use Rattle.avr_session.specs.Run.{RunsSettings}
+use Rattle.avr_session.specs.Runs.{devices}
+use Rattle.avr_session.specs.Session.{session}
+use Rattle.avr_session.specs.Stopping.{IsPlayed}
+use Rattle.stk_host.specs.Dialog.{Event, Said, bytes_sent, outputs}
+use Rattle.stk_host.specs.Links.{IsOfTape, IsTrueSince, StreamState, TapeState, stream_state, tape_state}
+use Rattle.stk_host.specs.Transcript.{LinkState, Transcript, heard, sent}
+use Rattle.avr_tool.proofs.Runs.Joined.{said_outputs, said_bytes}
+use Rattle.avr_tool.specs.Headline.{IsStopped}
+use Rattle.avr_laws.specs.InMemory.{RunOutcome, shown_by, AreUnused, IsLeft, Leaves, LeavesStreams}
+
+-- ---- the files were seen as they were before the run
+
+-- each of these openings was true before any file was made
+abbrev AreOpened : Stock → List Opening → Type 0
+AreOpened stock [] = Unit {0}
+AreOpened stock (opening ∷ openings) = IsTrueOpening stock [] opening × AreOpened stock openings
+
+-- the openings among these uses, if no file was made
+opened_uses : (stock : Stock) (uses : List FileUse) → files_among uses ≡ [] → AreTrue stock [] uses
+    → AreOpened stock (openings_among uses)
+opened_uses stock [] none are = tt
+opened_uses stock (Opened opening ∷ uses) none are = (are.0, opened_uses stock uses none are.1)
+opened_uses stock (Created file ∷ uses) none are = absurd (cc)
+
+-- the openings among these output events
+seen_outputs : (stock : Stock) (says : List OutputEvent) → AreOpened stock (openings_in says) → AreSeen stock says
+seen_outputs stock [] are = tt
+seen_outputs stock (Opens opening ∷ says) are = (are.0, seen_outputs stock says are.1)
+seen_outputs stock (output ∷ says) are = seen_outputs stock says are
+
+-- ---- what is left, apart from openings
+
+-- the messages, the output, the files that were made and the file that is being written
+record Left : Type 0 where
+  messages : Bytes
+  output : Bytes
+  files : List Writing
+  file : List Writing
+
+abbrev left_in : Record → Left
+left_in r = record { messages = r.messages; output = r.output; files = files_among r.uses; file = file_of r.current }
+
+abbrev all_left : Left → List Writing
+all_left v = v.files ++ v.file
+
+abbrev with_bytes : Bytes → Writing → Writing
+with_bytes bytes file = record file { bytes = file.bytes ++ bytes }
+
+abbrev left_after : OutputEvent → Left → Left
+left_after (Opens opening) v = record v { files = all_left v; file = [] }
+left_after (Line bytes) v = record v { messages = v.messages ++ bytes }
+left_after (Creates name) v = record v { files = all_left v; file = record { name = name; bytes = [] } ∷ [] }
+left_after (Writes bytes) v = record v { file = map (with_bytes bytes) v.file }
+left_after (Outs bytes) v = record v { output = v.output ++ bytes }
+
+abbrev left_after_all : List OutputEvent → Left → Left
+left_after_all [] v = v
+left_after_all (output ∷ says) v = left_after_all says (left_after output v)
+
+left_on : (output : OutputEvent) (r : Record) → left_in (after output r) ≡ left_after output (left_in r)
+left_on output r = search (rules, absent_used, files_used)
+
+left_all : (says : List OutputEvent) (r : Record) → left_in (after_all says r) ≡ left_after_all says (left_in r)
+left_all [] r = refl
+left_all (output ∷ says) r = left_all says (after output r) ∙ ap (left_after_all says) (left_on output r)
+
+-- reading and reporting make no file
+abbrev joined : List Bytes → Bytes
+joined [] = []
+joined (line ∷ lines) = line ++ joined lines
+
+abbrev told_left : Bytes → Bytes → Left
+told_left messages output = record { messages = messages; output = output; files = []; file = [] }
+
+only_told : (says : List OutputEvent) (messages output : Bytes) → OnlyReads says
+    → left_after_all says (told_left messages output) ≡ told_left (messages ++ joined (lines_in says)) output
+only_told [] messages output reads = ap (λ (m : Bytes). told_left m output) (sym (append-nil messages))
+only_told (Opens opening ∷ says) messages output reads = only_told says messages output reads
+only_told (Line bytes ∷ says) messages output reads = only_told says (messages ++ bytes) output reads
+    ∙ ap (λ (m : Bytes). told_left m output) (append_assoc messages bytes (joined (lines_in says)))
+only_told (event ∷ says) messages output reads = absurd reads
+
+-- so what planning leaves is the lines that it prints
+planning_left : (says : List OutputEvent) → OnlyReads says
+    → left_in (after_all says nothing_kept) ≡ told_left (joined (lines_in says)) []
+planning_left says reads = left_all says nothing_kept ∙ only_told says [] [] reads
+
+-- ---- planning
+
+-- so were the openings before a refusal
+seen_before : (stock : Stock) (says : List OutputEvent) (answer : StageAnswer Plan)
+    → AreSeen stock (all_told says answer)
+    → AreSeen stock says
+seen_before stock says answer seen = search (rules, seen_first)
+
+module _ (settings : Settings) (stock : Stock) (old m : DeskState) (answer : StageAnswer Plan)
+    (unused : old.kept ≡ nothing_kept) (are : AreTrue stock [] (all_uses m.kept))
+    (judged : answer ≡ Unread → ⊥) (went : Went (planned settings) old m answer) where
+  planned_is : planned settings (went.passed ++ []) ≡ record { says = went.says; answer = answer; left = [] }
+  planned_is = went.comes []
+
+  abbrev told : List OutputEvent
+  told = all_told went.says answer
+
+  only_read : OnlyReads told
+  only_read = search (rules, only_reads settings (went.passed ++ []))
+
+  kept_is : m.kept ≡ after_all told nothing_kept
+  kept_is = went.kept ∙ ap (after_all told) unused
+
+  no_files : all_files m.kept ≡ []
+  no_files = ap all_files kept_is ∙ ap all_left (planning_left told only_read)
+
+  opened : all_openings m.kept ≡ openings_in told
+  opened = ap all_openings kept_is ∙ openings_shown told nothing_kept
+
+  pub seen : AreSeen stock told
+  seen = seen_outputs stock told (subst (AreOpened stock) (openings_used m.kept ∙ opened)
+      (opened_uses stock (all_uses m.kept) (files_used m.kept ∙ no_files) are))
+
+  both : ((planned_of settings stock).answer ≡ (planned settings (went.passed ++ [])).answer)
+      × (lines_in (told_in (planned_of settings stock)) ≡ lines_in (told_in (planned settings (went.passed ++ []))))
+  both = search (rules, seen_is_planned, seen_before, seen)
+
+  same_answer : (planned_of settings stock).answer ≡ answer
+  same_answer = both.0 ∙ ap (λ (p : StageResult Plan). p.answer) planned_is
+
+  same_left : left_in (after_all (all_told (planned_of settings stock).says answer) nothing_kept) ≡ left_in m.kept
+  same_left =
+      let whole = told_in (planned_of settings stock) in
+      search (rules, both, same_answer, planning_left, only_reads, only_read, kept_is)
+
+-- ---- the run
+
+abbrev outcome_of : ℕ → Bytes → Left → RunOutcome
+outcome_of status sent v =
+    record { status = status; sent = sent; messages = v.messages; output = v.output; files = all_left v }
+
+-- what a run with these events and this status leaves
+abbrev pub left_by : List (Event OutputEvent) → ℕ → RunOutcome
+left_by events status = shown_by status (bytes_sent events) (after_all (outputs events) nothing_kept)
+
+-- planning's output events, then these events, leave what the desk shows
+left_is : (status : ℕ) (says : List OutputEvent) (events : List (Event OutputEvent)) (between kept : Record)
+    (transcript : Transcript)
+    → left_in (after_all says nothing_kept) ≡ left_in between → kept ≡ after_all (outputs events) between
+    → bytes_sent events ≡ sent transcript
+    → left_by (map Said says ++ events) status ≡ shown_by status (sent transcript) kept
+left_is status says events between kept transcript alike then frames =
+    search (rules, said_outputs, after_append, left_all, said_bytes)
+
+module _ (settings : Settings) (old new : MemDeskState) (before after : LinkState) (status : ℕ)
+    (unused : AreUnused old before) where
+  abbrev stock : Stock
+  stock = stock_of old
+
+  silent_before : before.transcript ≡ []
+  silent_before = ap (λ (l : LinkState). l.transcript) unused.link_is
+
+  -- the plan was made, and its session ran
+  whole : (between : MemDeskState) (plan : Plan) → HoldsTrue stock between
+      → Went (planned settings) (memory_state old) (memory_state between) (Made plan)
+      → IsPlayed (session plan) (devices before (memory_state between)) (devices after (memory_state new)) status
+      → IsLeft settings stock (heard after.transcript) (shown_by status (sent after.transcript) new.kept)
+  whole between plan holds went played_whole more =
+      let ran = played_whole.1 in
+      let p = planned_of settings stock in
+      let judged : ◌≡◌ {A = StageAnswer Plan} (Made plan) Unread → ⊥ = λ e. cc in
+      let are = all_true stock between holds in
+      let answer : p.answer ≡ Made plan =
+      same_answer settings stock (memory_state old) (memory_state between) (Made plan) unused.desk_is are judged went in
+      let alike = same_left settings stock (memory_state old) (memory_state between) (Made plan) unused.desk_is are
+      judged went in
+      let during : after.transcript ≡ ran.during =
+      ran.grows ∙ ap (λ transcript. transcript ++ ran.during) silent_before in
+      let left : left_by (map Said p.says ++ ran.events) status ≡ shown_by status (sent after.transcript) new.kept =
+      left_is status p.says ran.events between.kept new.kept after.transcript alike ran.kept
+      (ran.plays.all_sent ∙ ap sent (sym during)) in search rules
+
+  -- it was refused
+  refused : HoldsTrue stock new → after.transcript ≡ before.transcript
+      → WentRefused (planned settings) (memory_state old) (memory_state new)
+      → IsLeft settings stock (heard after.transcript) (shown_by 1 (sent after.transcript) new.kept)
+  refused holds silent (line, went) more =
+      let p = planned_of settings stock in
+      let judged : ◌≡◌ {A = StageAnswer Plan} (Refused line) Unread → ⊥ = λ e. cc in
+      let are = all_true stock new holds in
+      let answer : p.answer ≡ Refused line =
+      same_answer settings stock (memory_state old) (memory_state new) (Refused line) unused.desk_is are judged went in
+      let alike = same_left settings stock (memory_state old) (memory_state new) (Refused line) unused.desk_is are
+      judged went in
+      let events : map Said (p.says ++ Line line ∷ []) ++ [] ≡ map Said p.says ++ Said (Line line) ∷ [] =
+      append-nil (map Said (p.says ++ Line line ∷ [])) ∙ map-append Said p.says (Line line ∷ []) in
+      let left : left_by (map Said p.says ++ Said (Line line) ∷ []) 1 ≡ shown_by 1 (sent after.transcript) new.kept =
+      ap (λ (es : List (Event OutputEvent)). left_by es 1) (sym events)
+      ∙ left_is 1 (p.says ++ Line line ∷ []) [] new.kept new.kept after.transcript alike refl
+      (ap sent (sym (silent ∙ silent_before))) in search rules
+
+  -- over what was received it leaves what is shown, and the link has not failed
+  pub record LeavesShown : Type 0 where
+    pub is : IsLeft settings stock (heard after.transcript) (shown_by status (sent after.transcript) new.kept)
+    pub sound : after.failures ≡ 0
+
+  -- that, or it stopped
+  pub run_is : (between : MemDeskState) → Stays HoldsTrue old between → Stays HoldsTrue old new
+      → RunsSettings settings (devices before (memory_state old)) (memory_state between)
+      (devices after (memory_state new))
+      status
+      → LeavesShown ⊎ IsStopped settings (devices before (memory_state old)) (devices after (memory_state new)) status
+  run_is between first all (inl runs) = elim runs.runs [
+    | inl played_whole ↦ inl (search (rules, whole, begins_true))
+    | inr broke ↦ inr (
+      inl (record { plan = runs.plan; between = memory_state between; made = runs.made; then_is = broke.0 }),
+      broke.1,
+    )
+  ]
+  run_is between first all (inr (lacks, same)) = elim lacks.goes.1 [
+    | inl went ↦ inl (search (rules, refused))
+    | inr broke ↦ inr (inr (record { broke = broke; bare = lacks.bare; same = same }), lacks.goes.0)
+  ]
+
+-- ---- over a tape, and over streams
+
+module _ (settings : Settings) (old new : MemDeskState) (status : ℕ) where
+  over_tape : (before after : TapeState) → before.transcript ≡ [] → IsOfTape before after
+      → IsLeft settings (stock_of old) (heard after.transcript) (shown_by status (sent after.transcript) new.kept)
+      → Leaves settings (stock_of old) before.left (shown_by status (sent after.transcript) new.kept)
+  over_tape before after silent of_tape left = search (rules, append_assoc)
+
+  pub run_is_over_tape : (before after : TapeState) (between : MemDeskState)
+      (unused : AreUnused old (tape_state before))
+      → IsOfTape before after
+      → Stays HoldsTrue old between → Stays HoldsTrue old new
+      → RunsSettings settings (devices (tape_state before) (memory_state old)) (memory_state between)
+      (devices (tape_state after) (memory_state new)) status
+      → Leaves settings (stock_of old) before.left (shown_by status (sent after.transcript) new.kept)
+      ⊎ IsStopped settings (devices (tape_state before) (memory_state old))
+      (devices (tape_state after) (memory_state new))
+      status
+  run_is_over_tape before after between unused of_tape first all runs =
+      elim (run_is settings old new (tape_state before) (tape_state after) status unused between first all runs) [
+        | inl left ↦ inl (over_tape before after (ap (λ (l : LinkState). l.transcript) unused.link_is) of_tape left.is)
+        | inr stopped ↦ inr stopped
+      ]
+
+  pub run_is_over_streams : {R W : Type 0} (remaining : R → Option Bytes) (contents : W → Option Bytes)
+      (before after : StreamState R W) (between : MemDeskState)
+      (unused : AreUnused old (stream_state before)) → IsTrueSince remaining contents before after
+      → Stays HoldsTrue old between → Stays HoldsTrue old new
+      → RunsSettings settings (devices (stream_state before) (memory_state old)) (memory_state between)
+      (devices (stream_state after) (memory_state new)) status
+      → LeavesStreams remaining contents settings (stock_of old) before after
+      (shown_by status (sent after.transcript) new.kept)
+      ⊎ IsStopped settings (devices (stream_state before) (memory_state old))
+      (devices (stream_state after) (memory_state new)) status
+  run_is_over_streams remaining contents before after between unused true_since first all runs =
+      elim (run_is settings old new (stream_state before) (stream_state after) status unused between first all runs) [
+        | inl left ↦ inl (search rules)
+        | inr stopped ↦ inr stopped
+      ]

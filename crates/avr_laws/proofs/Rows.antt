@@ -1,0 +1,5 @@
+-- Worked rows, each a value that computes.
+pub mod Planning
+pub mod Lines
+pub mod Runs
+pub mod Served

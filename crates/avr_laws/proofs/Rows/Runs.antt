@@ -1,0 +1,218 @@
+-- What the promise refuses: worked wrong outcomes of its two laws. docs/PROMISE.md lists them.
+use Rattle.std.proofs.Common.{◌≡◌, ◌∙◌, ap, refl, sym, arith, ℕ, Bool, true, false, List, [], ◌∷◌, ◌++◌, Some, None, Ok, subst, rules}
+use Rattle.std.specs.Prelude.{codes, if◌then◌else◌, unwrap_or}
+use Rattle.std.specs.Str.{bytes_eq}
+use Rattle.avr_cli.specs.declared.settings.Settings.{Settings}
+use Rattle.avr_cli.specs.declared.settings.Switches.{Switches}
+use Rattle.avr_cli.specs.declared.update.Format.TheVariants.{Raw}
+use Rattle.avr_cli.specs.declared.update.Op.TheVariants as op
+use Rattle.avr_desk.specs.Record.{Bytes}
+use Rattle.avr_desk.specs.Stage.{Made}
+use Rattle.avr_desk.specs.declared.record.Opening.{Opening}
+use Rattle.avr_desk.specs.declared.record.Opening.TheVariants.{Found}
+use Rattle.avr_part.specs.BuiltIn.{m328p, part_of_id}
+use Rattle.avr_part.specs.ChipFile.{chip_file}
+use Rattle.avr_part.specs.Part.{Part, IsPart}
+use Rattle.avr_part.specs.Sound.{IsSoundChip}
+use Rattle.avr_part.specs.State.{ChipState as Chip, fresh_state}
+use Rattle.avr_part.specs.declared.part.Mem.TheVariants.{Flash, Lfuse}
+use Rattle.avr_laws.proofs.Planning.Fitted.{plan_fitted}
+use Rattle.avr_laws.specs.AskedPlan.{Files, HasImage, IsAsked}
+use Rattle.avr_plan.specs.ImageFile.{Given}
+use Rattle.avr_plan.specs.Plan.{Plan}
+use Rattle.avr_plan.specs.Planning.{planned}
+use Rattle.avr_plan.specs.declared.planned.Task.{Task}
+use Rattle.avr_plan.specs.declared.planned.Task.TheVariants.{Write}
+use Rattle.avr_session.specs.Runs.{Devices}
+use Rattle.avr_session.specs.Session.{session}
+use Rattle.stk_emu.specs.Device.{device, after_frames}
+use Rattle.stk_emu.specs.Effect.{Memories, Image, effects, memories_of}
+use Rattle.stk_emu.specs.Programmer.{Programmer, fresh_programmer}
+use Rattle.stk_frame.specs.Commands.{body}
+use Rattle.stk_frame.specs.Cut.{frames}
+use Rattle.stk_frame.specs.Frame.{frame}
+use Rattle.stk_frame.specs.HostCommands.{program_page}
+use Rattle.stk_host.specs.Places.{load_flash}
+use Rattle.stk_host.specs.Transcript.{heard, sent}
+use Rattle.avr_laws.specs.Again.{chip_of}
+use Rattle.avr_laws.specs.AnyTape.{CameThrough, became_by}
+use Rattle.avr_tool.specs.Items.{items, asked_items}
+use Rattle.avr_laws.specs.NoFrame.{MakesNoFrame}
+use Rattle.avr_tool.specs.Written.{IsWritten}
+use Rattle.avr_laws.proofs.SecondRun.PlanRows.{tiny, erasing}
+use Rattle.avr_laws.proofs.Runs.Promise.{promise}
+use Rattle.avr_tool.specs.Headline.{IsRun}
+use Rattle.avr_laws.specs.Promise.{Promised}
+use Rattle.avr_laws.specs.Worked.{worked_settings}
+
+-- ---- over any link: an erase, and one page of two bytes, 01 02, on a chip of 00
+
+-- a part that a part file can have
+abbrev small : Part
+small = record tiny { id = codes "small" }
+
+is_part : IsPart small
+is_part = search rules
+
+abbrev flash_plan : Image → Plan
+flash_plan image = record { part = small; tasks = Write Flash image ∷ []; switches = erasing }
+
+abbrev plan : Plan
+plan = flash_plan (Some 1 ∷ Some 2 ∷ None ∷ None ∷ [])
+
+abbrev old : Memories
+old = chip_of small 0
+
+-- the memories with these bytes of flash
+abbrev left : List ℕ → Memories
+left flash = record old { flash = flash; lock = 255 }
+
+-- The promise is an equation: with status 0 the chip holds these bytes, and no others.
+pub the_images : effects small (items plan) old ≡ left (1 ∷ 2 ∷ 255 ∷ 255 ∷ [])
+the_images = refl
+
+-- So a run with status 0 leaves them, if its link forges no frame.
+pub only_the_images : (s : Settings) (before now : Devices) (r : IsRun s before now 0)
+    → (planned s r.openings).answer ≡ Made plan → before.link.transcript ≡ []
+    → (p : Programmer) (got : List ℕ) (through : List Bool) → IsSoundChip p.chip → p.chip.part ≡ small
+    → memories_of p.chip ≡ old → CameThrough got (frames (sent now.link.transcript)) through
+    → MakesNoFrame device (session plan) 1 (heard now.link.transcript) p (became_by through) []
+    → memories_of (after_frames device (frames got) p).chip ≡ left (1 ∷ 2 ∷ 255 ∷ 255 ∷ [])
+only_the_images s before now r is silent p got through sound part held came none =
+    (promise s before now r plan is silent p got through sound part came none).0 ∙ ap (effects small (items plan)) held
+
+abbrev Holds : List ℕ → Type 0
+Holds flash = IsWritten small (asked_items plan) old (left flash)
+
+-- 1. A plan for another size: no settings and files give this plan for four bytes of flash,
+pub another_size : (s : Settings) (openings : List Opening)
+    → (planned s openings).answer ≡ Made (flash_plan (Some 1 ∷ Some 2 ∷ [])) → ⊥
+another_size s openings is = search (rules, plan_fitted s openings _ is)
+
+-- and no chip of two bytes is of its part.
+pub another_chip : (chip : Chip) → chip.flash ≡ 1 ∷ 2 ∷ [] → IsSoundChip chip → chip.part ≡ plan.part → ⊥
+another_chip chip is sound part = search rules
+
+-- 3. The chip from before the erase: old bytes stay where no image has a byte.
+pub before_the_erase : Holds (1 ∷ 2 ∷ 0 ∷ 0 ∷ []) → ⊥
+before_the_erase holds = let byte : 0 ≡ 255 = holds.rest_of_flash 2 (omega arith) refl in omega (arith, byte)
+
+-- 4. A programmer that keeps half a page: a part of the page is written, with status 0,
+pub half_a_page : Holds (1 ∷ 255 ∷ 255 ∷ 255 ∷ []) → ⊥
+half_a_page holds = let byte : 255 ≡ 2 = holds.images Flash 1 2 refl (omega arith) in omega (arith, byte)
+
+-- or what a killed run left in its buffer, here 00, reaches the chip.
+abbrev killed : Programmer
+killed = record (fresh_programmer (record (fresh_state small) { flash_buffer = 0 ∷ 0 ∷ [] })) { mode = true }
+
+pub whole_page : (after_frames device
+    (frames (frame 1 (body (load_flash small 0)) ++ frame 2 (body (program_page (1 ∷ 2 ∷ []))))) killed).chip
+    ≡ record (fresh_state small) { flash = 1 ∷ 2 ∷ 255 ∷ 255 ∷ [] }
+whole_page = refl
+
+-- 5. A frame that was sent once and reaches the programmer twice.
+abbrev sign_on : List ℕ
+sign_on = frame 1 (0x01 ∷ [])
+
+pub twice : (through : List Bool) → CameThrough (sign_on ++ sign_on) (sign_on ∷ []) through → ⊥
+twice [] came = cc came.good
+twice (true ∷ []) came = cc came.good
+twice (true ∷ more ∷ through) came = cc came.good
+twice (false ∷ []) came = cc came.good
+twice (false ∷ more ∷ through) came = cc came.good
+
+-- 6. Status 0 with a wrong byte, or with a byte missing.
+pub a_wrong_byte : Holds (1 ∷ 3 ∷ 255 ∷ 255 ∷ []) → ⊥
+a_wrong_byte holds = let byte : 3 ≡ 2 = holds.images Flash 1 2 refl (omega arith) in omega (arith, byte)
+
+pub a_missing_byte : Holds (1 ∷ 2 ∷ 255 ∷ []) → ⊥
+a_missing_byte holds = let size : 3 ≡ 4 = holds.flash_size in omega (arith, size)
+
+-- ---- over files: `-p m328p -U lfuse:w:low:r`, with or without -V, and files of one byte each
+
+abbrev switches : Bool → Switches
+switches off = record worked_settings.switches { no_verify = off }
+
+abbrev settings : Bool → Settings
+settings off = record worked_settings {
+  updates = record { memory = Lfuse; op = op.Write; format = Raw; file = codes "low" } ∷ [];
+  switches = switches off;
+}
+
+-- The chip file `chip` is absent, so the chip is a fresh one.
+abbrev files : Files
+files name =
+    if bytes_eq name (codes "low") then Some (0xE2 ∷ [])
+    else if bytes_eq name (codes "other") then Some (0x62 ∷ [])
+    else None
+
+abbrev tasks : ℕ → List Task
+tasks byte = Write Lfuse (Some byte ∷ []) ∷ []
+
+abbrev fuse_plan : ℕ → Plan
+fuse_plan byte = record { part = m328p; tasks = tasks byte; switches = switches false }
+
+-- 2. An image of another update: the plan has the byte of the named file,
+pub the_file_named : (planned (settings false)
+    (Found (record { name = codes "low"; bytes = 0xE2 ∷ []; ended = true }) ∷ [])).answer ≡ Made (fuse_plan 0xE2)
+the_file_named = refl
+
+abbrev first_byte : List Task → ℕ
+first_byte (Write mem (Some byte ∷ image) ∷ more) = byte
+first_byte more = 0
+
+-- not that of another one,
+pub another_file : IsAsked (settings false) files (fuse_plan 0x62) → ⊥
+another_file asked = search rules
+
+-- whether it has a byte at address 0
+abbrev begins : Given → ℕ
+begins (Ok (Some byte ∷ image, ending)) = 1
+begins given = 0
+
+-- and not at another address.
+pub another_address : HasImage files (codes "low") Raw 2 (None ∷ Some 0xE2 ∷ []) → ⊥
+another_address has = search rules
+
+-- 7. The promise over files is an equation too: these bytes are in the chip file, and no others.
+abbrev fresh : ℕ → Chip
+fresh byte = record (fresh_state m328p) { lfuse = byte }
+
+abbrev file_of : Memories → Bytes
+file_of m = m.flash ++ m.eeprom ++ m.lfuse ∷ m.hfuse ∷ m.efuse ∷ m.lock ∷ []
+
+fuse_in : (flash eeprom more : Bytes) (a b : ℕ) → flash ++ eeprom ++ a ∷ more ≡ flash ++ eeprom ++ b ∷ more → a ≡ b
+fuse_in [] [] more a b e = cc e
+fuse_in [] (x ∷ eeprom) more a b e = fuse_in [] eeprom more a b (cc e)
+fuse_in (x ∷ flash) eeprom more a b e = fuse_in flash eeprom more a b (cc e)
+
+module _ (off : Bool) (after : Files) (p : Promised (settings off) (codes "chip") files after) where
+  part_is : m328p ≡ p.plan.part
+  part_is = cc (subst (λ parts. part_of_id (codes "m328p") parts ≡ Ok p.plan.part) p.asked.are_parts p.asked.part)
+
+  tasks_are : p.plan.tasks ≡ tasks 0xE2
+  tasks_are = search rules
+
+  made : memories_of p.left ≡ memories_of (fresh 0xE2)
+  made = p.made ∙ rw (p.was, sym part_is, tasks_are, p.asked.switches) refl
+
+  pub the_chip_file : after (codes "chip") ≡ Some (chip_file (fresh 0xE2))
+  the_chip_file = p.is ∙ ap (λ m. Some (file_of m)) made
+
+  another_byte : (byte : ℕ) → (byte ≡ 0xE2 → ⊥) → after (codes "chip") ≡ Some (chip_file (fresh byte)) → ⊥
+  another_byte byte differs is =
+      differs (fuse_in (fresh byte).flash (fresh byte).eeprom (255 ∷ 255 ∷ 255 ∷ []) byte 0xE2
+      (ap (λ held. unwrap_or held []) (sym is ∙ the_chip_file)))
+
+  -- refused: a wrong byte; no image; another file changed; a file created
+  pub a_wrong_fuse : after (codes "chip") ≡ Some (chip_file (fresh 0x62)) → ⊥
+  a_wrong_fuse = another_byte 0x62 (λ e. omega (arith, e))
+
+  pub no_image : after (codes "chip") ≡ Some (chip_file (fresh 0xFF)) → ⊥
+  no_image = another_byte 0xFF (λ e. omega (arith, e))
+
+  pub another_changed : after (codes "other") ≡ Some (0x63 ∷ []) → ⊥
+  another_changed is = search rules
+
+  pub another_created : after (codes "new") ≡ Some [] → ⊥
+  another_created is = cc (sym is ∙ p.others (codes "new") (λ e. cc e) (search rules))

@@ -1,0 +1,76 @@
+-- Status 0 means the images, over any link that forges no frame.
+use Rattle.std.proofs.Common.{◌≡◌, ℕ, Bool, false, List, [], ◌++◌, map, Some, sym, ap, ◌∙◌, subst, Option, None, rules}
+use Rattle.std.proofs.lemmas.List.{append-nil}
+use Rattle.avr_cli.specs.declared.settings.Settings.{Settings}
+use Rattle.avr_desk.specs.Said.{OutputEvent}
+use Rattle.avr_desk.specs.Stage.{Made, StageAnswer}
+use Rattle.avr_part.specs.Sound.{IsSoundChip}
+use Rattle.avr_plan.specs.Plan.{Plan}
+use Rattle.avr_plan.specs.Planning.{planned}
+use Rattle.avr_laws.proofs.Planning.Fitted.{plan_fitted}
+use Rattle.avr_session.specs.Runs.{Devices}
+use Rattle.avr_session.specs.Session.{session}
+use Rattle.avr_laws.specs.AnyLink.{WholeOverTurns}
+use Rattle.avr_laws.specs.AnyTape.{CameThrough, became_by, turns_heard}
+use Rattle.avr_tool.specs.Items.{items, asked_items}
+use Rattle.avr_laws.specs.NoFrame.{MakesNoFrame}
+use Rattle.avr_tool.specs.Written.{IsWritten}
+use Rattle.avr_laws.proofs.AnyLink.{over_bytes}
+use Rattle.stk_emu.specs.Device.{device, after_frames}
+use Rattle.stk_emu.specs.Effect.{effects, memories_of}
+use Rattle.stk_emu.specs.Programmer.{Programmer}
+use Rattle.stk_frame.specs.Cut.{frames}
+use Rattle.stk_host.specs.Dialog.{Event, Played, Said, behind, bytes_sent, played}
+use Rattle.stk_host.specs.Tape.{Tape, on_tape}
+use Rattle.stk_host.specs.Transcript.{Transcript, heard, sent}
+use Rattle.avr_tool.specs.Headline.{after_answer, IsRun}
+use Rattle.avr_tool.proofs.Runs.Joined.{said_bytes}
+
+module _ (s : Settings) (x y : Devices) (r : IsRun s x y 0) where
+  abbrev pub tape : Tape
+  tape = heard r.during
+
+  abbrev left_over : Tape
+  left_over = on_tape r.left ++ []
+
+  abbrev before : List (Event OutputEvent)
+  before = map Said (planned s r.openings).says
+
+  -- the run over exactly what was opened and received
+  over : behind before (after_answer (planned s r.openings).answer tape)
+      ≡ record { events = r.events; outcome = Some (0, r.next, left_over) }
+  over = search (rules, append-nil r.openings, append-nil tape)
+
+  pub made : (plan : Plan) × ((planned s r.openings).answer ≡ Made plan)
+  made = search (rules, over)
+
+  module _ (plan : Plan) (made_is : (planned s r.openings).answer ≡ Made plan) (silent : x.link.transcript ≡ []) where
+    pub same : y.link.transcript ≡ r.during
+    same = r.grows ∙ ap (λ (t : Transcript). t ++ r.during) silent
+
+    abbrev pub done : List (Event OutputEvent)
+    done = (played (session plan) 1 tape).events
+
+    over_plan : behind before (played (session plan) 1 tape)
+        ≡ record { events = r.events; outcome = Some (0, r.next, left_over) }
+    over_plan = sym (ap (λ (answer : StageAnswer Plan). behind before (after_answer answer tape)) made_is) ∙ over
+
+    played_is : played (session plan) 1 tape ≡ record { events = done; outcome = Some (0, r.next, left_over) }
+    played_is = ap (λ (p : Played OutputEvent ℕ). record { events = done; outcome = p.outcome }) over_plan
+
+    pub sent_is : bytes_sent done ≡ sent r.during
+    sent_is = search (rules, said_bytes, over_plan)
+
+    pub promise : (p : Programmer) (got : List ℕ) (through : List Bool) → IsSoundChip p.chip → p.chip.part ≡ plan.part
+        → CameThrough got (frames (sent y.link.transcript)) through
+        → MakesNoFrame device (session plan) 1 (heard y.link.transcript) p (became_by through) []
+        → (memories_of (after_frames device (frames got) p).chip ≡ effects plan.part (items plan) (memories_of p.chip))
+        × (plan.switches.no_verify ≡ false → IsWritten plan.part (asked_items plan) (memories_of p.chip)
+        (memories_of (after_frames device (frames got) p).chip))
+    promise p got through sound part_is came none =
+        let whole : WholeOverTurns plan p (after_frames device (frames got) p)
+        (turns_heard (session plan) 1 tape (became_by through)) (sent r.during) done 0 =
+        over_bytes plan p sound part_is (plan_fitted s r.openings plan made_is) got (sent r.during) through tape
+        (subst (λ (t : Transcript). CameThrough got (frames (sent t)) through) same came)
+        (subst (λ (t : Transcript). MakesNoFrame device (session plan) 1 (heard t) p (became_by through) []) same none)
+        left_over done 0 r.next played_is sent_is in search rules

@@ -1,0 +1,128 @@
+-- A host that runs a dialog, and a server, at the two ends of a link that keeps their bytes in order.
+use Rattle.std.proofs.lemmas.Grind.{common_steps}
+use Rattle.std.proofs.Common.{◌≡◌, ℕ, ◌≤◌, List, [], ◌∷◌, ◌++◌, length, refl, ap, ◌∙◌, subst, append_assoc, arith, Some, None, rules}
+use Rattle.std.proofs.lemmas.List.{append-nil}
+use Rattle.std.proofs.lemmas.List.Elements.{filter-append}
+use Rattle.std.specs.List.{concat}
+use Rattle.std.specs.Prelude.{filter}
+use Rattle.stk_frame.specs.Cut.{cut, rest, frames, is_frame}
+use Rattle.stk_frame.proofs.Cuts.{cut_append}
+use Rattle.stk_frame.proofs.Laws.{frame_is_piece, length_frame}
+use Rattle.stk_host.specs.Dialog.{Dialog, Event, played, frames_in, bytes_sent}
+use Rattle.stk_host.specs.Play.{IsPrefixOf}
+use Rattle.stk_host.specs.Transcript.{Transcript, sent, heard}
+use Rattle.stk_host.specs.Tape.{Tape, bytes_of}
+use Rattle.stk_emu.specs.Along.{AsksBodies}
+use Rattle.avr_laws.specs.AnyTape.{AreHonest, after_pieces}
+use Rattle.stk_emu.specs.Device.{device, answer_body, answer_frame, after_frame}
+use Rattle.stk_emu.specs.Emulator.{Machine}
+use Rattle.stk_emu.specs.Lawful.{IsBody}
+use Rattle.stk_emu.specs.Programmer.{Programmer}
+use Rattle.stk_emu.proofs.Answers.Texts.{answers_more}
+use Rattle.stk_emu.proofs.Answers.BodySizes.{answers_bodies, obey_body}
+use Rattle.avr_tool.proofs.Lines.InTurn.{sends_whole, frames_prefix}
+use Rattle.avr_tool.specs.Serving.{HasNoEnd, AnswersAll, BreaksOff, ServingLeaves}
+use Rattle.avr_tool.specs.declared.answering.Served.{Served}
+use Rattle.avr_laws.specs.TwoProcesses.{IsJoined, IsPrompt, StallsBetweenAnswers, HasServed, obeyed}
+use Rattle.avr_laws.proofs.TwoProcesses.InOrder.{MissesFew, first_of, answer_list, Brings, in_order_honest, in_order_ends, answers_joined, after_first}
+use Rattle.avr_laws.proofs.TwoProcesses.NeverSilent.{Straight, goes_straight}
+use Rattle.avr_laws.proofs.TwoProcesses.AnswerParts.{IsShort, AreShort, InSlots, parted}
+
+first_prefix : (xs ys : List (List ℕ)) → first_of (length xs) (xs ++ ys) ≡ xs
+first_prefix [] ys = refl
+first_prefix (x ∷ xs) ys = ap (λ zs. x ∷ zs) (first_prefix xs ys)
+
+-- each answer is a frame
+body_answered : (piece : List ℕ) (p : Programmer) → IsBody (answer_body device piece p)
+body_answered piece p = grind (arith, common_steps, obey_body)
+
+answer_short : (piece : List ℕ) (p : Programmer) → IsShort (answer_frame device piece p)
+answer_short piece p =
+    let b = body_answered piece p in search (rules, frame_is_piece, length_frame)
+
+answers_short : (pieces : List (List ℕ)) (p : Programmer) → AreShort (answer_list device pieces p)
+answers_short [] p = tt
+answers_short (piece ∷ pieces) p = (answer_short piece p, answers_short pieces (after_frame device piece p))
+
+-- ---- the server's end
+
+pub all_served : (p : Programmer) (transcript : Transcript) (left : Machine)
+    → AnswersAll p [] (bytes_of (heard transcript)) (sent transcript) left → HasServed p transcript left.programmer
+all_served p transcript left all = search (rules, append-nil (bytes_of (heard transcript)))
+
+broken_served : (p : Programmer) (transcript : Transcript) (left : Machine)
+    → BreaksOff p [] (bytes_of (heard transcript)) transcript left → HasServed p transcript left.programmer
+broken_served p transcript left b = search (rules, append_assoc, answers_more)
+
+pub has_served : (served : Served) (p : Programmer) (transcript : Transcript) (left : Machine)
+    → ServingLeaves served p [] transcript left
+    → HasServed p transcript left.programmer
+has_served served p transcript left l = search (rules, all_served, broken_served)
+
+-- ---- both ends
+
+-- the server obeyed the frames that it took, and this is its state after them
+pub meet_sent : (p left : Programmer) (host server : Transcript) (serves : HasServed p server left)
+    → IsJoined host server
+    → after_pieces device (frames (sent host)) (obeyed (length (frames serves.used))) p ≡ left
+meet_sent p left host server serves joined =
+    let arrived = length (frames serves.used) in
+    let more = serves.unused ++ joined.up.0 in
+    let all : serves.used ++ more ≡ sent host =
+    search (rules, append_assoc) in
+    let others = filter is_frame (cut (rest serves.used ++ more)) in
+    let first : first_of arrived (frames (sent host)) ≡ frames serves.used =
+    search (rules, cut_append, filter-append, first_prefix) in search (rules, after_first, answers_bodies)
+
+module _ {E R : Type 0} (d : Dialog E R) (asks : AsksBodies d) (p left : Programmer) (host server : Transcript)
+    (serves : HasServed p server left) (joined : IsJoined host server)
+    (plays : IsPrefixOf (sent host) (bytes_sent (played d 1 (heard host)).events)) where
+  abbrev events : List (Event E)
+  events = (played d 1 (heard host)).events
+
+  abbrev arrived : ℕ
+  arrived = length (frames serves.used)
+
+  abbrev given : List (List ℕ)
+  given = answer_list device (frames serves.used) p
+
+  some_frames : (others : List (List ℕ)) × (frames_in events ≡ frames serves.used ++ others)
+  some_frames = frames_prefix events serves.used (serves.unused ++ (joined.up.0 ++ plays.0))
+      (sends_whole d 1 (heard host) asks) (search (rules, append_assoc))
+
+  arrived_are : first_of arrived (frames_in events) ≡ frames serves.used
+  arrived_are = ap (first_of arrived) some_frames.1 ∙ first_prefix (frames serves.used) some_frames.0
+
+  -- so this is the server's state
+  pub meet_leaves : after_pieces device (frames_in events) (obeyed arrived) p ≡ left
+  meet_leaves = search (rules, after_first, answers_bodies, arrived_are)
+
+  -- if it stalls between answers alone
+  module _ (few : MissesFew 8 d) (endless : HasNoEnd (heard host)) (stalls : StallsBetweenAnswers (heard host)) where
+    abbrev unheard : List ℕ
+    unheard = joined.down.0 ++ serves.unsent
+
+    heard_are : bytes_of (heard host) ++ unheard ≡ concat given
+    heard_are = search (rules, append_assoc, answers_joined, answers_bodies)
+
+    slots : InSlots [] (heard host) given unheard
+    slots = search (rules, parted, answers_short, heard_are)
+
+    brings : Brings device d 1 (heard host) p arrived 8 slots.more
+    brings = search (rules, arrived_are)
+
+    -- what the host reads is honest, by what arrived
+    pub meet_honest : AreHonest device d 1 (heard host) p (obeyed arrived)
+    meet_honest = in_order_honest device answers_bodies d 1 (heard host) p arrived 8 slots.more brings few asks
+
+    -- if all was received, the host doesn't wait
+    pub meet_ends : unheard ≡ [] → length (frames_in events) ≤ arrived → (played d 1 (heard host)).outcome ≡ None → ⊥
+    meet_ends none all waits =
+        in_order_ends device answers_bodies d 1 (heard host) p arrived 8
+        (subst (λ more. Brings device d 1 (heard host) p arrived 8 more) (slots.complete none) brings) few asks all
+        waits
+
+    -- on a link without timeouts all goes straight
+    pub meet_straight : IsPrompt (heard host) → (r : R) (seq : ℕ) (unread : Tape)
+        → (played d 1 (heard host)).outcome ≡ Some (r, seq, unread) → Straight device d 1 (heard host) p arrived r
+    meet_straight prompt r seq unread e = search (rules, goes_straight, answers_bodies, brings)

@@ -1,0 +1,66 @@
+-- FROM BYTES TO BYTES. What a run leaves is a function of its settings, files, standard input and replies, if these
+-- are known. No device is in it.
+use Rattle.std.specs.Io.KnownBytes.{Appends, Consumes}
+use Rattle.std.specs.Prelude.{◌≡◌, ℕ, List, [], ◌++◌, replicate, Option, Some, option_map}
+use Rattle.avr_cli.specs.declared.settings.Settings.{Settings}
+use Rattle.avr_desk.specs.Memory.{MemDeskState, Stock}
+use Rattle.avr_desk.specs.Record.{Bytes, Record, all_files, nothing_kept}
+use Rattle.avr_desk.specs.Said.{OutputEvent, after_all}
+use Rattle.avr_desk.specs.declared.record.Writing.{Writing}
+use Rattle.avr_laws.specs.FilesRead.{files_give, files_read}
+use Rattle.stk_host.specs.Dialog.{Played, bytes_sent, outputs}
+use Rattle.stk_host.specs.Links.{StreamState}
+use Rattle.stk_host.specs.Transcript.{LinkState}
+use Rattle.stk_host.specs.Tape.{Tape, bytes_of}
+use Rattle.stk_host.specs.declared.link.Item.TheVariants.{End}
+use Rattle.avr_tool.specs.Headline.{run}
+
+-- All that a run leaves: its status, the bytes sent, the messages, the output, and the files created, in order. A
+-- later file replaces an earlier one of the same name.
+pub record RunOutcome : Type 0 where
+  pub status : ℕ
+  pub sent : Bytes
+  pub messages : Bytes
+  pub output : Bytes
+  pub files : List Writing
+
+abbrev pub shown_by : ℕ → Bytes → Record → RunOutcome
+shown_by status sent kept = record {
+  status = status;
+  sent = sent;
+  messages = kept.messages;
+  output = kept.output;
+  files = all_files kept;
+}
+
+-- What a run leaves, if it ends.
+abbrev pub run_outcome : Played OutputEvent ℕ → Option RunOutcome
+run_outcome p =
+    option_map (λ end. shown_by end.0 (bytes_sent p.events) (after_all (outputs p.events) nothing_kept)) p.outcome
+
+-- THE RUN over some files and a tape: each file that the settings name is read whole, as it was before.
+abbrev pub run_of : Settings → Stock → Tape → Played OutputEvent ℕ
+run_of settings stock tape = run settings (files_give stock (files_read settings)) tape
+
+-- The run of these files over this tape leaves this outcome, whatever follows on the tape.
+abbrev pub IsLeft : Settings → Stock → Tape → RunOutcome → Type 0
+IsLeft settings stock tape outcome = (more : Tape) → run_outcome (run_of settings stock (tape ++ more)) ≡ Some outcome
+
+-- The same for a tape followed by as many ends as the run reads.
+pub record Leaves (settings : Settings) (stock : Stock) (tape : Tape) (outcome : RunOutcome) : Type 0 where
+  pub ends : ℕ
+  pub is : IsLeft settings stock (tape ++ replicate ends End) outcome
+
+-- The same for a reader and a writer. Some tape was received, whose bytes are those that the reader gave, if these
+-- are known. The writer took what was sent. A reader's bytes don't show its timeouts and its end.
+pub record LeavesStreams {R W : Type 0} (remaining : R → Option Bytes) (contents : W → Option Bytes)
+    (settings : Settings) (stock : Stock) (old new : StreamState R W) (outcome : RunOutcome) : Type 0 where
+  pub tape : Tape
+  pub gave : Consumes (remaining old.reader) (remaining new.reader) (bytes_of tape)
+  pub took : Appends (contents old.writer) (contents new.writer) outcome.sent
+  pub is : IsLeft settings stock tape outcome
+
+-- Nothing has passed over the desk and the link, and they never failed.
+pub record AreUnused (desk : MemDeskState) (link : LinkState) : Type 0 where
+  pub desk_is : desk.kept ≡ nothing_kept
+  pub link_is : link ≡ record { transcript = []; failures = 0 }

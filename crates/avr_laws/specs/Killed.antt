@@ -1,0 +1,46 @@
+-- A run that is killed, or whose machine stops.
+use mathlib.Core.Logic.{inl, inr}
+use Rattle.std.specs.Prelude.{◌≡◌, ◌⊎◌, ℕ, Option, None, Some}
+use Rattle.avr_cli.specs.declared.settings.Settings.{Settings}
+use Rattle.avr_desk.specs.Record.{Bytes, DeskState}
+use Rattle.avr_desk.specs.declared.file_system.FileSystem.{Ghosts}
+use Rattle.avr_tool.specs.Emulated.{RunsEmulator}
+use Rattle.avr_tool.specs.ServedRun.{RunsServedFor, ServesPart}
+use Rattle.avr_part.specs.ChipFile.{chip_file}
+use Rattle.avr_part.specs.Part.{Part}
+use Rattle.avr_session.specs.Runs.{Devices, devices}
+use Rattle.avr_tool.specs.OverNet.{new_link}
+use Rattle.avr_tool.specs.ServedNet.{ServesNet}
+use Rattle.stk_host.specs.Transcript.{LinkState}
+
+-- A crash may have left under this name what was there when it was locked, or the file of the chip, if there is one.
+abbrev pub LeavesOldOrNew : {S F I H : Type 0} → Ghosts S F I H → S → Bytes → Option Bytes → Type 0
+LeavesOldOrNew system now file chip = (found : Option Bytes) → system.left now file found
+    → system.began file found ⊎ ((bytes : Bytes) × (chip ≡ Some bytes) × (found ≡ Some bytes))
+
+-- The file of the chip as a run over the emulator has left it, if one was loaded.
+abbrev pub chip_of_run : (settings : Settings) (file : Bytes) (old new : DeskState) (status : ℕ)
+    → RunsEmulator settings file old new status → Option Bytes
+chip_of_run settings file old new status (inl r) = Some (chip_file r.after.wire.programmer.chip)
+chip_of_run settings file old new status (inr none) = None
+
+-- The same of a server, from its part on and from its settings on.
+abbrev pub chip_of_part : (part : Part) (file : Bytes) (turns : ℕ) (old new : Devices) (status : ℕ)
+    → ServesPart part file turns old new status → Option Bytes
+chip_of_part part file turns old new status (inl s) = Some (chip_file s.serves.left.programmer.chip)
+chip_of_part part file turns old new status (inr none) = None
+
+abbrev pub chip_of_server : (settings : Settings) (file : Bytes) (turns : ℕ) (old new : Devices) (status : ℕ)
+    → RunsServedFor settings file turns old new status → Option Bytes
+chip_of_server settings file turns old new status (inl s) =
+    chip_of_part s.part file turns (devices old.link s.part_desk) new status s.then_is
+chip_of_server settings file turns old new status (inr none) = None
+
+-- The file of the chip as a service has left it, if there was a client and a chip was loaded for it.
+abbrev pub chip_of_service : (unused : Type 0) (over : Option LinkState → Type 0) (settings : Settings)
+    (port file : Bytes) (old new : DeskState) (status : ℕ) → ServesNet unused over settings port file old new status
+    → Option Bytes
+chip_of_service unused over settings port file old new status (inl (part, judged, is, inl (link, on, serves))) =
+    chip_of_part part file 16777216 (devices new_link judged) (devices link new) status serves
+chip_of_service unused over settings port file old new status (inl (part, judged, is, inr none)) = None
+chip_of_service unused over settings port file old new status (inr refused) = None

@@ -1,0 +1,61 @@
+-- How the bytes of images come to be in the memories: those of flash, whatever was done, and an image that was written.
+use Rattle.std.specs.Prelude.{ℕ, true, false, ◌≡◌, ◌⊎◌, bit_and, List, [], ◌∷◌, Some, None, ⊤}
+use Rattle.avr_image.specs.Image.{byte_at}
+use Rattle.avr_part.specs.declared.part.Mem.{Mem}
+use Rattle.avr_part.specs.declared.part.Mem.TheVariants.{Flash, Eeprom, Lfuse, Hfuse, Efuse, Lock, Signature, Calibration}
+use Rattle.stk_emu.specs.Effect.{Image, Item, Erase, Write, Memories, are_locked}
+use Rattle.avr_tool.specs.Items.{has_erase}
+use Rattle.avr_tool.specs.Written.{memory_number}
+
+-- An item writes an image to flash with this byte at this
+-- address.
+abbrev pub Brings : Item → ℕ → ℕ → Type 0
+Brings (Write Flash image) addr byte = byte_at image addr ≡ Some byte
+Brings item addr byte = ⊥
+
+abbrev pub IsThere : List Item → ℕ → ℕ → Type 0
+IsThere [] addr byte = ⊥
+IsThere (item ∷ items) addr byte = Brings item addr byte ⊎ IsThere items addr byte
+
+abbrev pub AreThere : List Item → ℕ → List ℕ → Type 0
+AreThere items addr [] = ⊤
+AreThere items addr (byte ∷ bytes) = IsThere items addr byte × AreThere items addr bytes
+
+abbrev pub and_all : ℕ → List ℕ → ℕ
+and_all first [] = first
+and_all first (byte ∷ bytes) = and_all (bit_and first byte) bytes
+
+-- A byte of flash before and after some items. It is the byte before, or the FF of an erase, AND the bytes at this
+-- address of none, one or more images written to flash.
+pub record IsMade (items : List Item) (addr before after : ℕ) : Type 0 where
+  pub first : ℕ
+  pub bytes : List ℕ
+  pub first_is : (first ≡ before) ⊎ ((first ≡ 255) × (has_erase items ≡ true))
+  pub are_there : AreThere items addr bytes
+  pub is : after ≡ and_all first bytes
+
+-- No image among these items has a byte of this memory at this
+-- address.
+abbrev pub LeaveFree : List Item → Mem → ℕ → Type 0
+LeaveFree [] mem addr = ⊤
+LeaveFree (Erase ∷ items) mem addr = LeaveFree items mem addr
+LeaveFree (Write other image ∷ items) mem addr =
+    (memory_number other ≡ memory_number mem → byte_at image addr ≡ None) × LeaveFree items mem addr
+
+-- These items erase the chip, and write no other image at the addresses of this one.
+abbrev pub IsErasedFor : Mem → Image → List Item → Type 0
+IsErasedFor mem image items = (has_erase items ≡ true)
+    × ((addr byte : ℕ) → byte_at image addr ≡ Some byte → LeaveFree items mem addr)
+
+-- When a memory takes an image after some items that left the chip like this. Flash, EEPROM and fuses must not be
+-- locked. Flash and the lock, in which a write only clears bits, must be erased for the image. A memory that can't be
+-- written takes none.
+abbrev pub IsTaken : Mem → Image → List Item → Memories → Type 0
+IsTaken Flash image items m = (are_locked m ≡ false) × IsErasedFor Flash image items
+IsTaken Eeprom image items m = are_locked m ≡ false
+IsTaken Lfuse image items m = are_locked m ≡ false
+IsTaken Hfuse image items m = are_locked m ≡ false
+IsTaken Efuse image items m = are_locked m ≡ false
+IsTaken Lock image items m = IsErasedFor Lock image items
+IsTaken Signature image items m = ⊥
+IsTaken Calibration image items m = ⊥

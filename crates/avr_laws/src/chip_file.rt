@@ -1,0 +1,65 @@
+//! Laws of runs over the emulator and its chip file. No code.
+
+ghost use Rattle.std.specs.Prelude.{◌≡◌, ◌⊎◌, ℕ, true, false, [], Some};
+ghost use Rattle.avr_cli.specs.declared.settings.Settings.{Settings};
+ghost use Rattle.avr_desk.specs.Memory.{MemDeskState, Stock, memory_state, stood_for};
+ghost use Rattle.avr_desk.specs.Named.{is_dash};
+ghost use Rattle.avr_desk.specs.Truth.{HoldsTrue};
+ghost use Rattle.avr_desk.specs.Record.{Bytes, nothing_kept};
+ghost use Rattle.avr_laws.specs.Again.{AgreesAnyway, AreKeeping};
+ghost use Rattle.avr_tool.specs.AnyLine.{Stopped, OverTurns, memories};
+ghost use Rattle.avr_tool.specs.Emulated.{RunsOverEmulator, new_wire};
+ghost use Rattle.avr_tool.specs.Items.{items, has_erase};
+ghost use Rattle.avr_tool.specs.Outcome.{IsDone};
+ghost use Rattle.ghosts.specs.Stays.{Stays};
+ghost use Rattle.avr_laws.specs.ChipFound.{IsChipOf, file_held};
+ghost use Rattle.avr_laws.specs.Promise.{Promised};
+ghost use Rattle.stk_emu.specs.Device.{device};
+ghost use Rattle.avr_part.specs.ChipFile.{chip_file};
+ghost use Rattle.stk_emu.specs.Effect.{memories_of, erase_keeps_eeprom};
+
+/// States which chip a run over the emulator begins with, over a desk in memory: the one in its file, or a fresh one
+/// if the file doesn't exist. The file is as it was before the run, and has the part's length. With status 0 the run
+/// leaves its chip there. A file named `-` is read from standard input, so no chip is left in it.
+// Proof: `chip_found` (ChipFile/Found) and `chip_left` (ChipFile/SecondRun).
+pub fn a_run_finds_and_leaves_the_chip_of_its_file()
+    ensures finds { (settings : Settings) (file : Bytes) (stock : Stock) (old new : MemDeskState) (status : ℕ)
+        → HoldsTrue stock new → (r : RunsOverEmulator settings file (memory_state old) (memory_state new) status)
+        → IsChipOf r.plan.part (file_held stock old.kept file) r.chip }
+    ensures leaves { (settings : Settings) (file : Bytes) (stock : Stock) (old new : MemDeskState) (status : ℕ)
+        → is_dash file ≡ false → status ≡ 0
+        → (r : RunsOverEmulator settings file (memory_state old) (memory_state new) status)
+        → file_held stock new.kept file ≡ Some (chip_file r.after.wire.programmer.chip) }
+{}
+
+/// States the promise over files alone, for a run over the emulator with status 0 and a desk in memory. The settings
+/// and files ask for a plan. The chip file held a chip of its part, and holds what the plan makes of it. If the run was
+/// verified, these are the images. No other file has changed, but those that the plan reads into.
+// Proof: `promised` (ChipFile/Promised). The plan is avr_plan's `plan_asked` (Stages/AskedPlan), the memories are
+// avr_laws's `comes_over_turns` (OverTurns), the other files are `lack_said` (ChipFile/Others).
+pub fn the_chip_file_holds_the_images()
+    ensures { (settings : Settings) (file : Bytes) (stock : Stock) (old new : MemDeskState)
+        → is_dash file ≡ false → old.kept ≡ nothing_kept → HoldsTrue stock new
+        → RunsOverEmulator settings file (memory_state old) (memory_state new) 0
+        → Promised settings file (stood_for stock []) (file_held stock new.kept) }
+{}
+
+/// States that a further run over its chip file heals, for a plan as in [`a_further_run_heals`], however the first
+/// run and the saving of its chip ended. Unless a device or an allocation failed, the run's status is 0, and the chip
+/// is as one run would have left it before both.
+///
+/// The EEPROM condition is that of [`a_further_run_heals`]. No update of the first run may be read into the chip's
+/// own file.
+// Proof: `heals_file` (ChipFile/SecondRun), by avr_laws's `done_again` (SecondRun/Status).
+pub fn a_further_run_over_its_chip_file_heals()
+    ensures { (settings : Settings) (file : Bytes) (stock : Stock) (old mid new : MemDeskState) (status further : ℕ)
+        → is_dash file ≡ false → HoldsTrue stock old → Stays HoldsTrue old mid → Stays HoldsTrue mid new
+        → (one : RunsOverEmulator settings file (memory_state old) (memory_state mid) status)
+        → (two : RunsOverEmulator settings file (memory_state mid) (memory_state new) further)
+        → two.plan ≡ one.plan
+        → file_held stock one.played_desk.kept file ≡ file_held stock old.kept file
+        → has_erase (items one.plan) ≡ true → AgreesAnyway one.plan
+        → (erase_keeps_eeprom one.plan.part (memories_of one.chip) ≡ true → AreKeeping one.plan.part (items one.plan))
+        → ((two.ran ≡ 0) × IsDone one.plan (memories_of one.chip) (memories two.after))
+        ⊎ Stopped one.plan (new_wire two.chip []) two.after two.loaded_desk two.played_desk }
+{}

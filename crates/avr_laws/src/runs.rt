@@ -1,0 +1,194 @@
+//! Laws of runs: what status 0 means, what few bad frames and a further run do, and worked outcomes. No code.
+
+ghost use Rattle.std.specs.Prelude.{◌≡◌, ◌<◌, ◌*◌, ◌⊎◌, ℕ, Bool, true, false, List, [], All, Some, map};
+ghost use Rattle.avr_cli.specs.declared.settings.Settings.{Settings};
+ghost use Rattle.avr_desk.specs.Memory.{MemDeskState, Stock, memory_state, stock_of};
+ghost use Rattle.avr_desk.specs.Truth.{HoldsTrue};
+ghost use Rattle.avr_session.specs.Run.{RunsBetween};
+ghost use Rattle.ghosts.specs.Stays.{Stays};
+ghost use Rattle.stk_host.specs.Links.{IsOfTape, IsTrueSince, StreamState, TapeState, stream_state, tape_state};
+ghost use Rattle.avr_desk.specs.Stage.{Made};
+ghost use Rattle.avr_desk.specs.Record.{DeskState, Passes, Record};
+ghost use Rattle.avr_laws.specs.Again.{AgreesAnyway, AreKeeping};
+ghost use Rattle.avr_tool.specs.AnyLine.{Stopped, OverAnyLine, OverTurns, Weight, weighed, bodies_in, memories, events_over, wire_and_desk};
+ghost use Rattle.avr_laws.specs.AnyLink.{OverAnyWire, WholeOverTurns};
+ghost use Rattle.avr_session.specs.PlanSteps.{run_steps};
+ghost use Rattle.avr_tool.specs.ExpectedRun.{expected_run};
+ghost use Rattle.avr_tool.specs.Items.{items, asked_items, has_erase};
+ghost use Rattle.avr_tool.specs.Outcome.{IsExpectedRun, IsDone};
+ghost use Rattle.avr_tool.specs.Written.{IsWritten};
+ghost use Rattle.avr_desk.specs.Said.{OutputEvent, after_all};
+ghost use Rattle.avr_part.specs.Part.{IsPart};
+ghost use Rattle.avr_part.specs.Sound.{IsSoundChip};
+ghost use Rattle.avr_part.specs.State.{ChipState as Chip};
+ghost use Rattle.avr_plan.specs.Plan.{Plan, IsFitted};
+ghost use Rattle.avr_plan.specs.Planning.{planned};
+ghost use Rattle.avr_session.specs.Runs.{Devices, devices};
+ghost use Rattle.avr_session.specs.Session.{session};
+ghost use Rattle.avr_session.specs.Stopping.{IsSound, LacksMemory, keeping, link_state};
+ghost use Rattle.avr_tool.specs.Headline.{IsRun, IsStopped};
+ghost use Rattle.avr_laws.specs.InMemory.{AreUnused, Leaves, LeavesStreams, RunOutcome, shown_by};
+ghost use Rattle.avr_laws.specs.Worked.{absent_outcome, absent_settings, frames_due, fuse_plan, lines_due, made_answers, no_stock, worked_answers, worked_outcome, worked_settings};
+ghost use Rattle.stk_emu.specs.Device.{device, after_frames};
+ghost use Rattle.stk_emu.specs.Effect.{memories_of, erase_keeps_eeprom, effects};
+ghost use Rattle.avr_laws.specs.Few.{AreFew};
+ghost use Rattle.stk_emu.specs.Programmer.{Programmer, fresh_programmer};
+ghost use Rattle.stk_emu.specs.Settled.{FitsPart};
+ghost use Rattle.stk_emu.specs.Wire.{turns_of};
+ghost use Rattle.stk_emu.specs.Wired.{WiredState};
+ghost use Rattle.stk_frame.specs.Cut.{body_of, frames};
+ghost use Rattle.stk_emu.specs.Turn.{Turn};
+ghost use Rattle.avr_laws.specs.AnyTape.{CameThrough, became_by};
+ghost use Rattle.avr_laws.specs.NoFrame.{MakesNoFrame};
+ghost use Rattle.stk_host.specs.Dialog.{Event, played, bytes_sent, outputs};
+ghost use Rattle.stk_host.specs.Transcript.{Transcript, heard, sent};
+ghost use Rattle.stk_host.specs.Tape.{Tape};
+
+use std::io::{Read, Write};
+
+/// States what status 0 means, over any link over which nothing had passed: a plan was made, and the chip holds its
+/// images.
+///
+/// The programmer may be in any state. It received any bytes whose good frames are some of those sent, and no reply was
+/// forged. Then the memories of its chip are what the plan's writes make of them. If the run was verified, each holds
+/// its images. Elsewhere it holds what it held before, or the FF of an erase.
+// Proof: `promise` (Runs/Promise), by `over_bytes` (AnyLink) and avr_tool's `comes_over_turns` (OverTurns). There the
+// memories are `session_leaves` (AnyLine/Outcomes), the images `run_written` (Memories/VerifiedRuns).
+pub fn status_0_means_the_images()
+    ensures plan { (s : Settings) (before now : Devices) (r : IsRun s before now 0)
+        → (plan : Plan) × ((planned s r.openings).answer ≡ Made plan) }
+    ensures images { (s : Settings) (plan : Plan) (before now : Devices) (r : IsRun s before now 0)
+        → (planned s r.openings).answer ≡ Made plan → before.link.transcript ≡ []
+        → (p : Programmer) (got : List ℕ) (through : List Bool) → IsSoundChip p.chip → p.chip.part ≡ plan.part
+        → CameThrough got (frames (sent now.link.transcript)) through
+        → MakesNoFrame device (session plan) 1 (heard now.link.transcript) p (became_by through) []
+        → (memories_of (after_frames device (frames got) p).chip ≡ effects plan.part (items plan) (memories_of p.chip))
+        × (plan.switches.no_verify ≡ false → IsWritten plan.part (asked_items plan) (memories_of p.chip)
+        (memories_of (after_frames device (frames got) p).chip)) }
+{}
+
+/// States what the page refuses of a run over a wire. With status 0: memories that the plan's writes don't leave, or
+/// output other than over a perfect link. With any status: a chip that changed though no frame was sent, or more than
+/// four frames for each command, by any weight.
+// Proof: `not_all_written`, `said_otherwise`, `touched_in_silence` and `too_much` (Runs/Refused).
+pub fn a_wrong_outcome_is_refused()
+    ensures memories { (plan : Plan) (w v : WiredState) (d e : DeskState)
+        → (memories v ≡ effects plan.part (items plan) (memories w) → ⊥) → OverAnyLine plan w v d e 0 → ⊥ }
+    ensures outputs { (plan : Plan) (w v : WiredState) (d e : DeskState)
+        → (Passes (after_all (expected_run plan (memories w)).says) d e → ⊥)
+        → OverAnyLine plan w v d e 0 → ⊥ }
+    ensures silence { (plan : Plan) (w v : WiredState) (d e : DeskState) (status : ℕ)
+        → frames (sent v.transcript) ≡ [] → (memories v ≡ memories w → ⊥) → OverAnyLine plan w v d e status → ⊥ }
+    ensures frames { (plan : Plan) (w v : WiredState) (d e : DeskState) (status : ℕ) (weight : Weight)
+        → 4 * weighed weight (bodies_in (run_steps plan)) < weighed weight (map body_of (frames (sent v.transcript)))
+        → OverAnyLine plan w v d e status → ⊥ }
+{}
+
+/// States when a session over a wire is its expected run. At most three of any seven consecutive frames go wrong, and
+/// a reset counts as four. No device fails, and the messages report no failed allocation.
+///
+/// If such a plan erases and verifies, and its comparisons agree on a chip of 00 and on one of FF, its status is 0.
+/// The chip then holds its images, whatever it held before.
+// Proof: `sound_expected` (ChipFile/FewBadThenAgain), by `few_session_ends` (FewBad/Sessions).
+pub fn a_sound_run_is_its_expected_run()
+    ensures expected_run { (plan : Plan) (w v : WiredState) (d e : Record) (a b : ℕ × ℕ) (status : ℕ)
+        → AreFew (turns_of w.wire.fates) → IsSound (wire_and_desk w (keeping d a)) (wire_and_desk v (keeping e b))
+        → (LacksMemory e.messages → ⊥)
+        → OverAnyWire plan w v (keeping d a) (keeping e b) status
+        → IsExpectedRun plan (memories w) (memories v) (outputs (events_over plan v)) status
+        × Passes (after_all (outputs (events_over plan v))) (keeping d a) (keeping e b) }
+    ensures images { (plan : Plan) (w v : WiredState) (d e : Record) (a b : ℕ × ℕ) (status : ℕ)
+        → AreFew (turns_of w.wire.fates) → IsSound (wire_and_desk w (keeping d a)) (wire_and_desk v (keeping e b))
+        → (LacksMemory e.messages → ⊥)
+        → plan.switches.no_verify ≡ false → has_erase (items plan) ≡ true → AgreesAnyway plan
+        → OverAnyWire plan w v (keeping d a) (keeping e b) status
+        → (status ≡ 0) × IsWritten plan.part (asked_items plan) (memories w) (memories v) }
+{}
+
+/// States that a further run heals: the same run again, over the chip that a first one left, however that one ended.
+/// At most three of any seven consecutive frames go wrong, and a reset counts as four. The plan erases, and its
+/// comparisons agree on a chip of 00 and on one of FF. Then its status is 0, and the chip is as one run would have
+/// left it before both.
+///
+/// If the chip keeps EEPROM at an erase, each byte that the plan writes to the high fuse must keep it too. `wire`
+/// states this over a wire, `link` over any link that forges no frame, by the turns and without regard to devices.
+// Proof: `further_heals` (ChipFile/FewBadThenAgain), by `done_again` (SecondRun/Status).
+pub fn a_further_run_heals()
+    ensures wire { (plan : Plan) (w v x y : WiredState) (d e f g : DeskState) (status further : ℕ)
+        → IsPart plan.part → All (IsFitted plan.part) plan.tasks → FitsPart plan.part (memories w)
+        → has_erase (items plan) ≡ true → AgreesAnyway plan
+        → (erase_keeps_eeprom plan.part (memories w) ≡ true → AreKeeping plan.part (items plan))
+        → OverAnyLine plan w v d e status
+        → memories x ≡ memories v → AreFew (turns_of x.wire.fates) → OverAnyWire plan x y f g further
+        → ((further ≡ 0) × IsDone plan (memories w) (memories y)) ⊎ Stopped plan x y f g }
+    ensures link { (plan : Plan) (p q x y : Programmer) (turns more : List Turn) (bytes others : List ℕ)
+        (events : List (Event OutputEvent)) (further : ℕ)
+        → IsPart plan.part → All (IsFitted plan.part) plan.tasks → FitsPart plan.part (memories_of p.chip)
+        → has_erase (items plan) ≡ true → AgreesAnyway plan
+        → (erase_keeps_eeprom plan.part (memories_of p.chip) ≡ true → AreKeeping plan.part (items plan))
+        → OverTurns plan p q turns bytes
+        → memories_of x.chip ≡ memories_of q.chip → AreFew more → WholeOverTurns plan x y more others events further
+        → (further ≡ 0) × IsDone plan (memories_of p.chip) (memories_of y.chip) }
+{}
+
+/// States that a worked run, `-p m328p` with all its replies, has one outcome: with another status, frame or line it
+/// is no run.
+// Proof: `another_status`, `another_frame` and `another_line` (Runs/Refused).
+pub fn a_worked_run_has_one_outcome()
+    ensures status { (transcript : Transcript) (a b : ℕ) (d e : DeskState)
+        → heard transcript ≡ worked_answers → IsRun worked_settings (devices (link_state [] a) d)
+        (devices (link_state transcript b) e) 1
+        → ⊥ }
+    ensures frames { (transcript : Transcript) (a b : ℕ) (d e : DeskState) (status : ℕ)
+        → heard transcript ≡ worked_answers → (sent transcript ≡ frames_due → ⊥)
+        → IsRun worked_settings (devices (link_state [] a) d) (devices (link_state transcript b) e) status → ⊥ }
+    ensures lines { (transcript : Transcript) (a b : ℕ) (d e : DeskState) (status : ℕ)
+        → heard transcript ≡ worked_answers → (Passes (after_all lines_due) d e → ⊥)
+        → IsRun worked_settings (devices (link_state [] a) d) (devices (link_state transcript b) e) status → ⊥ }
+{}
+
+/// States what a run leaves over known files and a known tape, or what the reader gave: a function of these and the
+/// settings. Like any run it may stop instead, because devices in memory fail if allocation fails. The premises are what
+/// avr_tool's `run` states of a call over a desk in memory, over which and over its link nothing had passed.
+// Proof: `run_is_over_tape` and `run_is_over_streams` (KnownFiles/RunsInMemory).
+pub fn a_run_in_memory_is_a_function_of_its_files<R: Read, W: Write>()
+    ensures tape { (s : Settings) (old new : MemDeskState) (before after : TapeState) (status : ℕ)
+        → AreUnused old (tape_state before)
+        → RunsBetween memory_state HoldsTrue s (tape_state before) (tape_state after) old new status
+        → IsOfTape before after → Stays HoldsTrue old new
+        → Leaves s (stock_of old) before.left (shown_by status (sent after.transcript) new.kept)
+        ⊎ IsStopped s (devices (tape_state before) (memory_state old)) (devices (tape_state after) (memory_state new))
+        status }
+    ensures streams { (s : Settings) (old new : MemDeskState) (before after : StreamState R W) (status : ℕ)
+        → AreUnused old (stream_state before)
+        → RunsBetween memory_state HoldsTrue s (stream_state before) (stream_state after) old new status
+        → IsTrueSince R.remaining W.contents before after → Stays HoldsTrue old new
+        → LeavesStreams R.remaining W.contents s (stock_of old) before after
+        (shown_by status (sent after.transcript) new.kept)
+        ⊎ IsStopped s (devices (stream_state before) (memory_state old))
+        (devices (stream_state after) (memory_state new)) status }
+{}
+
+/// States that what a run leaves over some files and a tape is one outcome. For `-p m328p` with all its replies it is
+/// the one below. If the part file doesn't exist, the outcome reports this, and nothing is sent.
+// Proof: `one_outcome`, `worked_leaves` and `absent_leaves` (KnownFiles/OneOutcome).
+pub fn a_run_in_memory_has_one_outcome()
+    ensures one { (s : Settings) (stock : Stock) (tape : Tape) (a b : RunOutcome)
+        → Leaves s stock tape a → Leaves s stock tape b → a ≡ b }
+    ensures worked { (stock : Stock) → Leaves worked_settings stock worked_answers worked_outcome }
+    ensures absent { (tape : Tape) → Leaves absent_settings no_stock tape absent_outcome }
+{}
+
+/// States that the promise needs a link without forged frames. Over a tape with one, comparing the low fuse with E2
+/// ends with status 0 whatever the chip has. For a chip with another fuse the promise fails. No link without forged
+/// frames gives this tape.
+// Proof: `made_done`, `promise_void` and `frame_made` (Lines/MadeFrame).
+pub fn a_made_frame_voids_the_promise()
+    ensures ends { (played (session fuse_plan) 1 made_answers).outcome ≡ Some (0, 8, []) }
+    ensures void { (p q : Programmer) (turns : List Turn) (bytes : List ℕ) (events : List (Event OutputEvent))
+        → (p.chip.lfuse ≡ 0xE2 → ⊥) → WholeOverTurns fuse_plan p q turns bytes events 0 → ⊥ }
+    ensures made { (s : Chip) (got : List ℕ) (through : List Bool)
+        → IsSoundChip s → s.part ≡ fuse_plan.part → (s.lfuse ≡ 0xE2 → ⊥)
+        → CameThrough got (frames (bytes_sent (played (session fuse_plan) 1 made_answers).events)) through
+        → MakesNoFrame device (session fuse_plan) 1 made_answers (fresh_programmer s) (became_by through) [] → ⊥ }
+{}

@@ -1,5 +1,0 @@
-use Rattle.avr_plan.proofs.Stages.AskedPlan.{plan_asked}
-use Rattle.avr_plan.proofs.laws.a_plan_is_the_one_asked_for.Goals as goal
-
-pub returns : goal.returns
-returns c = λ s stock openings plan seen made. plan_asked stock s openings plan seen made

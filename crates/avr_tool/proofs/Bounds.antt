@@ -1,0 +1,3 @@
+-- How much a session sends.
+pub mod Weights
+pub mod WireFrames

@@ -1,0 +1,193 @@
+-- How much a session asks, by any weight of bodies: at most four times the commands of its plan's steps.
+use Rattle.std.proofs.Common.{◌≡◌, ℕ, ◌+◌, ◌*◌, ◌-◌, ◌≤◌, List, [], ◌∷◌, ◌++◌, map, append_assoc, refl, ap, ◌∙◌, subst, arith, Bool, Ok, Err, Result, rules}
+use Rattle.std.proofs.Math.Nat.{suc-mul}
+use Rattle.avr_cli.specs.declared.settings.Switches.{Switches}
+use Rattle.avr_desk.specs.Said.{OutputEvent}
+use Rattle.avr_part.specs.Part.{Part}
+use Rattle.avr_plan.specs.Plan.{Plan}
+use Rattle.stk_frame.specs.Commands.{body}
+use Rattle.stk_frame.specs.HostCommands.{enter, leave}
+use Rattle.stk_frame.specs.declared.command.Command.{Command}
+use Rattle.stk_frame.specs.declared.command.Command.TheVariants.{SignOn}
+use Rattle.stk_host.specs.declared.fault.HostFault.{HostFault}
+use Rattle.stk_host.specs.declared.fault.StepFault.TheVariants.{NoAnswer}
+use Rattle.stk_host.specs.Tape.{Reading}
+use Rattle.stk_host.proofs.Dialogs.Logic.{World, HoldsFrom, Upholds, NoSays, OnReply, done, say, ask, bind, told, wider, call, attempts}
+use Rattle.stk_host.specs.Dialog.{Dialog, Done, ◌>>=◌}
+use Rattle.stk_host.specs.Steps.{exchange, Reply, Data, Again, Stop, reading_reply, with_data, attempt, StepOutcome, step, if_done, play}
+use Rattle.stk_host.specs.ReadSteps.{signature_steps}
+use Rattle.stk_host.specs.Operations.{handshake, signature_judged, opening, without_bytes, closing, judged_by, operation}
+use Rattle.stk_host.specs.Bound.{opening_steps, closing_steps}
+use Rattle.avr_session.specs.Standing.{Standing, Fine, Faulty, Over}
+use Rattle.avr_session.specs.Actions.{Action, OpenSession, actions}
+use Rattle.avr_session.specs.Session.{says, standing, reported, unless_fault, closed_says, action_dialog, actions_dialog, ending, status_of, session}
+use Rattle.avr_session.specs.PlanSteps.{action_steps, actions_steps, run_steps}
+use Rattle.avr_tool.proofs.Plans.Calls.{call_of, dialog_is}
+use Rattle.avr_tool.specs.AnyLine.{Weight, weighed, bodies_in}
+
+-- what is left of a budget after each question, whatever is read
+abbrev pub budget : Weight → World ℕ Reading
+budget w = record { reads = λ asked left reading. reading; after = λ asked left reading. left - w asked }
+
+-- the questions weigh at most `n`, whatever is read
+abbrev pub WeighsAtMost : {E R : Type 0} → Weight → ℕ → Dialog E R → Type 0
+WeighsAtMost w n d = HoldsFrom (budget w) (λ asked left. w asked ≤ left) (λ e left. Unit {0}) (λ r left. Unit {0}) d n
+
+module _ (w : Weight) where
+  pub weighed_append : (xs ys : List (List ℕ)) → weighed w (xs ++ ys) ≡ weighed w xs + weighed w ys
+  weighed_append [] ys = omega arith
+  weighed_append (x ∷ xs) ys = omega (arith, weighed_append xs ys)
+
+  bodies_append : (xs ys : List (List Command)) → bodies_in (xs ++ ys) ≡ bodies_in xs ++ bodies_in ys
+  bodies_append [] ys = refl
+  bodies_append (commands ∷ xs) ys = search (rules, append_assoc, bodies_append xs ys)
+
+  -- the weight of a step's commands, and of all steps'
+  abbrev of_step : List Command → ℕ
+  of_step commands = weighed w (map body commands)
+
+  abbrev total : List (List Command) → ℕ
+  total steps = weighed w (bodies_in steps)
+
+  total_on : (xs ys : List (List Command)) → total (xs ++ ys) ≡ total xs + total ys
+  total_on xs ys = ap (weighed w) (bodies_append xs ys) ∙ weighed_append (bodies_in xs) (bodies_in ys)
+
+  -- a dialog of a call, and of a session, that leaves part of a budget
+  abbrev Call : {R : Type 0} → (R → ℕ → Type 0) → Dialog ⊥ R → ℕ → Type 0
+  Call After d left = Upholds (budget w) (λ asked left. w asked ≤ left) NoSays After d left
+
+  abbrev OneAction : (Standing → ℕ → Type 0) → Dialog OutputEvent Standing → ℕ → Type 0
+  OneAction After d left = Upholds (budget w) (λ asked left. w asked ≤ left) (λ e left. Unit {0}) After d left
+
+  -- it spends at most `n` of any budget
+  abbrev Spends : {R : Type 0} → ℕ → Dialog ⊥ R → Type 0
+  Spends {R} n d = (k left : ℕ) → n + k ≤ left → Call (λ (r : R) rest. k ≤ rest) d left
+
+  abbrev Costs : ℕ → Dialog OutputEvent Standing → Type 0
+  Costs n d = (k left : ℕ) → n + k ≤ left → OneAction (λ r rest. k ≤ rest) d left
+
+  -- ---- steps
+
+  by_reply : {After : Reply → ℕ → Type 0} (go_on : List ℕ → Dialog ⊥ Reply) (reply : Reply) (left : ℕ)
+      → ((bytes : List ℕ) → Call After (go_on bytes) left)
+      → ((other : Reply) → After other left) → Call After (with_data go_on reply) left
+  by_reply go_on reply left each stop = search rules
+
+  attempt_spends : (commands : List Command) (before : List ℕ) → Spends (of_step commands) (attempt commands before)
+  unfolding attempt exchange
+  attempt_spends [] before k left le = done (omega (arith, le))
+  attempt_spends (command ∷ commands) before k left le =
+      ask (omega (arith, le))
+      (λ reading.
+      by_reply (λ bytes. attempt commands (before ++ bytes)) (reading_reply command reading) (left - w (body command))
+      (λ bytes. attempt_spends commands (before ++ bytes) k (left - w (body command)) (omega (arith, le)))
+      (λ other. omega (arith, le)))
+
+  step_spends : (commands : List Command) → Spends (4 * of_step commands) (step commands)
+  step_spends commands k left le =
+      attempts (budget w) (λ asked left. w asked ≤ left) commands (λ more t. more * of_step commands + k ≤ t)
+      (λ outcome t. k ≤ t)
+      (λ more t e. let size = suc-mul more (of_step commands) in
+      wider (λ asked t e. e) (λ e t f. f) (settled more)
+      (attempt_spends commands [] (more * of_step commands + k) t (omega (arith, e, size))))
+      (λ fault t e. omega (arith, e)) 4 NoAnswer left le
+    where
+      settled : (more : ℕ) (reply : Reply) (t : ℕ) → more * of_step commands + k ≤ t
+          → OnReply (λ t. more * of_step commands + k ≤ t) (λ outcome t. k ≤ t) reply t
+      settled more (Data bytes) t e = omega (arith, e)
+      settled more (Again fault) t e = e
+      settled more (Stop fault) t e = omega (arith, e)
+
+  -- a step, then the dialog that its data choose
+  then_spends : (commands : List Command) (steps : List (List Command)) (go_on : List ℕ → Dialog ⊥ StepOutcome)
+      → ((bytes : List ℕ) → Spends (4 * total steps) (go_on bytes))
+      → Spends (4 * total (commands ∷ steps)) (step commands >>= if_done go_on)
+  then_spends commands steps go_on each k left le =
+      let size = weighed_append (map body commands) (bodies_in steps) in
+      bind (step_spends commands (4 * total steps + k) left (omega (arith, le, size))) behind
+    where
+      behind : (o : StepOutcome) (t : ℕ) → 4 * total steps + k ≤ t → Call (λ r rest. k ≤ rest) (if_done go_on o) t
+      behind (Ok bytes) t e = each bytes k t e
+      behind (Err fault) t e = done (omega (arith, e))
+
+  play_spends : (steps : List (List Command)) (before : List ℕ) → Spends (4 * total steps) (play steps before)
+  unfolding play
+  play_spends [] before = λ k left le. done (omega (arith, le))
+  play_spends (commands ∷ steps) before = then_spends commands steps (λ bytes. play steps (before ++ bytes))
+      (λ bytes. play_spends steps (before ++ bytes))
+
+  -- ---- operations
+
+  operation_spends : {A : Type 0} (steps : List (List Command)) (judge : List ℕ → Result A HostFault)
+      → Spends (4 * total steps) (operation steps judge)
+  unfolding operation
+  operation_spends steps judge k left le = told (judged_by judge) (play_spends steps [] k left le) (λ o t e. e)
+
+  opening_spends : (signature : List ℕ) (force : Bool) → Spends (4 * total opening_steps) (opening signature force)
+  unfolding opening handshake
+  opening_spends signature force k left le =
+      told (signature_judged signature force)
+      (then_spends (SignOn ∷ []) ((enter ∷ []) ∷ signature_steps)
+      (λ name. step (enter ∷ []) >>= if_done (λ nothing. play signature_steps []))
+      (λ name. search (rules, then_spends, play_spends)) k left le)
+      (λ o t e. e)
+
+  closing_spends : Spends (4 * total closing_steps) closing
+  unfolding closing
+  closing_spends k left le =
+      let size = weighed_append (map body (leave ∷ [])) [] in
+      told without_bytes (step_spends (leave ∷ []) k left (omega (arith, le, size))) (λ o t e. e)
+
+  -- ---- the actions of a session
+
+  says_costs : (outputs : List OutputEvent) (s : Standing) (k left : ℕ) → k ≤ left
+      → OneAction (λ r rest. k ≤ rest) (says outputs (Done s)) left
+  says_costs [] s k left le = done le
+  says_costs (output ∷ outputs) s k left le = say tt (says_costs outputs s k left le)
+
+  reported_costs : {A : Type 0} (n : ℕ) (operation : Dialog ⊥ (Result A HostFault))
+      (tells : Result A HostFault → List OutputEvent) → Spends n operation → Costs n (reported operation tells)
+  reported_costs n operation tells asks k left le =
+      bind (call (asks k left le)) (λ r t e. says_costs (tells r) (standing r) k t e)
+
+  module _ (part : Part) (s : Switches) where
+    call_spends : (action : Action) → Spends (4 * total (action_steps part action)) (call_of part s action)
+    call_spends OpenSession = opening_spends part.signature s.force
+    call_spends action = search (rules, operation_spends)
+
+    action_costs : (action : Action) → Costs (4 * total (action_steps part action)) (action_dialog part s action)
+    action_costs action = subst (Costs (4 * total (action_steps part action))) (dialog_is part s action)
+        (search (rules, reported_costs, call_spends))
+
+    actions_cost : (actions : List Action)
+        → Costs (4 * total (actions_steps part actions)) (actions_dialog part s actions)
+    actions_cost [] k left le = done (omega (arith, le))
+    actions_cost (action ∷ actions) k left le =
+        let size = total_on (action_steps part action) (actions_steps part actions) in
+        bind (action_costs action (4 * total (actions_steps part actions) + k) left (omega (arith, le, size)))
+        (after (actions_cost actions))
+      where
+        after : Costs (4 * total (actions_steps part actions)) (actions_dialog part s actions) → (at : Standing) (t : ℕ)
+            → 4 * total (actions_steps part actions) + k ≤ t
+            → OneAction (λ r rest. k ≤ rest) (unless_fault (actions_dialog part s actions) at) t
+        after more Fine t e = more k t e
+        after more Faulty t e = done (omega (arith, e))
+        after more Over t e = done (omega (arith, e))
+
+    ending_costs : (at : Standing) → Costs (4 * total closing_steps) (ending part s at)
+    ending_costs Fine = reported_costs (4 * total closing_steps) closing (closed_says s.quiet part) closing_spends
+    ending_costs Faulty = λ k left le. told (λ closed. Over)
+        (reported_costs (4 * total closing_steps) closing (λ _. []) closing_spends k left le) (λ a t e. e)
+    ending_costs Over = λ k left le. done (omega (arith, le))
+
+  pub session_weighs : (plan : Plan) → WeighsAtMost w (4 * total (run_steps plan)) (session plan)
+  unfolding session
+  session_weighs plan =
+      let part = plan.part in
+      let s = plan.switches in
+      let n = 4 * total closing_steps in
+      let size = total_on (actions_steps part (actions plan)) closing_steps in
+      (told {After = λ r rest. Unit {0}} status_of
+      (bind (actions_cost part s (actions plan) n (4 * total (run_steps plan)) (omega (arith, size)))
+      (λ at t e. ending_costs part s at 0 t (omega (arith, e))))
+      (λ at t e. tt)).holds

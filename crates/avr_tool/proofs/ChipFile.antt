@@ -1,7 +1,0 @@
--- Runs over the emulator and its chip file.
-pub mod FewBadThenAgain
-pub mod Found
-pub mod Killed
-pub mod Others
-pub mod Promised
-pub mod SecondRun

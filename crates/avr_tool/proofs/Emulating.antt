@@ -1,0 +1,58 @@
+-- A run over the emulated programmer, from its stages.
+use Rattle.std.proofs.Common.{◌≡◌, ℕ, [], All, subst, rules}
+use Rattle.avr_tool.specs.Holding.{Loaded}
+use Rattle.avr_cli.specs.declared.settings.Settings.{Settings}
+use Rattle.avr_desk.specs.Fault.{Follows}
+use Rattle.avr_desk.specs.Record.{DeskState, Bytes}
+use Rattle.avr_part.specs.ChipFile.{chip_file}
+use Rattle.avr_part.specs.Sound.{IsSoundChip}
+use Rattle.avr_part.specs.State.{ChipState as Chip}
+use Rattle.avr_plan.specs.Plan.{Plan, IsFitted}
+use Rattle.avr_plan.specs.Planning.{planned}
+use Rattle.avr_desk.specs.Playing.{Went}
+use Rattle.avr_desk.specs.Stage.{Made}
+use Rattle.ghosts.specs.Stays.{Stays}
+use Rattle.stk_host.specs.Transcript.{sent}
+use Rattle.stk_emu.specs.Programmer.{fresh_programmer}
+use Rattle.stk_emu.specs.Wire.{fresh_wire}
+use Rattle.stk_emu.specs.Wired.{WiredState, ComesOf, wired_link}
+use Rattle.avr_session.specs.Run.{RunsSession}
+use Rattle.avr_session.specs.Runs.{devices}
+use Rattle.avr_tool.specs.AnyLine.{OverAnyLine}
+use Rattle.avr_tool.specs.Emulated.{IsSaved, new_wire, RunsOverEmulator}
+
+module _ (settings : Settings) (file : Bytes) (plan : Plan) (chip : Chip) (w v : WiredState) (held : w.held ≡ [])
+    (begun : w.wire ≡ fresh_wire (fresh_programmer chip) []) (waits : w.waits ≡ []) (silent : w.transcript ≡ [])
+    (unfailed : w.failures ≡ 0)
+    (fitted : All (IsFitted plan.part) plan.tasks) (part_is : chip.part ≡ plan.part) (is_sound : IsSoundChip chip) where
+  -- a wire that holds, brings and has passed nothing is a new one
+  is_new : w ≡ new_wire chip []
+  is_new = search rules
+
+  pub runs_over_emulator : (old planned_desk loaded_desk played_desk now : DeskState) (ran status : ℕ)
+      → Went (planned settings) old planned_desk (Made plan) → Loaded plan.part file planned_desk loaded_desk chip
+      → Follows played_desk now
+      → RunsSession plan (devices (wired_link w) loaded_desk) (devices (wired_link v) played_desk) ran
+      → Stays ComesOf w v → (w.wire.programmer.chip.part ≡ plan.part → OverAnyLine plan w v loaded_desk played_desk ran)
+      → IsSaved (sent v.transcript) played_desk now file (chip_file v.wire.programmer.chip) ran status
+      → RunsOverEmulator settings file old now status
+  runs_over_emulator old planned_desk loaded_desk played_desk now ran status made is_loaded by_saving runs
+      comes line saved = record {
+        plan = plan;
+        chip = chip;
+        after = v;
+        ran = ran;
+        planned_desk = planned_desk;
+        loaded_desk = loaded_desk;
+        played_desk = played_desk;
+        made = made;
+        fitted = fitted;
+        loaded = is_loaded;
+        part = part_is;
+        sound = is_sound;
+        runs = search (rules, is_new);
+        comes = subst (λ (x : WiredState). Stays ComesOf x v) is_new comes;
+        line = search (rules, is_new);
+        saved = saved;
+        follows = by_saving;
+      }

@@ -1,0 +1,35 @@
+-- A programmer in any state, and runs of steps from a settled one.
+use Rattle.std.proofs.Common.{ℕ, List, [], ◌∷◌, rules}
+use Rattle.avr_part.specs.State as chip
+use Rattle.avr_part.specs.Sound.{IsSoundChip}
+use Rattle.avr_part.specs.Part.{Part, IsPart}
+use Rattle.stk_frame.specs.declared.command.Command.{Command}
+use Rattle.stk_host.specs.Steps.{play}
+use Rattle.stk_emu.specs.Turn.{Turn}
+use Rattle.stk_emu.specs.Programmer.{Programmer}
+use Rattle.stk_emu.specs.Device.{device}
+use Rattle.stk_emu.specs.Along.{along}
+use Rattle.stk_emu.specs.Effect.{Memories, memories_of}
+use Rattle.stk_emu.specs.Settled.{Idle, Settled, FitsPart}
+use Rattle.avr_tool.proofs.Leads.{AreSome, Climbs}
+use Rattle.stk_emu.specs.PageWrites.{changed_by, AreSteps}
+use Rattle.avr_tool.proofs.PageWrites.Conditions.{play_climbs}
+use Rattle.avr_tool.proofs.PageWrites.OutsideMode.{all_fit}
+
+pub sound_idle : (p : Programmer) → IsSoundChip p.chip → Idle p.chip.part (memories_of p.chip) p
+sound_idle p sound = search rules
+
+pub sound_fits : (s : chip.ChipState) → IsSoundChip s → FitsPart s.part (memories_of s)
+sound_fits s sound = record { flash = sound.flash_size; eeprom = sound.eeprom_size; bytes = sound.flash }
+
+-- a step has a command
+pub are_some : (part : Part) (steps : List (List Command)) → AreSteps part steps → AreSome steps
+are_some part [] are = tt
+are_some part (commands ∷ steps) are = search (rules, are_some part steps are.1)
+
+pub steps_climb : (part : Part) (steps : List (List Command)) (m : Memories) (k : ℕ) (before : List ℕ) (p : Programmer)
+    (turns : List Turn)
+    → IsPart part → AreSteps part steps → Settled part m p
+    → Climbs device (λ j. Settled part (changed_by part j steps m)) k steps p turns
+    (along device k (play steps before) p turns)
+steps_climb part steps m k before p turns sound are s = search (rules, play_climbs, are_some, all_fit)

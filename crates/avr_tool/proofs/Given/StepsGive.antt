@@ -1,0 +1,186 @@
+-- What each step gives from a settled programmer: nothing, or the bytes of the memories.
+use Rattle.std.proofs.Common.{◌≡◌, ℕ, ◌+◌, ◌*◌, ◌/◌, ◌%◌, ◌≤◌, ◌<◌, List, [], ◌∷◌, length, take, drop, ap, ◌∙◌, arith, inl, inr, ◌⊎◌, true, false, cond, drop-cons, length-append, rules}
+use Rattle.std.proofs.lemmas.Bool.{ne_eqb, eq-eqb, ltb-false, cond-true}
+use Rattle.std.proofs.lemmas.List.{length-take, length-drop, get_or-append_right, take-append-le, take_all}
+use Rattle.avr_part.specs.declared.part.Mem.TheVariants.{Flash, Eeprom}
+use Rattle.avr_part.specs.Part.{Part, IsPart}
+use Rattle.stk_frame.specs.declared.command.Command.{Command}
+use Rattle.stk_frame.specs.declared.host_command.Fuse.{Fuse}
+use Rattle.stk_frame.specs.Commands.{body}
+use Rattle.stk_frame.specs.HostCommands.{program_page, program_eeprom_block, program_fuse, read_flash_block, read_eeprom_block, read_fuse, read_lock, read_signature, read_calibration}
+use Rattle.stk_host.specs.Tape.{Answered}
+use Rattle.stk_host.specs.Places.{flash_address, load_flash, load_eeprom}
+use Rattle.stk_host.specs.Steps.{Data, reading_reply}
+use Rattle.stk_host.proofs.ImagePlaces.PagesAndRuns.{page_most}
+use Rattle.stk_emu.specs.Programmer.{Programmer, obey_command, flash_looks, eeprom_looks}
+use Rattle.stk_emu.specs.Programmer as programmer
+use Rattle.stk_emu.specs.Device.{Device, device}
+use Rattle.stk_emu.specs.Effect.{Memories, effect, effects, Item}
+use Rattle.stk_emu.specs.Settled.{Settled, Ready, FitsPart}
+use Rattle.stk_emu.specs.PageWrites.{changed, page_write_of, IsStep, Erases, ProgramsPage, ProgramsRun, ProgramsFuse, ProgramsLock, ReadsFlash, ReadsEeprom, ReadsFuse, ReadsLock, ReadsSignature, ReadsCalibration, IsPage, FitsEepromPage, IsBlock, AreWords}
+use Rattle.stk_emu.specs.Given.{given_by, on_data, reply_to, joined_reply, Gives}
+use Rattle.stk_emu.proofs.Answers.Commands.{settled_ready}
+use Rattle.stk_emu.proofs.Memories.Pages.{is_wide, flash_loaded_at, flash_address_back}
+use Rattle.stk_emu.proofs.Memories.Runs.{narrow_loaded}
+use Rattle.stk_emu.proofs.Memories.BlocksRead.{Looked, flash_looked, eeprom_looked}
+use Rattle.avr_tool.proofs.PageWrites.Steps.{address_fits}
+use Rattle.avr_tool.proofs.PageWrites.OutsideMode.{in_mode_by_data, load_reply}
+use Rattle.avr_tool.proofs.PageWrites.Items.{effect_sizes, flash_even}
+
+module _ {P : Type 0} (m : Device P) where
+  one_gathered : (c : Command) (p : P) (bytes : List ℕ) → reply_to m c p ≡ Data bytes
+      → joined_reply m (c ∷ []) [] p ≡ Data bytes
+  one_gathered c p bytes e = ap (λ r. on_data r (λ b. Data b)) e
+
+  two_gathered : (c d : Command) (p : P) (bytes : List ℕ) → reply_to m c p ≡ Data []
+      → reply_to m d (m.after (body c) p) ≡ Data bytes → joined_reply m (c ∷ d ∷ []) [] p ≡ Data bytes
+  two_gathered c d p bytes e f = search rules
+
+in_mode_reply : (c : Command) (p : Programmer) (x y : programmer.Response) → p.mode ≡ true
+    → reading_reply c (Answered (cond p.mode x y).0) ≡ reading_reply c (Answered x.0)
+in_mode_reply c p x y e = ap (λ (z : programmer.Response). reading_reply c (Answered z.0)) (cond-true p.mode x y e)
+
+fuse_reply : (f : Fuse) (v : ℕ) (p : Programmer) → p.mode ≡ true → reply_to device (program_fuse f v) p ≡ Data []
+fuse_reply f v p e = search rules
+
+flash_read_reply : (count : ℕ) (bytes : List ℕ) (p : Programmer) → p.mode ≡ true → 0 < count → count % 2 ≡ 0
+    → count ≤ 256 → (flash_looks p.wide 0x20 p.address 0 count p.chip).0 ≡ bytes → length bytes ≡ count
+    → reply_to device (read_flash_block count) p ≡ Data bytes
+flash_read_reply count bytes p mode some even few is len =
+    search (rules, length-append, get_or-append_right, take-append-le, take_all, eq-eqb)
+
+eeprom_read_reply : (count : ℕ) (bytes : List ℕ) (p : Programmer) → p.mode ≡ true → 0 < count → count ≤ 256
+    → (eeprom_looks 0xA0 p.address 0 count p.chip).0 ≡ bytes → length bytes ≡ count
+    → reply_to device (read_eeprom_block count) p ≡ Data bytes
+eeprom_read_reply count bytes p mode some few is len =
+    search (rules, length-append, get_or-append_right, take-append-le, take_all)
+
+module _ (part : Part) (sound : IsPart part) where
+  block_length : (start count size : ℕ) (xs : List ℕ) → length xs ≡ size → start + count ≤ size
+      → length (take count (drop start xs)) ≡ count
+  block_length start count size xs long fits = let t = length-take count (drop start xs) in search (rules, length-drop)
+
+  flash_given : (start count : ℕ) (m : Memories) (p : Programmer) → IsBlock part Flash start count
+      → AreWords start count → FitsPart part m → Ready part m p
+      → joined_reply device (load_flash part start ∷ read_flash_block count ∷ []) [] p
+      ≡ Data (given_by part (load_flash part start ∷ read_flash_block count ∷ []) m)
+  flash_given start count m p is_block words f s =
+      let most = sound.flash_most in
+      let few : start < 4294967296 = omega arith in
+      let halves : start / 2 * 2 + 0 ≡ start = let e = words.start_even in omega arith in
+      let q : Programmer = record p { address = start / 2; wide = is_wide part } in
+      let long : length p.chip.flash ≡ part.flash_size = ap (λ (x : Memories). length x.flash) s.memories ∙ f.flash in
+      let looked : Looked (is_wide part) (start / 2 * 2 + 0) count p.chip
+      (flash_looks (is_wide part) 0x20 (start / 2) 0 count p.chip) =
+      flash_looked (is_wide part) (start / 2) 0 count part.flash_size p.chip (ap (λ (x : Part). x.flash_size) s.part_is)
+      long most (flash_even part sound) (omega arith)
+      (λ narrow. let size = ltb-false 131072 part.flash_size narrow in (s.extended size, size)) in
+      let bytes = take count (drop start m.flash) in
+      let is : (flash_looks (is_wide part) 0x20 (start / 2) 0 count p.chip).0 ≡ bytes =
+      search rules in
+      two_gathered device (load_flash part start) (read_flash_block count) p
+      (given_by part (load_flash part start ∷ read_flash_block count ∷ []) m)
+      (load_reply (flash_address part start) p (address_fits part sound start few))
+      (ap (reply_to device (read_flash_block count)) (flash_loaded_at part start p few)
+      ∙ (search (rules, flash_read_reply, block_length, flash_address_back)))
+
+  eeprom_given : (start count : ℕ) (m : Memories) (p : Programmer) → IsBlock part Eeprom start count → FitsPart part m
+      → Ready part m p
+      → joined_reply device (load_eeprom start ∷ read_eeprom_block count ∷ []) [] p
+      ≡ Data (given_by part (load_eeprom start ∷ read_eeprom_block count ∷ []) m)
+  eeprom_given start count m p is_block f s =
+      let inside = is_block.inside in
+      let most = sound.eeprom_most in
+      let q : Programmer = record p { address = start; wide = false } in
+      let long : length p.chip.eeprom ≡ part.eeprom_size =
+      ap (λ (x : Memories). length x.eeprom) s.memories ∙ f.eeprom in
+      let looked = eeprom_looked start 0 count part.eeprom_size p.chip (ap (λ (x : Part). x.eeprom_size) s.part_is) long
+      most (omega arith) in
+      let bytes = take count (drop start m.eeprom) in
+      let is : (eeprom_looks 0xA0 start 0 count p.chip).0 ≡ bytes =
+      search rules in
+      two_gathered device (load_eeprom start) (read_eeprom_block count) p bytes
+      (load_reply start p (omega arith))
+      (ap (reply_to device (read_eeprom_block count)) (narrow_loaded start p (omega arith))
+      ∙ eeprom_read_reply count bytes q s.mode is_block.some is_block.few is
+      (block_length start count part.eeprom_size m.eeprom f.eeprom inside))
+
+  lock_given : (m : Memories) (p : Programmer) → Ready part m p
+      → reply_to device read_lock p ≡ Data (given_by part (read_lock ∷ []) m)
+  lock_given m p s = in_mode_reply read_lock p _ _ s.mode ∙ ap (λ (x : Memories). Data (x.lock ∷ [])) s.memories
+
+  signature_given : (place : ℕ) (m : Memories) (p : Programmer) → place < 3 → Ready part m p
+      → reply_to device (read_signature place) p ≡ Data (given_by part (read_signature place ∷ []) m)
+  signature_given place m p few s = search (rules, ne_eqb, drop-cons)
+
+  calibration_given : (m : Memories) (p : Programmer) → Ready part m p
+      → reply_to device read_calibration p ≡ Data (given_by part (read_calibration ∷ []) m)
+  calibration_given m p s = in_mode_reply read_calibration p _ _ s.mode
+
+  -- from the commands as they are written
+  as_written : (written commands : List Command) (m : Memories) (p : Programmer) → commands ≡ written
+      → joined_reply device written [] p ≡ Data (given_by part written m)
+      → joined_reply device commands [] p ≡ Data (given_by part commands m)
+  as_written written commands m p e given = search rules
+
+  page_given : (number : ℕ) (bytes : List ℕ) (m : Memories) (p : Programmer) → IsPage part number bytes → Ready part m p
+      → joined_reply device (load_flash part (number * part.flash_page) ∷ program_page bytes ∷ []) [] p ≡ Data []
+  page_given number bytes m p is_page s = search (rules, page_most)
+
+  run_given : (address : ℕ) (bytes : List ℕ) (m : Memories) (p : Programmer) → FitsEepromPage part address bytes
+      → Ready part m p → joined_reply device (load_eeprom address ∷ program_eeprom_block bytes ∷ []) [] p ≡ Data []
+  run_given address bytes m p is_run s = search rules
+
+  -- all commands of a step, each obeyed and answered
+  pub step_data : (commands : List Command) (m : Memories) (p : Programmer) → IsStep part commands → FitsPart part m
+      → Ready part m p → joined_reply device commands [] p ≡ Data (given_by part commands m)
+  step_data commands m p (Erases e) f s = search rules
+  step_data commands m p (ProgramsPage number bytes is_page e) f s =
+      as_written _ commands m p e (page_given number bytes m p is_page s)
+  step_data commands m p (ProgramsRun address bytes is_run e) f s =
+      as_written _ commands m p e (run_given address bytes m p is_run s)
+  step_data commands m p (ProgramsFuse fuse v e) f s =
+      as_written _ commands m p e (one_gathered device (program_fuse fuse v) p [] (fuse_reply fuse v p s.mode))
+  step_data commands m p (ProgramsLock v e) f s =
+      as_written _ commands m p e (search (rules, one_gathered, in_mode_reply))
+  step_data commands m p (ReadsFlash start count is_block words e) f s =
+      as_written _ commands m p e (flash_given start count m p is_block words f s)
+  step_data commands m p (ReadsEeprom start count is_block e) f s =
+      as_written _ commands m p e (eeprom_given start count m p is_block f s)
+  step_data commands m p (ReadsFuse fuse e) f s = search rules
+  step_data commands m p (ReadsLock e) f s =
+      as_written _ commands m p e (one_gathered device read_lock p _ (lock_given m p s))
+  step_data commands m p (ReadsSignature place few e) f s =
+      as_written _ commands m p e (one_gathered device (read_signature place) p _ (signature_given place m p few s))
+  step_data commands m p (ReadsCalibration e) f s = search (rules, as_written, one_gathered, calibration_given)
+
+-- a step keeps the sizes of the memories
+changed_sizes_by : (part : Part) (items : List Item) (m : Memories) → IsPart part → FitsPart part m
+    → FitsPart part (effects part items m)
+changed_sizes_by part [] m sound f = f
+changed_sizes_by part (item ∷ items) m sound f =
+    changed_sizes_by part items (effect part item m) sound (effect_sizes part sound item m f)
+
+pub changed_sizes : (part : Part) (commands : List Command) (m : Memories) → IsPart part → FitsPart part m
+    → FitsPart part (changed part commands m)
+changed_sizes part commands m sound f = changed_sizes_by part (page_write_of commands) m sound f
+
+module _ (part : Part) (sound : IsPart part) where
+  pub given_same : (commands : List Command) (m : Memories) → IsStep part commands
+      → given_by part commands (changed part commands m) ≡ given_by part commands m
+  given_same commands m c' = search rules
+
+  -- an attempt under either condition gives what the memories hold
+  pub gives_given : (commands : List Command) (m : Memories) (got : List ℕ) → IsStep part commands → FitsPart part m
+      → Gives device commands (Settled part m) (Settled part (changed part commands m)) got
+      → got ≡ given_by part commands m
+  gives_given commands m got is f g = search (rules, from_either)
+    where
+      from_either : (q : Programmer) → Settled part m q ⊎ Settled part (changed part commands m) q
+          → joined_reply device commands [] q ≡ Data got
+          → joined_reply device commands [] q ≡ Data (given_by part commands m)
+      from_either q (inl t) has = search (rules, step_data, in_mode_by_data)
+      from_either q (inr t) has =
+          step_data part sound commands (changed part commands m) q is (changed_sizes part commands m sound f)
+          (settled_ready part (changed part commands m) q (in_mode_by_data part sound commands q got is has) t)
+          ∙ ap Data (given_same commands m is)

@@ -1,0 +1,34 @@
+-- The commands of a host's steps have bodies that fit a frame.
+use Rattle.std.proofs.Common.{◌≡◌, ℕ, List, [], ◌∷◌, sym, subst, rules}
+use Rattle.avr_part.specs.Part.{Part, IsPart}
+use Rattle.stk_frame.specs.declared.command.Command.{Command}
+use Rattle.stk_frame.specs.declared.host_command.Fuse.{Fuse}
+use Rattle.stk_frame.specs.Commands.{body}
+use Rattle.stk_frame.specs.HostCommands.{program_fuse, read_fuse}
+use Rattle.avr_tool.proofs.Each.{Each}
+use Rattle.stk_host.proofs.ImagePlaces.PagesAndRuns.{page_most}
+use Rattle.stk_emu.specs.Lawful.{IsBody}
+use Rattle.stk_emu.specs.PageWrites.{IsStep, AreSteps}
+
+abbrev pub AreSendable : List Command → Type 0
+AreSendable commands = Each (λ command. IsBody (body command)) commands
+
+abbrev pub EachSendable : List (List Command) → Type 0
+EachSendable steps = Each AreSendable steps
+
+module _ (part : Part) (sound : IsPart part) where
+  fuse_sendable : (f : Fuse) (v : ℕ) → AreSendable (program_fuse f v ∷ [])
+  fuse_sendable f v = search rules
+
+  fuse_read_sendable : (f : Fuse) → AreSendable (read_fuse f ∷ [])
+  fuse_read_sendable f = search rules
+
+  by_commands : (written commands : List Command) → commands ≡ written → AreSendable written → AreSendable commands
+  by_commands written commands e s = subst AreSendable (sym e) s
+
+  sendable : (commands : List Command) → IsStep part commands → AreSendable commands
+  sendable commands b' = search (rules, by_commands, page_most, fuse_sendable, fuse_read_sendable)
+
+  pub all_sendable : (steps : List (List Command)) → AreSteps part steps → EachSendable steps
+  all_sendable [] are = tt
+  all_sendable (commands ∷ steps) are = (sendable commands are.0, all_sendable steps are.1)

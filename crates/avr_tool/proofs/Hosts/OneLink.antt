@@ -1,0 +1,65 @@
+-- Calls over one link, in the logic of dialogs.
+use Rattle.std.proofs.Common.{◌≡◌, ℕ, zero, suc, List, subst, rules}
+use Rattle.std.specs.Prelude.{⊤}
+use Rattle.stk_emu.specs.Along.{along}
+use Rattle.stk_emu.specs.Device.{Device}
+use Rattle.stk_emu.specs.Programmer.{Programmer}
+use Rattle.stk_emu.specs.Turn.{Turn, after_turn, turn_reading, first_turn, other_turns}
+use Rattle.stk_host.proofs.Dialogs.Logic.{World, HoldsFrom, Upholds, NoSays}
+use Rattle.stk_host.specs.Dialog.{Dialog, Done, Say, Ask}
+use Rattle.avr_tool.proofs.Hosts.AnyTurn.{any_turn, Keeps, asks≢done, done_is}
+
+-- the programmer, and the turns to come
+abbrev pub Spot : Type 0
+Spot = Programmer × List Turn
+
+module _ (m : Device Programmer) where
+  -- each turn is the next of the list
+  abbrev pub this_link : World Spot ⊤
+  this_link = record {
+    reads = λ bytes z move. turn_reading (first_turn z.1) (m.answer bytes z.0);
+    after = λ bytes z move. (after_turn (first_turn z.1) (m.after bytes z.0) z.0 m.reset, other_turns z.1);
+  }
+
+  -- what a call upholds over this link
+  abbrev pub Runs : {R : Type 0} → (Spot → Type 0) → (R → Spot → Type 0) → Dialog ⊥ R → Spot → Type 0
+  Runs During After d z = Upholds this_link (λ bytes y. During y) NoSays After d z
+
+  -- the programmer and the turns after `k` questions
+  abbrev pub spot : {E R : Type 0} → ℕ → Dialog E R → Spot → Spot
+  spot k d z = let s = along m k d z.0 z.1 in (s.programmer, s.turns)
+
+  -- what holds over any link holds over this one
+  pub on_link : {R : Type 0} {During : Programmer → Type 0} {After : R → Programmer → Type 0} {d : Dialog ⊥ R}
+      {z : Spot} → Keeps m During After d z.0 → Runs (λ y. During y.0) (λ r y. After r y.0) d z
+  on_link {R = R} {During = During} {After = After} {d = d} {z = z} l = record { holds = on d z l.holds }
+    where
+      on : (d : Dialog ⊥ R) (z : Spot) → HoldsFrom (any_turn m) (λ bytes q. During q) NoSays After d z.0
+          → HoldsFrom this_link (λ bytes y. During y.0) NoSays (λ r y. After r y.0) d z
+      on (Done r) z h = h
+      on (Say e d) z h = absurd e
+      on (Ask bytes go_on) z h = (h.0, λ move. on (go_on _) (this_link.after bytes z tt) (h.1 (first_turn z.1)))
+
+  -- two facts of one call hold together
+  pub both : {R : Type 0} {During : Spot → Type 0} {After Here : R → Spot → Type 0} {d : Dialog ⊥ R} {z : Spot}
+      → Runs During After d z → Runs (λ y. ⊤) Here d z → Runs During (λ r y. After r y × Here r y) d z
+  both {R = R} {During = During} {After = After} {Here = Here} {d = d} {z = z} l g = search (rules, on)
+    where
+      on : (d : Dialog ⊥ R) (z : Spot) → HoldsFrom this_link (λ bytes y. During y) NoSays After d z
+          → HoldsFrom this_link (λ bytes y. ⊤) NoSays Here d z
+          → HoldsFrom this_link (λ bytes y. During y) NoSays (λ r y. After r y × Here r y) d z
+      on (Done r) z h g = (h, g)
+      on (Say e d) z h g = absurd e
+      on (Ask bytes go_on) z h g = (h.0, λ move. on (go_on _) (this_link.after bytes z tt) (h.1 tt) (g.1 tt))
+
+  -- when it is done
+  pub where_done : {R : Type 0} {During : Spot → Type 0} {After : R → Spot → Type 0} (d : Dialog ⊥ R) (z : Spot)
+      → Runs During After d z → (k : ℕ) (r : R) → (along m k d z.0 z.1).dialog ≡ Done r → After r (spot k d z)
+  where_done {R = R} {During = During} {After = After} d z l = on d z l.holds
+    where
+      on : (d : Dialog ⊥ R) (z : Spot) → HoldsFrom this_link (λ bytes y. During y) NoSays After d z → (k : ℕ) (r : R)
+          → (along m k d z.0 z.1).dialog ≡ Done r → After r (spot k d z)
+      on (Done a) z h k r e = subst (λ x. After x z) (done_is {E = ⊥} a r e) h
+      on (Say e d) z h k r is = absurd e
+      on (Ask bytes go_on) z h zero r e = absurd (asks≢done bytes go_on r e)
+      on (Ask bytes go_on) z h (suc k) r e = on (go_on _) (this_link.after bytes z tt) (h.1 tt) k r e

@@ -1,0 +1,137 @@
+-- Dialogs over one link, by their output: what holds at each question, and when they are done.
+use Rattle.std.proofs.Common.{◌≡◌, ℕ, zero, suc, List, [], ◌∷◌, ◌++◌, sym, subst, Result, rules}
+use Rattle.std.proofs.lemmas.List.{append-nil}
+use Rattle.std.specs.Prelude.{⊤}
+use Rattle.avr_desk.specs.Said.{OutputEvent}
+use Rattle.avr_session.specs.Session.{says, standing, reported}
+use Rattle.avr_session.specs.Standing.{Standing}
+use Rattle.stk_emu.specs.Along.{along, said_along}
+use Rattle.stk_emu.specs.Device.{device}
+use Rattle.stk_emu.specs.Programmer.{Programmer}
+use Rattle.stk_host.proofs.Dialogs.Logic.{World, HoldsFrom, NoSays}
+use Rattle.stk_host.specs.Dialog.{Dialog, Done, Say, Ask, ◌>>=◌}
+use Rattle.stk_host.specs.declared.fault.HostFault.{HostFault}
+use Rattle.avr_tool.proofs.Hosts.AnyTurn.{asks≢done, done_is}
+use Rattle.avr_tool.proofs.Hosts.OneLink.{Spot, this_link, Runs, spot}
+use Rattle.stk_host.proofs.Dialogs.Bound.{bind_done}
+
+abbrev link : World Spot ⊤
+link = this_link device
+
+-- each of these output events is true of a programmer
+abbrev pub AllTrue : (OutputEvent → Programmer → Type 0) → List OutputEvent → Programmer → Type 0
+AllTrue True [] q = ⊤
+AllTrue True (output ∷ outputs) q = True output q × AllTrue True outputs q
+
+-- no condition on the output
+abbrev pub Anything : OutputEvent → Programmer → Type 0
+Anything output q = ⊤
+
+pub any_outputs : (outputs : List OutputEvent) (q : Programmer) → AllTrue Anything outputs q
+any_outputs [] q = tt
+any_outputs (output ∷ outputs) q = (tt, any_outputs outputs q)
+
+-- a condition on the output so far, and one on a result too
+abbrev pub Moment : Type 1
+Moment = List OutputEvent → Spot → Type 0
+
+abbrev pub End : Type 0 → Type 1
+End R = R → List OutputEvent → Spot → Type 0
+
+-- both, after `k` questions along the link
+pub record Printed {R : Type 0} (Now : Moment) (After : End R) (k : ℕ) (d : Dialog OutputEvent R) (z : Spot) : Type
+    0 where
+  pub now : Now (said_along device k d z.0 z.1) (spot device k d z)
+  pub after : (r : R) → (along device k d z.0 z.1).dialog ≡ Done r
+      → After r (said_along device k d z.0 z.1) (spot device k d z)
+
+module _ (True : OutputEvent → Programmer → Type 0) where
+  -- Each output event is true when it is printed. The first condition holds at each question, the second at the end.
+  abbrev pub PrintsFrom : {R : Type 0} → Moment → End R → Dialog OutputEvent R → Spot → Type 0
+  PrintsFrom Now After (Done r) z = After r [] z
+  PrintsFrom Now After (Say output d) z =
+      True output z.0 × PrintsFrom (λ x. Now (output ∷ x)) (λ r x. After r (output ∷ x)) d z
+  PrintsFrom Now After (Ask bytes go_on) z =
+      Now [] z × PrintsFrom Now After (go_on (link.reads bytes z tt)) (link.after bytes z tt)
+
+  pub record Prints {R : Type 0} (Now : Moment) (After : End R) (d : Dialog OutputEvent R) (z : Spot) : Type 0 where
+    pub holds : PrintsFrom Now After d z
+
+  -- nothing more is printed
+  pub stops : {R : Type 0} {Now : Moment} (After : End R) (r : R) (said : List OutputEvent) (z : Spot) → After r said z
+      → Prints Now (λ b x. After b (said ++ x)) (Done r) z
+  stops After r said z a = record { holds = subst (λ x. After r x z) (sym (append-nil said)) a }
+
+  on_outputs : {R : Type 0} (Now : Moment) (After : End R) (outputs : List OutputEvent) (r : R) (z : Spot)
+      → AllTrue True outputs z.0 → After r outputs z → PrintsFrom Now After (says outputs (Done r)) z
+  on_outputs Now After [] r z all a = a
+  on_outputs Now After (output ∷ outputs) r z all a =
+      (all.0, on_outputs (λ x. Now (output ∷ x)) (λ r x. After r (output ∷ x)) outputs r z all.1 a)
+
+  -- a call and the output about its outcome
+  pub prints_reported : {A : Type 0} {During : Spot → Type 0} {After : Result A HostFault → Spot → Type 0}
+      {Now : Moment} {Then : End Standing} {d : Dialog ⊥ (Result A HostFault)} {z : Spot}
+      (outcome_says : Result A HostFault → List OutputEvent) → Runs device During After d z
+      → ((y : Spot) → During y → Now [] y)
+      → ((r : Result A HostFault) (y : Spot) → After r y
+      → AllTrue True (outcome_says r) y.0 × Then (standing r) (outcome_says r) y)
+      → Prints Now Then (reported d outcome_says) z
+  prints_reported {A = A} {During = During} {After = After} {Now = Now} {Then = Then} {d = d} {z = z} outcome_says l f
+      each = record { holds = on d z l.holds }
+    where
+      on : (d : Dialog ⊥ (Result A HostFault)) (z : Spot) → HoldsFrom link (λ bytes y. During y) NoSays After d z
+          → PrintsFrom Now Then (reported d outcome_says) z
+      on (Done r) z h = let x = each r z h in on_outputs Now Then (outcome_says r) (standing r) z x.0 x.1
+      on (Say e d) z h = absurd e
+      on (Ask bytes go_on) z h = (f z h.0, on (go_on _) (link.after bytes z tt) (h.1 tt))
+
+  -- a dialog, then the next one from its result
+  on_bind : {A B : Type 0} (Now Now' : Moment) (Between : End A) (After : End B) (next : A → Dialog OutputEvent B)
+      → ((said : List OutputEvent) (y : Spot) → Now said y → Now' said y)
+      → ((a : A) (said : List OutputEvent) (y : Spot) → Between a said y
+      → Prints (λ x. Now' (said ++ x)) (λ b x. After b (said ++ x)) (next a) y)
+      → (d : Dialog OutputEvent A) (z : Spot) → PrintsFrom Now Between d z → PrintsFrom Now' After (d >>= next) z
+  on_bind Now Now' Between After next f more (Done a) z h = (more a [] z h).holds
+  on_bind Now Now' Between After next f more (Say output d) z h = (
+    h.0,
+    on_bind (λ x. Now (output ∷ x)) (λ x. Now' (output ∷ x)) (λ a x. Between a (output ∷ x))
+        (λ b x. After b (output ∷ x)) next (λ x. f (output ∷ x)) (λ a x. more a (output ∷ x)) d z h.1,
+  )
+  on_bind Now Now' Between After next f more (Ask bytes go_on) z h =
+      (f [] z h.0, on_bind Now Now' Between After next f more (go_on _) (link.after bytes z tt) h.1)
+
+  pub prints_then : {A B : Type 0} {Now Now' : Moment} {Between : End A} {After : End B}
+      {next : A → Dialog OutputEvent B} {d : Dialog OutputEvent A} {z : Spot}
+      → ((said : List OutputEvent) (y : Spot) → Now said y → Now' said y) → Prints Now Between d z
+      → ((a : A) (said : List OutputEvent) (y : Spot) → Between a said y
+      → Prints (λ x. Now' (said ++ x)) (λ b x. After b (said ++ x)) (next a) y)
+      → Prints Now' After (d >>= next) z
+  prints_then {Now = Now} {Now' = Now'} {Between = Between} {After = After} {next = next} {d = d} {z = z} f l more =
+      record { holds = on_bind Now Now' Between After next f more d z l.holds }
+
+  -- conditions that follow
+  pub prints_wider : {R : Type 0} {Now Now' : Moment} {After After' : End R} {d : Dialog OutputEvent R} {z : Spot}
+      → ((said : List OutputEvent) (y : Spot) → Now said y → Now' said y)
+      → ((r : R) (said : List OutputEvent) (y : Spot) → After r said y → After' r said y)
+      → Prints Now After d z → Prints Now' After' d z
+  prints_wider {Now' = Now'} {After' = After'} {d = d} {z = z} f g l =
+      subst (λ d. Prints Now' After' d z) (bind_done d)
+      (prints_then f l (λ r said y a. stops After' r said y (g r said y a)))
+
+  on_moment : {R : Type 0} (Now : Moment) (After : End R)
+      → ((r : R) (said : List OutputEvent) (y : Spot) → After r said y → Now said y)
+      → (k : ℕ) (d : Dialog OutputEvent R) (z : Spot) → PrintsFrom Now After d z → Printed Now After k d z
+  on_moment Now After last k (Done a) z h = search (rules, done_is)
+  on_moment Now After last k (Say output d) z h =
+      let more = on_moment (λ x. Now (output ∷ x)) (λ r x. After r (output ∷ x)) (λ r x. last r (output ∷ x)) k d z h.1
+      in record { now = more.now; after = more.after }
+  on_moment Now After last zero (Ask bytes go_on) z h =
+      record { now = h.0; after = λ r e. absurd (asks≢done bytes go_on r e) }
+  on_moment Now After last (suc k) (Ask bytes go_on) z h =
+      let more = on_moment Now After last k (go_on _) (link.after bytes z tt) h.1 in
+      record { now = more.now; after = more.after }
+
+  pub at_moment : {R : Type 0} {Now : Moment} {After : End R} {d : Dialog OutputEvent R} {z : Spot}
+      → ((r : R) (said : List OutputEvent) (y : Spot) → After r said y → Now said y) → (k : ℕ) → Prints Now After d z
+      → Printed Now After k d z
+  at_moment {Now = Now} {After = After} {d = d} {z = z} last k l = on_moment Now After last k d z l.holds

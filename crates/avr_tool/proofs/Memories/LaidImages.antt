@@ -1,0 +1,139 @@
+-- What writes leave in a memory: their images laid over each other, and elsewhere the bytes before.
+use Rattle.std.proofs.Common.{◌≡◌, ℕ, zero, suc, ◌≤◌, arith, refl, ap, List, [], ◌∷◌, ◌++◌, length, get_or, Bool, true, false, Option, None, unwrap_or, rules}
+use Rattle.std.proofs.lemmas.Bool.{true≢false}
+use Rattle.std.proofs.lemmas.List.{length-replicate}
+use Rattle.std.specs.Prelude.{◌==◌, if◌then◌else◌}
+use Rattle.avr_cli.specs.declared.settings.Switches.{Switches}
+use Rattle.avr_image.specs.Image.{empty, byte_at, either, over}
+use Rattle.avr_part.specs.Part.{Part, size_of}
+use Rattle.avr_part.specs.declared.part.Mem.{Mem}
+use Rattle.avr_plan.specs.declared.planned.Task.{Task}
+use Rattle.avr_plan.specs.declared.planned.Task.TheVariants as task
+use Rattle.avr_session.specs.Actions.{TheWrite, Action, WriteImage, CompareImage, LeaveOut, tasks_actions}
+use Rattle.stk_emu.specs.Effect.{Image, Memories, with_image, and_in, and_with, write_effect, effects, memory_in}
+use Rattle.stk_emu.proofs.Memories.LaidImages.{length-laid, length-and_in}
+use Rattle.avr_tool.proofs.PageWrites.EachMemory.{same_memory, write_is, others_stay}
+use Rattle.avr_tool.specs.Agrees.{Shows, ActionsAgree}
+use Rattle.avr_tool.specs.Items.{actions_items}
+use Rattle.avr_tool.specs.Written.{memory_number, written_to, byte_in}
+use Rattle.avr_tool.proofs.Plans.Fits.{AllFitActions}
+
+-- ---- images laid over each other, byte by byte
+
+byte_of_empty : (size i : ℕ) → byte_at (empty size) i ≡ None
+byte_of_empty zero i = refl
+byte_of_empty (suc size) zero = refl
+byte_of_empty (suc size) (suc i) = byte_of_empty size i
+
+length-over : (a b : Image) → length (over a b) ≡ length a
+length-over [] b = refl
+length-over (x ∷ a) [] = refl
+length-over (x ∷ a) (y ∷ b) = ap suc (length-over a b)
+
+byte_of_over : (a b : Image) (i : ℕ) → length b ≤ length a → byte_at (over a b) i ≡ either (byte_at b i) (byte_at a i)
+byte_of_over [] [] i l = refl
+byte_of_over [] (y ∷ b) i l = absurd (omega (arith, l))
+byte_of_over (x ∷ a) [] i l = refl
+byte_of_over (x ∷ a) (y ∷ b) zero l = refl
+byte_of_over (x ∷ a) (y ∷ b) (suc i) l = byte_of_over a b i (omega (arith, l))
+
+-- ---- a write to bytes
+
+-- The number of bytes stays, and so does each byte for which the image has none.
+pub record Keeps (image : Image) (old new : List ℕ) : Type 0 where
+  pub size : length new ≡ length old
+  pub rest : (i : ℕ) → byte_at image i ≡ None → get_or new i 0 ≡ get_or old i 0
+
+kept_byte : (o : Option ℕ) (x : ℕ) → o ≡ None → unwrap_or o x ≡ x
+kept_byte o x e = search rules
+
+kept_bits : (o : Option ℕ) (x : ℕ) → o ≡ None → and_with o x ≡ x
+kept_bits o x e = search rules
+
+rest_laid : (image : Image) (xs : List ℕ) (i : ℕ) → byte_at image i ≡ None
+    → get_or (with_image image xs) i 0 ≡ get_or xs i 0
+rest_laid image [] i e = refl
+rest_laid [] (x ∷ xs) i e = refl
+rest_laid (b ∷ image) (x ∷ xs) zero e = kept_byte b x e
+rest_laid (b ∷ image) (x ∷ xs) (suc i) e = rest_laid image xs i e
+
+rest_anded : (image : Image) (xs : List ℕ) (i : ℕ) → byte_at image i ≡ None
+    → get_or (and_in image xs) i 0 ≡ get_or xs i 0
+rest_anded image [] i e = refl
+rest_anded [] (x ∷ xs) i e = refl
+rest_anded (b ∷ image) (x ∷ xs) zero e = kept_bits b x e
+rest_anded (b ∷ image) (x ∷ xs) (suc i) e = rest_anded image xs i e
+
+pub write_keeps : (part : Part) (mem : Mem) (image : Image) (m : Memories)
+    → Keeps image (memory_in part mem m) (memory_in part mem (write_effect mem image m))
+write_keeps part mem image m = search (rules, write_is, length-and_in, rest_anded, length-laid, rest_laid)
+
+-- ---- what is left of one memory
+
+-- It is as large as before, holds the image, and elsewhere its earlier bytes.
+pub record Left (part : Part) (mem : Mem) (image : Image) (old new : Memories) : Type 0 where
+  pub size : length (memory_in part mem new) ≡ length (memory_in part mem old)
+  pub shows : Shows part mem image new
+  pub rest : (i : ℕ) → byte_at image i ≡ None → byte_in part mem i new ≡ byte_in part mem i old
+
+module _ (part : Part) where
+  left_as_it_is : (mem : Mem) (size : ℕ) (m : Memories) → Left part mem (empty size) m m
+  left_as_it_is mem size m = search (rules, byte_of_empty)
+
+  left_by_write : (mem : Mem) (image : Image) (m : Memories) → Shows part mem image (write_effect mem image m)
+      → Left part mem image m (write_effect mem image m)
+  left_by_write mem image m shows = search (rules, write_keeps)
+
+  -- one image after another
+  left_over : (mem : Mem) (first second : Image) (old between new : Memories) → length second ≤ length first
+      → Left part mem first old between → Left part mem second between new → Left part mem (over first second) old new
+  left_over mem first second old between new l a b = search (rules, byte_of_over)
+
+  -- ---- what actions leave
+
+  length-written_to : (mem : Mem) (actions : List Action) → AllFitActions part actions
+      → length (written_to part mem (actions_items actions)) ≡ size_of mem part
+  length-written_to mem [] fit = length-replicate {A = Option ℕ} (size_of mem part) None
+  length-written_to mem (WriteImage other image ∷ actions) fit =
+      search (rules, length-over, same_memory, length-written_to mem actions fit.1)
+  length-written_to mem (action ∷ actions) fit = length-written_to mem actions fit.1
+
+  -- a write, and what follows it
+  write_left : (mem other : Mem) (image more : Image) (m new : Memories) (same : Bool)
+      → (memory_number other == memory_number mem) ≡ same
+      → length image ≡ size_of other part → length more ≡ size_of mem part
+      → Shows part other image (write_effect other image m) → Left part mem more (write_effect other image m) new
+      → Left part mem (if same then over image more else more) m new
+  write_left mem other image more m new true e fits size shows left =
+      let is = same_memory other mem e in
+      search (rules, left_by_write, left_over)
+  write_left mem other image more m new false e fits size shows left = search (rules, others_stay)
+
+  -- what actions that agree leave of a memory
+  abbrev Leave : Mem → List Action → Memories → Type 0
+  Leave mem actions m = AllFitActions part actions → ActionsAgree part actions m
+      → Left part mem (written_to part mem (actions_items actions)) m (effects part (actions_items actions) m)
+
+  write_leaves : (dry left_out : Bool) (mem other : Mem) (image : Image) (more : List Action) (m : Memories)
+      → left_out ≡ false → ((now : Memories) → Leave mem more now)
+      → Leave mem ((if dry then LeaveOut (TheWrite other image) ∷ []
+      else WriteImage other image ∷ (if left_out then [] else CompareImage other image ∷ [])) ++ more) m
+  write_leaves true left_out mem other image more m e rest fit agree = rest m fit.1 agree.1
+  write_leaves false true mem other image more m e rest fit agree = absurd (true≢false e)
+  write_leaves false false mem other image more m e rest fit agree =
+      let after = write_effect other image m in
+      write_left mem other image (written_to part mem (actions_items more)) m (effects part (actions_items more) after)
+      (memory_number other == memory_number mem) refl
+      fit.0.0 (length-written_to mem more fit.1.1) agree.1.0 (rest after fit.1.1 agree.1.1)
+
+  -- if writes are read back
+  pub tasks_left : (s : Switches) → s.no_verify ≡ false → (mem : Mem) (tasks : List Task) (m : Memories)
+      → Leave mem (tasks_actions s tasks) m
+  tasks_left s verified mem [] m fit agree = left_as_it_is mem (size_of mem part) m
+  tasks_left s verified mem (task.Write other image ∷ tasks) m fit agree =
+      write_leaves s.dry s.no_verify mem other image (tasks_actions s tasks) m verified
+      (λ now. tasks_left s verified mem tasks now) fit agree
+  tasks_left s verified mem (task.Verify other image ∷ tasks) m fit agree =
+      tasks_left s verified mem tasks m fit.1 agree.1
+  tasks_left s verified mem (task.Read other format file ∷ tasks) m fit agree =
+      tasks_left s verified mem tasks m fit.1 agree.1

@@ -1,0 +1,24 @@
+use Rattle.std.proofs.Common.{[]}
+use Rattle.stk_emu.specs.Programmer.{fresh_programmer}
+use Rattle.avr_tool.proofs.ServedRuns.{is_fresh}
+use Rattle.avr_tool.proofs.served_run.serve_chip.Goals as goal
+
+pub returns-clause-serves : goal.returns-clause-serves
+returns-clause-serves g c =
+    let begun = c.new-emulator.ensures in
+    let fresh = is_fresh c.args.chip c.new-emulator.result begun.held begun.programmer in
+    let serves = rw fresh at c.answer_all-served.ensures.serves in
+    let fed = rw fresh at begun.begins in
+    record {
+      served = c.answer_all-served.result;
+      left = c.answer_all-served.new.emulator;
+      told_desk = g.D.Desk.view c.tell_end.new.desk;
+      serves = serves;
+      in_turn = serves.in_turn (fresh_programmer c.args.chip) [] fed;
+      leaves = serves.leaves (fresh_programmer c.args.chip) [] fed;
+      fails = c.answer_all-served.ensures.failed;
+      told = c.tell_end.ensures.told;
+      rises = c.tell_end.ensures.follows;
+      saved = rw (c.chip.ensures, c.status_of.ensures) at c.save_after.ensures.saved;
+      follows = c.save_after.ensures.follows;
+    }

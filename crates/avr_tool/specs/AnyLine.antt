@@ -1,0 +1,94 @@
+-- What the session of a plan did over a link, whatever the link loses, delays and spoils. By the turns of its frames,
+-- and over a wire to the emulated programmer by their fates.
+use Rattle.std.specs.Prelude.{ℕ, ◌+◌, ◌*◌, ◌≡◌, ◌≤◌, ◌⊎◌, false, List, [], ◌∷◌, ◌++◌, map, length}
+use Rattle.avr_cli.specs.declared.settings.Switches.{Switches}
+use Rattle.avr_desk.specs.Record.{DeskState, Passes}
+use Rattle.avr_desk.specs.Said.{OutputEvent, after_all}
+use Rattle.avr_part.specs.declared.part.Mem.{Mem}
+use Rattle.avr_plan.specs.Plan.{Plan}
+use Rattle.avr_session.specs.PlanSteps.{run_steps}
+use Rattle.avr_session.specs.Run.{StopsSession}
+use Rattle.avr_session.specs.Runs.{Devices, devices}
+use Rattle.avr_session.specs.Session.{session}
+use Rattle.stk_emu.specs.Effect.{Memories, memories_of}
+use Rattle.stk_emu.specs.Programmer.{Programmer, fresh_programmer}
+use Rattle.stk_emu.specs.Turn.{Turn, Right}
+use Rattle.stk_emu.specs.Wire.{turns_of}
+use Rattle.stk_emu.specs.Wired.{WiredState, wired_link}
+use Rattle.stk_frame.specs.Commands.{body}
+use Rattle.stk_frame.specs.Cut.{body_of, frames}
+use Rattle.stk_frame.specs.declared.command.Command.{Command}
+use Rattle.stk_host.specs.Dialog.{Event, played, outputs}
+use Rattle.stk_host.specs.Transcript.{sent, heard}
+use Rattle.avr_tool.specs.ExpectedRun.{expected_run}
+use Rattle.avr_tool.specs.Items.{asked_items}
+use Rattle.avr_tool.specs.Outcome.{IsExpectedRun, IsDone, MakesPageWrites}
+use Rattle.avr_tool.specs.Written.{IsWritten, comparing}
+
+-- The weight of a body: 1 counts frames, its length counts bytes, 1 or 0 counts one command.
+abbrev pub Weight : Type 0
+Weight = List ℕ → ℕ
+
+abbrev pub weighed : Weight → List (List ℕ) → ℕ
+weighed weight [] = 0
+weighed weight (first ∷ bodies) = weight first + weighed weight bodies
+
+abbrev pub bodies_in : List (List Command) → List (List ℕ)
+bodies_in [] = []
+bodies_in (commands ∷ steps) = map body commands ++ bodies_in steps
+
+-- No frame goes wrong.
+abbrev pub AreGood : List Turn → Type 0
+AreGood [] = Unit {0}
+AreGood (turn ∷ turns) = (turn ≡ Right) × AreGood turns
+
+-- A session of this plan, however it ends, also if it breaks off or waits forever. Its frames had these turns and led
+-- the programmer from `p` to `q`, and these bytes were sent.
+pub record OverTurns (plan : Plan) (p q : Programmer) (turns : List Turn) (bytes : List ℕ) : Type 0 where
+  -- the first writes of the plan were made: those completed, and perhaps one more
+  pub page_writes : MakesPageWrites plan p turns (length (frames bytes)) (memories_of p.chip) (memories_of q.chip)
+  -- at most four frames for each command of the plan's steps, by every weight of bodies
+  pub four : (weight : Weight) → weighed weight (map body_of (frames bytes))
+      ≤ 4 * weighed weight (bodies_in (run_steps plan))
+
+-- What holds besides for a session with this status. The expected run is the output, the status and the memories of
+-- the same plan over a perfect link.
+pub record ComesOverTurns (plan : Plan) (before after : Memories) (turns : List Turn) (says : List OutputEvent)
+    (status : ℕ) : Type 0 where
+  -- status 0 can be trusted: only trouble of the link was hidden
+  pub success : status ≡ 0 → IsExpectedRun plan before after says status
+  -- all that the plan writes was written, and all that it compares agreed
+  pub done : status ≡ 0 → IsDone plan before after
+  -- each memory holds its images, later over earlier; the rest is as it was, or as an erase leaves it
+  pub images : status ≡ 0 → plan.switches.no_verify ≡ false
+      → IsWritten plan.part (asked_items plan) before after
+  -- so a further run that compares memories with their images succeeds, if none of its frames goes wrong
+  pub further : status ≡ 0 → plan.switches.no_verify ≡ false → (s : Switches) (mems : List Mem) → s.erase ≡ false
+      → (expected_run (comparing plan s mems) after).status ≡ 0
+  -- if no frame goes wrong, the session is its expected run
+  pub good : AreGood turns → IsExpectedRun plan before after says status
+
+-- ---- over a wire
+
+-- The memories of its chip; below, all events over what was received.
+abbrev pub memories : WiredState → Memories
+memories w = memories_of w.wire.programmer.chip
+
+abbrev pub events_over : Plan → WiredState → List (Event OutputEvent)
+events_over plan w = (played (session plan) 1 (heard w.transcript)).events
+
+abbrev pub wire_and_desk : WiredState → DeskState → Devices
+wire_and_desk w desk = devices (wired_link w) desk
+
+-- The session stopped: a device failed, as the first, or allocation failed at an action that allocates.
+abbrev pub Stopped : Plan → WiredState → WiredState → DeskState → DeskState → Type 0
+Stopped plan before after old now = StopsSession plan (wire_and_desk before old) (wire_and_desk after now)
+
+-- What a session of this plan did between these states of a wire, whatever the fates of its frames. It ran to its
+-- status, and all its output was done at the desk; or it stopped with status 1.
+pub record OverAnyLine (plan : Plan) (before after : WiredState) (old now : DeskState) (status : ℕ) : Type 0 where
+  pub line : OverTurns plan (fresh_programmer before.wire.programmer.chip) after.wire.programmer
+      (turns_of before.wire.fates) (sent after.transcript)
+  pub end : (ComesOverTurns plan (memories before) (memories after) (turns_of before.wire.fates)
+      (outputs (events_over plan after)) status × Passes (after_all (outputs (events_over plan after))) old now)
+      ⊎ (Stopped plan before after old now × (status ≡ 1))

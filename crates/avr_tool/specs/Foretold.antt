@@ -1,0 +1,44 @@
+-- The output of a session, whatever the link does: that of the expected run, or that of the actions that ended and
+-- then the line of a failed step.
+use Rattle.std.specs.Prelude.{ℕ, ◌≡◌, ◌⊎◌, List, [], ◌∷◌, ◌++◌}
+use Rattle.avr_cli.specs.declared.settings.Switches.{Switches}
+use Rattle.avr_desk.specs.Said.{OutputEvent, Line}
+use Rattle.avr_part.specs.Part.{Part}
+use Rattle.avr_plan.specs.Plan.{Plan}
+use Rattle.stk_host.specs.Operations.{host_fault}
+use Rattle.stk_host.specs.declared.fault.StepFault.{StepFault}
+use Rattle.stk_emu.specs.Effect.{Memories}
+use Rattle.avr_session.specs.Standing.{Fine}
+use Rattle.avr_session.specs.Actions.{Action, actions}
+use Rattle.avr_session.specs.Lines.{fault_line}
+use Rattle.avr_tool.specs.ExpectedRun.{actions_expected, expected_run}
+
+-- The output of some first actions, which ended without a fault in the expected run.
+pub record SaysFirst (part : Part) (s : Switches) (actions : List Action) (m : Memories)
+    (says : List OutputEvent) : Type 0 where
+  pub done : List Action
+  pub more : List Action
+  pub actions_are : actions ≡ done ++ more
+  pub fine : (actions_expected part s done m).standing ≡ Fine
+  pub says_are : says ≡ (actions_expected part s done m).says
+
+-- After this output the line of a failed step follows: of the next action, or of the closing after all of them.
+pub record SaysFault (part : Part) (s : Switches) (actions : List Action) (m : Memories)
+    (says : List OutputEvent) : Type 0 where
+  pub told : List OutputEvent
+  pub first : SaysFirst part s actions m told
+  pub fault : StepFault
+  pub says_are : says ≡ told ++ Line (fault_line part (host_fault fault)) ∷ []
+
+-- At any moment of a session.
+abbrev pub IsForetold : Plan → Memories → List OutputEvent → Type 0
+IsForetold plan m says =
+    (says ≡ (expected_run plan m).says)
+    ⊎ (SaysFirst plan.part plan.switches (actions plan) m says
+    ⊎ SaysFault plan.part plan.switches (actions plan) m says)
+
+-- With a status: that of the expected run, or 1.
+abbrev pub EndsAsForetold : Plan → Memories → List OutputEvent → ℕ → Type 0
+EndsAsForetold plan m says status =
+    ((says ≡ (expected_run plan m).says) × (status ≡ (expected_run plan m).status))
+    ⊎ (SaysFault plan.part plan.switches (actions plan) m says × (status ≡ 1))

@@ -1,0 +1,106 @@
+//! Runs over the emulated programmer: of a plan over a wire, and from settings to status, with the chip file of their
+//! port.
+ghost use Rattle.std.specs.Prelude.{◌≡◌};
+ghost use Rattle.avr_desk.specs.Fault.{Follows};
+ghost use Rattle.avr_tool.specs.AnyLine.{OverAnyLine};
+ghost use Rattle.avr_session.specs.Run.{RunsSession};
+ghost use Rattle.avr_session.specs.Runs.{devices};
+ghost use Rattle.stk_emu.specs.Wired.{ComesOf, IsFresh, wired_link};
+ghost use Rattle.ghosts.specs.Stays.{Stays};
+ghost use Rattle.stk_host.specs.Transcript.{sent};
+ghost use Rattle.avr_part.specs.ChipFile.{chip_file};
+ghost use Rattle.avr_tool.specs.Emulated.{IsSaved, RunsEmulator};
+ghost use Rattle.avr_tool.specs.Ports.{IsEmulated, chip_file_of};
+
+use crate::holding::hold_chip;
+use crate::ports::chip_file as file_of;
+use crate::saving::save_after;
+use avr_cli::Settings;
+use avr_desk::{ChipDesk, Desk};
+use avr_plan::{Plan, plan};
+use avr_session::drive;
+use std::alloc::Global;
+use stk_emu::{Fates, Wired};
+
+/// Runs the session of a plan over a wire to the emulated programmer, as [`avr_session::drive`] does over any link.
+/// Returns the status: 0 if there was no fault, otherwise 1.
+///
+/// The wire must be new: nothing sent or received yet. The chip may be of another part than the plan's.
+pub fn drive_wired<D: Desk>(alloc: Global, plan: &Plan, desk: &mut D, wire: &mut Wired) -> u8
+    requires fresh { IsFresh wire.old }
+    // It is a run of the session: what is sent, output and returned.
+    ensures runs { RunsSession plan.now (devices (wired_link wire.old) (D.view desk.old))
+        (devices (wired_link wire.new) (D.view desk.new)) result }
+    // The counts of the desk's failures never fall.
+    ensures follows { Follows (D.view desk.old) (D.view desk.new) }
+    // The wire stays what it came from.
+    ensures comes { Stays ComesOf wire.old wire.new }
+    // With a chip of the plan's part this is the result, whatever the wire loses, delays and spoils. Proof:
+    // `over_any_line` (WirePlays).
+    ensures line { wire.old.wire.programmer.chip.part ≡ plan.now.part
+        → OverAnyLine plan.now wire.old wire.new (D.view desk.old) (D.view desk.new) result }
+    ensures stays { Stays D.comes_of desk.old desk.new }
+{
+    // Ghost calls: bring into scope that each image has its memory's size, and the chip's memories their part's
+    // sizes.
+    let _tasks = plan.tasks();
+    let _part = wire.chip().part();
+    drive(alloc, plan, desk, wire)
+}
+
+/// Saves the chip of a wire if anything was sent over it, unlocks its file, and returns the run's status.
+fn save_if_sent<D: ChipDesk>(
+    alloc: Global,
+    wire: &Wired,
+    file: &str,
+    desk: &mut D,
+    status: u8,
+) -> u8
+    ensures saved { IsSaved (sent wire.now.transcript) (D.view desk.old) (D.view desk.new) file.now
+        (chip_file wire.now.wire.programmer.chip) status result }
+    ensures follows { Follows (D.view desk.old) (D.view desk.new) }
+    ensures stays { Stays D.comes_of desk.old desk.new }
+{
+    if wire.sent().is_empty() {
+        desk.release();
+        return status;
+    }
+    save_after(alloc, wire.chip(), file, desk, status)
+}
+
+/// Makes the plan of a run, and runs it over an emulated programmer. The port of the settings must be
+/// [`Port::Emulated`](avr_cli::Port::Emulated). The chip is loaded from its file, or fresh if the file doesn't exist,
+/// and saved to it if a frame was sent. The file is locked from loading to saving: another run is refused.
+///
+/// Returns the status: 0 if there was no fault, otherwise 1. Every fault has its line, and a refusal is reported
+/// before any frame is sent.
+///
+/// ```text
+/// let mut settings = Settings::for_link(alloc, "m328p")?;
+/// settings.port = Port::Emulated(Text::new(alloc, "chip.bin")?);
+/// let mut desk = MemDesk::empty(alloc);
+/// assert_eq!(rt; run_emu(alloc, &settings, &mut desk), 0);
+/// assert!(rt; desk.file("chip.bin").map(|file| file.len()) == Some(33_796));
+/// ```
+pub fn run_emu<D: ChipDesk>(alloc: Global, settings: &Settings, desk: &mut D) -> u8
+    requires port { IsEmulated settings.now.port }
+    // Proof: `runs_over_emulator` (Emulating), from the `line` of `drive_wired`.
+    ensures runs { RunsEmulator settings.now (chip_file_of settings.now.port) (D.view desk.old) (D.view desk.new) result }
+    ensures stays { Stays D.comes_of desk.old desk.new }
+{
+    let plan = match plan(alloc, settings, desk) {
+        Ok(plan) => plan,
+        Err(status) => return status,
+    };
+    let file = file_of(&settings.port);
+    let chip = match hold_chip(alloc, plan.part(), file, desk) {
+        Ok(chip) => chip,
+        Err(status) => return status,
+    };
+    // Ghost calls, as above.
+    let _tasks = plan.tasks();
+    let _part = chip.part();
+    let mut wire = Wired::with_fates(alloc, chip, Fates::none(alloc));
+    let status = drive_wired(alloc, &plan, desk, &mut wire);
+    save_if_sent(alloc, &wire, file, desk, status)
+}
