@@ -1,3 +1,4 @@
 -- What status 0 means, and outcomes that are refused.
 pub mod Promise
+pub mod OverDamage
 pub mod Refused

@@ -1,13 +1,25 @@
-//! A law of links that lose, delay and damage frames. No code.
+//! Laws of links that lose, delay and damage frames. No code.
 #![tactic(auto)]
 
-ghost use Rattle.std.specs.Prelude.{◌≡◌, true, ℕ, List, [], Bool, All};
-ghost use Rattle.stk_frame.specs.Cut.{IsPiece, is_good};
+ghost use Rattle.std.specs.Prelude.{◌≡◌, true, false, ℕ, List, [], Bool, All};
+ghost use Rattle.avr_cli.specs.declared.settings.Settings.{Settings};
+ghost use Rattle.avr_desk.specs.Stage.{Made};
+ghost use Rattle.avr_part.specs.Sound.{IsSoundChip};
+ghost use Rattle.avr_plan.specs.Plan.{Plan};
+ghost use Rattle.avr_plan.specs.Planning.{planned};
+ghost use Rattle.avr_session.specs.Runs.{Devices};
+ghost use Rattle.avr_session.specs.Session.{session};
+ghost use Rattle.stk_frame.specs.Cut.{IsPiece, frames, is_good};
 ghost use Rattle.stk_host.specs.Dialog.{Dialog};
-ghost use Rattle.stk_emu.specs.Device.{device};
+ghost use Rattle.stk_host.specs.Transcript.{heard, sent};
+ghost use Rattle.stk_emu.specs.Device.{device, after_frames};
+ghost use Rattle.stk_emu.specs.Effect.{effects, memories_of};
 ghost use Rattle.stk_emu.specs.Programmer.{Programmer};
 ghost use Rattle.stk_emu.specs.Turn.{Became};
-ghost use Rattle.avr_laws.specs.AnyTape.{CameThrough};
+ghost use Rattle.avr_tool.specs.Headline.{IsRun};
+ghost use Rattle.avr_tool.specs.Items.{items, asked_items};
+ghost use Rattle.avr_tool.specs.Written.{IsWritten};
+ghost use Rattle.avr_laws.specs.AnyTape.{CameThrough, became_by};
 ghost use Rattle.avr_laws.specs.Damaged.{Arrived, Arrival, BringsReplies, as_tape};
 ghost use Rattle.avr_laws.specs.NoFrame.{MakesNoFrame};
 
@@ -22,4 +34,19 @@ pub fn a_link_that_damages_one_byte_forges_no_frame<E, R>()
         → All (λ piece. is_good piece ≡ true) sent → Arrived sent through got → CameThrough got sent through }
     ensures host { (d : Dialog E R) (n : ℕ) (come : List Arrival) (p : Programmer) (becames : List Became)
         → BringsReplies device d n come p becames [] → MakesNoFrame device d n (as_tape come) p becames [] }
+{}
+
+/// States what status 0 means over such a link, without a word about forged frames. Of the frames sent, in order, each
+/// arrived whole, damaged or not at all. The replies came as above.
+// Proof: `over_damage` (Runs/OverDamage).
+pub fn over_a_link_that_damages_one_byte_status_0_means_the_images()
+    ensures { (s : Settings) (plan : Plan) (before now : Devices) (r : IsRun s before now 0)
+        → (planned s r.openings).answer ≡ Made plan → before.link.transcript ≡ []
+        → (p : Programmer) (got : List ℕ) (through : List Bool) (come : List Arrival)
+        → IsSoundChip p.chip → p.chip.part ≡ plan.part
+        → Arrived (frames (sent now.link.transcript)) through got → heard now.link.transcript ≡ as_tape come
+        → BringsReplies device (session plan) 1 come p (became_by through) []
+        → (memories_of (after_frames device (frames got) p).chip ≡ effects plan.part (items plan) (memories_of p.chip))
+        × (plan.switches.no_verify ≡ false → IsWritten plan.part (asked_items plan) (memories_of p.chip)
+        (memories_of (after_frames device (frames got) p).chip)) }
 {}

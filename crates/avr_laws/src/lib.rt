@@ -47,7 +47,10 @@ pub use conversations::{
 pub use crashes::{
     a_crash_leaves_the_old_chip_or_the_new_one, a_crash_leaves_the_old_chip_or_the_served_one,
 };
-pub use damaged_frames::a_link_that_damages_one_byte_forges_no_frame;
+pub use damaged_frames::{
+    a_link_that_damages_one_byte_forges_no_frame,
+    over_a_link_that_damages_one_byte_status_0_means_the_images,
+};
 pub use few_bad_frames::a_run_with_few_bad_frames_is_its_expected_run;
 pub use planning::{
     a_plan_fits_its_part, a_plan_is_of_whole_files, a_plan_is_the_one_asked_for,

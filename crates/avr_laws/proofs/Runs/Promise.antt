@@ -27,7 +27,7 @@ use Rattle.avr_tool.specs.Headline.{after_answer, IsRun}
 use Rattle.avr_tool.proofs.Runs.Joined.{said_bytes}
 
 module _ (s : Settings) (x y : Devices) (r : IsRun s x y 0) where
-  abbrev tape : Tape
+  abbrev pub tape : Tape
   tape = heard r.during
 
   abbrev left_over : Tape
@@ -45,10 +45,10 @@ module _ (s : Settings) (x y : Devices) (r : IsRun s x y 0) where
   made = search (rules, over)
 
   module _ (plan : Plan) (made_is : (planned s r.openings).answer ≡ Made plan) (silent : x.link.transcript ≡ []) where
-    same : y.link.transcript ≡ r.during
+    pub same : y.link.transcript ≡ r.during
     same = r.grows ∙ ap (λ (t : Transcript). t ++ r.during) silent
 
-    abbrev done : List (Event OutputEvent)
+    abbrev pub done : List (Event OutputEvent)
     done = (played (session plan) 1 tape).events
 
     over_plan : behind before (played (session plan) 1 tape)
@@ -58,7 +58,7 @@ module _ (s : Settings) (x y : Devices) (r : IsRun s x y 0) where
     played_is : played (session plan) 1 tape ≡ record { events = done; outcome = Some (0, r.next, left_over) }
     played_is = ap (λ (p : Played OutputEvent ℕ). record { events = done; outcome = p.outcome }) over_plan
 
-    sent_is : bytes_sent done ≡ sent r.during
+    pub sent_is : bytes_sent done ≡ sent r.during
     sent_is = search (rules, said_bytes, over_plan)
 
     pub promise : (p : Programmer) (got : List ℕ) (through : List Bool) → IsSoundChip p.chip → p.chip.part ≡ plan.part
