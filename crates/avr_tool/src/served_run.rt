@@ -47,11 +47,7 @@ fn find_part<D: Desk>(alloc: Global, desk: &mut D, settings: &Settings) -> Resul
 /// The status 1 if the part file, the part's name or the chip file is refused, or if another run has locked the chip
 /// file. It is also 1 if the chip file could not be saved later, or if the desk or allocation fails. The line of the
 /// reason was printed, as far as the desk takes it.
-pub fn judge_part<D: ChipDesk>(
-    alloc: Global,
-    settings: &Settings,
-    desk: &mut D,
-) -> Result<Part, u8>
+pub fn judge_part<D: ChipDesk>(alloc: Global, settings: &Settings, desk: &mut D) -> Result<Part, u8>
     requires port { HasChip settings.now.port }
     ensures judges { JudgesPart settings.now (chip_file_of settings.now.port) (D.view desk.old) (D.view desk.new) result }
     ensures stays { Stays D.comes_of desk.old desk.new }

@@ -144,5 +144,12 @@ pub fn serve_net<N: Network, D: ChipDesk>(
             return status;
         }
     };
-    serve_at(network, alloc, &part, place_of(&settings.port), chip_file(&settings.port), desk)
+    serve_at(
+        network,
+        alloc,
+        &part,
+        place_of(&settings.port),
+        chip_file(&settings.port),
+        desk,
+    )
 }

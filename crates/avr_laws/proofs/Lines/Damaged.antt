@@ -231,9 +231,11 @@ were_sent n most sent (piece ∷ pieces) all (is, later) le = elim (was_sent sen
       (omega (arith, window_rest n piece pieces most (no_piece n piece none) le)))
   | inr (whole, was) ↦ subst (λ bs. WereSent n sent (cut bs))
       (sym (take_front piece (concat pieces) most (window_front n piece pieces most le)))
-      (subst (WereSent n sent) (sym (cut_first piece (take (most - length piece) (concat pieces)) whole))
-      (was, λ other. were_sent n (most - length piece) sent pieces all (later other)
-          (window_rest n piece pieces most other le)))
+      (subst (WereSent n sent) (sym (cut_first piece (take (most - length piece) (concat pieces)) whole)) (
+        was,
+        λ other. were_sent n (most - length piece) sent pieces all (later other)
+            (window_rest n piece pieces most other le),
+      ))
 ]
 
 -- ---- how the bytes are read
@@ -286,14 +288,22 @@ behind : (n : ℕ) (piece bytes : List ℕ) (come : List Arrival) → (piece ≡
     → Found n (Whole piece ∷ come) (piece ++ bytes) ⊎ Lost n (Whole piece ∷ come) (piece ++ bytes)
 behind n piece bytes come whole other (inl (body, left, is, tape, first)) =
     let size : length piece + length bytes ≡ length (piece ++ bytes) = sym (length-append piece bytes) in
-    inl (body, left, cond-false (is_answer n piece) _ _ other ∙ is,
+    inl (
+      body,
+      left,
+      cond-false (is_answer n piece) _ _ other ∙ is,
       joined piece bytes (as_tape come) (as_tape left) tape,
       further_first n piece bytes whole other
-      ∙ (ap (further (length piece)) first ∙ ap (λ k. Some (body, k)) size))
+          ∙ (ap (further (length piece)) first ∙ ap (λ k. Some (body, k)) size),
+    )
 behind n piece bytes come whole other (inr (left, is, none, tape, first)) =
-    inr (left, cond-false (is_answer n piece) _ _ other ∙ is, none,
+    inr (
+      left,
+      cond-false (is_answer n piece) _ _ other ∙ is,
+      none,
       joined piece bytes (as_tape come) (as_tape left) tape,
-      further_first n piece bytes whole other ∙ ap (further (length piece)) first)
+      further_first n piece bytes whole other ∙ ap (further (length piece)) first,
+    )
 
 looked : (n : ℕ) (sent : List (List ℕ)) (come : List Arrival) → AllReplies sent → AreReplies n sent (burst come)
     → Found n come (up_to_reply n (burst come)) ⊎ Lost n come (up_to_reply n (burst come))
@@ -314,9 +324,12 @@ looked n sent (Whole piece ∷ come) all (is, later) = elim (cases_Bool (is_answ
         → Found n (Whole piece ∷ come) (piece ++ [])
     taken found (inl none) = absurd (no_reply n piece none found)
     taken found (inr (whole, was)) = subst (Found n (Whole piece ∷ come)) (sym (append-nil piece)) (
-      body_of piece, come, cond-true (is_answer n piece) _ _ found, refl,
+      body_of piece,
+      come,
+      cond-true (is_answer n piece) _ _ found,
+      refl,
       ap (first_answer n) (ap cut (sym (append-nil piece)) ∙ cut_first piece [] whole)
-      ∙ cond-true (is_answer n piece) _ _ found,
+          ∙ cond-true (is_answer n piece) _ _ found,
     )
 
 abbrev on_the_tape : Option (Reading × List Arrival) → Option (Reading × Tape)
