@@ -3,8 +3,8 @@
 
     tools/measure.py            prints the table that docs/ARCHITECTURE has
     tools/measure.py -v         also lists lines over 120 columns, the widest definitions, and names with several meanings
-    tools/measure.py --write    writes the table into docs/ARCHITECTURE
-    tools/measure.py --check    fails if the table there is out of date, or if a document has a sentence over 30 words
+    tools/measure.py --write    writes the table into docs/ARCHITECTURE, and the rounded sums into README
+    tools/measure.py --check    fails if one of them is out of date, or if a document has a sentence over 30 words
     tools/measure.py --words    counts words that the style rules of CONTRIBUTING avoid, and long sentences of documents
 
 Only files known to git are read. Code is counted in src/, without tests and contracts. Contracts are the clauses of
@@ -21,7 +21,7 @@ from collections import defaultdict
 from pathlib import Path
 
 TOP = Path(__file__).resolve().parent.parent
-PAGE = TOP / "docs/ARCHITECTURE.md"
+PAGE, README = TOP / "docs/ARCHITECTURE.md", TOP / "README.md"
 WIDEST = 120
 SHARED = "Types of data that several crates have under one name: "
 SEVERAL = "Names that are defined in more than one file of specs/ with another meaning in each: "
@@ -231,6 +231,13 @@ def with_figures(page):
     return re.sub(rf"{SHARED}\d+", shared, page)
 
 
+def with_sums(readme, page):
+    """Returns README with the sums of code and proofs of this page's table, rounded to hundreds, and the count of mutants."""
+    code, proofs = (round(int(it), -2) for it in re.search(r"^\| in all \| (\d+) \| \d+ \| \d+ \| (\d+) ", page, re.M).groups())
+    told = f"About {code:,} lines of code, with {proofs:,} of proofs; {len(list(TOP.glob('crates/*/must-fail/*.edit')))} mutants"
+    return re.sub(r"About [\d,]+ lines of code, with [\d,]+ of proofs; \d+ mutants", told, readme)
+
+
 def documents():
     """Returns the names of all documents."""
     listed = subprocess.run(["git", "-C", TOP, "ls-files", "*.md"], capture_output=True, text=True, check=True)
@@ -276,12 +283,15 @@ def main():
         words()
         return
     if "--check" in sys.argv:
-        wrong = [f"{PAGE.name} has other figures: tools/measure.py --write"] if with_figures(page) != page else []
+        readme = README.read_text()
+        made = {PAGE.name: with_figures(page) == page, README.name: with_sums(readme, page) == readme}
+        wrong = [f"{name} has other figures: tools/measure.py --write" for name, is_so in made.items() if not is_so]
         wrong += [f"{name} has a sentence over {LONG} words: {it}" for name in documents() for it in long_sentences(name)]
         print("\n".join([*wrong, f"{int(not wrong)} passed, {len(wrong)} failed"]))
         sys.exit(int(bool(wrong)))
     if "--write" in sys.argv:
-        PAGE.write_text(with_figures(page))
+        PAGE.write_text(page := with_figures(page))
+        README.write_text(with_sums(README.read_text(), page))
         return
     print("\n\n".join(figures()))
     if "-v" in sys.argv:

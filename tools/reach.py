@@ -17,7 +17,7 @@ import sys
 from pathlib import Path
 
 TOP = Path(__file__).resolve().parent.parent
-PAGE = TOP / "docs/PROOFS.md"
+PAGE, README = TOP / "docs/PROOFS.md", TOP / "README.md"
 # the documents whose names are looked for
 NAMING = ("PROOFS", "PROMISES", "PROMISE", "CHECK", "LIBRARY")
 TABLE = "| Sentence | Definition | Definitions | Lines |"
@@ -133,6 +133,12 @@ def with_figures(page):
     return f"{head}{TABLE}" + "\n".join(made) + f"\n\n{behind}"
 
 
+def with_lines(readme, page):
+    """Returns README with the lines that the first sentence of the page's table needs, rounded to hundreds."""
+    lines = re.search(r"^\| status 0 means the images, over any link \|.*\| ([\d,]+) \|$", page, re.M)[1]
+    return re.sub(r"about [\d,]+ lines for status 0", f"about {round(int(lines.replace(',', '')), -2):,} lines for status 0", readme)
+
+
 def lacking():
     """Returns the definitions and laws that documents name and that aren't there: `File.name`; a name of several words
     with capital letters, which may also be a type of Rust (docs/LIBRARY has std's, too); and a name of four words or more,
@@ -155,10 +161,12 @@ def lacking():
 
 def main(words):
     if words == ["--write"]:
-        return PAGE.write_text(with_figures(PAGE.read_text()))
+        PAGE.write_text(page := with_figures(PAGE.read_text()))
+        return README.write_text(with_lines(README.read_text(), page))
     if words == ["--check"]:
         page = PAGE.read_text()
-        wrong = [] if with_figures(page) == page else [f"{PAGE.name} has other figures: tools/reach.py --write"]
+        is_made = with_figures(page) == page and with_lines(README.read_text(), page) == README.read_text()
+        wrong = [] if is_made else [f"{PAGE.name} or {README.name} has other figures: tools/reach.py --write"]
         wrong += lacking()
         print("\n".join([*wrong, f"{int(not wrong)} passed, {len(wrong)} failed"]))
         return sys.exit(int(bool(wrong)))
