@@ -13,7 +13,8 @@ use Rattle.stk_host.specs.Play.{InTurn, IsPrefixOf}
 use Rattle.stk_host.specs.Transcript.{Transcript, Grows, sent, heard}
 use Rattle.stk_host.specs.Tape.{Tape}
 use Rattle.stk_emu.specs.Along.{along, said_along, AsksBodies}
-use Rattle.avr_laws.specs.AnyTape.{AreHonest, GoesAs, CameThrough, after_pieces, became_by, turns_heard}
+use Rattle.avr_laws.specs.AnyTape.{GoesAs, CameThrough, after_pieces, became_by, turns_heard}
+use Rattle.avr_tool.specs.Honest.{AreHonest}
 use Rattle.avr_laws.specs.NoFrame.{MakesNoFrame}
 use Rattle.avr_laws.proofs.Lines.NoFrame.{no_frame_honest}
 use Rattle.stk_emu.specs.Turn.{Turn, Became}

@@ -28,7 +28,7 @@ use Rattle.avr_tool.specs.Emulated.{RunsOverEmulator, new_wire}
 use Rattle.avr_tool.proofs.Lines.InTurn.{frames_prefix, goes_along, never_idle, sends_whole}
 use Rattle.avr_tool.proofs.WirePlays.{asks_bodies, first, keeps, stands, whole_comes}
 use Rattle.avr_laws.specs.AnyLink.{OverAnyWire, ReportsOverTurns, WereTrue}
-use Rattle.avr_laws.specs.AnyTape.{AreHonest}
+use Rattle.avr_tool.specs.Honest.{AreHonest}
 use Rattle.avr_laws.proofs.Lines.AnyTape.{honest_prefix}
 use Rattle.avr_laws.proofs.ReportsOverTurns.{ends_over_turns, reports_over_turns}
 use Rattle.avr_laws.proofs.Reports.OverTape.{by_fates, said_prefix}

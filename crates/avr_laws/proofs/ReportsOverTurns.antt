@@ -19,7 +19,7 @@ use Rattle.avr_tool.specs.Foretold.{EndsAsForetold}
 use Rattle.avr_tool.specs.Outcome.{IsExpectedRun}
 use Rattle.avr_tool.proofs.OverTurns.{asks, comes_over_turns, has_expected, is_idle, its_part, its_sizes, over_turns}
 use Rattle.avr_laws.specs.AnyLink.{EndsOverTurns, ReportsOverTurns}
-use Rattle.avr_laws.specs.AnyTape.{AreHonest}
+use Rattle.avr_tool.specs.Honest.{AreHonest}
 use Rattle.avr_laws.specs.Few.{AreFew}
 use Rattle.avr_laws.proofs.FewBad.Sessions.{few_session_ends}
 use Rattle.avr_laws.proofs.Reports.OverTape.{ByTurns, told_any}

@@ -50,6 +50,7 @@ pub use Rattle.avr_tool.specs.Emulated
 pub use Rattle.avr_tool.specs.ExpectedRun
 pub use Rattle.avr_tool.specs.Foretold
 pub use Rattle.avr_tool.specs.Headline
+pub use Rattle.avr_tool.specs.Honest
 pub use Rattle.avr_tool.specs.Items
 pub use Rattle.avr_tool.specs.Made
 pub use Rattle.avr_tool.specs.Outcome

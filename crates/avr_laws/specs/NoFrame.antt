@@ -6,7 +6,7 @@ use Rattle.stk_host.specs.Tape.{Tape, answer, is_answer, bytes_in, limit}
 use Rattle.stk_host.specs.Dialog.{Dialog, Done, Say, Ask, next}
 use Rattle.stk_emu.specs.Device.{Device, refusal}
 use Rattle.stk_emu.specs.Turn.{Became, Kept, Obeyed, Anew, after_became}
-use Rattle.avr_laws.specs.AnyTape.{first_became, other_becames, on_answer}
+use Rattle.avr_tool.specs.Honest.{first_became, other_becames, on_answer}
 
 -- The frame of the reply to a question; nothing if it wasn't obeyed, or if the programmer restarted after it.
 abbrev pub given : {P : Type 0} → Device P → ℕ → List ℕ → P → Became → List ℕ

@@ -1,7 +1,7 @@
 -- THE HEADLINE. What a run does, from settings to status. Each term is defined here, or one step below in the file
 -- that its `use` names. Sections 1 to 3 hold over any link, section 4 over a wire to the emulated programmer that
--- forges no frame. Beside this page are specs/Program (from a command line), avr_emulator's specs/Emulated (over a
--- chip file) and specs/InMemory (from bytes to bytes). docs/PROOFS.md lists what is not proved.
+-- forges no frame. Beside this page are specs/AnyLine (what a session leaves), specs/Program (from a command line) and
+-- specs/Emulated (over a chip file). docs/PROOFS.md lists what is not proved.
 use Rattle.std.specs.Prelude.{ℕ, ◌≡◌, ◌≤◌, ◌⊎◌, List, [], ◌∷◌, ◌++◌, map, length, Some, None}
 use Rattle.avr_cli.specs.declared.settings.Settings.{Settings}
 use Rattle.avr_desk.specs.Record.{DeskState, Passes, Bytes, after_err}

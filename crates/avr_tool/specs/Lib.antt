@@ -39,6 +39,7 @@ pub mod Tallies
 pub mod Agrees
 pub mod ExpectedRun
 pub mod Foretold
+pub mod Honest
 pub mod Written
 pub mod Made
 pub mod Outcome

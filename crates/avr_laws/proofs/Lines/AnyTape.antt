@@ -13,7 +13,8 @@ use Rattle.stk_emu.specs.Device.{Device, after_frame, after_frames}
 use Rattle.stk_emu.specs.Lawful.{IsBody}
 use Rattle.stk_emu.specs.Turn.{Became, Obeyed, Anew, Nothing, Turn, Wrong, after_became, after_turn, turn_reading, IsHonest}
 use Rattle.stk_emu.specs.Along.{along, AsksBodies}
-use Rattle.avr_laws.specs.AnyTape.{first_became, other_becames, on_answer, AreHonest, after_pieces, turn_by, turns_from, turns_heard, GoesAs, let_through, CameThrough, became_by}
+use Rattle.avr_laws.specs.AnyTape.{after_pieces, turn_by, turns_from, turns_heard, GoesAs, let_through, CameThrough, became_by}
+use Rattle.avr_tool.specs.Honest.{first_became, other_becames, on_answer, AreHonest}
 use Rattle.avr_tool.proofs.Given.LaterAnswers.{answer_extends}
 use Rattle.avr_tool.proofs.Lines.Plays.{played_along, said_played, done_played, waits_played}
 

@@ -8,7 +8,8 @@ use Rattle.stk_host.specs.Tape.{Tape, Reading, Answered, answer, read_to, silenc
 use Rattle.stk_host.specs.Dialog.{Dialog, Done, Say, Ask, next}
 use Rattle.stk_emu.specs.Device.{Device, refusal}
 use Rattle.stk_emu.specs.Turn.{Became, Obeyed, after_became, IsHonest}
-use Rattle.avr_laws.specs.AnyTape.{first_became, other_becames, on_answer, AreHonest, let_through, CameThrough}
+use Rattle.avr_laws.specs.AnyTape.{let_through, CameThrough}
+use Rattle.avr_tool.specs.Honest.{first_became, other_becames, on_answer, AreHonest}
 use Rattle.avr_tool.proofs.Lines.Plays.{tail_is}
 use Rattle.avr_laws.specs.NoFrame.{given, IsAmong, WasSent, WereSent, MakesNoFrame}
 use Rattle.avr_laws.proofs.Lines.AnyTape.{HonestOn}

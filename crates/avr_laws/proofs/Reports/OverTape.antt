@@ -11,7 +11,8 @@ use Rattle.stk_emu.specs.Lawful.{IsBody}
 use Rattle.stk_emu.specs.Along.{AsksBodies}
 use Rattle.stk_emu.specs.Turn.{Turn, Became, became_in, after_became, after_turn, first_turn, other_turns, IsHonest}
 use Rattle.stk_emu.specs.Wire.{turns_of, becames_of}
-use Rattle.avr_laws.specs.AnyTape.{first_became, other_becames, on_answer, AreHonest, turn_by, turns_from, turns_heard}
+use Rattle.avr_laws.specs.AnyTape.{turn_by, turns_from, turns_heard}
+use Rattle.avr_tool.specs.Honest.{first_became, other_becames, on_answer, AreHonest}
 use Rattle.avr_laws.proofs.Lines.AnyTape.{honest_turn}
 use Rattle.avr_laws.specs.Told.{TellsTrue, SaidTrue}
 

@@ -18,7 +18,8 @@ use Rattle.stk_emu.specs.Turn.{Turn, Became}
 use Rattle.avr_tool.proofs.AnyLine.FrameSizes.{session_asks}
 use Rattle.avr_laws.proofs.Lines.AnyTape.{goes_as}
 use Rattle.avr_laws.proofs.Reports.Truth.{session_along}
-use Rattle.avr_laws.specs.AnyTape.{AreHonest, GoesAs}
+use Rattle.avr_laws.specs.AnyTape.{GoesAs}
+use Rattle.avr_tool.specs.Honest.{AreHonest}
 use Rattle.avr_tool.specs.ExpectedRun.{Expected, then_from, ◌then◌, action_expected, actions_expected, working_expected, ending_says, expected_run}
 use Rattle.avr_tool.specs.Foretold.{SaysFirst, IsForetold, EndsAsForetold}
 

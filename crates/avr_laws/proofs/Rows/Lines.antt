@@ -5,7 +5,7 @@ use Rattle.stk_host.specs.Tape.{on_tape, answer}
 use Rattle.stk_host.specs.Dialog.{Dialog, Done, Ask}
 use Rattle.stk_emu.specs.Device.{device}
 use Rattle.stk_emu.specs.Turn.{Kept, Obeyed}
-use Rattle.avr_laws.specs.AnyTape.{AreHonest}
+use Rattle.avr_tool.specs.Honest.{AreHonest}
 use Rattle.stk_emu.proofs.Rows.Answers.{start, told}
 
 -- one question, of a command that no programmer knows, whatever is read

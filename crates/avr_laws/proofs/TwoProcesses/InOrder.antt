@@ -8,7 +8,8 @@ use Rattle.stk_frame.proofs.Laws.{frame_is_good, body_of_frame}
 use Rattle.stk_host.specs.Tape.{Tape, Reading, Answered, Silent, answer}
 use Rattle.stk_host.specs.Dialog.{Dialog, Done, Say, Ask, played, by_answer, next, frames_in}
 use Rattle.stk_emu.specs.Along.{AsksBodies}
-use Rattle.avr_laws.specs.AnyTape.{first_became, other_becames, on_answer, AreHonest, after_pieces}
+use Rattle.avr_laws.specs.AnyTape.{after_pieces}
+use Rattle.avr_tool.specs.Honest.{first_became, other_becames, on_answer, AreHonest}
 use Rattle.avr_tool.proofs.Lines.Plays.{cons_none, head_is}
 use Rattle.stk_emu.specs.Device.{Device, answer_frame, after_frame, after_frames, answers}
 use Rattle.stk_emu.specs.Lawful.{IsBody}

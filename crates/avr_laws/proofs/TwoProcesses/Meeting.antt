@@ -13,7 +13,8 @@ use Rattle.stk_host.specs.Play.{IsPrefixOf}
 use Rattle.stk_host.specs.Transcript.{Transcript, sent, heard}
 use Rattle.stk_host.specs.Tape.{Tape, bytes_of}
 use Rattle.stk_emu.specs.Along.{AsksBodies}
-use Rattle.avr_laws.specs.AnyTape.{AreHonest, after_pieces}
+use Rattle.avr_laws.specs.AnyTape.{after_pieces}
+use Rattle.avr_tool.specs.Honest.{AreHonest}
 use Rattle.stk_emu.specs.Device.{device, answer_body, answer_frame, after_frame}
 use Rattle.stk_emu.specs.Emulator.{Machine}
 use Rattle.stk_emu.specs.Lawful.{IsBody}

@@ -9,7 +9,8 @@ use Rattle.stk_host.specs.declared.link.Item.TheVariants.{Byte, Silence, End}
 use Rattle.stk_host.specs.Tape.{Tape, Reading, Answered, Silent, Babbled, answer, read_to, silence_or_end, first_answer, bytes_in, limit}
 use Rattle.stk_host.specs.Dialog.{Dialog, Done, Say, Ask, Frame, played, behind, by_answer, next, frames_in, outputs}
 use Rattle.stk_emu.specs.Along.{along, said_along, AsksBodies}
-use Rattle.avr_laws.specs.AnyTape.{first_became, after_pieces}
+use Rattle.avr_laws.specs.AnyTape.{after_pieces}
+use Rattle.avr_tool.specs.Honest.{first_became}
 use Rattle.stk_emu.specs.Device.{Device}
 use Rattle.stk_emu.specs.Turn.{after_became}
 use Rattle.stk_emu.proofs.Answers.BodySizes.{AnswersBodies}

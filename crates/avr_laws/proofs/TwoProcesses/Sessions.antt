@@ -23,7 +23,8 @@ use Rattle.stk_emu.specs.Settled.{Idle, FitsPart}
 use Rattle.avr_tool.proofs.Given.FirstSteps.{sound_idle, sound_fits}
 use Rattle.avr_tool.specs.ExpectedRun.{expected_run}
 use Rattle.avr_laws.proofs.FewBad.Sessions.{session_ends}
-use Rattle.avr_laws.specs.AnyTape.{AreHonest, after_pieces, turns_heard}
+use Rattle.avr_laws.specs.AnyTape.{after_pieces, turns_heard}
+use Rattle.avr_tool.specs.Honest.{AreHonest}
 use Rattle.stk_emu.specs.Device.{device, after_frames}
 use Rattle.stk_emu.specs.Emulator.{emulate}
 use Rattle.stk_emu.specs.Programmer.{Programmer, fresh_programmer}

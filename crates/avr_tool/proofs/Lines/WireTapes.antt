@@ -13,7 +13,7 @@ use Rattle.stk_emu.specs.Turn.{Turn, after_turn, turn_reading}
 use Rattle.stk_emu.specs.Along.{along, AsksBodies}
 use Rattle.stk_emu.proofs.Answers.BodySizes.{AnswersBodies}
 use Rattle.stk_emu.proofs.Wires.Arrivals.{arrival_read, arrival_leaves, arrival_late}
-use Rattle.avr_laws.specs.AnyTape.{AreHonest}
+use Rattle.avr_tool.specs.Honest.{AreHonest}
 use Rattle.avr_tool.proofs.Lines.Plays.{played_along, head_is, tail_is, cons_none}
 
 first_lawful : (fates : List Fate) → AreLawful fates → IsLawfulFate (first_fate fates)
