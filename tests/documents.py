@@ -30,8 +30,8 @@ def text(name):
 def what_check_quotes():
     """The law, mutants, files and lines of code that docs/CHECK quotes are there, and the mutant is tried."""
     page = text("docs/CHECK.md")
-    law = re.search(r"^    \$ rt check --only laws::(\w+)$", page, re.M)[1]
-    see("the law", f"pub fn {law}()\n" in text("crates/avr_tool/src/laws.rt") and f"avr_tool::laws::{law}: proved" in page, law)
+    law = re.search(r"^    \$ rt check --only runs::(\w+)$", page, re.M)[1]
+    see("the law", f"pub fn {law}()\n" in text("crates/avr_laws/src/runs.rt") and f"avr_laws::runs::{law}: proved" in page, law)
     files = {it.rstrip(".") for it in re.findall(r"\bcrates/\w+(?:/[\w.-]+)*", page)}
     for file in sorted(files):
         see(f"there is {file}", (TOP / file).exists())
