@@ -1,5 +1,5 @@
 -- What a desk was asked, and what it gave.
-use Rattle.std.specs.Prelude.{◌≡◌, ◌⊎◌, ◌==◌, ◌&&◌, ◌||◌, ℕ, Bool, true, false, not, List, [], ◌∷◌, ◌++◌, take, length, Option, Some, None, Result, Ok, Err, OnOk, ⊤}
+use Rattle.std.specs.Prelude.{◌≡◌, ◌⊎◌, ◌==◌, ◌&&◌, ◌||◌, ◌+◌, ℕ, Bool, true, false, not, List, [], ◌∷◌, ◌++◌, take, length, Option, Some, None, Result, Ok, Err, OnOk, ⊤}
 use Rattle.avr_desk.specs.declared.desk.DeskFault.{DeskFault}
 use Rattle.avr_desk.specs.declared.desk.DeskFault.TheVariants.{NotFound, Failed}
 use Rattle.avr_desk.specs.declared.record.Writing.{Writing}
@@ -14,13 +14,15 @@ abbrev pub Bytes : Type 0
 Bytes = List ℕ
 
 -- What a desk keeps: the finished openings and files in their order; the open file; the held file; those held
--- already; the replacements that were tried, also those that failed; output and messages.
+-- already; the replacements that were tried, also those that failed; how often it was to release what it
+-- held; output and messages.
 pub record Record : Type 0 where
   pub uses : List FileUse
   pub current : Open
   pub held : Option Bytes
   pub denied : List Bytes
   pub tried : List Writing
+  pub releases : ℕ
   pub output : Bytes
   pub messages : Bytes
 
@@ -100,7 +102,7 @@ after_hold name (Ok false) r = with_denied name r
 after_hold name (Err fault) r = r
 
 abbrev pub with_none_held : Record → Record
-with_none_held r = record r { held = None }
+with_none_held r = record r { held = None; releases = r.releases + 1 }
 
 -- what a desk shows once it holds nothing
 abbrev pub released : DeskState → DeskState
@@ -174,4 +176,4 @@ HasOpen test old r = OnOk r (test old.kept.current ≡ true)
 
 abbrev pub nothing_kept : Record
 nothing_kept =
-    record { uses = []; current = Closed; held = None; denied = []; tried = []; output = []; messages = [] }
+    record { uses = []; current = Closed; held = None; denied = []; tried = []; releases = 0; output = []; messages = [] }
