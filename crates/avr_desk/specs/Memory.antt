@@ -35,13 +35,9 @@ pub record Stock : Type 0 where
 abbrev pub stock_of : MemDeskState → Stock
 stock_of m = record { input = m.input; files = m.stored }
 
--- the newest file of this name among those made since, else the last one put there
-abbrev pub file_named : Bytes → Stock → List Writing → Option Bytes
-file_named name stock made = newest name None (stock.files ++ made)
-
--- what a name means then
+-- what a name means then: the newest file of this name among those made since, else the last one put there
 abbrev pub stood_for : Stock → List Writing → Bytes → Option Bytes
-stood_for stock made name = if is_dash name then Some stock.input else file_named name stock made
+stood_for stock made name = if is_dash name then Some stock.input else newest name None (stock.files ++ made)
 
 -- what a name means when it is opened
 abbrev pub contents : Bytes → MemDeskState → Option Bytes

@@ -125,21 +125,13 @@ abbrev pub Replaces : Bytes → Bytes → Result ⊤ DeskFault → DeskState →
 Replaces name bytes (Ok done) old new = Passes (with_replaced name bytes) old new
 Replaces name bytes (Err fault) old new = (new.kept ≡ old.kept) ⊎ Passes (with_tried name bytes) old new
 
--- a replacement that failed before it was tried changes nothing
-abbrev pub after_replace : Bytes → Bytes → Result ⊤ DeskFault → Record → Record
-after_replace name bytes (Ok done) r = with_replaced name bytes r
-after_replace name bytes (Err fault) r = r
-
-abbrev pub is_nil : Bytes → Bool
-is_nil bytes = length bytes == 0
-
 -- bytes were read, or the end was seen
 abbrev pub noted : Bytes → Bool → Open → Open
 noted bytes ends (ToRead x) = ToRead (record x { bytes = x.bytes ++ bytes; ended = x.ended || ends })
 noted bytes ends o = o
 
 abbrev pub read_on : Bytes → ℕ → Open → Open
-read_on buf n o = noted (take n buf) (n == 0 && not (is_nil buf)) o
+read_on buf n o = noted (take n buf) (n == 0 && not (length buf == 0)) o
 
 abbrev pub after_read : Bytes → Result ℕ DeskFault → Record → Record
 after_read buf (Ok n) r = record r { current = read_on buf n r.current }

@@ -77,8 +77,8 @@ fn is_end(count: usize, room: usize) -> bool
 
 impl MemDesk {
     ghost use Rattle.ghosts.specs.Failures.{HasRisen};
-    ghost use Rattle.avr_desk.specs.Memory.{contents, file_named, fresh_desk, stock_of};
-    ghost use Rattle.avr_desk.specs.Named.{holds};
+    ghost use Rattle.avr_desk.specs.Memory.{contents, fresh_desk};
+    ghost use Rattle.avr_desk.specs.Named.{holds, newest};
     ghost use Rattle.avr_desk.specs.Record.{all_files, all_uses};
 
     /// Creates a desk without files. Its standard input has these bytes, from the start each time `-` is opened.
@@ -133,7 +133,7 @@ impl MemDesk {
     /// Returns the bytes of a file: what was written since it was last created, else what was last put there.
     #[tactic(auto, using(crate::proofs::FileUses::Names::newest_append))]
     pub fn file(&self, name: &str) -> Option<&[u8]>
-        ensures { option_copied result ≡ file_named name.now (stock_of self.now) (all_files self.now.kept) }
+        ensures { option_copied result ≡ newest name.now None (self.now.stored ++ all_files self.now.kept) }
     {
         let name = name.as_bytes();
         let stored = newest(None, self.stored.as_slice(), name);
@@ -178,8 +178,10 @@ impl MemDesk {
 
     /// Closes the open file, adds `last` to the uses, and opens `next`.
     fn close_current(&mut self, last: Option<FileUse>, next: Open) -> Result<(), AllocError>
-        ensures { self.new ≡ (if is_ok result then record self.old { kept = record self.old.kept
-            { uses = all_uses self.old.kept ++ option_to_list last; current = next } } else self.old) }
+        ensures { self.new ≡ (if is_ok result then record self.old {
+          kept = record self.old.kept
+              { uses = all_uses self.old.kept ++ option_to_list last; current = next };
+        } else self.old) }
     {
         self.uses.reserve(2)?;
         match mem::replace(&mut self.current, next) {
@@ -347,7 +349,7 @@ impl Desk for MemDesk {
 }
 
 impl ChipDesk for MemDesk {
-    ghost use Rattle.avr_desk.specs.Record.{Replaces, after_hold, after_replace, with_none_held};
+    ghost use Rattle.avr_desk.specs.Record.{Replaces, after_hold, with_none_held, with_replaced};
     ghost use Rattle.avr_desk.specs.Fault.{Counts, IsCall};
     ghost use Rattle.avr_desk.specs.Memory.{updated, memory_state};
     ghost use Rattle.avr_desk.specs.Named.{holds};
@@ -385,7 +387,8 @@ impl ChipDesk for MemDesk {
 
     #[tactic(auto, using(crate::proofs::Desks::InMemory::same_true))]
     fn replace(&mut self, name: &str, bytes: &[u8]) -> Result<(), DeskFault>
-        ensures kept { self.new ≡ updated (after_replace name.now bytes.now result self.old.kept) self.old self.new }
+        ensures kept { self.new ≡ updated (if is_ok result then with_replaced name.now bytes.now self.old.kept
+            else self.old.kept) self.old self.new }
         ensures replaces { Replaces name.now bytes.now result (memory_state self.old) (memory_state self.new) }
         ensures call { IsCall memory_state HoldsTrue (Counts File) self.old self.new result }
     {
@@ -395,7 +398,10 @@ impl ChipDesk for MemDesk {
         let Ok(own_bytes) = Bytes::copied(self.alloc, bytes) else {
             return Err(self.fail());
         };
-        let file = FileUse::Created(Writing { name: own_name, bytes: own_bytes });
+        let file = FileUse::Created(Writing {
+            name: own_name,
+            bytes: own_bytes,
+        });
         if self.close_current(Some(file), Open::Closed).is_err() {
             return Err(self.fail());
         }

@@ -78,7 +78,7 @@ created_true ok file old new is = changed_true ok _ old new is (λ stock holds. 
 })
 
 -- the open file is closed, and there is one more use, which is true
-used_true : (ok : Bool) (last : FileUse) (old new : MemDeskState)
+pub used_true : (ok : Bool) (last : FileUse) (old new : MemDeskState)
     → ((stock : Stock) → HoldsTrue stock old → AreTrue stock (files_among (all_uses old.kept)) (last ∷ []))
     → new ≡ (if ok then record old { kept = record old.kept { uses = all_uses old.kept ++ last ∷ []; current = Closed } }
     else old)
@@ -89,17 +89,12 @@ used_true ok last old new true_then is = changed_true ok _ old new is (λ stock 
   current = tt;
 })
 
--- a file is replaced whole
-pub replaced_true : (ok : Bool) (file : Writing) (old new : MemDeskState)
-    → new ≡ (if ok then record old
-    { kept = record old.kept { uses = all_uses old.kept ++ Created file ∷ []; current = Closed } } else old)
-    → Stays HoldsTrue old new
-replaced_true ok file old new is = used_true ok (Created file) old new (λ stock holds. tt) is
-
 -- there is no file of this name
 pub absent_true : (ok : Bool) (name own : Bytes) (old new : MemDeskState) → own ≡ name → None ≡ contents name old
-    → new ≡ (if ok then record old { kept = record old.kept
-    { uses = all_uses old.kept ++ Opened (Absent own) ∷ []; current = Closed } } else old) → Stays HoldsTrue old new
+    → new ≡ (if ok then record old {
+      kept = record old.kept
+          { uses = all_uses old.kept ++ Opened (Absent own) ∷ []; current = Closed };
+    } else old) → Stays HoldsTrue old new
 absent_true ok name own old new same none is = used_true ok (Opened (Absent own)) old new (λ stock holds. (
   ap (λ fs. stood_for stock fs own) (files_used old.kept)
       ∙ ap (stood_for stock (all_files old.kept)) same ∙ sym (stands stock old name holds) ∙ sym none,
@@ -109,8 +104,12 @@ absent_true ok name own old new same none is = used_true ok (Opened (Absent own)
 -- a file with these bytes is opened
 pub opened_true : (ok : Bool) (name own bytes first : Bytes) (old closed new : MemDeskState) → ok ≡ true → own ≡ name
     → first ≡ [] → Some bytes ≡ contents name old
-    → closed ≡ (if ok then record old { kept = record old.kept { uses = all_uses old.kept ++ [];
-    current = ToRead (record { name = own; bytes = first; ended = false }) } } else old)
+    → closed ≡ (if ok then record old {
+      kept = record old.kept {
+        uses = all_uses old.kept ++ [];
+        current = ToRead (record { name = own; bytes = first; ended = false });
+      };
+    } else old)
     → new ≡ record closed { opened = bytes } → Stays HoldsTrue old new
 opened_true true name own bytes first old closed new ok same none there is has = λ stock holds.
     subst (HoldsTrue stock) (sym (has ∙ ap (λ (m : MemDeskState). record m { opened = bytes }) is)) (record {

@@ -1,6 +1,6 @@
 use Rattle.std.proofs.Common.{ap, rules}
 use Rattle.avr_desk.specs.Memory.{MemDeskState}
-use Rattle.avr_desk.proofs.Desks.InMemory.{replaced_true, same_true}
+use Rattle.avr_desk.proofs.Desks.InMemory.{same_true, used_true}
 use Rattle.avr_desk.proofs.mem_desk.MemDeskChipDesk.replace.Goals as goal
 
 pub returns-clause-call : goal.returns-clause-call
@@ -12,5 +12,5 @@ returns-clause-call c = record {
       same_true _ _ (ap (λ (m : MemDeskState). m.input) closed) (ap (λ (m : MemDeskState). m.stored) closed)
       (ap (λ (m : MemDeskState). m.opened) closed) (ap (λ (m : MemDeskState). m.kept.uses) closed)
       (ap (λ (m : MemDeskState). m.kept.current) closed) stock
-      (replaced_true _ _ _ _ c.close_current.ensures stock holds);
+      (used_true _ _ _ _ (λ s is. tt) c.close_current.ensures stock holds);
 }

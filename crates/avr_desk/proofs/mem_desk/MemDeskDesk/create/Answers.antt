@@ -3,8 +3,5 @@ use Rattle.avr_desk.proofs.Desks.InMemory.{created_true}
 use Rattle.avr_desk.proofs.mem_desk.MemDeskDesk.create.Goals as goal
 
 pub returns-clause-call : goal.returns-clause-call
-returns-clause-call c = record {
-  counts = search rules;
-  fault = search rules;
-  stays = created_true _ _ _ _ c.close_current.ensures;
-}
+returns-clause-call c =
+    record { counts = search rules; fault = search rules; stays = created_true _ _ _ _ c.close_current.ensures }
