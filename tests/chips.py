@@ -356,8 +356,8 @@ def for_a_user():
         (0o640, 0o755, NOBODY - 1, 0, 0o640),
     ][: 7 if IS_ROOT else 3]:
         fresh_room()
-        room.put(LOCK_FILE.name, b"")
-        room.put(NEW_FILE.name, b"x" * 100_000)
+        for left, size in [(LOCK_FILE, 0), (NEW_FILE, 100_000)] if folder == 0o755 else []:
+            room.put(left.name, bytes(size))
         with as_nobody() as how:
             os.chown(CHIP, NOBODY, group) if IS_ROOT else None
             CHIP.chmod(mode)
