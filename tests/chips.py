@@ -6,8 +6,8 @@ Not proved: What the system's calls on files do, and what a crash of the system 
 
     tests/chips.py [CASE ..]        needs strace, or leaves out what it does at single calls
 
-strace records the calls of a run, and a model of a disk makes each state that a power cut may leave. Each call fails, and
-each ends a run. Runs are started at once with one chip, and beside a run or a served session that holds it.
+strace records the calls of a run, and a model of a disk (disk.py) makes each state that a power cut may leave. Each call
+fails, and each ends a run. Runs are started at once with one chip, and beside a run or a served session that holds it.
 """
 
 import contextlib
@@ -21,20 +21,20 @@ import stat
 import subprocess
 import sys
 import tempfile
-import threading
 import time
-from collections import Counter, namedtuple
 from pathlib import Path
 
 from cases import PATIENCE, leave_out, named, run_cases, same, see, wait_until
+from disk import calls_in, power_cuts
 from program import CHIP_FILE, FRAMES, PROGRAM, Room, Server, lines
 
 room = Room()
 FOLDER = os.path.realpath(room.folder)
-CHIP = room.folder / "chip.bin"
+CHIP, LOCK_FILE, NEW_FILE = (room.folder / it for it in ["chip.bin", "chip.bin.avrstk-lock", "chip.bin.avrstk-new"])
 
 EMULATED = ["-p", "m328p", "-P", "emu:chip.bin"]
 SIGNATURE = "device signature = 1E 95 0F"
+DONE = (0, lines("done"))
 IN_USE = lines("error: chip.bin: in use by another run")
 UNWRITABLE = lines("error: chip.bin: cannot be written")
 
@@ -44,19 +44,16 @@ EEPROM, LFUSE = 32_768, 33_792
 # a chip with a program, data and fuses of its own, which isn't locked; and a chip of which there is no file yet
 OLD = bytes(place % 241 for place in range(EEPROM)) + bytes(place % 239 for place in range(1024)) + b"\xe2\xd9\xfd\xff"
 FRESH = bytes(b"\xff" * CHIP_FILE)
-
-# the file that a run locks, and the new one that it renames
-LOCK_FILE = room.folder / "chip.bin.avrstk-lock"
-NEW_FILE = room.folder / "chip.bin.avrstk-new"
-
 UMASK = os.umask(0)
 os.umask(UMASK)
+NOBODY = 65534
+IS_ROOT = os.geteuid() == 0
 
 
-def fresh_room():
+def fresh_room(mode=0o640):
     room.clear()
     room.put("chip.bin", OLD)
-    CHIP.chmod(0o640)
+    CHIP.chmod(mode)
 
 
 # how a room is made in which a run begins, and its chip; None if there is no file
@@ -76,10 +73,11 @@ def beside():
     return sorted(it.name for it in room.folder.iterdir() if ".avrstk-" in it.name)
 
 
-def is_good(what, found):
-    """Checks that a run succeeded, and left no file beside the chip."""
-    see(what, found[0] == 0, found)
+def is_good(what, found, chip=None):
+    """Checks that a run succeeded, left no file beside the chip, and wrote this chip."""
+    see(f"{what}: the run", found[0] == 0, found)
     same(f"{what}: no file is left beside the chip", beside(), [])
+    see(f"{what}: the chip is written", chip in (None, room.read("chip.bin")))
 
 
 def mode_of(path):
@@ -92,142 +90,48 @@ def ended(started):
     return started.returncode, output, messages
 
 
-# a call of the system: its name, which of that name it is, its arguments and its result
-Call = namedtuple("Call", "name number words result")
-
-
-def start_traced(words, how):
-    """Starts a run under strace, which does this at a call. (The unproved program's leak detector can't run there.)"""
-    traced = ["strace", "-y", "-s", "50000", "-o", "calls", "-e", "trace=%file,%desc", *(["-e", f"inject={how}"] if how else [])]
-    return room.start(words, front=traced, env=os.environ | {"ASAN_OPTIONS": "detect_leaks=0"})
-
-
-def traced(prepare, words, how=None):
-    """Returns the status of a run under strace, its messages, and its calls for the chip, its folder or a file beside it."""
+def traced(prepare, words, how=None, meanwhile=None):
+    """Returns the status of a run under strace, its messages, and its calls for the chip, its folder or a file beside it.
+    strace does this at a call. What is done meanwhile begins with that call, which is held for two seconds."""
     prepare()
-    status, _, messages = ended(start_traced(words, how))
-    counts, calls = Counter(), []
-    for name, words, result, made in re.findall(r"^(\w+)\((.*)\) += (-?\d+)(.*)", (room.read("calls") or b"").decode(), re.M):
-        counts[name] += 1
-        is_there = re.match(rf"\d+<{FOLDER}[/>]", words) if words[0].isdigit() else "chip.bin" in words or made == f"<{FOLDER}>"
-        if name != "execve" and is_there:
-            calls.append(Call(name, counts[name], words, int(result)))
-    return status, messages, calls
+    inject = ["-e", f"inject={how}" + (":delay_enter=2000000:when=1" if meanwhile else "")] if how else []
+    front = ["strace", "-y", "-s", "50000", "-o", "calls", "-e", "trace=%file,%desc", *inject]
+    # (the unproved program's leak detector can't run under strace)
+    started = room.start(words, front=front, env=os.environ | {"ASAN_OPTIONS": "detect_leaks=0"})
+    if meanwhile:
+        wait_until(lambda: re.search(rf"^{how}\(".encode(), room.read("calls") or b"", re.M))
+        meanwhile(started)
+    status, _, messages = ended(started)
+    return status, messages, calls_in((room.read("calls") or b"").decode(), FOLDER)
 
 
-class File:
-    """The bytes of a file as they are, and as they were when they were synced."""
-
-    def __init__(self, content=b""):
-        self.content = self.synced = content
-
-    def left(self):
-        """Returns what a power cut may leave: what was synced, what is there now, or parts of them and zeros."""
-        now, old, half = self.content, self.synced, len(self.content) // 2
-        return {now} if now == old else {now, old, b"", now[:half], now[:half] + old[half:], now[:half] + bytes(len(now) - half)}
-
-
-def rename(names, old, new, file):
-    names.pop(old, None)
-    if new:
-        names[new] = file
-
-
-# calls that change no name and no byte
-HARMLESS = {"read", "close", "statx", "stat", "lstat", "fstat", "newfstatat", "readlink", "flock", "fchmod", "fchown"}
-
-
-class Disk:
-    """The files of the room as calls leave them. Of the changes of names since the folder was synced, a power cut keeps
-    any. Syncs of the file `unsynced` are passed over."""
-
-    def __init__(self, unsynced):
-        self.names = {it.name: File(it.read_bytes()) for it in room.folder.iterdir() if it.is_file()}
-        self.synced, self.changes, self.unsynced = dict(self.names), [], unsynced
-
-    def change(self, *change):
-        self.changes.append(change)
-        rename(self.names, *change)
-
-    def sync(self, path):
-        if path == FOLDER:
-            for change in self.changes:
-                rename(self.synced, *change)
-            self.changes = []
-        else:
-            file = self.names[os.path.basename(path)]
-            file.synced = file.content
-
-    def replay(self, call):
-        """Does what a call did."""
-        path = (re.findall(r"^\d+<(.*?)>", call.words) or [None])[0]
-        names = [os.path.basename(it) for it in re.findall(r'"(.*?)"', call.words)]
-        if call.result < 0 or call.name in HARMLESS:
-            return
-        if call.name == "openat":
-            if names[0] not in self.names and "O_CREAT" in call.words:
-                self.change(None, names[0], File())
-            elif "O_TRUNC" in call.words:
-                self.names[names[0]].content = b""
-        elif call.name == "write":
-            data = re.search(r'"(.*)"', call.words)[1].encode().decode("unicode_escape").encode("latin1")
-            self.names[os.path.basename(path)].content += data[: call.result]
-        elif call.name == "fsync":
-            self.sync(path) if path != self.unsynced else None
-        elif call.name == "rename":
-            self.change(*names, self.names[names[0]])
-        elif call.name == "unlink":
-            self.change(names[0], None, None)
-        else:
-            raise AssertionError(f"a call that isn't known: {call}")
-
-    def chips(self):
-        """Returns each chip that a power cut may leave; None for no file."""
-        files = set()
-        for kept in itertools.product([False, True], repeat=len(self.changes)):
-            names = dict(self.synced)
-            for change in itertools.compress(self.changes, kept):
-                rename(names, *change)
-            files.add(names.get("chip.bin"))
-        return {chip for file in files for chip in (file.left() if file else [None])}
-
-
-def power_cuts(prepare, calls, unsynced=None):
-    """Returns the chips that power cuts may leave before or after any of these calls, those that they may leave at the end,
-    and the chip at the end."""
-    prepare()
-    disk = Disk(unsynced)
-    seen = disk.chips()
-    for call in calls:
-        disk.replay(call)
-        seen |= disk.chips()
-    return seen, disk.chips(), disk.names["chip.bin"].content if "chip.bin" in disk.names else None
+def is_safe(what, old, status, calls):
+    """Checks what a power cut leaves during a run, and after it."""
+    new, found = with_fuse(old, 0x62), room.read("chip.bin")
+    seen, last, replayed = power_cuts(calls, old)
+    see(f"{what}: the chip is replayed right", replayed == found)
+    see(f"{what}: each power cut leaves the old chip or the new one", seen <= {old, new}, [len(it or b"") for it in seen])
+    see(f"{what}: status 0 if the new chip is on the disk, else 1", status == 1 or (status, last) == (0, {new}), status)
 
 
 def each_power_cut():
     """After each call of a run a power cut leaves the old chip or the new one, and after status 0 the new one. This holds
     too if a call fails, or finds no file or no descriptor. It wouldn't hold if one of both syncs were missing."""
     for prepare, old in STARTS:
-        new = with_fuse(old, 0x62)
+        new, what = with_fuse(old, 0x62), f"chip {bool(old)}"
         status, _, calls = traced(prepare, writes_fuse(0x62))
-        same(f"chip {bool(old)}: the run", status, 0)
-        is_safe(f"chip {bool(old)}", prepare, old, status, calls)
-        see("without the file's sync a chip may be torn", power_cuts(prepare, calls, os.path.join(FOLDER, NEW_FILE.name))[0] - {old, new})
-        see("without the folder's sync the new chip may be lost", old in power_cuts(prepare, calls, FOLDER)[1])
-        for call, error in itertools.product(calls, ["EIO", "ENOENT", "EMFILE"]):
-            status, _, failed = traced(prepare, writes_fuse(0x62), f"{call.name}:error={error}:when={call.number}")
-            if call.name == "rename":
-                see(f"{error} at the rename: the new file stays", room.read(NEW_FILE.name) == new)
-            is_safe(f"chip {bool(old)}: {error} at {call.name} {call.words[:80]}", prepare, old, status, failed)
-
-
-def is_safe(what, prepare, old, status, calls):
-    """Checks what a power cut leaves during a run, and after it."""
-    new, found = with_fuse(old, 0x62), room.read("chip.bin")
-    seen, last, replayed = power_cuts(prepare, calls)
-    see(f"{what}: the chip is replayed right", replayed == found)
-    see(f"{what}: each power cut leaves the old chip or the new one", seen <= {old, new}, [len(it or b"") for it in seen])
-    see(f"{what}: status 0 if the new chip is on the disk, else 1", status == 1 or (status, last) == (0, {new}), status)
+        same(f"{what}: the run", status, 0)
+        is_safe(what, old, status, calls)
+        see("without the file's sync a chip may be torn", power_cuts(calls, old, os.path.join(FOLDER, NEW_FILE.name))[0] - {old, new})
+        see("without the folder's sync the new chip may be lost", old in power_cuts(calls, old, FOLDER)[1])
+        # (the last three are those of a file system without hard links, which does without)
+        for call, error in itertools.product(calls, ["EIO", "ENOENT", "EMFILE", "EPERM", "EOPNOTSUPP", "EMLINK"]):
+            if error[:2] in ["EI", "EN"] or error == "EMFILE" or call.name == "link":
+                status, _, failed = traced(prepare, writes_fuse(0x62), f"{call.name}:error={error}:when={call.number}")
+                is_safe(f"{what}: {error} at {call.name} {call.words[:80]}", old, status, failed)
+                stays = call.name in ["link", "rename"] and status == 1
+                see(f"{error} at {call.name}: the new file stays", room.read(NEW_FILE.name) == new) if stays else None
+                same(f"{error} at link: the run", status, 0) if error in ["EPERM", "EOPNOTSUPP", "EMLINK"] else None
 
 
 def ended_anywhere():
@@ -240,44 +144,35 @@ def ended_anywhere():
             same(what, traced(prepare, writes_fuse(0x62), f"{call.name}:signal=KILL:when={call.number}")[0], -signal.SIGKILL)
             left.add(room.read("chip.bin"))
             same(f"{what}: permissions", mode_of(CHIP), 0o640) if old else None
-            is_good(f"{what}: the next run", room.run(writes_fuse(0x63)))
-            see(f"{what}: the next run writes the chip", room.read("chip.bin") == with_fuse(old, 0x63))
+            is_good(f"{what}: the next run", room.run(writes_fuse(0x63)), with_fuse(old, 0x63))
         see(f"chip {bool(old)}: the old one and the new one are seen", left == {old, with_fuse(old, 0x62)}, len(left))
-
-
-@contextlib.contextmanager
-def held_at(call):
-    """Starts a run that strace holds for two seconds at its first call of this name, and waits for that."""
-    fresh_room()
-    started = start_traced(writes_fuse(0x11), f"{call}:delay_enter=2000000:when=1")
-    # (strace prints a call's name as it begins)
-    wait_until(lambda: re.search(rf"^{call}\(".encode(), room.read("calls") or b"", re.M))
-    yield started
-    ended(started)
 
 
 def others_meanwhile():
     """While a run syncs its new file, another program puts a file in the place of the chip or of the new file, or removes
-    one: the run fails, and what is there stays. The old chip isn't open when it is replaced, because some file systems
-    hide an open file before that."""
+    one: the run fails, and what is there stays. So does a chip that is put where none was, however late. The old chip isn't
+    open when it is replaced, because some file systems hide an open file before that."""
 
     def put(path):
         room.put("put", b"mine")
         (room.folder / "put").rename(path)
 
-    for what, act, chip, left in [
-        ("another chip", lambda: put(CHIP), b"mine", []),
-        ("no chip", CHIP.unlink, None, []),
-        ("another new file", lambda: put(NEW_FILE), OLD, []),
-        ("no new file", NEW_FILE.unlink, OLD, []),
-    ]:
-        with held_at("fsync") as started:
-            act()
-        see(f"{what}: the run and what is there", (started.returncode, room.read("chip.bin"), beside()) == (1, chip, left), beside())
-    with held_at("rename") as started:
+    def look(started):
         (run,) = Path(f"/proc/{started.pid}/task/{started.pid}/children").read_text().split()
-        opened = [os.readlink(it) for it in Path(f"/proc/{run}/fd").iterdir()]
-    same("the old chip is not open at the rename", [it for it in opened if it == f"{FOLDER}/chip.bin"], [])
+        opened.extend(os.readlink(it) for it in Path(f"/proc/{run}/fd").iterdir())
+
+    for what, prepare, call, act, chip, left in [
+        ("another chip", fresh_room, "fsync", lambda it: put(CHIP), b"mine", []),
+        ("no chip", fresh_room, "fsync", lambda it: CHIP.unlink(), None, []),
+        ("another new file", fresh_room, "fsync", lambda it: put(NEW_FILE), OLD, []),
+        ("no new file", fresh_room, "fsync", lambda it: NEW_FILE.unlink(), OLD, []),
+        ("a chip where none was", room.clear, "link", lambda it: put(CHIP), b"mine", [NEW_FILE.name]),
+    ]:
+        status = traced(prepare, writes_fuse(0x11), call, act)[0]
+        same(f"{what}: the run and what is there", (status, room.read("chip.bin"), beside()), (1, chip, left))
+    opened = []
+    traced(fresh_room, writes_fuse(0x11), "rename", look)
+    see("the old chip is not open at the rename", opened and f"{FOLDER}/chip.bin" not in opened, opened)
 
 
 def reads_on_the_disk():
@@ -293,22 +188,16 @@ def reads_on_the_disk():
         see(f"{how}: the file is synced first", re.search(rb"^fsync\(\d+<([^>]*)>", room.read("calls"), re.M)[1].endswith(b"/out.bin"))
 
 
-def waiting_run(pipe="pipe", words=(), name="chip.bin"):
-    """Starts a run that holds the chip and blocks in its session because no process reads the pipe yet."""
+@contextlib.contextmanager
+def waiting(words, name="chip.bin", pipe="pipe", last=DONE):
+    """A run that holds the chip and blocks in its session, because no process reads the pipe before this ends."""
     os.mkfifo(room.folder / pipe)
     started = room.start(["-p", "m328p", "-P", f"emu:{name}", *words, "-U", f"eeprom:r:{pipe}:r"])
     see("a run that waits", SIGNATURE.encode() in started.stderr.readline())
-    return started
-
-
-def goes_on(started, pipe="pipe"):
-    """Reads what a waiting run writes. Returns its status and the last line of its messages."""
+    yield
     (room.folder / pipe).read_bytes()
     status, _, messages = ended(started)
-    return status, messages.splitlines(True)[-1]
-
-
-DONE = (0, lines("done"))
+    same(f"{name}: the run that waited", (status, messages.splitlines(True)[-1]), last)
 
 
 def held_by_a_run():
@@ -319,14 +208,12 @@ def held_by_a_run():
         (room.folder / "link.bin").symlink_to("chip.bin")
         (room.folder / "far.bin").symlink_to(room.folder / "link.bin")
         told = (1, b"", lines(f"error: {other}: in use by another run"))
-        with Server(room, other) as server:
-            holder = waiting_run(words=["-U", "lfuse:w:0x11:m"], name=name)
+        with Server(room, other) as server, waiting(["-U", "lfuse:w:0x11:m"], name):
             same(f"{name}, {other}: a run", room.run(writes_fuse(0x22, other)), told)
             same(f"{name}, {other}: a server", Server(room, other, waits=False).end(), told)
             with server.call() as caller:
                 same(f"{name}, {other}: what a caller receives", caller.recv(1), b"")
             same(f"{name}, {other}: the server that was there", server.end(), told)
-        same(f"{name}: the first run", goes_on(holder), DONE)
         see(f"{name}: it writes the chip", room.read("chip.bin") == with_fuse(OLD, 0x11))
 
 
@@ -349,11 +236,10 @@ def without_a_lock():
     one fails: what a run with status 0 saved isn't lost."""
     for prepare, old in STARTS:
         prepare()
-        first = waiting_run(words=["-U", "lfuse:w:0x11:m"])
-        LOCK_FILE.unlink()
-        second = waiting_run("pipe2", ["-U", "lfuse:w:0x22:m"])
-        same("the second run", goes_on(second, "pipe2"), DONE)
-        same("the first run", goes_on(first), (1, UNWRITABLE))
+        with waiting(["-U", "lfuse:w:0x11:m"], last=(1, UNWRITABLE)):
+            LOCK_FILE.unlink()
+            with waiting(["-U", "lfuse:w:0x22:m"], pipe="pipe2"):
+                pass
         see("the chip is the second one's", room.read("chip.bin") == with_fuse(old, 0x22))
         is_good("a run after them", room.run(writes_fuse(0x62)))
 
@@ -362,15 +248,13 @@ def what_stays():
     """A chip that is replaced keeps its permissions, without setuid, setgid and the sticky bit. A symbolic link to it stays
     a link. What a link of the new file's name leads to stays as it is."""
     for mode, kept in [(0o640, 0o640), (0o4751, 0o751), (0o2750, 0o750), (0o1600, 0o600), (0o6777, 0o777)]:
-        fresh_room()
-        CHIP.chmod(mode)
+        fresh_room(mode)
         room.put("victim", b"mine")
         NEW_FILE.symlink_to("victim")
         link = room.folder / "link.bin"
         link.symlink_to("chip.bin")
-        is_good(f"a chip of mode {mode:o}", room.run(writes_fuse(0x62, "link.bin")))
+        is_good(f"a chip of mode {mode:o}", room.run(writes_fuse(0x62, "link.bin")), with_fuse(OLD, 0x62))
         same(f"what stays of mode {mode:o}", (mode_of(CHIP), link.is_symlink(), room.read("victim")), (kept, True, b"mine"))
-        see("the chip is written", room.read("chip.bin") == with_fuse(OLD, 0x62))
     room.clear()
     is_good("a new chip of a long name", room.run(writes_fuse(0x62, "c" * 243)))
     same("its mode", mode_of(room.folder / ("c" * 243)), 0o666 & ~UMASK)
@@ -388,17 +272,16 @@ def what_is_refused():
         (os.path.basename(FOLDER), lambda it: it.symlink_to(".")),
         ("nowhere/chip.bin", lambda it: None),
         ("c" * 244, lambda it: None),
+        ("chip.bin", lambda it: os.mkfifo(LOCK_FILE)),
+        ("chip.bin", lambda it: LOCK_FILE.symlink_to("chip.bin")),
     ]:
         room.clear()
         make(room.folder / name)
+        before = beside()
         told = (1, b"", lines(f"error: {name}: cannot be written"))
-        same("a run", room.run(writes_fuse(0x62, name)), told)
-        same("--serve", Server(room, name, waits=False).end(), told)
-        same(f"{name}: no file is made", (room.read("chip.bin"), beside()), (None, []))
-    for make in [os.mkfifo, lambda it: it.symlink_to("chip.bin")]:
-        fresh_room()
-        make(LOCK_FILE)
-        same("a lock file that isn't regular", room.run(writes_fuse(0x62)), (1, b"", UNWRITABLE))
+        same(f"{name}: a run", room.run(writes_fuse(0x62, name)), told)
+        same(f"{name}: --serve", Server(room, name, waits=False).end(), told)
+        same(f"{name}: no file is made", (room.read("chip.bin"), beside()), (None, before))
 
 
 def read_into_the_chip():
@@ -437,7 +320,7 @@ def mounted():
     room.put("real.bin", OLD)
     room.put("chip.bin", b"")
     mount = ["mount", "--bind", "real.bin", "chip.bin"]
-    if os.geteuid() != 0 or subprocess.run(mount, cwd=room.folder, capture_output=True).returncode:
+    if not IS_ROOT or subprocess.run(mount, cwd=room.folder, capture_output=True).returncode:
         return leave_out("a chip that is mounted", "this may not mount")
     try:
         is_good("a run", room.run(writes_fuse(0x62)))
@@ -446,64 +329,52 @@ def mounted():
     see("the file has the chip", room.read("real.bin") == with_fuse(OLD, 0x62))
 
 
-NOBODY = 65534
-
-
 @contextlib.contextmanager
 def as_nobody():
     """Gives how to start runs of a copy of the program: as the user nobody if this is root, who may write everything. The
     room and the chip are that user's meanwhile."""
     with tempfile.TemporaryDirectory() as bare:
         copy = shutil.copy(PROGRAM, bare)
-        how = {"executable": copy}
-        for path in [bare, copy]:
-            os.chmod(path, 0o755)
-        if os.geteuid() == 0:
-            how |= {"user": NOBODY, "group": NOBODY, "extra_groups": []}
-            for path in [room.folder, CHIP]:
-                os.chown(path, NOBODY, NOBODY)
-        yield how
+        os.chmod(bare, 0o755)
+        for path in [room.folder, CHIP, copy] if IS_ROOT else []:
+            os.chown(path, NOBODY, NOBODY)
+        yield {"executable": copy} | ({"user": NOBODY, "group": NOBODY, "extra_groups": []} if IS_ROOT else {})
     os.chown(room.folder, os.geteuid(), os.getegid())
     room.folder.chmod(0o700)
 
 
-def may_not_write():
-    """A run is refused if the chip or its folder may not be written, and the chip stays as it is. A folder that may be
-    written and not read is no obstacle."""
-    fresh_room()
-    with as_nobody() as how:
-        for of_chip, of_folder, wanted in [(0o444, 0o755, OLD), (0o644, 0o555, OLD), (0o644, 0o333, with_fuse(OLD, 0x62))]:
-            CHIP.chmod(of_chip)
-            room.folder.chmod(of_folder)
-            found = ended(room.start(writes_fuse(0x62), **how))
-            room.folder.chmod(0o755)
-            see(f"chip {of_chip:o}, folder {of_folder:o}", found == (1, b"", UNWRITABLE) if wanted == OLD else found[0] == 0, found)
-            see(f"chip {of_chip:o}, folder {of_folder:o}: the chip", room.read("chip.bin") == wanted)
-
-
-def owner_of(path):
-    return path.stat().st_uid, path.stat().st_gid
-
-
-def whose_it_stays():
-    """A chip keeps its owner and group if the system allows it. A group that can't be given gets what everyone had. What
-    an ended run of another user's left blocks no run."""
-    if os.geteuid() != 0:
-        return leave_out("whose a chip stays", "this isn't root")
-    fresh_room()
-    os.chown(CHIP, NOBODY, NOBODY - 1)
-    is_good("root's run", room.run(writes_fuse(0x62)))
-    same("whose the chip is", owner_of(CHIP), (NOBODY, NOBODY - 1))
-    for mode, kept in [(0o666, 0o666), (0o664, 0o644), (0o660, 0o600)]:
+def for_a_user():
+    """A run is refused if the chip or its folder may not be written. A folder that may be written and not read is no
+    obstacle. A chip keeps its owner and group if the system allows it; a group that can't be given gets what everyone had.
+    What an ended run of another user's left blocks no run."""
+    # the modes of the chip and its folder, the chip's group, who runs, and the mode of the new chip if there is one
+    for mode, folder, group, who, kept in [
+        (0o444, 0o755, NOBODY, NOBODY, None),
+        (0o644, 0o555, NOBODY, NOBODY, None),
+        (0o644, 0o333, NOBODY, NOBODY, 0o644),
+        (0o666, 0o755, 0, NOBODY, 0o666),
+        (0o664, 0o755, 0, NOBODY, 0o644),
+        (0o660, 0o755, 0, NOBODY, 0o600),
+        (0o640, 0o755, NOBODY - 1, 0, 0o640),
+    ][: 7 if IS_ROOT else 3]:
         fresh_room()
-        room.put(LOCK_FILE.name, b"")
-        room.put(NEW_FILE.name, b"x" * 100_000)
+        for left, size in [(LOCK_FILE, 0), (NEW_FILE, 100_000)] if folder == 0o755 else []:
+            room.put(left.name, bytes(size))
         with as_nobody() as how:
-            os.chown(CHIP, NOBODY, 0)
+            os.chown(CHIP, NOBODY, group) if IS_ROOT else None
             CHIP.chmod(mode)
-            is_good(f"a run over a chip of root's group of mode {mode:o}", ended(room.start(writes_fuse(0x64), **how)))
-            same(f"what stays of mode {mode:o}", (mode_of(CHIP), owner_of(CHIP)), (kept, (NOBODY, NOBODY)))
-            see("the chip is written", room.read("chip.bin") == with_fuse(OLD, 0x64))
+            room.folder.chmod(folder)
+            found = ended(room.start(writes_fuse(0x62), **(how if who else {})))
+            room.folder.chmod(0o755)
+            what = f"chip {mode:o}, folder {folder:o}, group {group}"
+            see(f"{what}: the run", found[0] == 0 if kept else found == (1, b"", UNWRITABLE), found)
+            see(f"{what}: the chip", room.read("chip.bin") == (with_fuse(OLD, 0x62) if kept else OLD))
+            own = (CHIP.stat().st_uid, CHIP.stat().st_gid, mode_of(CHIP))
+            wanted = (NOBODY, group or NOBODY, kept) if kept else (NOBODY, group, mode)
+            same(f"{what}: what stays", own, wanted if IS_ROOT else (*own[:2], kept or mode))
+            same(f"{what}: files beside it", beside(), []) if kept else None
+    if not IS_ROOT:
+        leave_out("whose a chip stays", "this isn't root")
 
 
 # opens the chip and the new file beside it, for as long as there is no file `stop`
@@ -514,7 +385,7 @@ if true <"$it"; then echo "$it"; fi; done; done 2>/dev/null"""
 def another_user():
     """Another user watches a chip of mode 600 whose owner runs with umask 000. He opens neither it nor the new file. A lock
     file of his in a sticky folder blocks no run. A new file of his makes the run fail, and the old chip stays."""
-    if os.geteuid() != 0:
+    if not IS_ROOT:
         return leave_out("another user beside a chip", "this isn't root")
     fresh_room()
     with as_nobody() as how:
@@ -539,40 +410,27 @@ def another_user():
 
 
 def stormy():
-    """Runs over one chip for a while, some at a time, beside one that kills runs. Each run with status 0 is in the chip,
-    and each other one was killed or reports that the chip was in use. The chip is whole whenever it is seen."""
+    """Six runs at a time over one chip for a while, of which some are killed. Each run with status 0 is in the chip, and
+    each other one was killed or reports that the chip was in use. The chip is whole whenever it is seen."""
     room.clear()
     room.put("chip.bin", FRESH)
-    chance, ends = random.Random(7), time.monotonic() + 15
+    chance, places, ends = random.Random(7), iter(range(1024)), time.monotonic() + 15
     live, written, odd = {}, set(), set()
-
-    def until_it_ends(wait, act):
-        while time.monotonic() < ends:
-            time.sleep(chance.random() * wait)
-            act()
-
-    def runs(lane, lanes):
-        for place in range(lane, 1024, lanes):
-            if time.monotonic() > ends:
-                return
-            live[lane] = room.start([*EMULATED, "-q", "-D", "-U", f"eeprom:w:e{place}:i"])
-            messages = live[lane].communicate()[1]
-            if live[lane].returncode == 0:
+    while live or time.monotonic() < ends:
+        if len(live) < 6 and time.monotonic() < ends and (place := next(places, None)) is not None:
+            data = [1, place >> 8, place & 255, 0, place % 255]
+            room.put(f"e{place}", f":{bytes([*data, -sum(data) & 255]).hex().upper()}\n:00000001FF\n".encode())
+            live[room.start([*EMULATED, "-q", "-D", "-U", f"eeprom:w:e{place}:i"])] = place
+        if live and chance.random() < 0.002:
+            chance.choice(list(live)).kill()
+        if CHIP.stat().st_size != CHIP_FILE:
+            odd.add("the chip isn't whole")
+        for run in [it for it in live if it.poll() is not None]:
+            place, (status, _, messages) = live.pop(run), ended(run)
+            if status == 0:
                 written.add(place)
-            elif live[lane].returncode != -signal.SIGKILL and (live[lane].returncode, messages) != (1, IN_USE):
-                odd.add((live[lane].returncode, messages))
-
-    for place in range(1024):
-        data = [1, place >> 8, place & 255, 0, place % 255]
-        room.put(f"e{place}", f":{bytes([*data, -sum(data) & 255]).hex().upper()}\n:00000001FF\n".encode())
-    look = lambda: CHIP.stat().st_size == CHIP_FILE or odd.add("the chip isn't whole")
-    kill = lambda: live and chance.choice(list(live.values())).kill()
-    threads = [threading.Thread(target=until_it_ends, args=it) for it in [(0.001, look), (0.4, kill)]]
-    threads += [threading.Thread(target=runs, args=(it, 6)) for it in range(6)]
-    for it in threads:
-        it.start()
-    for it in threads:
-        it.join()
+            elif status != -signal.SIGKILL and (status, messages) != (1, IN_USE):
+                odd.add((status, messages))
     chip = room.read("chip.bin")
     see("runs succeed", written)
     same("lost", [it for it in sorted(written) if chip[EEPROM + it] != it % 255], [])
@@ -585,7 +443,7 @@ if not shutil.which("strace"):
 
 CASES = TRACED | named(
     *(held_by_a_run, held_by_a_session, without_a_lock, what_stays, what_is_refused, read_into_the_chip, a_full_disk),
-    *(mounted, may_not_write, whose_it_stays, another_user, stormy),
+    *(mounted, for_a_user, another_user, stormy),
 )
 
 

@@ -1,13 +1,13 @@
 -- Worked calls with an outcome that the contracts refuse.
 use Rattle.std.proofs.lemmas.Bool.Decides.{nat_tests}
-use Rattle.std.proofs.Common.{◌≡◌, ap, ℕ, true, List, [], ◌∷◌, Some, Result, Ok, Err, arith, rules}
+use Rattle.std.proofs.Common.{◌≡◌, ap, ℕ, zero, suc, true, List, [], ◌∷◌, Some, Result, Ok, Err, arith, rules}
 use Rattle.avr_desk.specs.Failing.{Failing, FailsWhenDue}
 use Rattle.avr_desk.specs.Fault.{Counts}
 use Rattle.avr_desk.specs.Files.{FaultCounts}
 use Rattle.avr_desk.specs.Memory.{Stock}
 use Rattle.avr_desk.specs.Record.{Bytes, DeskState, Record, showing, nothing_kept, after_out}
 use Rattle.avr_desk.specs.Said.{TellsLine}
-use Rattle.avr_desk.specs.Shown.{AppendsPrefix}
+use Rattle.avr_desk.specs.Shown.{RecordsTaken}
 use Rattle.avr_desk.specs.Stream.{SendsTaken}
 use Rattle.avr_desk.specs.Truth.{AreTrue, IsTrueOpening}
 use Rattle.avr_desk.specs.declared.desk.DeskFault.{DeskFault}
@@ -96,8 +96,9 @@ pub no_message_in_the_output : SendsTaken Messages byte (showing nothing_kept 0 
     (showing (after_out byte nothing_kept) 0 0) (Ok 1) → ⊥
 no_message_in_the_output sent = let e : byte ≡ [] = ap output_of sent in absurd (cc)
 
-pub no_other_bytes : AppendsPrefix (Some []) (Some end) whole → ⊥
-no_other_bytes (prefix, (back, is), took) = search (rules, nat_tests)
+pub no_other_bytes : (n : ℕ) → RecordsTaken Messages whole (Some []) (Some end) nothing_kept nothing_kept n → ⊥
+no_other_bytes zero taken = search (rules, nat_tests)
+no_other_bytes (suc n) taken = search (rules, nat_tests)
 
 -- a planned failure at a call that isn't due
 abbrev sound : Failing ℕ

@@ -48,11 +48,7 @@ abbrev pub IsWhole : ℕ → Contents → Type 0
 IsWhole limit c =
     MatchBool c.ended (length c.bytes ≤ limit) ((limit < length c.bytes) × (length c.bytes ≤ limit + 4096))
 
--- the counts of failures after a fault; a failed allocation is no failure of the desk
-abbrev pub FaultIsCounted : DeskState → DeskState → Result Contents FileFault → Type 0
-FaultIsCounted old new (Ok c) = HasSameCounts old new
-FaultIsCounted old new (Err fault) = IsCounted old new fault
-
--- the counts never fall, and show whether the desk failed
+-- the counts never fall, and show whether the desk failed; a failed allocation is no failure of the desk
 abbrev pub FaultCounts : DeskState → DeskState → Result Contents FileFault → Type 0
-FaultCounts old new r = Follows old new × FaultIsCounted old new r
+FaultCounts old new (Ok c) = Follows old new × HasSameCounts old new
+FaultCounts old new (Err fault) = Follows old new × IsCounted old new fault

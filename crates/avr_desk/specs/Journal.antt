@@ -25,17 +25,9 @@ none_done = record { calls = []; holds = 0 }
 abbrev pub made : Bytes → List FileCall
 made name = if is_dash name then [] else Makes name ∷ []
 
+-- these calls more
 abbrev pub calling : List FileCall → Done → Done
 calling calls done = record done { calls = done.calls ++ calls }
-
-abbrev pub giving_input : Done → Done
-giving_input done = calling (Gives ∷ []) done
-
-abbrev pub opening : Bytes → Done → Done
-opening name done = calling (Opens name ∷ []) done
-
-abbrev pub making : Bytes → Done → Done
-making name done = calling (made name) done
 
 abbrev pub holding : Done → Done
 holding done = record done { holds = done.holds + 1 }
@@ -73,18 +65,11 @@ count_of (Some it) = 1
 abbrev pub Counts : {S : Type 0} → (Done → S → Type 0) → ℕ → S → Type 0
 Counts did holds now = (done : Done) × did done now × (done.holds ≡ holds)
 
--- it holds no file, or none by this name
-abbrev pub IsFree : {S : Type 0} → (Done → S → Type 0) → (S → Bytes → Type 0) → S → Bytes → Type 0
-IsFree did is_free now name = Counts did 0 now ⊎ is_free now name
-
 -- ---- what the record tells of it
-
-abbrev pub opened : Bytes → FileCall
-opened name = if is_dash name then Gives else Opens name
 
 abbrev pub calls_of : FileUse → List FileCall
 calls_of (Opened (Absent name)) = []
-calls_of (Opened (Found reading)) = opened reading.name ∷ []
+calls_of (Opened (Found reading)) = (if is_dash reading.name then Gives else Opens reading.name) ∷ []
 calls_of (Created writing) = made writing.name
 
 abbrev pub all_calls : List FileUse → List FileCall

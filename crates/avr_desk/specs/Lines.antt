@@ -45,16 +45,10 @@ error pieces = line (codes "avrstk: error: ") pieces
 abbrev pub memory_pieces : List Bytes
 memory_pieces = codes "out of memory" ∷ []
 
-abbrev pub not_opened_pieces : Bytes → List Bytes
-not_opened_pieces file = file ∷ codes ": cannot be opened" ∷ []
-
-abbrev pub not_read_pieces : Bytes → List Bytes
-not_read_pieces file = file ∷ codes ": cannot be read" ∷ []
-
 abbrev pub file_pieces : Bytes → FileFault → List Bytes
-file_pieces file Absent = not_opened_pieces file
-file_pieces file NotOpened = not_opened_pieces file
-file_pieces file NotRead = not_read_pieces file
+file_pieces file Absent = file ∷ codes ": cannot be opened" ∷ []
+file_pieces file NotOpened = file ∷ codes ": cannot be opened" ∷ []
+file_pieces file NotRead = file ∷ codes ": cannot be read" ∷ []
 file_pieces file Memory = memory_pieces
 
 abbrev pub too_long_pieces : Bytes → ℕ → List Bytes
@@ -71,10 +65,10 @@ abbrev pub memory_line : Bytes
 memory_line = error memory_pieces
 
 abbrev pub not_opened_line : Bytes → Bytes
-not_opened_line file = error (not_opened_pieces file)
+not_opened_line file = error (file_pieces file NotOpened)
 
 abbrev pub not_read_line : Bytes → Bytes
-not_read_line file = error (not_read_pieces file)
+not_read_line file = error (file_pieces file NotRead)
 
 abbrev pub file_fault_line : Bytes → FileFault → Bytes
 file_fault_line file fault = error (file_pieces file fault)

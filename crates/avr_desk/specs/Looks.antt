@@ -1,7 +1,6 @@
 -- What follows from what calls of a system gave.
-use Rattle.std.specs.Prelude.{◌≡◌, ◌⊎◌, ◌==◌, ◌&&◌, ◌||◌, Bool, true, false, Option, Some, None, Result, Ok, Err}
+use Rattle.std.specs.Prelude.{◌==◌, ◌&&◌, ◌||◌, Bool, true, false, Option, Some, None, Result, Ok, Err}
 use Rattle.std.specs.Option.{is_none}
-use Rattle.std.specs.declared.io.ErrorKind.{ErrorKind}
 use Rattle.std.specs.declared.io.Error.{Error}
 use Rattle.std.specs.declared.fs.TryLockError.{TryLockError}
 use Rattle.std.specs.declared.fs.TryLockError.TheVariants as lock
@@ -18,10 +17,6 @@ abbrev pub locked : {T : Type 0} → T → Result (Unit {0}) TryLockError → Re
 locked file (Ok done) = Ok (Some file)
 locked file (Err lock.WouldBlock) = Ok None
 locked file (Err (lock.Error error)) = Err error
-
--- the error of a file system that synchronizes nothing of a kind
-abbrev pub SyncsNone : ErrorKind → Type 0
-SyncsNone kind = (kind ≡ ErrorKind.InvalidInput) ⊎ (kind ≡ ErrorKind.ReadOnlyFilesystem)
 
 -- what is created by a name may be the held file
 abbrev pub leads : Option Identity → Option Identity → Bool → Bool → Bool

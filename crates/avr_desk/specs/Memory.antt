@@ -1,6 +1,6 @@
 -- A desk in memory: what contracts see of it, and the bytes that a name means.
-use Rattle.std.specs.Prelude.{ℕ, List, ◌++◌, drop, length, Option, Some, None, if◌then◌else◌}
-use Rattle.avr_desk.specs.Record.{DeskState, Record, Bytes, all_files, showing}
+use Rattle.std.specs.Prelude.{ℕ, List, [], ◌++◌, drop, length, Option, Some, None, if◌then◌else◌}
+use Rattle.avr_desk.specs.Record.{DeskState, Record, Bytes, all_files, nothing_kept, showing}
 use Rattle.avr_desk.specs.Named.{bytes_given, is_dash, newest}
 use Rattle.avr_desk.specs.declared.record.Writing.{Writing}
 
@@ -13,6 +13,11 @@ pub record MemDeskState : Type 0 where
   pub input : Bytes
   pub stored : List Writing
   pub opened : Bytes
+
+-- a desk without files, with this standard input
+abbrev pub fresh_desk : Bytes → MemDeskState
+fresh_desk input =
+    record { kept = nothing_kept; failures = 0; unsaid = 0; input = input; stored = []; opened = [] }
 
 -- what it shows, as any desk does
 abbrev pub memory_state : MemDeskState → DeskState
@@ -30,13 +35,9 @@ pub record Stock : Type 0 where
 abbrev pub stock_of : MemDeskState → Stock
 stock_of m = record { input = m.input; files = m.stored }
 
--- the newest file of this name among those made since, else the last one put there
-abbrev pub file_named : Bytes → Stock → List Writing → Option Bytes
-file_named name stock made = newest name None (stock.files ++ made)
-
--- what a name means then
+-- what a name means then: the newest file of this name among those made since, else the last one put there
 abbrev pub stood_for : Stock → List Writing → Bytes → Option Bytes
-stood_for stock made name = if is_dash name then Some stock.input else file_named name stock made
+stood_for stock made name = if is_dash name then Some stock.input else newest name None (stock.files ++ made)
 
 -- what a name means when it is opened
 abbrev pub contents : Bytes → MemDeskState → Option Bytes

@@ -1,5 +1,6 @@
 -- Files by their names, and the position of the open one.
 use Rattle.std.specs.Prelude.{Bool, false, List, [], ◌∷◌, codes, Option, Some, None, if◌then◌else◌}
+use Rattle.std.specs.Option.{option_map, unwrap_or}
 use Rattle.std.specs.Str.{bytes_eq}
 use Rattle.avr_desk.specs.Record.{Bytes, Record}
 use Rattle.avr_desk.specs.declared.record.Open.{Open}
@@ -18,12 +19,8 @@ abbrev pub newest : Bytes → Option Bytes → List Writing → Option Bytes
 newest name older [] = older
 newest name older (f ∷ fs) = newest name (or_older name older f) fs
 
-abbrev pub is_held_name : Bytes → Option Bytes → Bool
-is_held_name name None = false
-is_held_name name (Some held) = bytes_eq held name
-
 abbrev pub holds : Bytes → Record → Bool
-holds name r = is_held_name name r.held
+holds name r = unwrap_or (option_map (λ (held : Bytes). bytes_eq held name) r.held) false
 
 abbrev pub bytes_given : Open → Bytes
 bytes_given (ToRead x) = x.bytes

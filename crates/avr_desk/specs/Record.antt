@@ -1,5 +1,5 @@
 -- What a desk was asked, and what it gave.
-use Rattle.std.specs.Prelude.{◌≡◌, ◌⊎◌, ◌==◌, ◌&&◌, ◌||◌, ℕ, Bool, true, false, not, List, [], ◌∷◌, ◌++◌, take, length, Option, Some, None, Result, Ok, Err, OnOk, ⊤}
+use Rattle.std.specs.Prelude.{◌≡◌, ◌⊎◌, ◌==◌, ◌&&◌, ◌||◌, ◌+◌, ℕ, Bool, true, false, not, List, [], ◌∷◌, ◌++◌, take, length, Option, Some, None, Result, Ok, Err, OnOk, ⊤}
 use Rattle.avr_desk.specs.declared.desk.DeskFault.{DeskFault}
 use Rattle.avr_desk.specs.declared.desk.DeskFault.TheVariants.{NotFound, Failed}
 use Rattle.avr_desk.specs.declared.record.Writing.{Writing}
@@ -14,13 +14,15 @@ abbrev pub Bytes : Type 0
 Bytes = List ℕ
 
 -- What a desk keeps: the finished openings and files in their order; the open file; the held file; those held
--- already; the replacements that were tried, also those that failed; output and messages.
+-- already; the replacements that were tried, also those that failed; how often it was to release what it
+-- held; output and messages.
 pub record Record : Type 0 where
   pub uses : List FileUse
   pub current : Open
   pub held : Option Bytes
   pub denied : List Bytes
   pub tried : List Writing
+  pub releases : ℕ
   pub output : Bytes
   pub messages : Bytes
 
@@ -100,7 +102,7 @@ after_hold name (Ok false) r = with_denied name r
 after_hold name (Err fault) r = r
 
 abbrev pub with_none_held : Record → Record
-with_none_held r = record r { held = None }
+with_none_held r = record r { held = None; releases = r.releases + 1 }
 
 -- what a desk shows once it holds nothing
 abbrev pub released : DeskState → DeskState
@@ -123,21 +125,13 @@ abbrev pub Replaces : Bytes → Bytes → Result ⊤ DeskFault → DeskState →
 Replaces name bytes (Ok done) old new = Passes (with_replaced name bytes) old new
 Replaces name bytes (Err fault) old new = (new.kept ≡ old.kept) ⊎ Passes (with_tried name bytes) old new
 
--- a replacement that failed before it was tried changes nothing
-abbrev pub after_replace : Bytes → Bytes → Result ⊤ DeskFault → Record → Record
-after_replace name bytes (Ok done) r = with_replaced name bytes r
-after_replace name bytes (Err fault) r = r
-
-abbrev pub is_nil : Bytes → Bool
-is_nil bytes = length bytes == 0
-
 -- bytes were read, or the end was seen
 abbrev pub noted : Bytes → Bool → Open → Open
 noted bytes ends (ToRead x) = ToRead (record x { bytes = x.bytes ++ bytes; ended = x.ended || ends })
 noted bytes ends o = o
 
 abbrev pub read_on : Bytes → ℕ → Open → Open
-read_on buf n o = noted (take n buf) (n == 0 && not (is_nil buf)) o
+read_on buf n o = noted (take n buf) (n == 0 && not (length buf == 0)) o
 
 abbrev pub after_read : Bytes → Result ℕ DeskFault → Record → Record
 after_read buf (Ok n) r = record r { current = read_on buf n r.current }
@@ -174,4 +168,4 @@ HasOpen test old r = OnOk r (test old.kept.current ≡ true)
 
 abbrev pub nothing_kept : Record
 nothing_kept =
-    record { uses = []; current = Closed; held = None; denied = []; tried = []; output = []; messages = [] }
+    record { uses = []; current = Closed; held = None; denied = []; tried = []; releases = 0; output = []; messages = [] }

@@ -52,38 +52,22 @@ KeepsError old new (Err Failed) = IsSome new
 KeepsError old new (Err NotFound) = new ≡ old
 KeepsError old new (Ok done) = new ≡ old
 
--- a writer whose bytes are known took a prefix of these
-abbrev pub AppendsPrefix : Option Bytes → Option Bytes → Bytes → Type 0
-AppendsPrefix old new bytes = (prefix : Bytes) × ((back : Bytes) × (prefix ++ back ≡ bytes)) × Appends old new prefix
-
--- it took the returned number of them; after a fault perhaps a prefix
-abbrev pub AppendsTaken : {F : Type 0} → Option Bytes → Option Bytes → Bytes → Result ℕ F → Type 0
-AppendsTaken old new bytes (Ok n) = Appends old new (take n bytes)
-AppendsTaken old new bytes (Err fault) = AppendsPrefix old new bytes
-
--- The record of a write is what the writer took: the returned number of bytes, or a prefix after a fault.
+-- A writer whose bytes are known took this many of these, and the record of the write is that.
 abbrev pub RecordsTaken : Stream → Bytes → Option Bytes → Option Bytes → Record → Record → ℕ → Type 0
 RecordsTaken stream bytes old new before now n =
     (now ≡ after_sent stream (take n bytes) before) × Appends old new (take n bytes)
 
+-- it took the returned number of them; after a fault perhaps a prefix
 abbrev pub TakesTruly : {F : Type 0} → Stream → Bytes → Option Bytes → Option Bytes → Record → Record → Result ℕ F
     → Type 0
 TakesTruly stream bytes old new before now (Ok n) = RecordsTaken stream bytes old new before now n
 TakesTruly stream bytes old new before now (Err fault) =
     (n : ℕ) × (n ≤ length bytes) × RecordsTaken stream bytes old new before now n
 
--- whether writes go to the output after opening and creating; a failed call changes nothing
+-- whether writes go to the output after opening a file; a failed call changes nothing
 abbrev pub to_output_opened : Result (Unit {0}) DeskFault → Bool → Bool
 to_output_opened (Err Failed) before = before
 to_output_opened result before = false
-
-abbrev pub to_output_replaced : Result (Unit {0}) DeskFault → Bool → Bool
-to_output_replaced (Ok done) before = false
-to_output_replaced (Err fault) before = before
-
-abbrev pub to_output_created : Bytes → Result (Unit {0}) DeskFault → Bool → Bool
-to_output_created name (Ok done) before = is_dash name
-to_output_created name (Err fault) before = before
 
 abbrev pub has_dash : List Writing → Bool
 has_dash = list_any (λ file. is_dash file.name)

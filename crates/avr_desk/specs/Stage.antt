@@ -55,9 +55,6 @@ abbrev pub verdict_stage : {A : Type 0} → Result A Bytes → Stage A
 verdict_stage (Ok a) openings = record { says = []; answer = Made a; left = openings }
 verdict_stage (Err line) openings = record { says = []; answer = Refused line; left = openings }
 
-abbrev pub unread_stage : {A : Type 0} → Stage A
-unread_stage openings = record { says = []; answer = Unread; left = openings }
-
 -- the opening of the file of this name that gives what this one gives
 abbrev pub under_name : Bytes → Opening → Opening
 under_name name (Absent other) = Absent name
@@ -75,13 +72,11 @@ open_stage name openings = record {
   left = drop 1 openings;
 }
 
-abbrev pub is_whole : ℕ → Reading → Bool
-is_whole limit reading = reading.ended || nat_lt limit (length reading.bytes)
-
 abbrev pub content_stage : {A : Type 0} → Bytes → ℕ → (Bytes → Result A Bytes) → Opening → Stage A
 content_stage name limit judge (Absent other) = verdict_stage (Err (not_opened_line name))
 content_stage name limit judge (Found reading) =
-    if is_whole limit reading then verdict_stage (judge reading.bytes) else unread_stage
+    if reading.ended || nat_lt limit (length reading.bytes) then verdict_stage (judge reading.bytes)
+    else (λ openings. record { says = []; answer = Unread; left = openings })
 
 -- the result of a file, once it was read to its end or past its limit
 abbrev pub file_stage : {A : Type 0} → Bytes → ℕ → (Bytes → Result A Bytes) → Stage A

@@ -1,6 +1,7 @@
 -- Where bytes go, and a call that sends all or only a prefix of them.
-use Rattle.std.specs.Prelude.{◌≤◌, ℕ, take, length, Result, Ok, Err}
+use Rattle.std.specs.Prelude.{◌≤◌, ℕ, take, length, Result, Ok, Err, IfOk}
 use Rattle.avr_desk.specs.declared.desk.DeskFault.{DeskFault}
+use Rattle.avr_desk.specs.Fault.{IsCall, WriteCounts}
 use Rattle.avr_desk.specs.Record.{DeskState, Record, Bytes, Passes, after_write, after_out, after_err}
 use Rattle.avr_desk.specs.declared.stream.Stream.{Stream}
 use Rattle.avr_desk.specs.declared.stream.Stream.TheVariants.{File, Output, Messages}
@@ -18,3 +19,10 @@ SendsPart stream old new bytes = (n : ℕ) × (n ≤ length bytes) × Passes (af
 abbrev pub SendsTaken : Stream → Bytes → DeskState → DeskState → Result ℕ DeskFault → Type 0
 SendsTaken stream bytes old new (Ok n) = Passes (after_sent stream (take n bytes)) old new
 SendsTaken stream bytes old new (Err fault) = SendsPart stream old new bytes
+
+-- A write to this stream is a call of a desk: the returned number of these bytes went there, or perhaps a prefix.
+pub record IsWrite {Desk Start : Type 0} (view : Desk → DeskState) (comes_of : Start → Desk → Type 0) (stream : Stream)
+    (bytes : Bytes) (old new : Desk) (r : Result ℕ DeskFault) : Type 0 where
+  pub bound : IfOk r (λ n. n ≤ length bytes)
+  pub kept : SendsTaken stream bytes (view old) (view new) r
+  pub call : IsCall view comes_of (WriteCounts stream bytes) old new r

@@ -5,7 +5,7 @@ use Rattle.avr_desk.specs.declared.record.FileUse.TheVariants.{Opened, Created}
 use Rattle.avr_desk.specs.Memory.{MemDeskState, Stock, stock_of, stood_for}
 use Rattle.avr_desk.specs.Record.{Bytes, files_among}
 use Rattle.avr_desk.specs.declared.record.Open.{Open}
-use Rattle.avr_desk.specs.declared.record.Open.TheVariants.{Closed, ToRead, ToWrite}
+use Rattle.avr_desk.specs.declared.record.Open.TheVariants.{ToRead}
 use Rattle.avr_desk.specs.declared.record.Opening.{Opening}
 use Rattle.avr_desk.specs.declared.record.Opening.TheVariants.{Absent, Found}
 use Rattle.avr_desk.specs.declared.record.Writing.{Writing}
@@ -32,8 +32,7 @@ abbrev pub IsOpenTrue : Stock → MemDeskState → Open → Type 0
 IsOpenTrue stock m (ToRead reading) =
     (stood_for stock (files_among m.kept.uses) reading.name ≡ Some m.opened)
     × IsRead (Some m.opened) reading.bytes reading.ended
-IsOpenTrue stock m Closed = Unit {0}
-IsOpenTrue stock m (ToWrite writing) = Unit {0}
+IsOpenTrue stock m current = Unit {0}
 
 -- the desk began with this, and all that it keeps is true of it
 pub record HoldsTrue (stock : Stock) (m : MemDeskState) : Type 0 where

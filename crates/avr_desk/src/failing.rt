@@ -3,7 +3,7 @@ ghost use Rattle.std.specs.Prelude.{◌≡◌, ◌≤◌, ◌-◌, ◌==◌, len
 ghost use Rattle.avr_desk.specs.Failing.{FailsWhenDue, count_after, failing, inner_comes_of};
 ghost use Rattle.avr_desk.specs.Record.{Passes, after_open, after_create, after_hold, after_read, Replaces, released, HasOpen, is_to_read, is_to_write};
 ghost use Rattle.avr_desk.specs.Fault.{Counts, WriteCounts, IsCall};
-ghost use Rattle.avr_desk.specs.Stream.{SendsTaken};
+ghost use Rattle.avr_desk.specs.Stream.{IsWrite};
 ghost use Rattle.avr_desk.specs.declared.stream.Stream.TheVariants.{File, Output, Messages};
 ghost use Rattle.ghosts.specs.Stays.{Stays};
 
@@ -107,11 +107,8 @@ impl<D: Desk> Desk for FailingDesk<D> {
     }
 
     fn write(&mut self, bytes: &[u8]) -> Result<usize, DeskFault>
-        ensures bound { IfOk result (λ n. n ≤ length bytes.now) }
-        ensures kept { SendsTaken File bytes.now (D.view self.old.inner) (D.view self.new.inner) result }
+        ensures write { IsWrite (failing D.view) (inner_comes_of D.comes_of) File bytes.now self.old self.new result }
         ensures has_file { HasOpen is_to_write (D.view self.old.inner) result }
-        ensures call { IsCall (failing D.view) (inner_comes_of D.comes_of)
-            (WriteCounts File bytes.now) self.old self.new result }
         ensures when_due { FailsWhenDue File D.view self.old self.new (WriteCounts File bytes.now) result }
     {
         if self.is_due() {
@@ -121,10 +118,7 @@ impl<D: Desk> Desk for FailingDesk<D> {
     }
 
     fn out(&mut self, bytes: &[u8]) -> Result<usize, DeskFault>
-        ensures bound { IfOk result (λ n. n ≤ length bytes.now) }
-        ensures kept { SendsTaken Output bytes.now (D.view self.old.inner) (D.view self.new.inner) result }
-        ensures call { IsCall (failing D.view) (inner_comes_of D.comes_of)
-            (WriteCounts Output bytes.now) self.old self.new result }
+        ensures write { IsWrite (failing D.view) (inner_comes_of D.comes_of) Output bytes.now self.old self.new result }
         ensures when_due { FailsWhenDue Output D.view self.old self.new (WriteCounts Output bytes.now) result }
     {
         if self.is_due() {
@@ -134,10 +128,7 @@ impl<D: Desk> Desk for FailingDesk<D> {
     }
 
     fn err(&mut self, bytes: &[u8]) -> Result<usize, DeskFault>
-        ensures bound { IfOk result (λ n. n ≤ length bytes.now) }
-        ensures kept { SendsTaken Messages bytes.now (D.view self.old.inner) (D.view self.new.inner) result }
-        ensures call { IsCall (failing D.view) (inner_comes_of D.comes_of)
-            (WriteCounts Messages bytes.now) self.old self.new result }
+        ensures write { IsWrite (failing D.view) (inner_comes_of D.comes_of) Messages bytes.now self.old self.new result }
         ensures when_due { FailsWhenDue Messages D.view self.old self.new (WriteCounts Messages bytes.now) result }
     {
         if self.is_due() {

@@ -1,8 +1,8 @@
 //! The files of a system by their names, as a program's desk uses them.
-ghost use Rattle.std.specs.Prelude.{◌≡◌, IfOk, IfErr, OnOk, OnErr, MatchOption, Option, Some, true};
+ghost use Rattle.std.specs.Prelude.{◌≡◌, ◌∷◌, [], IfOk, IfErr, OnOk, OnErr, MatchOption, Option, Some, true};
 ghost use Rattle.std.specs.IoError.{error_kind};
 ghost use Rattle.std.specs.Option.{option_copied};
-ghost use Rattle.avr_desk.specs.Journal.{Counts, Does, Done, LeavesAlso, LeavesNoMore, giving_input, count_of, holding, making, opening};
+ghost use Rattle.avr_desk.specs.Journal.{Counts, Does, Done, Gives, LeavesAlso, LeavesNoMore, Opens, Still, calling, count_of, holding, made};
 ghost use Rattle.avr_desk.specs.Record.{Bytes};
 ghost use Rattle.ghosts.specs.Stays.{Stays};
 
@@ -63,7 +63,7 @@ pub trait FileSystem {
     fn input(&mut self) -> Self::Input
         ensures begins { is_input result }
         ensures keeps { LeavesNoMore left self.old self.new }
-        ensures gives { Does did giving_input self.old self.new };
+        ensures gives { Does did (calling (Gives ∷ [])) self.old self.new };
 
     /// Opens a file to read. `hold` is what this run holds.
     ///
@@ -76,7 +76,7 @@ pub trait FileSystem {
             → IfOk result (λ file. is_of file name.now) }
         ensures absent { Counts did (count_of (option_copied hold.entry)) self.old
             → IfErr result (λ error. error_kind error ≡ ErrorKind.NotFound → lacks name.now) }
-        ensures opens { OnOk result (Does did (opening name.now) self.old self.new) }
+        ensures opens { OnOk result (Does did (calling (Opens name.now ∷ [])) self.old self.new) }
         ensures fails { OnErr result (Stays did self.old self.new) }
         ensures keeps { LeavesNoMore left self.old self.new };
 
@@ -87,7 +87,7 @@ pub trait FileSystem {
     /// The system's error, `ResourceBusy` if the file is held.
     fn create_named(&mut self, name: &str, hold: Option<&Self::Hold>) -> io::Result<Self::File>
         ensures named { IfOk result (λ file. is_of file name.now) }
-        ensures creates { OnOk result (Does did (making name.now) self.old self.new) }
+        ensures creates { OnOk result (Does did (calling (made name.now)) self.old self.new) }
         ensures fails { OnErr result (Stays did self.old self.new) }
         ensures keeps { Counts did (count_of (option_copied hold.entry)) self.old
             → LeavesNoMore left self.old self.new };
@@ -95,8 +95,7 @@ pub trait FileSystem {
     /// Closes a file that was written.
     fn close_file(&mut self, file: Self::File)
         ensures closes { closed file }
-        ensures stays { Stays did self.old self.new }
-        ensures keeps { LeavesNoMore left self.old self.new };
+        ensures stays { Still did left self.old self.new };
 
     /// Locks the file of this name, which is to be replaced. Returns `None` if another process has locked it.
     ///
@@ -121,7 +120,8 @@ pub trait FileSystem {
     /// The system's error. The file may have been replaced even so.
     fn put_held(&mut self, hold: &mut Self::Hold, bytes: &[u8]) -> io::Result<()>
         ensures put { OnOk result ((name : Bytes) → holds hold.old name → replaced name bytes.now) }
-        ensures makes { OnOk result ((name : Bytes) → holds hold.old name → Does did (making name) self.old self.new) }
+        ensures makes { OnOk result ((name : Bytes) → holds hold.old name
+            → Does did (calling (made name)) self.old self.new) }
         ensures fails { OnErr result (Stays did self.old self.new) }
         ensures stays { (name : Bytes) → holds hold.old name → holds hold.new name }
         ensures leaves { (name : Bytes) → holds hold.old name

@@ -1,7 +1,7 @@
 //! The calls of a system by which a run uses files, one at a time.
-ghost use Rattle.std.specs.Prelude.{◌≡◌, ◌++◌, [], true, false, IfErr, IfOk, MatchOption, OnErr, OnOk, Option, Some};
+ghost use Rattle.std.specs.Prelude.{◌≡◌, ◌⊎◌, ◌++◌, ◌∷◌, [], true, false, IfErr, IfOk, MatchOption, None, OnErr, OnOk, Option, Some};
 ghost use Rattle.std.specs.IoError.{error_kind};
-ghost use Rattle.avr_desk.specs.Journal.{Counts, Does, Done, IsFree, LeavesAlso, LeavesNoMore, Still, giving_input, holding, making, opening};
+ghost use Rattle.avr_desk.specs.Journal.{Counts, Does, Done, Gives, LeavesAlso, LeavesNoMore, Opens, Still, calling, holding, made};
 ghost use Rattle.avr_desk.specs.Record.{Bytes};
 ghost use Rattle.ghosts.specs.Stays.{Stays};
 
@@ -35,8 +35,7 @@ pub trait Folder {
     /// A place whose lock file this run has locked, and which had its name after that. So others find this one.
     type Held: Drop;
 
-    /// Which file was at a place, or that none was. It keeps no file open: some systems hide an open file when another
-    /// one gets its name.
+    /// Which file was at a place. It keeps no file open: some systems hide an open file when another one gets its name.
     type Seen: Drop;
 
     /// A new file beside a place.
@@ -59,8 +58,9 @@ pub trait Folder {
     /// A look finds a file of these bytes under this name.
     ghost finds: { Self → Bytes → Bytes → Type 0 };
 
-    /// A look finds at its place what was seen there, and the new file under the name that it was made with.
-    ghost finds_both: { Self → Self.Seen → Self.New → Type 0 };
+    /// A look finds at its place what was seen there, a file or none, and the new file under the name that it was made
+    /// with.
+    ghost finds_both: { Self → Option Self.Seen → Self.New → Type 0 };
 
     /// The name doesn't lead to a file that this run holds.
     ghost is_apart: { Self → Bytes → Type 0 };
@@ -103,21 +103,21 @@ pub trait Folder {
     fn input(&mut self) -> Self::Input
         ensures begins { is_input result }
         ensures keeps { LeavesNoMore left self.old self.new }
-        ensures gives { Does did giving_input self.old self.new };
+        ensures gives { Does did (calling (Gives ∷ [])) self.old self.new };
 
     /// Opens a file to read.
     fn open(&mut self, name: &str) -> io::Result<Self::File>
-        ensures named { IsFree did is_free self.old name.now → IfOk result (λ file. is_of file name.now) }
-        ensures absent { IsFree did is_free self.old name.now
+        ensures named { Counts did 0 self.old ⊎ is_free self.old name.now → IfOk result (λ file. is_of file name.now) }
+        ensures absent { Counts did 0 self.old ⊎ is_free self.old name.now
             → IfErr result (λ error. error_kind error ≡ ErrorKind.NotFound → lacks name.now) }
-        ensures opens { OnOk result (Does did (opening name.now) self.old self.new) }
+        ensures opens { OnOk result (Does did (calling (Opens name.now ∷ [])) self.old self.new) }
         ensures fails { OnErr result (Stays did self.old self.new) }
         ensures keeps { LeavesNoMore left self.old self.new };
 
     /// Creates a file, or empties an existing one.
     fn create(&mut self, name: &str) -> io::Result<Self::File>
         ensures named { IfOk result (λ file. is_of file name.now) }
-        ensures creates { OnOk result (Does did (making name.now) self.old self.new) }
+        ensures creates { OnOk result (Does did (calling (made name.now)) self.old self.new) }
         ensures fails { OnErr result (Stays did self.old self.new) }
         ensures alone { Counts did 0 self.old → LeavesNoMore left self.old self.new }
         ensures keeps { is_apart self.old name.now → LeavesNoMore left self.old self.new };
@@ -162,25 +162,30 @@ pub trait Folder {
         ensures other { result ≡ false → Counts did 1 self.now → is_free self.now name.now };
 
     /// Looks which file is at a place, if there is one. Fails if it may not be written.
-    fn see(&mut self, held: &Self::Held) -> io::Result<Self::Seen>
+    fn see(&mut self, held: &Self::Held) -> io::Result<Option<Self::Seen>>
         ensures stays { Still did left self.old self.new };
 
     /// Opens the file at a place to read. Fails if it isn't the one that was seen; `NotFound` means that none was seen
     /// there and none is there.
-    fn open_seen(&mut self, held: &Self::Held, seen: &Self::Seen) -> io::Result<Self::File>
+    fn open_seen(&mut self, held: &Self::Held, seen: &Option<Self::Seen>) -> io::Result<Self::File>
         ensures named { IfOk result (λ file. is_of file (held_name held.now)) }
         ensures absent { IfErr result (λ error. error_kind error ≡ ErrorKind.NotFound → lacks (held_name held.now)) }
-        ensures opens { OnOk result (Does did (opening (held_name held.now)) self.old self.new) }
+        ensures opens { OnOk result (Does did (calling (Opens (held_name held.now) ∷ [])) self.old self.new) }
         ensures fails { OnErr result (Stays did self.old self.new) }
         ensures keeps { LeavesNoMore left self.old self.new };
 
-    /// Returns whether a name leads to the file at the place, which was seen there.
-    fn leads_to(&mut self, name: &str, held: &Self::Held, seen: &Self::Seen) -> io::Result<bool>
-        ensures apart { IfOk result (λ leads. leads ≡ false → Counts did 1 self.new → is_apart self.new name.now) }
+    /// Fails with `ResourceBusy` if a name leads to the place, or to the file that was seen there.
+    fn keep_apart(
+        &mut self,
+        name: &str,
+        held: &Self::Held,
+        seen: &Option<Self::Seen>,
+    ) -> io::Result<()>
+        ensures apart { OnOk result (Counts did 1 self.new → is_apart self.new name.now) }
         ensures stays { Still did left self.old self.new };
 
     /// Makes an empty new file, which has the owner and the permissions of the one that was seen.
-    fn make(&mut self, held: &Self::Held, seen: &Self::Seen) -> io::Result<Self::New>
+    fn make(&mut self, held: &Self::Held, seen: &Option<Self::Seen>) -> io::Result<Self::New>
         ensures empty { IfOk result (λ file. has file []) }
         ensures stays { Still did left self.old self.new };
 
@@ -194,19 +199,28 @@ pub trait Folder {
         ensures synced { OnOk result ((bytes : Bytes) → has file.old bytes → keeps file.new bytes) }
         ensures stays { Still did left self.old self.new };
 
-    /// Returns whether the file at the place is still the one that was seen, and the new file has its name still.
-    fn is_ready(
+    /// Fails with `AlreadyExists` unless what was seen is at the place still, and the new file has its name still.
+    fn look_again(
         &mut self,
         held: &Self::Held,
-        seen: &Self::Seen,
+        seen: &Option<Self::Seen>,
         file: &Self::New,
-    ) -> io::Result<bool>
-        ensures ready { IfOk result (λ is. is ≡ true → finds_both self.new seen.now file.now) }
+    ) -> io::Result<()>
+        ensures found { OnOk result (finds_both self.new seen.now file.now) }
         ensures stays { Still did left self.old self.new };
 
-    /// Gives the place to the new file.
+    /// Gives the place to the new file, only if nothing is there. The file may have its own name still.
+    fn place_new(&mut self, held: &Self::Held, file: Self::New) -> io::Result<()>
+        requires { finds_both self.old None file }
+        ensures only { OnOk result (lacks (held_name held.now)) }
+        ensures whole { (bytes : Bytes) → keeps file bytes
+            → LeavesAlso left (held_name held.now) (λ found. found ≡ Some bytes) self.old self.new }
+        ensures placed { OnOk result ((bytes : Bytes) → keeps file bytes → finds self.new (held_name held.now) bytes) }
+        ensures stays { Stays did self.old self.new };
+
+    /// Gives the place of the file that was seen to the new file.
     fn rename(&mut self, held: &Self::Held, seen: &Self::Seen, file: Self::New) -> io::Result<()>
-        requires { finds_both self.old seen.now file }
+        requires { finds_both self.old (Some seen.now) file }
         ensures whole { (bytes : Bytes) → keeps file bytes
             → LeavesAlso left (held_name held.now) (λ found. found ≡ Some bytes) self.old self.new }
         ensures placed { OnOk result ((bytes : Bytes) → keeps file bytes → finds self.new (held_name held.now) bytes) }
@@ -220,7 +234,7 @@ pub trait Folder {
         ensures lasts { OnOk result ((bytes : Bytes) → finds self.old (held_name held.now) bytes
             → lasts (held_name held.now) bytes) }
         ensures makes { OnOk result ((bytes : Bytes) → finds self.old (held_name held.now) bytes
-            → Does did (making (held_name held.now)) self.old self.new) }
+            → Does did (calling (made (held_name held.now))) self.old self.new) }
         ensures fails { OnErr result (Stays did self.old self.new) }
         ensures keeps { LeavesNoMore left self.old self.new };
 
@@ -228,7 +242,7 @@ pub trait Folder {
     fn write_over(&mut self, held: &Self::Held, bytes: &[u8]) -> io::Result<()>
         requires { is_mounted (held_name held.now) }
         ensures lasts { OnOk result (lasts (held_name held.now) bytes.now) }
-        ensures makes { OnOk result (Does did (making (held_name held.now)) self.old self.new) }
+        ensures makes { OnOk result (Does did (calling (made (held_name held.now))) self.old self.new) }
         ensures fails { OnErr result (Stays did self.old self.new) }
         ensures keeps { LeavesNoMore left self.old self.new };
 

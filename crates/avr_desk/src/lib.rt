@@ -26,7 +26,6 @@ mod failing;
 mod file_system;
 mod folder;
 mod journal;
-mod kept;
 mod looks;
 mod mem_desk;
 mod replacement;

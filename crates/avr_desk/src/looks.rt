@@ -1,7 +1,8 @@
 //! What follows from what calls of a system gave. Nothing here calls one.
-ghost use Rattle.std.specs.Prelude.{◌≡◌, ◌==◌, ◌%◌, ◌*◌, bit_and, bit_or, if◌then◌else◌, IfOk, IfErr, OnOk, None, Ok, Err, Option, Some};
+ghost use Rattle.std.specs.Prelude.{◌≡◌, ◌⊎◌, ◌==◌, ◌&&◌, ◌%◌, ◌*◌, bit_and, bit_or, if◌then◌else◌, IfOk, IfErr, OnOk, MatchOption, None, Ok, Err, Option, Some, true, false};
 ghost use Rattle.std.specs.IoError.{error_kind};
-ghost use Rattle.avr_desk.specs.Looks.{SyncsNone, is_same, leads, locked};
+ghost use Rattle.std.specs.Option.{is_none};
+ghost use Rattle.avr_desk.specs.Looks.{is_same, leads, locked};
 
 use std::fs::TryLockError;
 use std::io;
@@ -49,11 +50,40 @@ pub(crate) fn locked<T: Drop>(file: T, tried: Result<(), TryLockError>) -> io::R
     }
 }
 
+/// Returns the file that was opened, if it is the one that was seen. Only a look that found none, twice, is `NotFound`:
+/// an error about an open file says of none that it is absent.
+pub(crate) fn opened<T: Drop>(
+    seen: Option<Identity>,
+    file: Option<T>,
+    there: Option<io::Result<Identity>>,
+) -> io::Result<T>
+    ensures same { OnOk result (MatchOption there ⊥ (λ it. IfOk it (λ own. is_same seen (Some own) ≡ true))) }
+    ensures absent { IfErr result (λ e. error_kind e ≡ ErrorKind.NotFound → is_none seen && is_none file ≡ true) }
+{
+    match (file, there) {
+        (Some(file), Some(Ok(own))) if is_same(seen, Some(own)) => Ok(file),
+        (None, _) if seen.is_none() => Err(io::Error::from(ErrorKind::NotFound)),
+        _ => Err(io::Error::from(ErrorKind::ResourceBusy)),
+    }
+}
+
+/// Returns whether a file system that gives this error for a hard link makes none. A name that is taken is no such error.
+pub(crate) fn links_none(kind: ErrorKind) -> bool
+    ensures { kind ≡ ErrorKind.AlreadyExists → result ≡ false }
+{
+    matches!(
+        kind,
+        ErrorKind::PermissionDenied | ErrorKind::Unsupported | ErrorKind::TooManyLinks
+    )
+}
+
 /// Returns what waiting for the disk gave. It counts as done if the file system synchronizes nothing of that kind.
 pub(crate) fn synced(waited: io::Result<()>) -> io::Result<()>
     ensures done { OnOk waited (result ≡ waited) }
-    ensures passed { IfErr waited (λ error. SyncsNone (error_kind error) → result ≡ Ok tt) }
-    ensures fails { IfErr waited (λ error. (SyncsNone (error_kind error) → ⊥) → result ≡ waited) }
+    ensures passed { IfErr waited (λ error. (error_kind error ≡ ErrorKind.InvalidInput)
+        ⊎ (error_kind error ≡ ErrorKind.ReadOnlyFilesystem) → result ≡ Ok tt) }
+    ensures fails { IfErr waited (λ error. (error_kind error ≡ ErrorKind.InvalidInput → ⊥)
+        → (error_kind error ≡ ErrorKind.ReadOnlyFilesystem → ⊥) → result ≡ waited) }
 {
     match waited {
         Err(error)

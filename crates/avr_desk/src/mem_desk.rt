@@ -1,24 +1,32 @@
 //! A desk in memory.
 ghost use Rattle.std.specs.Prelude.{◌≡◌, ◌≤◌, ◌++◌, ◌∷◌, ◌==◌, ◌&&◌, [], min, take, drop, length, Some, None, IfOk, OnOk, OnErr, is_ok, not, true, if◌then◌else◌};
-ghost use Rattle.std.specs.Option.{option_copied};
+ghost use Rattle.std.specs.Option.{option_copied, option_to_list};
 
 use crate::bytes::Bytes;
 use crate::desk::{ChipDesk, Desk, DeskFault};
-use crate::kept::Kept;
-use crate::record::{FileUse, Open, Reading, Writing, newest};
+use crate::journal::{Call, Journal};
+use crate::record::{FileUse, Open, Opening, Reading, Writing, newest, newest_created};
 use std::alloc::{AllocError, Global};
 use std::marker::Model;
+use std::mem;
 
 /// A desk that holds files, input, output and messages in memory, and shows all that passed.
 ///
-/// If allocation fails within a call, the call fails and is counted; nothing else changes.
+/// If allocation fails within a call, the call fails and is counted; nothing else changes. The journal has what proofs
+/// alone use: the replacements and how often a file was released.
 #[derive(Debug, Drop)]
 pub struct MemDesk {
     alloc: Global,
     input: Bytes,
     stored: Vec<Writing>,
     opened: Bytes,
-    kept: Kept,
+    uses: Vec<FileUse>,
+    current: Open,
+    held: Option<Bytes>,
+    denied: Vec<Bytes>,
+    output: Bytes,
+    messages: Bytes,
+    journal: Journal,
     failures: u64,
     unsaid: u64,
 }
@@ -29,7 +37,16 @@ impl Model for MemDesk {
     ghost Value = { MemDeskState };
 
     ghost view = { λ d. record {
-      kept = d.kept;
+      kept = record {
+        uses = d.uses.items;
+        current = d.current;
+        held = d.held;
+        denied = d.denied.items;
+        tried = d.journal.kept.tried;
+        releases = d.journal.kept.releases;
+        output = d.output;
+        messages = d.messages;
+      };
       failures = d.failures;
       unsaid = d.unsaid;
       input = d.input;
@@ -59,28 +76,27 @@ fn is_end(count: usize, room: usize) -> bool
 }
 
 impl MemDesk {
-    ghost use Rattle.avr_desk.specs.Record.{nothing_kept};
     ghost use Rattle.ghosts.specs.Failures.{HasRisen};
-    ghost use Rattle.avr_desk.specs.Memory.{contents, file_named, stock_of};
-    ghost use Rattle.avr_desk.specs.Record.{all_files};
+    ghost use Rattle.avr_desk.specs.Memory.{contents, fresh_desk};
+    ghost use Rattle.avr_desk.specs.Named.{holds, newest};
+    ghost use Rattle.avr_desk.specs.Record.{all_files, all_uses};
 
     /// Creates a desk without files. Its standard input has these bytes, from the start each time `-` is opened.
     pub fn new(alloc: Global, input: Bytes) -> MemDesk
-        ensures { result ≡ record {
-          kept = nothing_kept;
-          failures = 0;
-          unsaid = 0;
-          input = input;
-          stored = [];
-          opened = [];
-        } }
+        ensures { result ≡ fresh_desk input }
     {
         MemDesk {
             alloc,
             input,
             stored: Vec::new(alloc),
             opened: Bytes::new(alloc),
-            kept: Kept::new(alloc),
+            uses: Vec::new(alloc),
+            current: Open::Closed,
+            held: None,
+            denied: Vec::new(alloc),
+            output: Bytes::new(alloc),
+            messages: Bytes::new(alloc),
+            journal: Journal::new(),
             failures: 0,
             unsaid: 0,
         }
@@ -94,14 +110,7 @@ impl MemDesk {
     /// assert!(rt; desk.file("a.hex") == Some(b":00000001FF\n".as_slice()));
     /// ```
     pub fn empty(alloc: Global) -> MemDesk
-        ensures { result ≡ record {
-          kept = nothing_kept;
-          failures = 0;
-          unsaid = 0;
-          input = [];
-          stored = [];
-          opened = [];
-        } }
+        ensures { result ≡ fresh_desk [] }
     {
         MemDesk::new(alloc, Bytes::new(alloc))
     }
@@ -124,32 +133,36 @@ impl MemDesk {
     /// Returns the bytes of a file: what was written since it was last created, else what was last put there.
     #[tactic(auto, using(crate::proofs::FileUses::Names::newest_append))]
     pub fn file(&self, name: &str) -> Option<&[u8]>
-        ensures { option_copied result ≡ file_named name.now (stock_of self.now) (all_files self.now.kept) }
+        ensures { option_copied result ≡ newest name.now None (self.now.stored ++ all_files self.now.kept) }
     {
         let name = name.as_bytes();
-        self.kept
-            .created(newest(None, self.stored.as_slice(), name), name)
+        let stored = newest(None, self.stored.as_slice(), name);
+        let found = newest_created(stored, self.uses.as_slice(), name);
+        match &self.current {
+            Open::ToWrite(file) => file.or_older(found, name),
+            _ => found,
+        }
     }
 
     /// Returns the standard output.
     pub fn output(&self) -> &[u8]
         ensures { result.now ≡ self.now.kept.output }
     {
-        self.kept.output()
+        self.output.as_slice()
     }
 
     /// Returns the messages.
     pub fn messages(&self) -> &[u8]
         ensures { result.now ≡ self.now.kept.messages }
     {
-        self.kept.messages()
+        self.messages.as_slice()
     }
 
     /// Returns the openings that are over and the files that are done, in their order.
     pub fn uses(&self) -> &[FileUse]
         ensures { result.now ≡ self.now.kept.uses }
     {
-        self.kept.uses()
+        self.uses.as_slice()
     }
 
     /// Returns the bytes that a name means when it is opened.
@@ -160,6 +173,37 @@ impl MemDesk {
             Some(self.input.as_slice())
         } else {
             self.file(name)
+        }
+    }
+
+    /// Closes the open file, adds `last` to the uses, and opens `next`.
+    fn close_current(&mut self, last: Option<FileUse>, next: Open) -> Result<(), AllocError>
+        ensures { self.new ≡ (if is_ok result then record self.old {
+          kept = record self.old.kept
+              { uses = all_uses self.old.kept ++ option_to_list last; current = next };
+        } else self.old) }
+    {
+        self.uses.reserve(2)?;
+        match mem::replace(&mut self.current, next) {
+            Open::Closed => {}
+            Open::ToRead(reading) => {
+                let found = Opening::Found(reading);
+                self.uses.push(FileUse::Opened(found)).unwrap()
+            }
+            Open::ToWrite(writing) => self.uses.push(FileUse::Created(writing)).unwrap(),
+        }
+        if let Some(last) = last {
+            self.uses.push(last).unwrap();
+        }
+        Ok(())
+    }
+
+    fn holds(&self, name: &str) -> bool
+        ensures { result ≡ holds name.now self.now.kept }
+    {
+        match &self.held {
+            Some(held) => held.as_slice() == name.as_bytes(),
+            None => false,
         }
     }
 
@@ -202,7 +246,8 @@ impl Desk for MemDesk {
             return Err(self.fail());
         };
         let Some(bytes) = self.contents(name) else {
-            if self.kept.note_absent(kept_name).is_err() {
+            let absent = FileUse::Opened(Opening::Absent(kept_name));
+            if self.close_current(Some(absent), Open::Closed).is_err() {
                 return Err(self.fail());
             }
             return Err(DeskFault::NotFound);
@@ -215,7 +260,7 @@ impl Desk for MemDesk {
             bytes: Bytes::new(self.alloc),
             ended: false,
         };
-        if self.kept.begin(Open::ToRead(reading)).is_err() {
+        if self.close_current(None, Open::ToRead(reading)).is_err() {
             return Err(self.fail());
         }
         self.opened = opened;
@@ -231,11 +276,8 @@ impl Desk for MemDesk {
             return Err(self.fail());
         };
         let bytes = Bytes::new(self.alloc);
-        if self
-            .kept
-            .begin(Open::ToWrite(Writing { name, bytes }))
-            .is_err()
-        {
+        let created = Open::ToWrite(Writing { name, bytes });
+        if self.close_current(None, created).is_err() {
             return Err(self.fail());
         }
         Ok(())
@@ -249,15 +291,15 @@ impl Desk for MemDesk {
         ensures has_file { OnOk result (is_to_read self.old.kept.current ≡ true) }
         ensures call { IsCall memory_state HoldsTrue (Counts File) self.old self.new result }
     {
-        if !self.kept.is_reading() {
+        if !matches!(self.current, Open::ToRead(_)) {
             return Err(self.fail());
         }
         let room = buf.len();
-        let next = next_bytes(self.opened.as_slice(), self.kept.given().len(), room);
+        let next = next_bytes(self.opened.as_slice(), self.current.given().len(), room);
         let count = next.len();
         buf[..count].copy_from_slice(next);
         let ends = is_end(count, room);
-        if self.kept.read_on(&buf[..count], ends).is_err() {
+        if self.current.read_on(&buf[..count], ends).is_err() {
             return Err(self.fail());
         }
         Ok(count)
@@ -270,10 +312,10 @@ impl Desk for MemDesk {
         ensures has_file { OnOk result (is_to_write self.old.kept.current ≡ true) }
         ensures call { IsCall memory_state HoldsTrue (WriteCounts File bytes.now) self.old self.new result }
     {
-        if !self.kept.is_writing() {
+        if !matches!(self.current, Open::ToWrite(_)) {
             return Err(self.fail());
         }
-        if self.kept.write_on(bytes).is_err() {
+        if self.current.write_on(bytes).is_err() {
             return Err(self.fail());
         }
         Ok(bytes.len())
@@ -285,7 +327,7 @@ impl Desk for MemDesk {
         ensures kept { self.new ≡ updated (after_out (bytes_taken bytes.now result) self.old.kept) self.old self.new }
         ensures call { IsCall memory_state HoldsTrue (WriteCounts Output bytes.now) self.old self.new result }
     {
-        if self.kept.print(bytes).is_err() {
+        if self.output.extend(bytes).is_err() {
             return Err(self.fail());
         }
         Ok(bytes.len())
@@ -298,7 +340,7 @@ impl Desk for MemDesk {
             self.new) { unsaid = self.new.unsaid } }
         ensures call { IsCall memory_state HoldsTrue (WriteCounts Messages bytes.now) self.old self.new result }
     {
-        if self.kept.report(bytes).is_err() {
+        if self.messages.extend(bytes).is_err() {
             self.unsaid = self.unsaid.saturating_add(1);
             return Err(self.fail());
         }
@@ -307,7 +349,7 @@ impl Desk for MemDesk {
 }
 
 impl ChipDesk for MemDesk {
-    ghost use Rattle.avr_desk.specs.Record.{Replaces, after_hold, after_replace, with_none_held};
+    ghost use Rattle.avr_desk.specs.Record.{Replaces, after_hold, with_none_held, with_replaced};
     ghost use Rattle.avr_desk.specs.Fault.{Counts, IsCall};
     ghost use Rattle.avr_desk.specs.Memory.{updated, memory_state};
     ghost use Rattle.avr_desk.specs.Named.{holds};
@@ -324,11 +366,11 @@ impl ChipDesk for MemDesk {
         let Ok(own_name) = Bytes::copied(self.alloc, name.as_bytes()) else {
             return Err(self.fail());
         };
-        if !self.kept.holds(name.as_bytes()) {
-            self.kept.hold(own_name);
+        if !self.holds(name) {
+            self.held = Some(own_name);
             return Ok(true);
         }
-        if self.kept.deny(own_name).is_err() {
+        if self.denied.push(own_name).is_err() {
             return Err(self.fail());
         }
         Ok(false)
@@ -339,24 +381,32 @@ impl ChipDesk for MemDesk {
         ensures kept { self.new ≡ record self.old { kept = with_none_held self.old.kept } }
         ensures stays { Stays HoldsTrue self.old self.new }
     {
-        self.kept.release();
+        self.held = None;
+        self.journal = self.journal.then(&Call::Released);
     }
 
     #[tactic(auto, using(crate::proofs::Desks::InMemory::same_true))]
     fn replace(&mut self, name: &str, bytes: &[u8]) -> Result<(), DeskFault>
-        ensures kept { self.new ≡ updated (after_replace name.now bytes.now result self.old.kept) self.old self.new }
+        ensures kept { self.new ≡ updated (if is_ok result then with_replaced name.now bytes.now self.old.kept
+            else self.old.kept) self.old self.new }
         ensures replaces { Replaces name.now bytes.now result (memory_state self.old) (memory_state self.new) }
         ensures call { IsCall memory_state HoldsTrue (Counts File) self.old self.new result }
     {
-        let Ok(name) = Bytes::copied(self.alloc, name.as_bytes()) else {
+        let Ok(own_name) = Bytes::copied(self.alloc, name.as_bytes()) else {
             return Err(self.fail());
         };
-        let Ok(bytes) = Bytes::copied(self.alloc, bytes) else {
+        let Ok(own_bytes) = Bytes::copied(self.alloc, bytes) else {
             return Err(self.fail());
         };
-        if self.kept.add(Writing { name, bytes }).is_err() {
+        let file = FileUse::Created(Writing {
+            name: own_name,
+            bytes: own_bytes,
+        });
+        if self.close_current(Some(file), Open::Closed).is_err() {
             return Err(self.fail());
         }
+        self.held = None;
+        self.journal = self.journal.then(&Call::Tried(name.as_bytes(), bytes));
         Ok(())
     }
 }

@@ -1,10 +1,11 @@
 //! What a desk was asked, and what it gave.
-ghost use Rattle.std.specs.Prelude.{◌≡◌};
+ghost use Rattle.std.specs.Prelude.{◌≡◌, is_ok, if◌then◌else◌};
 ghost use Rattle.std.specs.Option.{option_copied};
 ghost use Rattle.avr_desk.specs.Named.{newest};
 ghost use Rattle.avr_desk.specs.Record.{files_among};
 
 use crate::bytes::Bytes;
+use std::alloc::AllocError;
 
 /// A file that is read, with the bytes that it gave so far.
 #[derive(Debug, Drop)]
@@ -45,6 +46,41 @@ pub enum Open {
     Closed,
     ToRead(Reading),
     ToWrite(Writing),
+}
+
+impl Open {
+    ghost use Rattle.avr_desk.specs.Named.{bytes_given};
+    ghost use Rattle.avr_desk.specs.Record.{noted, written_on};
+
+    /// Returns the bytes that the open file gave.
+    pub(crate) fn given(&self) -> &[u8]
+        ensures { result.now ≡ bytes_given self.now }
+    {
+        match self {
+            Open::ToRead(reading) => reading.bytes.as_slice(),
+            _ => &[],
+        }
+    }
+
+    /// Adds the bytes read, or notes that the end was seen.
+    pub(crate) fn read_on(&mut self, bytes: &[u8], ends: bool) -> Result<(), AllocError>
+        ensures { self.new ≡ (if is_ok result then noted bytes.now ends self.old else self.old) }
+    {
+        if let Open::ToRead(reading) = self {
+            reading.bytes.extend(bytes)?;
+            reading.ended = reading.ended || ends;
+        }
+        Ok(())
+    }
+
+    pub(crate) fn write_on(&mut self, bytes: &[u8]) -> Result<(), AllocError>
+        ensures { self.new ≡ (if is_ok result then written_on bytes.now self.old else self.old) }
+    {
+        if let Open::ToWrite(writing) = self {
+            writing.bytes.extend(bytes)?;
+        }
+        Ok(())
+    }
 }
 
 impl Writing {

@@ -3,9 +3,10 @@
 //!
 //! A run locks a file beside the one that is to be replaced, under its name with `.avrstk-lock`. If a run is ended, the
 //! system unlocks that. The bytes are written to a new file, under the name with `.avrstk-new`. Once it is on the disk,
-//! it is renamed. Only the run that has the lock touches that file.
-ghost use Rattle.std.specs.Prelude.{◌≡◌, IfOk, MatchOption, Some, OnErr, OnOk};
-ghost use Rattle.avr_desk.specs.Journal.{Does, LeavesAlso, Still, holding, making};
+//! it is renamed; or, if there was no file to replace, it gets that name as a second one, which never takes the place of
+//! another file. Only the run that has the lock touches that file.
+ghost use Rattle.std.specs.Prelude.{◌≡◌, IfOk, MatchOption, OnErr};
+ghost use Rattle.avr_desk.specs.Journal.{Does, LeavesAlso, Still, holding};
 ghost use Rattle.ghosts.specs.Stays.{Stays};
 
 use crate::file_system::FileSystem;
@@ -17,7 +18,7 @@ use std::io::ErrorKind;
 #[derive(Drop)]
 pub struct Replacement<F: Folder> {
     held: F::Held,
-    seen: F::Seen,
+    seen: Option<F::Seen>,
     parent: F::Parent,
 }
 
@@ -51,7 +52,7 @@ impl<F: Folder> Replacement<F> {
         }
     }
 
-    /// Makes a new file of these bytes, which is on the disk. Fails if another file is by then where the old one was.
+    /// Makes a new file of these bytes, which is on the disk. Fails if what was seen at the place isn't there any more.
     fn make_ready(&self, folder: &mut F, bytes: &[u8]) -> io::Result<F::New>
         ensures keeps { IfOk result (λ file. F.keeps file bytes.now) }
         ensures found { IfOk result (λ file. F.finds_both folder.new self.now.seen file) }
@@ -60,33 +61,8 @@ impl<F: Folder> Replacement<F> {
         let mut file = folder.make(&self.held, &self.seen)?;
         folder.write(&mut file, bytes)?;
         folder.sync(&mut file)?;
-        if folder.is_ready(&self.held, &self.seen, &file)? {
-            Ok(file)
-        } else {
-            Err(io::Error::from(ErrorKind::AlreadyExists))
-        }
-    }
-
-    /// Gives the new file, which has these bytes, the old one's name. If another file is mounted there, that is written
-    /// in place. The new file stays if that fails, so that one of both is always there.
-    fn put_ready(&self, folder: &mut F, file: F::New, bytes: &[u8]) -> io::Result<()>
-        requires has { F.keeps file bytes.now }
-        requires found { F.finds_both folder.old self.now.seen file }
-        ensures put { OnOk result (F.lasts (F.held_name self.now.held) bytes.now) }
-        ensures makes { OnOk result (Does F.did (making (F.held_name self.now.held)) folder.old folder.new) }
-        ensures fails { OnErr result (Stays F.did folder.old folder.new) }
-        ensures leaves { LeavesAlso F.left (F.held_name self.now.held) (λ found. found ≡ Some bytes.now)
-            folder.old folder.new }
-    {
-        match folder.rename(&self.held, &self.seen, file) {
-            Ok(()) => folder.sync_name(&self.held, &self.parent),
-            Err(error) if error.kind() == ErrorKind::ResourceBusy => {
-                folder.write_over(&self.held, bytes)?;
-                folder.remove_new(&self.held);
-                Ok(())
-            }
-            Err(error) => Err(error),
-        }
+        folder.look_again(&self.held, &self.seen, &file)?;
+        Ok(file)
     }
 }
 
@@ -134,9 +110,7 @@ impl<F: Folder> FileSystem for F {
         let Some(hold) = hold else {
             return self.create(name);
         };
-        if self.leads_to(name, &hold.held, &hold.seen)? {
-            return Err(io::Error::from(ErrorKind::ResourceBusy));
-        }
+        self.keep_apart(name, &hold.held, &hold.seen)?;
         self.create(name)
     }
 
@@ -155,12 +129,29 @@ impl<F: Folder> FileSystem for F {
     fn put_held(&mut self, hold: &mut Replacement<F>, bytes: &[u8]) -> io::Result<()> {
         // A run that was ended may have left a new file.
         self.remove_new(&hold.held);
-        match hold.make_ready(self, bytes) {
-            Ok(file) => hold.put_ready(self, file, bytes),
+        let file = match hold.make_ready(self, bytes) {
+            Ok(file) => file,
             Err(error) => {
                 self.remove_new(&hold.held);
-                Err(error)
+                return Err(error);
             }
+        };
+        let Some(seen) = &hold.seen else {
+            self.place_new(&hold.held, file)?;
+            self.sync_name(&hold.held, &hold.parent)?;
+            self.remove_new(&hold.held);
+            return Ok(());
+        };
+        match self.rename(&hold.held, seen, file) {
+            Ok(()) => self.sync_name(&hold.held, &hold.parent),
+            // Another file is mounted there. That one is written in place.
+            Err(error) if error.kind() == ErrorKind::ResourceBusy => {
+                self.write_over(&hold.held, bytes)?;
+                self.remove_new(&hold.held);
+                Ok(())
+            }
+            // The new file stays, so that one of both is always there.
+            Err(error) => Err(error),
         }
     }
 

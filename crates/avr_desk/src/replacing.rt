@@ -1,7 +1,7 @@
 //! Replaces the file of a name, whether it is held or not.
 ghost use Rattle.std.specs.Prelude.{◌≡◌, ◌⊎◌, Option, Some, OnErr, OnOk};
 ghost use Rattle.avr_desk.specs.Handles.{IsHeldBy};
-ghost use Rattle.avr_desk.specs.Journal.{Does, LeavesAlso, making};
+ghost use Rattle.avr_desk.specs.Journal.{Does, LeavesAlso, calling, made};
 ghost use Rattle.avr_desk.specs.Record.{Bytes};
 ghost use Rattle.ghosts.specs.Stays.{Stays};
 
@@ -17,7 +17,7 @@ pub(crate) fn replace_named<R: FileSystem>(
     bytes: &[u8],
 ) -> io::Result<()>
     ensures put { OnOk result (R.replaced name.now bytes.now) }
-    ensures makes { OnOk result (Does R.did (making name.now) system.old system.new) }
+    ensures makes { OnOk result (Does R.did (calling (made name.now)) system.old system.new) }
     ensures fails { OnErr result (Stays R.did system.old system.new) }
     ensures stays { (name : Option Bytes) → IsHeldBy R.FileSystem held.old name → IsHeldBy R.FileSystem held.new name }
     ensures leaves { LeavesAlso R.left name.now (λ f. R.began name.now f ⊎ (f ≡ Some bytes.now)) system.old system.new }

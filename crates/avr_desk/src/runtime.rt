@@ -3,7 +3,8 @@ ghost use Rattle.std.specs.Prelude.{⊤, string_bytes};
 
 use crate::folder::Folder;
 use crate::looks::{
-    Identity, first_mode, given, is_same, leads, locked, permissions_after, synced, unless,
+    Identity, first_mode, given, is_same, leads, links_none, locked, opened, permissions_after,
+    synced, unless,
 };
 use crate::synced::Synced;
 use std::alloc::Global;
@@ -111,7 +112,7 @@ impl<'a, R: Files<File = File> + Input + Alloc<A = Global>> Folder for &'a R {
 
     type Held = Held;
 
-    type Seen = Option<Metadata>;
+    type Seen = Metadata;
 
     type New = File;
 
@@ -236,30 +237,25 @@ impl<'a, R: Files<File = File> + Input + Alloc<A = Global>> Folder for &'a R {
     }
 
     fn open_seen(&mut self, held: &Held, seen: &Option<Metadata>) -> io::Result<Synced> {
-        let path = held.place.path.as_str();
-        let opened = unless(ErrorKind::NotFound, fs::open(*self, path))?;
-        let found = match &opened {
-            // (an error here says of no file that it is absent)
-            Some(file) => match file.metadata() {
-                Ok(there) => Some(identity(&there)),
-                Err(_) => return Err(io::Error::from(ErrorKind::ResourceBusy)),
-            },
+        let file = unless(
+            ErrorKind::NotFound,
+            fs::open(*self, held.place.path.as_str()),
+        )?;
+        let there = match &file {
+            Some(file) => Some(file.metadata().map(|it| identity(&it))),
             None => None,
         };
-        if !is_same(identity_of(seen), found) {
-            return Err(io::Error::from(ErrorKind::ResourceBusy));
-        }
-        match opened {
-            Some(file) => Ok(Synced::new(file)),
-            None => Err(io::Error::from(ErrorKind::NotFound)),
-        }
+        Ok(Synced::new(opened(identity_of(seen), file, there)?))
     }
 
-    fn leads_to(&mut self, name: &str, held: &Held, seen: &Option<Metadata>) -> io::Result<bool> {
+    fn keep_apart(&mut self, name: &str, held: &Held, seen: &Option<Metadata>) -> io::Result<()> {
         let there = unless(ErrorKind::NotFound, fs::metadata(*self, name))?;
         let is_link = is_link(*self, name)?;
         let is_place = is_one_place(*self, name, held.place.path.as_str())?;
-        Ok(leads(identity_of(seen), identity_of(&there), is_link, is_place))
+        if leads(identity_of(seen), identity_of(&there), is_link, is_place) {
+            return Err(io::Error::from(ErrorKind::ResourceBusy));
+        }
+        Ok(())
     }
 
     fn make(&mut self, held: &Held, seen: &Option<Metadata>) -> io::Result<File> {
@@ -283,12 +279,25 @@ impl<'a, R: Files<File = File> + Input + Alloc<A = Global>> Folder for &'a R {
     }
 
     // The old file is looked at last, right before the new one gets its name.
-    fn is_ready(&mut self, held: &Held, seen: &Option<Metadata>, file: &File) -> io::Result<bool> {
-        let is_own = is_at(*self, file, held.place.new.as_str())?;
-        Ok(is_own && is_same(identity_of(seen), look(*self, held.place.path.as_str())?))
+    fn look_again(&mut self, held: &Held, seen: &Option<Metadata>, file: &File) -> io::Result<()> {
+        if is_at(*self, file, held.place.new.as_str())?
+            && is_same(identity_of(seen), look(*self, held.place.path.as_str())?)
+        {
+            return Ok(());
+        }
+        Err(io::Error::from(ErrorKind::AlreadyExists))
     }
 
-    fn rename(&mut self, held: &Held, _seen: &Option<Metadata>, _file: File) -> io::Result<()> {
+    // A file system without hard links has only the look before.
+    fn place_new(&mut self, held: &Held, _file: File) -> io::Result<()> {
+        let (new, path) = (held.place.new.as_str(), held.place.path.as_str());
+        match fs::hard_link(*self, new, path) {
+            Err(error) if links_none(error.kind()) => fs::rename(*self, new, path),
+            linked => linked,
+        }
+    }
+
+    fn rename(&mut self, held: &Held, _seen: &Metadata, _file: File) -> io::Result<()> {
         fs::rename(*self, held.place.new.as_str(), held.place.path.as_str())
     }
 

@@ -1,8 +1,8 @@
 //! Writes all bytes to one of the three streams of a desk.
-ghost use Rattle.std.specs.Prelude.{◌≤◌, length, IfOk, OnOk, OnErr};
-ghost use Rattle.avr_desk.specs.Fault.{Counts, WriteCounts, IsCall};
+ghost use Rattle.std.specs.Prelude.{OnOk, OnErr};
+ghost use Rattle.avr_desk.specs.Fault.{Counts, IsCall};
 ghost use Rattle.avr_desk.specs.Record.{Passes};
-ghost use Rattle.avr_desk.specs.Stream.{SendsPart, SendsTaken, after_sent};
+ghost use Rattle.avr_desk.specs.Stream.{IsWrite, SendsPart, after_sent};
 
 use crate::desk::{Desk, DeskFault};
 
@@ -18,9 +18,7 @@ pub enum Stream {
 }
 
 fn write_some<D: Desk>(desk: &mut D, stream: Stream, bytes: &[u8]) -> Result<usize, DeskFault>
-    ensures bound { IfOk result (λ n. n ≤ length bytes.now) }
-    ensures kept { SendsTaken stream bytes.now (D.view desk.old) (D.view desk.new) result }
-    ensures call { IsCall D.view D.comes_of (WriteCounts stream bytes.now) desk.old desk.new result }
+    ensures write { IsWrite D.view D.comes_of stream bytes.now desk.old desk.new result }
 {
     match stream {
         Stream::File => desk.write(bytes),

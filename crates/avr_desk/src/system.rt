@@ -1,14 +1,15 @@
 //! The desk of a program: files and standard streams.
-ghost use Rattle.std.specs.Prelude.{◌≡◌, ◌<◌, ◌≤◌, length, take, IfOk, OnOk, OnErr, true, false, [], None, Some};
+ghost use Rattle.std.specs.Prelude.{◌≡◌, ◌≤◌, length, IfOk, OnOk, OnErr, true, false, [], None, Some, is_ok, if◌then◌else◌};
 ghost use Rattle.std.specs.IoError.{error_kind};
 ghost use Rattle.ghosts.specs.Failures.{HasRisen};
 ghost use Rattle.ghosts.specs.Stays.{Stays};
-ghost use Rattle.avr_desk.specs.Fault.{Counts, WriteCounts, IsCall};
-ghost use Rattle.avr_desk.specs.Journal.{Leaves, LeavesNoMore};
+ghost use Rattle.avr_desk.specs.Fault.{Counts, IsCall};
+ghost use Rattle.avr_desk.specs.Named.{is_dash};
+ghost use Rattle.avr_desk.specs.Journal.{Leaves, LeavesNoMore, Still};
 ghost use Rattle.avr_desk.specs.Record.{HasOpen, Passes, after_open, after_create, after_hold, after_read, Replaces, released, is_to_read, is_to_write, nothing_kept, with_tried};
-ghost use Rattle.avr_desk.specs.Shown.{AppendsTaken, IsTrueSince, KeepsError, Shown, TakesTruly, logged, moved, shown_state, to_output, to_output_opened, to_output_created, to_output_replaced};
+ghost use Rattle.avr_desk.specs.Shown.{IsTrueSince, KeepsError, Shown, TakesTruly, logged, moved, shown_state, to_output, to_output_opened};
 ghost use Rattle.avr_desk.specs.Standing.{FileGives, FileGivesNone, IsClosed};
-ghost use Rattle.avr_desk.specs.Stream.{SendsTaken};
+ghost use Rattle.avr_desk.specs.Stream.{IsWrite};
 ghost use Rattle.avr_desk.specs.declared.desk.DeskFault.TheVariants.{Failed};
 ghost use Rattle.avr_desk.specs.declared.stream.Stream.TheVariants.{File, Output, Messages};
 ghost use Rattle.avr_desk.specs.declared.system.OpenFile.TheVariants.{Nothing};
@@ -97,8 +98,7 @@ fn open_next<R: FileSystem>(
 )
     ensures opened { opened.new ≡ next }
     ensures closed { IsClosed R.closed opened.old }
-    ensures did { Stays R.did system.old system.new }
-    ensures keeps { LeavesNoMore R.left system.old system.new }
+    ensures stays { Still R.did R.left system.old system.new }
 {
     if let OpenFile::ToWrite(file) = mem::replace(opened, next) {
         system.close_file(file);
@@ -225,7 +225,7 @@ impl<R: FileSystem + Drop, O: Outlet + Drop, E: Outlet + Drop> Desk for SystemDe
         ensures call { IsCall shown_state ⟦<SystemDesk<R, O, E> as Desk>⟧.comes_of
             (Counts File) self.old self.new result }
         ensures quiet { self.new ≡ record (moved self.old self.new) { system = self.new.system } }
-        ensures goes { to_output self.new ≡ to_output_created name.now result (to_output self.old) }
+        ensures goes { to_output self.new ≡ (if is_ok result then is_dash name.now else to_output self.old) }
         ensures error { KeepsError self.old.last_error self.new.last_error result }
     {
         if name == "-" {
@@ -263,13 +263,9 @@ impl<R: FileSystem + Drop, O: Outlet + Drop, E: Outlet + Drop> Desk for SystemDe
     }
 
     fn write(&mut self, bytes: &[u8]) -> Result<usize, DeskFault>
-        ensures bound { IfOk result (λ n. n ≤ length bytes.now) }
-        ensures shown { SendsTaken File bytes.now (shown_state self.old) (shown_state self.new) result }
+        ensures write { IsWrite shown_state ⟦<SystemDesk<R, O, E> as Desk>⟧.comes_of File bytes.now
+            self.old self.new result }
         ensures has_file { HasOpen is_to_write (shown_state self.old) result }
-        ensures call { IsCall shown_state ⟦<SystemDesk<R, O, E> as Desk>⟧.comes_of
-            (WriteCounts File bytes.now) self.old self.new result }
-        ensures output { to_output self.old ≡ true → AppendsTaken (O.contents self.old.output)
-            (O.contents self.new.output) bytes.now result }
         ensures truly { to_output self.old ≡ true → TakesTruly File bytes.now (O.contents self.old.output)
             (O.contents self.new.output) self.old.kept self.new.kept result }
         ensures flushed { to_output self.old ≡ true → OnOk result (O.is_out self.new.output) }
@@ -303,11 +299,8 @@ impl<R: FileSystem + Drop, O: Outlet + Drop, E: Outlet + Drop> Desk for SystemDe
     }
 
     fn out(&mut self, bytes: &[u8]) -> Result<usize, DeskFault>
-        ensures bound { IfOk result (λ n. n ≤ length bytes.now) }
-        ensures shown { SendsTaken Output bytes.now (shown_state self.old) (shown_state self.new) result }
-        ensures call { IsCall shown_state ⟦<SystemDesk<R, O, E> as Desk>⟧.comes_of
-            (WriteCounts Output bytes.now) self.old self.new result }
-        ensures output { AppendsTaken (O.contents self.old.output) (O.contents self.new.output) bytes.now result }
+        ensures write { IsWrite shown_state ⟦<SystemDesk<R, O, E> as Desk>⟧.comes_of Output bytes.now
+            self.old self.new result }
         ensures truly { TakesTruly Output bytes.now (O.contents self.old.output) (O.contents self.new.output)
             self.old.kept self.new.kept result }
         ensures flushed { OnOk result (O.is_out self.new.output) }
@@ -321,11 +314,8 @@ impl<R: FileSystem + Drop, O: Outlet + Drop, E: Outlet + Drop> Desk for SystemDe
     }
 
     fn err(&mut self, bytes: &[u8]) -> Result<usize, DeskFault>
-        ensures bound { IfOk result (λ n. n ≤ length bytes.now) }
-        ensures shown { SendsTaken Messages bytes.now (shown_state self.old) (shown_state self.new) result }
-        ensures call { IsCall shown_state ⟦<SystemDesk<R, O, E> as Desk>⟧.comes_of
-            (WriteCounts Messages bytes.now) self.old self.new result }
-        ensures messages { AppendsTaken (E.contents self.old.messages) (E.contents self.new.messages) bytes.now result }
+        ensures write { IsWrite shown_state ⟦<SystemDesk<R, O, E> as Desk>⟧.comes_of Messages bytes.now
+            self.old self.new result }
         ensures truly { TakesTruly Messages bytes.now (E.contents self.old.messages) (E.contents self.new.messages)
             self.old.kept self.new.kept result }
         ensures flushed { OnOk result (E.is_out self.new.messages) }
@@ -388,7 +378,7 @@ impl<R: FileSystem + Drop, O: Outlet + Drop, E: Outlet + Drop> ChipDesk for Syst
         ensures call { IsCall shown_state ⟦<SystemDesk<R, O, E> as Desk>⟧.comes_of
             (Counts File) self.old self.new result }
         ensures quiet { self.new ≡ record (moved self.old self.new) { system = self.new.system; hold = self.new.hold } }
-        ensures goes { to_output self.new ≡ to_output_replaced result (to_output self.old) }
+        ensures goes { to_output self.new ≡ (if is_ok result then false else to_output self.old) }
         ensures error { KeepsError self.old.last_error self.new.last_error result }
     {
         match replace_named(&mut self.system, &mut self.replacement, name, bytes) {

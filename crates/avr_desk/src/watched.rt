@@ -1,8 +1,8 @@
 //! A desk with a watcher of its calls, such as a window that shows a run's progress.
 ghost use Rattle.std.specs.Prelude.{◌≡◌, ◌≤◌, length, IfOk};
 ghost use Rattle.avr_desk.specs.Record.{Passes, after_open, after_create, after_hold, after_read, Replaces, released, HasOpen, is_to_read, is_to_write};
-ghost use Rattle.avr_desk.specs.Fault.{Counts, WriteCounts, IsCall};
-ghost use Rattle.avr_desk.specs.Stream.{SendsTaken};
+ghost use Rattle.avr_desk.specs.Fault.{Counts, IsCall};
+ghost use Rattle.avr_desk.specs.Stream.{IsWrite};
 ghost use Rattle.avr_desk.specs.declared.stream.Stream.TheVariants.{File, Output, Messages};
 ghost use Rattle.avr_desk.specs.Watching.{ToldOfDesk, Opened, Created, Held, Released, Replaced, Read, Wrote, desk_told};
 ghost use Rattle.ghosts.specs.Stays.{Stays};
@@ -108,10 +108,8 @@ impl<D: Desk, W: WatchDesk> Desk for WatchedDesk<D, W> {
     }
 
     fn write(&mut self, bytes: &[u8]) -> Result<usize, DeskFault>
-        ensures bound { IfOk result (λ n. n ≤ length bytes.now) }
-        ensures kept { SendsTaken File bytes.now (D.view self.old.desk) (D.view self.new.desk) result }
+        ensures write { IsWrite D.view D.comes_of File bytes.now self.old.desk self.new.desk result }
         ensures has_file { HasOpen is_to_write (D.view self.old.desk) result }
-        ensures call { IsCall D.view D.comes_of (WriteCounts File bytes.now) self.old.desk self.new.desk result }
         ensures told { W.after (Wrote File bytes.now result) self.old.watcher self.new.watcher }
     {
         let answer = self.desk.write(bytes);
@@ -121,9 +119,7 @@ impl<D: Desk, W: WatchDesk> Desk for WatchedDesk<D, W> {
     }
 
     fn out(&mut self, bytes: &[u8]) -> Result<usize, DeskFault>
-        ensures bound { IfOk result (λ n. n ≤ length bytes.now) }
-        ensures kept { SendsTaken Output bytes.now (D.view self.old.desk) (D.view self.new.desk) result }
-        ensures call { IsCall D.view D.comes_of (WriteCounts Output bytes.now) self.old.desk self.new.desk result }
+        ensures write { IsWrite D.view D.comes_of Output bytes.now self.old.desk self.new.desk result }
         ensures told { W.after (Wrote Output bytes.now result) self.old.watcher self.new.watcher }
     {
         let answer = self.desk.out(bytes);
@@ -133,9 +129,7 @@ impl<D: Desk, W: WatchDesk> Desk for WatchedDesk<D, W> {
     }
 
     fn err(&mut self, bytes: &[u8]) -> Result<usize, DeskFault>
-        ensures bound { IfOk result (λ n. n ≤ length bytes.now) }
-        ensures kept { SendsTaken Messages bytes.now (D.view self.old.desk) (D.view self.new.desk) result }
-        ensures call { IsCall D.view D.comes_of (WriteCounts Messages bytes.now) self.old.desk self.new.desk result }
+        ensures write { IsWrite D.view D.comes_of Messages bytes.now self.old.desk self.new.desk result }
         ensures told { W.after (Wrote Messages bytes.now result) self.old.watcher self.new.watcher }
     {
         let answer = self.desk.err(bytes);

@@ -4,15 +4,15 @@ use Rattle.std.proofs.Math.Seq.{drop-append_seam}
 use Rattle.std.proofs.lemmas.Bool.Decides.{nat_tests}
 use Rattle.std.proofs.lemmas.List.{take-append-drop}
 use Rattle.ghosts.specs.Stays.{Stays}
-use Rattle.avr_desk.specs.Files.{after_reading}
 use Rattle.avr_desk.specs.Memory.{MemDeskState, Stock, stock_of, stood_for, contents, unread_bytes}
 use Rattle.avr_desk.specs.Named.{bytes_given}
-use Rattle.avr_desk.specs.Record.{Bytes, Record, all_files, all_uses, files_among, nothing_kept, with_absent, with_open, with_replaced, written_on}
+use Rattle.avr_desk.specs.Record.{Bytes, Record, all_files, all_uses, files_among, noted, nothing_kept, written_on}
 use Rattle.avr_desk.proofs.FileUses.Uses.{files_used}
 use Rattle.avr_desk.specs.Truth.{IsRead, AreTrue, IsOpenTrue, HoldsTrue}
 use Rattle.avr_desk.specs.declared.record.FileUse.{FileUse}
 use Rattle.avr_desk.specs.declared.record.FileUse.TheVariants.{Opened, Created}
-use Rattle.avr_desk.specs.declared.record.Open.TheVariants.{ToRead, ToWrite}
+use Rattle.avr_desk.specs.declared.record.Open.TheVariants.{Closed, ToRead, ToWrite}
+use Rattle.avr_desk.specs.declared.record.Opening.TheVariants.{Absent}
 use Rattle.avr_desk.specs.declared.record.Reading.{Reading}
 use Rattle.avr_desk.specs.declared.record.Writing.{Writing}
 
@@ -61,52 +61,69 @@ stands : (stock : Stock) (m : MemDeskState) (name : Bytes) → HoldsTrue stock m
 stands stock m name holds = ap (λ (s : Stock). stood_for s (all_files m.kept) name) holds.began
 
 -- the record changes if memory was allocated, otherwise it stays
-changed_true : (ok : Bool) (change : Record → Record) (old new : MemDeskState) → new.input ≡ old.input
-    → new.stored ≡ old.stored → new.opened ≡ old.opened
-    → new.kept ≡ (if ok then change old.kept else old.kept) → (new.kept ≡ change old.kept → Stays HoldsTrue old new)
-    → Stays HoldsTrue old new
-changed_true ok change old new input stored opened kept done = search (rules, nat_tests)
+changed_true : (ok : Bool) (kept : Record) (old new : MemDeskState)
+    → new ≡ (if ok then record old { kept = kept } else old)
+    → ((stock : Stock) → HoldsTrue stock old → HoldsTrue stock (record old { kept = kept })) → Stays HoldsTrue old new
+changed_true true kept old new is done = λ stock holds. subst (HoldsTrue stock) (sym is) (done stock holds)
+changed_true false kept old new is done = λ stock holds. subst (HoldsTrue stock) (sym is) holds
 
 -- a file is created
-pub created_true : (ok : Bool) (file : Writing) (old new : MemDeskState) → new.input ≡ old.input
-    → new.stored ≡ old.stored
-    → new.opened ≡ old.opened
-    → new.kept ≡ (if ok then with_open (ToWrite file) old.kept else old.kept) → Stays HoldsTrue old new
-created_true ok file old new input stored opened kept = search (rules, true_append, all_true, files_used)
+pub created_true : (ok : Bool) (file : Writing) (old new : MemDeskState)
+    → new ≡ (if ok then record old { kept = record old.kept { uses = all_uses old.kept ++ []; current = ToWrite file } }
+    else old) → Stays HoldsTrue old new
+created_true ok file old new is = changed_true ok _ old new is (λ stock holds. record {
+  began = holds.began;
+  uses = true_append stock [] (all_uses old.kept) [] (all_true stock old holds) tt;
+  current = tt;
+})
 
--- or replaced whole
-pub replaced_true : (ok : Bool) (file : Writing) (old new : MemDeskState) → new.input ≡ old.input
-    → new.stored ≡ old.stored
-    → new.opened ≡ old.opened
-    → new.kept ≡ (if ok then with_replaced file.name file.bytes old.kept else old.kept) → Stays HoldsTrue old new
-replaced_true ok file old new input stored opened kept = grind (arith, nat_tests, changed_true, stock_same, true_append)
+-- the open file is closed, and there is one more use, which is true
+pub used_true : (ok : Bool) (last : FileUse) (old new : MemDeskState)
+    → ((stock : Stock) → HoldsTrue stock old → AreTrue stock (files_among (all_uses old.kept)) (last ∷ []))
+    → new ≡ (if ok then record old { kept = record old.kept { uses = all_uses old.kept ++ last ∷ []; current = Closed } }
+    else old)
+    → Stays HoldsTrue old new
+used_true ok last old new true_then is = changed_true ok _ old new is (λ stock holds. record {
+  began = holds.began;
+  uses = true_append stock [] (all_uses old.kept) (last ∷ []) (all_true stock old holds) (true_then stock holds);
+  current = tt;
+})
 
 -- there is no file of this name
 pub absent_true : (ok : Bool) (name own : Bytes) (old new : MemDeskState) → own ≡ name → None ≡ contents name old
-    → new.input ≡ old.input → new.stored ≡ old.stored → new.opened ≡ old.opened
-    → new.kept ≡ (if ok then with_absent own old.kept else old.kept) → Stays HoldsTrue old new
-absent_true ok name own old new same none input stored opened kept =
-    grind (arith, nat_tests, stock_same, true_append, all_true, files_used, stands, subst)
+    → new ≡ (if ok then record old {
+      kept = record old.kept
+          { uses = all_uses old.kept ++ Opened (Absent own) ∷ []; current = Closed };
+    } else old) → Stays HoldsTrue old new
+absent_true ok name own old new same none is = used_true ok (Opened (Absent own)) old new (λ stock holds. (
+  ap (λ fs. stood_for stock fs own) (files_used old.kept)
+      ∙ ap (stood_for stock (all_files old.kept)) same ∙ sym (stands stock old name holds) ∙ sym none,
+  tt,
+)) is
 
 -- a file with these bytes is opened
-pub opened_true : (ok : Bool) (name own bytes first : Bytes) (old new : MemDeskState) → ok ≡ true → own ≡ name
-    → first ≡ []
-    → new.opened ≡ bytes → Some bytes ≡ contents name old → new.input ≡ old.input → new.stored ≡ old.stored
-    → new.kept ≡ (if ok then with_open (ToRead (record { name = own; bytes = first; ended = false })) old.kept
-    else old.kept) → Stays HoldsTrue old new
-opened_true true name own bytes first old new ok same none has there input stored kept = λ stock holds. record {
-  began = stock_same old new input stored ∙ holds.began;
-  uses = subst (λ (r : Record). AreTrue stock [] r.uses) (sym kept) (all_true stock old holds);
-  current = subst (λ (r : Record). IsOpenTrue stock new r.current) (sym kept) (
-    ap (λ (r : Record). stood_for stock (files_among r.uses) own) kept
-        ∙ ap (λ fs. stood_for stock fs own) (files_used old.kept)
-        ∙ ap (stood_for stock (all_files old.kept)) same ∙ sym (stands stock old name holds) ∙ sym there
-        ∙ ap (λ (b : Bytes). Some b) (sym has),
-    subst (λ b. IsRead (Some new.opened) b false) (sym none)
-        (record { unread = new.opened; whole = refl; ends = λ e. absurd (cc) }),
-  );
-}
-opened_true false name own bytes first old new ok same none has there input stored kept = absurd (cc)
+pub opened_true : (ok : Bool) (name own bytes first : Bytes) (old closed new : MemDeskState) → ok ≡ true → own ≡ name
+    → first ≡ [] → Some bytes ≡ contents name old
+    → closed ≡ (if ok then record old {
+      kept = record old.kept {
+        uses = all_uses old.kept ++ [];
+        current = ToRead (record { name = own; bytes = first; ended = false });
+      };
+    } else old)
+    → new ≡ record closed { opened = bytes } → Stays HoldsTrue old new
+opened_true true name own bytes first old closed new ok same none there is has = λ stock holds.
+    subst (HoldsTrue stock) (sym (has ∙ ap (λ (m : MemDeskState). record m { opened = bytes }) is)) (record {
+      began = holds.began;
+      uses = true_append stock [] (all_uses old.kept) [] (all_true stock old holds) tt;
+      current = (
+        ap (λ (us : List FileUse). stood_for stock (files_among us) own) (append-nil (all_uses old.kept))
+            ∙ ap (λ fs. stood_for stock fs own) (files_used old.kept)
+            ∙ ap (stood_for stock (all_files old.kept)) same ∙ sym (stands stock old name holds) ∙ sym there,
+        subst (λ b. IsRead (Some bytes) b false) (sym none)
+            (record { unread = bytes; whole = refl; ends = λ e. absurd (cc) }),
+      );
+    })
+opened_true false name own bytes first old closed new ok same none there is has = absurd (cc)
 
 -- the state that a desk shows is the one inside
 pub from_inside : (inside now new : MemDeskState) → inside ≡ now → Stays HoldsTrue inside new → Stays HoldsTrue now new
@@ -137,9 +154,10 @@ module _ (old new : MemDeskState) (ends : Bool) (n room : ℕ) (whole gave next 
         ends = search rules;
       }
 
-  pub read_true : (ok : Bool) → new.kept ≡ (if ok then after_reading piece ends old.kept else old.kept)
+  pub read_true : (ok : Bool) → new.kept.uses ≡ old.kept.uses
+      → new.kept.current ≡ (if ok then noted piece ends old.kept.current else old.kept.current) → new.opened ≡ old.opened
       → Stays HoldsTrue old new
-  read_true ok kept = search (rules, stock_same, prefix_on)
+  read_true ok uses current same = search (rules, stock_same, prefix_on)
 
 -- bytes are written to the open file
 pub written_true : (bytes : Bytes) (old new : MemDeskState) → new.input ≡ old.input → new.stored ≡ old.stored

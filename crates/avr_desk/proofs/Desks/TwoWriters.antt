@@ -1,7 +1,7 @@
 -- A desk over two writers and the files of a system, call after call: what it keeps of them stays true.
-use Rattle.std.proofs.Common.{◌≡◌, ◌⊎◌, ◌∙◌, inl, inr, sym, ap, subst, refl, arith, ℕ, ◌==◌, ◌&&◌, ◌||◌, not, true, false, List, [], ◌∷◌, ◌++◌, append_assoc, append-nil, take, Option, None, Some, rules}
+use Rattle.std.proofs.Common.{◌≡◌, ◌⊎◌, ◌∙◌, inl, inr, sym, ap, subst, refl, arith, ℕ, ◌==◌, ◌&&◌, ◌||◌, not, true, false, List, [], ◌∷◌, ◌++◌, append_assoc, append-nil, length, take, Option, None, Some, rules}
 use Rattle.std.proofs.KnownBytes.{Appends-nil, Consumes-nil}
-use Rattle.avr_desk.specs.Record.{Bytes, Record, all_files, all_uses, is_nil, nothing_kept, read_on, use_of, with_absent, with_open, with_replaced, with_tried, after_write}
+use Rattle.avr_desk.specs.Record.{Bytes, Record, all_files, all_uses, nothing_kept, read_on, use_of, with_absent, with_none_held, with_open, with_replaced, with_tried, after_write}
 use Rattle.avr_desk.specs.declared.record.Open.TheVariants.{ToRead, ToWrite}
 use Rattle.std.proofs.lemmas.Bool.{or_parts}
 use Rattle.std.proofs.lemmas.Bool.Decides.{nat_tests}
@@ -14,9 +14,9 @@ use Rattle.std.specs.declared.io.Read.{Ghosts as Reads}
 use Rattle.std.specs.declared.io.Write.{Ghosts as Writes}
 use Rattle.ghosts.specs.Stays.{Stays}
 use Rattle.avr_desk.specs.Named.{is_dash}
-use Rattle.avr_desk.proofs.FileUses.Calls.{calls_opened, calls_replaced, made_dash, opened_dash, opened_named, calls_append}
+use Rattle.avr_desk.proofs.FileUses.Calls.{opened, calls_opened, calls_replaced, made_dash, opened_dash, opened_named, calls_append}
 use Rattle.avr_desk.proofs.FileUses.Uses.{files_absent, files_opened, files_replaced}
-use Rattle.avr_desk.specs.Journal.{Counts, Does, FileCall, Leaves, LeavesAlso, LeavesNoMore, calling, count_of, done_by, giving_input, holding, making, none_done, opened, opening}
+use Rattle.avr_desk.specs.Journal.{Counts, Does, FileCall, Gives, Leaves, LeavesAlso, LeavesNoMore, Opens, calling, count_of, done_by, holding, made, none_done}
 use Rattle.avr_desk.specs.Handles.{CrashLeaves, IsTrueRecord, HasGiven, IsHeldBy, IsTrueOpen, IsTrueUse}
 use Rattle.avr_desk.specs.Standing.{FileGives, GivesBytes, FileGivesNone, IsClosed, is_output}
 use Rattle.avr_desk.specs.Shown.{Shown, IsTrueSince, TellsAll, has_dash, to_output}
@@ -61,7 +61,7 @@ module _ {H : Type 0} (reads : Reads H) where
   given_more : (first old new : H) (x : Reading) (buf : Bytes) (n : ℕ) → HasGiven reads first old x
       → GivesBytes reads old new buf n
       → HasGiven reads first new
-      (record x { bytes = x.bytes ++ take n buf; ended = x.ended || (n == 0 && not (is_nil buf)) })
+      (record x { bytes = x.bytes ++ take n buf; ended = x.ended || (n == 0 && not (length buf == 0)) })
   given_more first old new x buf n given gives = grind (arith, common_steps, nat_tests)
 
 -- ---- one call
@@ -225,7 +225,7 @@ module _ {S F I H O E : Type 0} (system : Ghosts S F I H) (reads : Reads F) (wri
 
   pub input_true : {b : Desk} {s t : S} {f u : ℕ} {e : Option ErrorKind} {o : OpenFile F I} {k : Record}
       {name own : Bytes} {i : I} → o ≡ open_file.Input i → own ≡ name → true ≡ is_dash name → k ≡ with_open (ToRead (record { name = own; bytes = []; ended = false })) b.kept
-      → Closed b.opened → system.is_input i → Does system.did giving_input b.system s → Stays system.did s t
+      → Closed b.opened → system.is_input i → Does system.did (calling (Gives ∷ [])) b.system s → Stays system.did s t
       → NoMore b.system s → NoMore s t → Since b (Next b t f u e o b.hold k)
   input_true {own = own} {i = i} is_open same dash kept closed begins does stays keeps keeps_on =
       let x : Reading = record { name = own; bytes = []; ended = false } in
@@ -237,7 +237,7 @@ module _ {S F I H O E : Type 0} (system : Ghosts S F I H) (reads : Reads F) (wri
       {name own : Bytes} {h : F} (held : Option H) → held ≡ b.hold → o ≡ open_file.ToRead h → own ≡ name
       → false ≡ is_dash name → (Counts system.did (count_of held) b.system → system.is_of h name)
       → k ≡ with_open (ToRead (record { name = own; bytes = []; ended = false })) b.kept
-      → Closed b.opened → Does system.did (opening name) b.system s → Stays system.did s t
+      → Closed b.opened → Does system.did (calling (Opens name ∷ [])) b.system s → Stays system.did s t
       → NoMore b.system s → NoMore s t → Since b (Next b t f u e o b.hold k)
   file_true {b = b} {own = own} {h = h} held is_hold is_open same no_dash named kept closed does stays keeps keeps_on =
       let x : Reading = record { name = own; bytes = []; ended = false } in
@@ -264,7 +264,7 @@ module _ {S F I H O E : Type 0} (system : Ghosts S F I H) (reads : Reads F) (wri
   -- it was created
   create_true : {b : Desk} {s : S} {f u : ℕ} {e : Option ErrorKind} {o : OpenFile F I} {k : Record} (x : Writing)
       → k ≡ with_open (ToWrite x) b.kept → is_output o ≡ is_dash x.name → TrueOpen o (ToWrite x) → Closed b.opened
-      → Does system.did (making x.name) b.system s
+      → Does system.did (calling (made x.name)) b.system s
       → (Holds b → NoMore b.system s) → Since b (Next b s f u e o b.hold k)
   create_true {b = b} {s = s} {o = o} x kept to_output is closed does keeps =
       let now : (are : Files b.system b.opened b.hold b.kept) → Files s o b.hold (with_open (ToWrite x) b.kept) =
@@ -286,7 +286,7 @@ module _ {S F I H O E : Type 0} (system : Ghosts S F I H) (reads : Reads F) (wri
   pub created_true : {b : Desk} {s t : S} {f u : ℕ} {e : Option ErrorKind} {o : OpenFile F I} {k : Record}
       {name own : Bytes} {h : F} → o ≡ open_file.ToWrite h → own ≡ name → false ≡ is_dash name → system.is_of h name
       → k ≡ with_open (ToWrite (record { name = own; bytes = [] })) b.kept
-      → Closed b.opened → Does system.did (making name) b.system s → Stays system.did s t
+      → Closed b.opened → Does system.did (calling (made name)) b.system s → Stays system.did s t
       → (held : Option H) → held ≡ b.hold → (Counts system.did (count_of held) b.system → NoMore b.system s)
       → NoMore s t → Since b (Next b t f u e o b.hold k)
   created_true {b = b} {own = own} {h = h} is_open same no_dash named kept closed does stays held is_hold keeps keeps_on =
@@ -302,7 +302,7 @@ module _ {S F I H O E : Type 0} (system : Ghosts S F I H) (reads : Reads F) (wri
       → c.messages ≡ b.messages → c.hold ≡ None → c.opened ≡ open_file.Nothing → c.kept ≡ with_replaced own bytes b.kept
       → system.replaced name bytes
       → ((name : Option Bytes) → IsHeldBy system b.hold name → IsHeldBy system h name)
-      → (o : OpenFile F I) → o ≡ b.opened → Closed o → Does system.did (making name) b.system s
+      → (o : OpenFile F I) → o ≡ b.opened → Closed o → Does system.did (calling (made name)) b.system s
       → Leaves system.did h s t → u ≡ t
       → Stays system.did u c.system
       → LeavesAlso system.left name (λ found. system.began name found ⊎ (found ≡ Some bytes)) b.system s
@@ -374,10 +374,10 @@ module _ {S F I H O E : Type 0} (system : Ghosts S F I H) (reads : Reads F) (wri
   unheld_true stays also = search (rules, quiet)
 
   pub released_true : {b c : Desk} {t : S} → c.output ≡ b.output → c.messages ≡ b.messages → c.opened ≡ b.opened
-      → c.hold ≡ None → c.kept ≡ record b.kept { held = None } → c.system ≡ t
+      → c.hold ≡ None → c.kept ≡ with_none_held b.kept → c.system ≡ t
       → Leaves system.did b.hold b.system t → NoMore b.system t → Since b c
   released_true {b = b} {c = c} output messages is_open hold kept last leaves keeps =
-      let now = Next b c.system c.failures c.unsaid c.last_error b.opened None (record b.kept { held = None }) in
+      let now = Next b c.system c.failures c.unsaid c.last_error b.opened None (with_none_held b.kept) in
       let is : c ≡ now = rw (← output, ← messages, ← hold, ← is_open, ← kept) refl in
       search (rules, quiet, left_none)
 

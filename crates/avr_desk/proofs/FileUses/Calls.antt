@@ -1,6 +1,6 @@
 -- The calls that uses of files tell of.
 use Rattle.std.proofs.Common.{◌≡◌, ap, refl, Bool, true, false, List, [], ◌∷◌, ◌++◌, if◌then◌else◌, rules}
-use Rattle.avr_desk.specs.Journal.{Gives, Makes, Opens, all_calls, calls_of, made, opened}
+use Rattle.avr_desk.specs.Journal.{Gives, Makes, Opens, FileCall, all_calls, calls_of, made}
 use Rattle.avr_desk.specs.Named.{is_dash}
 use Rattle.avr_desk.specs.Record.{Bytes, Record, all_uses, use_of, with_open, with_replaced}
 use Rattle.avr_desk.specs.declared.record.FileUse.{FileUse}
@@ -19,6 +19,9 @@ pub calls_replaced : (name bytes : Bytes) (r : Record)
 calls_replaced name bytes r = search (rules, calls_append)
 
 -- ---- `-` is standard input and output
+
+abbrev pub opened : Bytes → FileCall
+opened name = if is_dash name then Gives else Opens name
 
 pub opened_dash : (name : Bytes) → is_dash name ≡ true → opened name ≡ Gives
 opened_dash name dash = ap (λ (b : Bool). if b then Gives else Opens name) dash

@@ -12,4 +12,4 @@ pub returns-in_err-count-clause-part : goal.returns-in_err-count-clause-part
 returns-in_err-count-clause-part g c =
     let p = err_from_is_err_and c.from_residual.result c.from_residual.ensures.1 in
     rw p.1 (sent_on_part c.args.stream _ _ _ _ c.loop-at.at c.loop-at.invariant.within c.loop-at.invariant.sent
-    c.in_err-count.ensures.kept)
+    c.in_err-count.ensures.write.kept)

@@ -10,5 +10,5 @@ returns-clause-call c = record {
   stays = from_inside _ _ _ c.self.view_is
       (read_true _ _ _ _ _ _ _ _ _ c.as_slice.ensures c.given.ensures c.next_bytes-next.ensures
       refl (search (rules, take-append_seam, c.copy_from_slice.ensures)) c.is_end-ends.ensures refl refl refl _
-      c.read_on.ensures);
+      refl c.read_on.ensures refl);
 }

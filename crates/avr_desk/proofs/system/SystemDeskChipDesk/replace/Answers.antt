@@ -13,8 +13,8 @@ returns-in-Ok-clause-call g c = record {
       (c.then-self-inside.ensures ∙ ap (λ d. with_replaced c.as_bytes.result.now c.args.bytes.now d.kept) left)
       c.in-Ok.ensures.put c.in-Ok.ensures.stays
       _ (ap (λ d. d.opened) left) c.open_next.ensures.closed c.in-Ok.ensures.makes
-      c.leave_replacement.ensures.left (ap (λ d. d.system) c.self-in-Ok.view_is) c.open_next.ensures.did
-      c.replace_named.ensures.leaves c.leave_replacement.ensures.keeps c.open_next.ensures.keeps);
+      c.leave_replacement.ensures.left (ap (λ d. d.system) c.self-in-Ok.view_is) c.open_next.ensures.stays.done
+      c.replace_named.ensures.leaves c.leave_replacement.ensures.keeps c.open_next.ensures.stays.kept);
 }
 
 pub returns-in-Err-clause-call : goal.returns-in-Err-clause-call

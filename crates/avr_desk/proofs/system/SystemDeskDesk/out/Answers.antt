@@ -1,24 +1,21 @@
-use Rattle.std.proofs.lemmas.Bool.Decides.{nat_tests}
-use Rattle.std.proofs.Common.{rules, arith, subst}
-use Rattle.avr_desk.proofs.Desks.Writers.{took_prefix}
+use Rattle.std.proofs.Common.{rules}
 use Rattle.avr_desk.proofs.Desks.TwoWriters.{from_inside, out_true}
 use Rattle.avr_desk.proofs.system.SystemDeskDesk.out.Goals as goal
 
-pub returns-in-Err-clause-output : goal.returns-in-Err-clause-output
-returns-in-Err-clause-output g c = grind (arith, nat_tests, subst, took_prefix)
+pub returns-in-Err-clause-write : goal.returns-in-Err-clause-write
+returns-in-Err-clause-write g c =
+    let took = c.in-Err.ensures.taken in
+    let stays = from_inside _ _ _ _ _ _ c.self.view_is (out_true _ _ _ _ _ _ _ took.2.0 took.2.1) in record {
+      bound = search rules;
+      kept = rw (← c.self.view_is) (took.0, took.1, took.2.0);
+      call = record { counts = search rules; fault = search rules; stays = stays };
+    }
 
-pub returns-in-Err-clause-call : goal.returns-in-Err-clause-call
-returns-in-Err-clause-call g c = record {
-  counts = search rules;
-  fault = search rules;
-  stays = from_inside _ _ _ _ _ _ c.self.view_is
-      (out_true _ _ _ _ _ _ _ c.in-Err.ensures.taken.2.0 c.in-Err.ensures.taken.2.1);
-}
-
-pub returns-in-Ok-clause-call : goal.returns-in-Ok-clause-call
-returns-in-Ok-clause-call g c = record {
-  counts = search rules;
-  fault = search rules;
-  stays = from_inside _ _ _ _ _ _ c.self.view_is
-      (out_true _ _ _ _ _ _ _ c.in-Ok.ensures.taken.0 c.in-Ok.ensures.taken.1);
-}
+pub returns-in-Ok-clause-write : goal.returns-in-Ok-clause-write
+returns-in-Ok-clause-write g c =
+    let took = c.in-Ok.ensures.taken in
+    let stays = from_inside _ _ _ _ _ _ c.self.view_is (out_true _ _ _ _ _ _ _ took.0 took.1) in record {
+      bound = search rules;
+      kept = rw (← c.self.view_is) took.0;
+      call = record { counts = search rules; fault = search rules; stays = stays };
+    }
