@@ -70,7 +70,7 @@ def ended_by():
 
 
 class Messages:
-    """Standard error, with a progress line below. If it is full, lines wait and the run goes on. `lost`: one failed."""
+    """Standard error, with a progress line below. If it is full, lines wait. `lost`: one could not be printed."""
 
     def __init__(self):
         self.waiting, self.lost, self.drawn, self.log = b"", False, 0, None
@@ -194,7 +194,7 @@ def asked(*words, told=None):
 
 
 @functools.lru_cache()
-def built(told=None):
+def built(told):
     """Returns the path of avrstk, without links. In a clone it is a built program, not the script ./avrstk."""
     found = shutil.which(program())
     if IS_CLONE and not os.environ.get("AVRSTK"):
@@ -219,7 +219,7 @@ def session_program(told=None):
 
 def version():
     """Returns the version of avrstk, and lines of its build's stamp: whether it is proved, its commit and kit."""
-    file = built()
+    file = built(None)
     number = re.search(r"This is avrstk (\S+)\.", " ".join(asked(file, "--help").split()))
     of_clone = [os.path.join(HERE, "avrstk"), "--stamp-of", file]
     stamp = asked(*of_clone) if IS_CLONE else asked("cat", beside(file, "avrstk.stamp") or os.devnull)
