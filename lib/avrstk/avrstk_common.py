@@ -132,15 +132,15 @@ def show(text):
         raise Fault(f"standard output cannot be written: {fault.strerror}")
 
 
-def run(main):
-    """Ends the script with the status of its main function; with 1 if a line could not be printed, as in avrstk."""
+def run(main, needs_lines=False):
+    """Ends the script with the status of its main function; with 1 if a line could not be printed that it needs."""
     try:
         status = main()
     except (Fault, OSError, getopt.GetoptError) as fault:
         say(f"{fault.filename}: {fault.strerror}" if isinstance(fault, OSError) else str(fault))
         status = 1
     messages.finish()
-    sys.exit(1 if messages.lost else status)
+    sys.exit(1 if needs_lines and messages.lost else status)
 
 
 def first(*rows):
