@@ -269,7 +269,8 @@ def shown_runs(file):
 
 
 def differences():
-    """Yields USAGE's differences from AVRDUDE that single runs can show, each with the outcome and whether it is right."""
+    """Yields USAGE's differences from AVRDUDE that single runs can show, each with the outcome and whether it is right.
+    (tests/lines.py has the lines of -C, a device and ELF, and tests/claims.py that of a long part name.)"""
     usage = USAGE.read_text()
     table = re.search(r"^ +\$ cat parts.toml\n((?: +.*\n)+?) +\$ avrstk", usage, re.M)[1]
     byte, end = re.search(r"`(:0100.*?)` and\s+then\s+`(:.*?)`", usage).groups()
@@ -280,7 +281,6 @@ def differences():
         "noted.hex": f"# a note\n{byte}\n{end}\n",
         "cut.hex": f"{byte}\n",
         "a:b.hex": f"{byte}\n{end}\n",
-        "x.elf": "\x7fELF\x01\x01\x01",
     }
     glued = "--parts parts.toml -patmega328p -cstk500v2 -b115200 -Pemu:chip.bin -Uflash:w:byte.hex:i".split()
     runs = [
@@ -291,13 +291,9 @@ def differences():
         ([*emulated, "-qq", "-U", "flash:w:cut.hex"], 0, ""),
         ([*emulated, "-n", "-U", "flash:w:noted.hex"], 0, f"flash: {len(files['noted.hex'])} bytes not written"),
         ([*emulated, "-U", "flash:w:noted.hex:i"], 1, "error: noted.hex: line 1: no record mark"),
-        ([*emulated, "-U", "flash:w:x.elf"], 1, "error: x.elf: ELF is not read"),
         ([*emulated, "-U", "a:b.hex"], 1, "error: update 1: no such memory"),
         ([*emulated, "-U", "eeprom:w:a:b.hex:a"], 0, "eeprom: 1 bytes verified"),
-        ([*emulated, "-C", "avrdude.conf"], 1, "'-C'"),
         ([*emulated, "-B", "10"], 1, "'-B'"),
-        (["-p", "m328p", "-P", "/dev/ttyACM0"], 1, "error: port /dev/ttyACM0 is not known"),
-        (["-p", "atmega328p", "-P", "emu:chip.bin"], 1, "error: no part atmega328p"),
     ]
     with tempfile.TemporaryDirectory() as folder:
         for name, text in files.items():
@@ -419,10 +415,9 @@ def names_agree():
 
 
 def version_agrees():
-    """The help, the header for C and the newest changes have the version in VERSION."""
+    """The help and the newest changes have the version in VERSION. (tests/from_c.py has that of the header for C.)"""
     _, shown = of_help()
     see("--help shows the version", f"This is avrstk {VERSION}." in " ".join(shown.split()), shown[-200:])
-    see("the header has it", f'AVR_RECORDS_VERSION "{VERSION}"' in (TOP / "include/avr_records.h").read_text())
     newest = re.search(r"^## ([0-9.]+)", (TOP / "CHANGELOG.md").read_text(), re.M)[1]
     same("the newest changes are its own", newest, VERSION)
 

@@ -583,8 +583,8 @@ def bits_that_do_not_exist():
 def lists():
     """Tests -P ? (tests/serve.py has --version)."""
     here = sorted(str(it) for kind in ("ACM", "USB") for it in Path("/dev").glob(f"tty{kind}*"))
-    wanted = "\n".join(here) or "there is none here now"
-    same("-P ?", run(["-P", "?"]), (0, f"{wanted}\n".encode(), b"", []))
+    status, output, *told = run(["-P", "?"])
+    same("-P ?", (status, [it.split()[0] for it in output.decode().splitlines()], told), (0, here or ["there"], [b"", []]))
 
 
 class Boards:

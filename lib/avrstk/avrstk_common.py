@@ -70,7 +70,7 @@ def ended_by():
 
 
 class Messages:
-    """Standard error, with a progress line below. If it is full, lines wait and the run goes on. `lost`: one failed."""
+    """Standard error, with a progress line below. If it is full, lines wait. `lost`: one could not be printed."""
 
     def __init__(self):
         self.waiting, self.lost, self.drawn, self.log = b"", False, 0, None
@@ -132,15 +132,15 @@ def show(text):
         raise Fault(f"standard output cannot be written: {fault.strerror}")
 
 
-def run(main):
-    """Ends the script with the status of its main function; with 1 if a line could not be printed, as in avrstk."""
+def run(main, needs_lines=False):
+    """Ends the script with the status of its main function; with 1 if a line could not be printed that it needs."""
     try:
         status = main()
     except (Fault, OSError, getopt.GetoptError) as fault:
         say(f"{fault.filename}: {fault.strerror}" if isinstance(fault, OSError) else str(fault))
         status = 1
     messages.finish()
-    sys.exit(1 if messages.lost else status)
+    sys.exit(1 if needs_lines and messages.lost else status)
 
 
 def first(*rows):
@@ -194,7 +194,7 @@ def asked(*words, told=None):
 
 
 @functools.lru_cache()
-def built(told=None):
+def built(told):
     """Returns the path of avrstk, without links. In a clone it is a built program, not the script ./avrstk."""
     found = shutil.which(program())
     if IS_CLONE and not os.environ.get("AVRSTK"):
@@ -219,7 +219,7 @@ def session_program(told=None):
 
 def version():
     """Returns the version of avrstk, and lines of its build's stamp: whether it is proved, its commit and kit."""
-    file = built()
+    file = built(None)
     number = re.search(r"This is avrstk (\S+)\.", " ".join(asked(file, "--help").split()))
     of_clone = [os.path.join(HERE, "avrstk"), "--stamp-of", file]
     stamp = asked(*of_clone) if IS_CLONE else asked("cat", beside(file, "avrstk.stamp") or os.devnull)

@@ -67,12 +67,13 @@ class Traffic:
         self.is_bootloader = "--bootloader" in last
         self.refused = set().union(*(codes for it, codes in REFUSED.items() if it in last))
         self.client = self.count = 0
-        given = [(name, *value.partition(":" if name == "--late" else "\0")) for name, value in options if name in FAULTS]
-        self.lateness = seconds("--late", last["--late"].partition(":")[2]) if "--late" in last else 0
+        self.lateness = seconds("--late", last.get("--late", "0:1").partition(":")[2])
+        given = [(it, value) for it, value in options if it in FAULTS]
         seed, each = last.get("--seed", str(random.randrange(1_000_000))), {"--drop": ["--lose", "--lose-reply"]}
         chance = random.Random(seed).random
-        self.faults = [(it, which(value, chance)) for name, value, *_ in given for it in each.get(name, [name])]
-        if any("%" in value for _, value, *_ in given):
+        meant = lambda name, value: which(value.partition(":")[0] if name == "--late" else value, chance)
+        self.faults = [(it, meant(name, value)) for name, value in given for it in each.get(name, [name])]
+        if any("%" in value for _, value in given):
             say(f"--seed {seed} makes the same faults again")
 
     def begin(self):

@@ -57,6 +57,12 @@ RESET_PINS = {
 }
 
 
+def list_devices():
+    """Prints the devices, each with its name that doesn't change at the next plug, which tells what it is."""
+    names = {os.path.realpath(it): it for it in glob.glob("/dev/serial/by-id/*")}
+    show("\n".join(f"  {it:13} {names.get(it, '')}".rstrip() for it in DEVICES) or f"  {NONE_HERE}")
+
+
 def list_parts():
     """Prints the parts as AVRDUDE does, with their signatures."""
     known, rows = parts(), []
@@ -479,7 +485,7 @@ def main():
     shown = first(
         ({"-h", "-?", "--help"} & set(words.last) or not sys.argv[1:], lambda: show(HELP)),
         ("--version" in words.last, lambda: show(version())),
-        (words.device == "?", lambda: show("\n".join(DEVICES) or NONE_HERE)),
+        (words.device == "?", list_devices),
         (words.part == "?", list_parts),
         (words.programmer == "?", lambda: show("\n".join(SPEAKING))),
     )

@@ -263,7 +263,7 @@ def main():
     words = [*part_words(options.get("-p"), parts), "-P", f"emu:{chip}"]
     command = [session_program(), *words]
     # runs that serve nobody check the options and set the lock. They report why they fail
-    runs = [[*command, "-n"], [built(), *words, "-q", "-q", "-U", "lock:w:0xFC:m"]][: 1 + ("--locked" in options)]
+    runs = [[*command, "-n"], [built(None), *words, "-q", "-q", "-U", "lock:w:0xFC:m"]][: 1 + ("--locked" in options)]
     if any(subprocess.run(it, stdin=subprocess.DEVNULL, stdout=subprocess.DEVNULL).returncode for it in runs):
         return 1
     heed_signals()

@@ -117,9 +117,9 @@ class Words:
             if not any(it.is_stream() for it in self.updates):
                 command = [session_program(quiet), *self.options("stdio:")]
                 ran = subprocess.run(command, stdin=quiet, stdout=subprocess.PIPE, stderr=quiet, close_fds=False)
-        rows = [it.split() for it in ran.stdout.decode("ascii", "replace").splitlines()] if ran else []
+        rows = [it.split() for it in ran.stdout.decode().splitlines()] if ran and not ran.returncode else []
         pages = [(int(at), int(count)) for memory, at, count in rows[1:] if memory == "flash"]
-        return (int(rows[0][1]), pages) if rows and not ran.returncode else (0, None)
+        return (int(rows[0][1]), pages) if rows else (0, None)
 
     def is_whole(self):
         """Whether the command writes flash from address 0 on, and leaves out no page; None if that is not known."""
