@@ -36,8 +36,8 @@ use Rattle.avr_laws.proofs.Reports.OverTape.{by_fates, said_prefix}
 -- what was received is honest, by the fates of all frames that the run over it sends
 pub honest_heard : {E R : Type 0} (d : Dialog E R) (n : ℕ) (p : Programmer) (fates : List Fate) (w : WiredState)
     → AsksBodies d → AreLawful fates → FollowsFates p fates w → InTurn d (progress_at n []) w.transcript
-    → IsPrefixOf (sent w.transcript) (bytes_sent (played d n (heard w.transcript)).events) → AreHonest device d n (heard w.transcript) p
-    (becames_of (length (frames_in (played d n (heard w.transcript)).events)) fates)
+    → IsPrefixOf (sent w.transcript) (bytes_sent (played d n (heard w.transcript)).events)
+    → AreHonest device d n (heard w.transcript) p (becames_of (length (frames_in (played d n (heard w.transcript)).events)) fates)
 honest_heard d n p fates w asks lawful keeps turns prefix =
     search (rules, frames_prefix, sends_whole, length-append, honest_prefix, never_idle, goes_along)
 

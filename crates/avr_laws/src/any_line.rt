@@ -45,7 +45,7 @@ ghost use Rattle.avr_tool.specs.Outcome.{page_writes};
 
 /// States that at each moment of a session the memories are those of the first writes of its plan, in order: those
 /// completed, and perhaps one more.
-// Proof: `session_makes` (AnyLine/PageWriteOrder), by `makes_items` (AnyLine/PageWrites).
+// Proof: avr_tool's `session_makes` (AnyLine/PageWriteOrder), by `makes_items` (AnyLine/PageWrites).
 pub fn a_run_makes_its_page_writes_in_order()
     ensures { (plan : Plan) (m : Memories) (p : Programmer) (turns : List Turn)
         → IsPart plan.part → All (IsFitted plan.part) plan.tasks → FitsPart plan.part m → Idle plan.part m p
@@ -133,7 +133,7 @@ pub fn a_session_over_a_wire_can_be_believed()
 ///
 /// `end` holds however a session ends, so that any prefix of its bytes was sent. The memories are those of its first
 /// writes. Its output is the expected run's, up to the line of a failed step.
-// Proof: `over_any_line`, `over_bytes` and `over_any_end` (AnyLink), by `comes_over_turns` (ReportsOverTurns).
+// Proof: `over_any_line`, `over_bytes` and `over_any_end` (AnyLink), by `ends_over_turns` (ReportsOverTurns).
 pub fn a_session_over_any_line()
     ensures turns { (plan : Plan) (p : Programmer) (becames : List Became) (bytes : List ℕ)
         (tape left : Tape) (events : List (Event OutputEvent)) (status next : ℕ)
@@ -163,7 +163,7 @@ pub fn a_session_over_any_line()
 /// States what a session leaves that ran whole or broke off, also because its link failed, over a link over which
 /// nothing had passed. If no frame is forged, the memories are those of its first writes: as many as were completed
 /// by what was received, and at most one more. Its output is the expected run's, up to the line of a failed step.
-// Proof: `over_any_run` (AnyLink); its page writes are `session_makes` (AnyLine/PageWriteOrder).
+// Proof: `over_any_run` (AnyLink); its page writes are avr_tool's `session_makes` (AnyLine/PageWriteOrder).
 pub fn whatever_becomes_of_a_session_its_first_page_writes_were_made()
     ensures { (plan : Plan) (p : Programmer) (got : List ℕ) (through : List Bool) (old new : Devices) (status : ℕ)
         → IsSoundChip p.chip → p.chip.part ≡ plan.part → All (IsFitted plan.part) plan.tasks

@@ -35,8 +35,8 @@ pub fn a_run_finds_and_leaves_the_chip_of_its_file()
 /// States the promise over files alone, for a run over the emulator with status 0 and a desk in memory. The settings
 /// and files ask for a plan. The chip file held a chip of its part, and holds what the plan makes of it. If the run was
 /// verified, these are the images. No other file has changed, but those that the plan reads into.
-// Proof: `promised` (ChipFile/Promised). The plan is avr_plan's `plan_asked` (Stages/AskedPlan), the memories are
-// avr_laws's `comes_over_turns` (OverTurns), the other files are `lack_said` (ChipFile/Others).
+// Proof: `promised` (ChipFile/Promised). The plan is `plan_asked` (Planning/AskedPlan), the memories are
+// avr_tool's `comes_over_turns` (OverTurns), the other files are `lack_said` (ChipFile/Others).
 pub fn the_chip_file_holds_the_images()
     ensures { (settings : Settings) (file : Bytes) (stock : Stock) (old new : MemDeskState)
         → is_dash file ≡ false → old.kept ≡ nothing_kept → HoldsTrue stock new
@@ -50,7 +50,7 @@ pub fn the_chip_file_holds_the_images()
 ///
 /// The EEPROM condition is that of [`a_further_run_heals`]. No update of the first run may be read into the chip's
 /// own file.
-// Proof: `heals_file` (ChipFile/SecondRun), by avr_laws's `done_again` (SecondRun/Status).
+// Proof: `heals_file` (ChipFile/SecondRun), by `done_again` (SecondRun/Status).
 pub fn a_further_run_over_its_chip_file_heals()
     ensures { (settings : Settings) (file : Bytes) (stock : Stock) (old mid new : MemDeskState) (status further : ℕ)
         → is_dash file ≡ false → HoldsTrue stock old → Stays HoldsTrue old mid → Stays HoldsTrue mid new

@@ -76,7 +76,7 @@ pub fn a_line_that_makes_no_frame_is_honest<E, R>()
 
 /// States that a wire with fates is such a link. A programmer that got a prefix of the bytes sent, as over a link
 /// that keeps their order, got some of the frames.
-// Proof: `over_wire` (Lines/WireTapes) and `prefix_came` (Lines/NoFrame).
+// Proof: avr_tool's `over_wire` (Lines/WireTapes) and `prefix_came` (Lines/NoFrame).
 pub fn a_wire_is_an_honest_line<E, R>()
     ensures wire { (d : Dialog E R) (n : ℕ) (w : Wire Programmer) (sent more : List (List ℕ)) → AsksBodies d
         → IsClear n w.late → AreLawful w.fates

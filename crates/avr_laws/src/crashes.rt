@@ -21,7 +21,7 @@ use std::io::Write;
 /// States what a crash leaves of the chip file, for a run over the emulator and for a server, on the new desk of a
 /// program. Whenever it is killed or the machine stops, the file is as it was when it was locked. Or it is the file of
 /// the chip that the run or the server states with its status. A file that is written in place is not meant.
-// Proof: `run_killed` and `server_killed` (Killed), from what avr_desk's `TellsAll` says of a crash.
+// Proof: `run_killed` and `server_killed` (ChipFile/KilledRuns), from what avr_desk's `TellsAll` says of a crash.
 pub fn a_crash_leaves_the_old_chip_or_the_new_one<
     R: FileSystem + Drop,
     O: Write + Drop,

@@ -35,7 +35,7 @@ pub fn an_expected_run_succeeds_if_it_agrees()
 /// States that after a verified run with status 0 each memory holds the images written to it, later over earlier.
 /// Nothing else changed except what an erase erased. A further run that compares memories with these images succeeds
 /// over a good link.
-// Proof: `run_written` and `shown_succeeds` (Memories/VerifiedRuns).
+// Proof: avr_tool's `run_written` and `shown_succeeds` (Memories/VerifiedRuns).
 pub fn a_verified_run_leaves_its_images()
     ensures images { (plan : Plan) (before after : Memories)
         → IsPart plan.part → All (IsFitted plan.part) plan.tasks → FitsPart plan.part before

@@ -241,14 +241,15 @@ module _ (part : Part) (sound : IsPart part) where
       let within : (o : StepOutcome) × ((along device k (step commands) p turns).dialog ≡ Done o) =
       done_within (4 * length commands) k (step commands) p turns (step_most commands) (omega (arith, short, le)) in
       within.1 ∙ ap (λ x. Done x)
-      (where_done device (step commands) (p, turns) (brings_one part sound AreFew few_sure commands m is f (p, turns) ready few) k within.0
-      within.1).0.0
+      (where_done device (step commands) (p, turns)
+      (brings_one part sound AreFew few_sure commands m is f (p, turns) ready few) k within.0 within.1).0.0
 
   pub play_few : (steps : List (List Command)) (m : Memories) (k : ℕ) (before : List ℕ) (p : Programmer)
       (turns : List Turn) (o : StepOutcome) → AreSteps part steps → FitsPart part m → Ready part m p → AreFew turns
       → (along device k (play steps before) p turns).dialog ≡ Done o → o ≡ Ok (before ++ all_given part steps m)
   play_few steps m k before p turns o are f ready few e =
-      (where_done device (play steps before) (p, turns) (brings_play part sound AreFew few_sure steps m before are f (p, turns) ready few) k o e).0.0
+      (where_done device (play steps before) (p, turns)
+      (brings_play part sound AreFew few_sure steps m before are f (p, turns) ready few) k o e).0.0
 
 -- four bad frames of seven are too many, both in a row and if each second one is bad
 pub four_too_many : (command : Command) (commands : List Command) (p : Programmer)

@@ -17,7 +17,7 @@ use Rattle.stk_emu.specs.Settled.{Idle, FitsPart}
 use Rattle.stk_emu.specs.Turn.{Turn, Became}
 use Rattle.avr_tool.proofs.AnyLine.FrameSizes.{session_asks}
 use Rattle.avr_laws.proofs.Lines.AnyTape.{goes_as}
-use Rattle.avr_laws.proofs.Reports.Truth.{session_along}
+use Rattle.avr_tool.proofs.AnyLine.Outcomes.{session_along}
 use Rattle.avr_laws.specs.AnyTape.{GoesAs}
 use Rattle.avr_tool.specs.Honest.{AreHonest}
 use Rattle.avr_tool.specs.ExpectedRun.{Expected, then_from, ◌then◌, action_expected, actions_expected, working_expected, ending_says, expected_run}
@@ -28,12 +28,12 @@ module _ (plan : Plan) (sound : IsPart plan.part) (fitted : All (IsFitted plan.p
   -- AT EACH MOMENT, and at its end
   pub foretold_now : (k : ℕ) (p : Programmer) (turns : List Turn) → Idle plan.part m p
       → IsForetold plan m (said_along device k (session plan) p turns)
-  foretold_now k p turns idle = (session_along plan sound m f fitted k p turns idle).now.1
+  foretold_now k p turns idle = (session_along plan sound m f fitted p turns idle k).now.1
 
   pub foretold_end : (k status : ℕ) (p : Programmer) (turns : List Turn) → Idle plan.part m p
       → (along device k (session plan) p turns).dialog ≡ Done status
       → EndsAsForetold plan m (said_along device k (session plan) p turns) status
-  foretold_end k status p turns idle e = search (rules, session_along plan sound m f fitted k p turns idle)
+  foretold_end k status p turns idle e = search (rules, session_along plan sound m f fitted p turns idle k)
 
   -- and in a play over any tape that is honest
   pub foretold_on_tape : (p : Programmer) (tape : Tape) (becames : List Became) → Idle plan.part m p

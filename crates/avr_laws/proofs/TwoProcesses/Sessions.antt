@@ -22,7 +22,7 @@ use Rattle.stk_emu.specs.Effect.{memories_of}
 use Rattle.stk_emu.specs.Settled.{Idle, FitsPart}
 use Rattle.avr_tool.proofs.Given.FirstSteps.{sound_idle, sound_fits}
 use Rattle.avr_tool.specs.ExpectedRun.{expected_run}
-use Rattle.avr_laws.proofs.FewBad.Sessions.{session_ends}
+use Rattle.avr_laws.proofs.FewBad.Sessions.{few_session_ends}
 use Rattle.avr_laws.specs.AnyTape.{after_pieces, turns_heard}
 use Rattle.avr_tool.specs.Honest.{AreHonest}
 use Rattle.stk_emu.specs.Device.{device, after_frames}
@@ -159,7 +159,7 @@ module _ (plan : Plan) (s : chips.ChipState) (is_sound : IsSoundChip s) (part_is
           let goes = meet_straight (session plan) asks p left host server serves joined prefix (session_few plan)
           endless
           stalls prompt status after.next (on_tape after.unread ++ []) (ap (λ x. x.outcome) over) in
-          let came = session_ends plan (subst IsPart part_is is_sound.part) fitted (memories_of s) p []
+          let came = few_session_ends plan (subst IsPart part_is is_sound.part) fitted (memories_of s) p []
           (subst (λ part. FitsPart part (memories_of s)) part_is (sound_fits s is_sound))
           (subst (λ part. Idle part (memories_of s) p) part_is (sound_idle p is_sound)) tt (length fs) status
           goes.dialog in

@@ -1,10 +1,10 @@
 -- What a session leaves over any link, and that with status 0 it is its expected run.
-use Rattle.std.proofs.Common.{◌≡◌, ℕ, List, [], ◌∷◌, sym, ◌∙◌, arith, inl, inr, rules}
+use Rattle.std.proofs.Common.{◌≡◌, ℕ, List, [], ◌∷◌, sym, ◌∙◌, arith, inl, inr, Ok}
 use Rattle.std.specs.Prelude.{All, ⊤}
 use Rattle.avr_part.specs.Part.{IsPart}
 use Rattle.avr_plan.specs.Plan.{Plan, IsFitted}
 use Rattle.avr_session.specs.Actions.{Action, OpenSession}
-use Rattle.avr_session.specs.Session.{session}
+use Rattle.avr_session.specs.Session.{closed_says, session}
 use Rattle.stk_host.specs.Dialog.{Done}
 use Rattle.stk_emu.specs.Turn.{Turn}
 use Rattle.stk_emu.specs.Along.{along, said_along}
@@ -12,12 +12,13 @@ use Rattle.stk_emu.specs.Device.{device}
 use Rattle.stk_emu.specs.Effect.{Memories, effects, memories_of}
 use Rattle.stk_emu.specs.Programmer.{Programmer}
 use Rattle.stk_emu.specs.Settled.{Idle, Settled, FitsPart}
-use Rattle.avr_tool.proofs.AnyLine.EachAction.{Comes, Passes, ActionsTrue, opening_comes}
+use Rattle.avr_tool.proofs.AnyLine.EachAction.{Comes, Passes, ActionsTrue, fault_told, opening_comes}
 use Rattle.avr_tool.proofs.AnyLine.Sessions.{AtMoment, AtEnd, at_last, anyhow, session_prints}
 use Rattle.avr_tool.proofs.Hosts.OneLink.{Spot, on_link}
 use Rattle.avr_tool.proofs.Hosts.Outputs.{Anything, Prints, Printed, any_outputs, at_moment}
 use Rattle.avr_tool.proofs.Leads.{Leads}
 use Rattle.avr_tool.proofs.Memories.ExpectedAgrees.{expected_status, expected_memories}
+use Rattle.avr_tool.proofs.Plans.Calls.{outcome_of, outcome_says}
 use Rattle.avr_tool.proofs.Plans.Fits.{work}
 use Rattle.avr_tool.specs.Items.{action_items}
 use Rattle.avr_tool.specs.Outcome.{IsTouched, IsDone, IsExpectedRun}
@@ -27,15 +28,17 @@ module _ (plan : Plan) (sound : IsPart plan.part) (m0 : Memories) (f0 : FitsPart
   anything : (actions : List Action) (m : Memories) → ActionsTrue plan.part plan.switches Anything actions m
   anything [] m = tt
   anything (action ∷ actions) m =
-      (λ q is. any_outputs _ q, anything actions (effects plan.part (action_items action) m))
+      (λ q is. any_outputs (outcome_says plan.part plan.switches action (outcome_of plan.part action m)) q, anything actions (effects plan.part (action_items action) m))
 
   -- over any link, or if no step fails
   pub session_passes : (At : Memories → Spot → Type 0) (Fails : Type 0) → Passes plan.part plan.switches At Fails
       → (z : Spot) → Comes plan.part plan.switches At Fails OpenSession m0 z
       → Prints Anything (AtMoment plan m0) (AtEnd plan m0 Fails) (session plan) z
   session_passes At Fails pass z opened =
-      session_prints plan sound fitted Anything (λ fault q. any_outputs _ q) (λ q. any_outputs _ q) At Fails pass m0 f0
-      (λ q is. any_outputs _ q) (anything (work plan) m0) z opened
+      session_prints plan sound fitted Anything (λ fault q. any_outputs (fault_told plan.part fault) q)
+      (λ q. any_outputs (closed_says plan.switches.quiet plan.part (Ok tt)) q) At Fails pass m0 f0
+      (λ q is. any_outputs (outcome_says plan.part plan.switches OpenSession (outcome_of plan.part OpenSession m0)) q)
+      (anything (work plan) m0) z opened
 
   module _ (p : Programmer) (turns : List Turn) (idle : Idle plan.part m0 p) where
     -- along any link

@@ -1,17 +1,17 @@
-use Rattle.avr_laws.proofs.FewBad.Sessions.{session_ends, session_done}
+use Rattle.avr_laws.proofs.FewBad.Sessions.{few_session_ends, session_done}
 use Rattle.avr_laws.proofs.few_bad_frames.a_run_with_few_bad_frames_is_its_expected_run.Goals as goal
 
 pub returns-clause-status : goal.returns-clause-status
 returns-clause-status c = λ plan m k status p fates sound fitted sizes idle good e.
-    (session_ends plan sound fitted m p fates sizes idle good k status e).status_is
+    (few_session_ends plan sound fitted m p fates sizes idle good k status e).status_is
 
 pub returns-clause-memories : goal.returns-clause-memories
 returns-clause-memories c = λ plan m k status p fates sound fitted sizes idle good e.
-    (session_ends plan sound fitted m p fates sizes idle good k status e).memories
+    (few_session_ends plan sound fitted m p fates sizes idle good k status e).memories
 
 pub returns-clause-says : goal.returns-clause-says
 returns-clause-says c = λ plan m k status p fates sound fitted sizes idle good e.
-    (session_ends plan sound fitted m p fates sizes idle good k status e).said
+    (few_session_ends plan sound fitted m p fates sizes idle good k status e).said
 
 pub returns-clause-done : goal.returns-clause-done
 returns-clause-done c = λ plan m k p fates sound fitted sizes idle few le. session_done plan sound fitted m k p fates

@@ -10,9 +10,15 @@ returns-in-Err-clause-runs g c =
 pub returns-clause-runs : goal.returns-clause-runs
 returns-clause-runs g c =
     let made = rw c.in-Ok.is at c.plan.ensures.goes in
-    let new = c.in-Ok-connect.ensures.new in
+    let new = rw c.place_of-address.ensures at c.in-Ok-connect.ensures.new in
     let then_is = rw (new.quiet, new.fresh) at c.drive-status.ensures.runs in
     let truly = c.drive-status.ensures.comes c.in-Ok-connect.link
     (true_now g.N.Stream.Read.remaining g.N.Stream.Write.contents c.in-Ok-connect.link) in
     let after = c.drive-status.new.link in
     inl (record { transcript = after.transcript; failures = after.failures }, search rules, search rules)
+
+pub returns-in-Err-connect-clause-runs : goal.returns-in-Err-connect-clause-runs
+returns-in-Err-connect-clause-runs g c =
+    let missed = rw c.place_of-address.ensures at c.in-Err-connect.ensures.missed in
+    let pieces = rw c.place_of-address.ensures at c.unopened_message.ensures in
+    let made = rw c.in-Ok.is at c.plan.ensures.goes in search rules
