@@ -244,22 +244,6 @@ def without_a_lock():
         is_good("a run after them", room.run(writes_fuse(0x62)))
 
 
-def what_stays():
-    """A chip that is replaced keeps its permissions, without setuid, setgid and the sticky bit. A symbolic link to it stays
-    a link. What a link of the new file's name leads to stays as it is."""
-    for mode, kept in [(0o640, 0o640), (0o4751, 0o751), (0o2750, 0o750), (0o1600, 0o600), (0o6777, 0o777)]:
-        fresh_room(mode)
-        room.put("victim", b"mine")
-        NEW_FILE.symlink_to("victim")
-        link = room.folder / "link.bin"
-        link.symlink_to("chip.bin")
-        is_good(f"a chip of mode {mode:o}", room.run(writes_fuse(0x62, "link.bin")), with_fuse(OLD, 0x62))
-        same(f"what stays of mode {mode:o}", (mode_of(CHIP), link.is_symlink(), room.read("victim")), (kept, True, b"mine"))
-    room.clear()
-    is_good("a new chip of a long name", room.run(writes_fuse(0x62, "c" * 243)))
-    same("its mode", mode_of(room.folder / ("c" * 243)), 0o666 & ~UMASK)
-
-
 def what_is_refused():
     """These are no chip files, and refused before a frame is sent or the server waits for a caller: a link to no file or to
     itself, a pipe, a device, a folder, a name that is too long, one in a folder that isn't there. So is a chip whose lock
@@ -343,36 +327,44 @@ def as_nobody():
     room.folder.chmod(0o700)
 
 
-def for_a_user():
-    """A run is refused if the chip or its folder may not be written. A folder that may be written and not read is no
-    obstacle. A chip keeps its owner and group if the system allows it; a group that can't be given gets what everyone had.
-    What an ended run of another user's left blocks no run."""
-    # the modes of the chip and its folder, the chip's group, who runs, and the mode of the new chip if there is one
-    for mode, folder, group, who, kept in [
-        (0o444, 0o755, NOBODY, NOBODY, None),
-        (0o644, 0o555, NOBODY, NOBODY, None),
-        (0o644, 0o333, NOBODY, NOBODY, 0o644),
-        (0o666, 0o755, 0, NOBODY, 0o666),
-        (0o664, 0o755, 0, NOBODY, 0o644),
-        (0o660, 0o755, 0, NOBODY, 0o600),
-        (0o640, 0o755, NOBODY - 1, 0, 0o640),
-    ][: 7 if IS_ROOT else 3]:
+def what_stays():
+    """A run is refused if the chip or its folder may not be written; a folder that may be written and not read is no
+    obstacle. A chip keeps its permissions, without setuid, setgid and the sticky bit, and its owner and group if the system
+    allows it; any other group gets what everyone had. A symbolic link to it stays a link. What an ended run of another
+    user's left blocks no run, and what a link of the new file's name leads to stays as it is."""
+    # the modes of the chip, of its folder and of the new chip if there is one; the chip's group; who runs
+    for mode, folder, kept, group, who in [
+        (0o444, 0o755, None, NOBODY, NOBODY),
+        (0o644, 0o555, None, NOBODY, NOBODY),
+        (0o644, 0o333, 0o644, NOBODY, NOBODY),
+        *((it, 0o755, it & 0o777, NOBODY, NOBODY) for it in [0o640, 0o4751, 0o2750, 0o1600, 0o6777]),
+        *((it, 0o755, kept, 0, NOBODY) for it, kept in [(0o666, 0o666), (0o664, 0o644), (0o660, 0o600)]),
+        (0o640, 0o755, 0o640, NOBODY - 1, 0),
+    ][: 12 if IS_ROOT else 8]:
         fresh_room()
-        for left, size in [(LOCK_FILE, 0), (NEW_FILE, 100_000)] if folder == 0o755 else []:
-            room.put(left.name, bytes(size))
+        room.put("victim", b"mine")
+        link = room.folder / "link.bin"
+        link.symlink_to("chip.bin")
+        if folder == 0o755:
+            LOCK_FILE.touch()
+            NEW_FILE.symlink_to("victim") if mode == kept else room.put(NEW_FILE.name, bytes(100_000))
         with as_nobody() as how:
             os.chown(CHIP, NOBODY, group) if IS_ROOT else None
             CHIP.chmod(mode)
             room.folder.chmod(folder)
-            found = ended(room.start(writes_fuse(0x62), **(how if who else {})))
+            found = ended(room.start(writes_fuse(0x62, "link.bin"), **(how if who else {})))
             room.folder.chmod(0o755)
             what = f"chip {mode:o}, folder {folder:o}, group {group}"
-            see(f"{what}: the run", found[0] == 0 if kept else found == (1, b"", UNWRITABLE), found)
+            refused = (1, b"", lines("error: link.bin: cannot be written"))
+            see(f"{what}: the run", found[0] == 0 if kept else found == refused, found)
             see(f"{what}: the chip", room.read("chip.bin") == (with_fuse(OLD, 0x62) if kept else OLD))
             own = (CHIP.stat().st_uid, CHIP.stat().st_gid, mode_of(CHIP))
             wanted = (NOBODY, group or NOBODY, kept) if kept else (NOBODY, group, mode)
             same(f"{what}: what stays", own, wanted if IS_ROOT else (*own[:2], kept or mode))
-            same(f"{what}: files beside it", beside(), []) if kept else None
+            same(f"{what}: links", (link.is_symlink(), room.read("victim"), beside() if kept else []), (True, b"mine", []))
+    room.clear()
+    is_good("a new chip of a long name", room.run(writes_fuse(0x62, "c" * 243)))
+    same("its mode", mode_of(room.folder / ("c" * 243)), 0o666 & ~UMASK)
     if not IS_ROOT:
         leave_out("whose a chip stays", "this isn't root")
 
@@ -442,8 +434,8 @@ if not shutil.which("strace"):
     TRACED = {name: lambda name=name: leave_out(name, "strace is not installed") for name in TRACED}
 
 CASES = TRACED | named(
-    *(held_by_a_run, held_by_a_session, without_a_lock, what_stays, what_is_refused, read_into_the_chip, a_full_disk),
-    *(mounted, for_a_user, another_user, stormy),
+    *(held_by_a_run, held_by_a_session, without_a_lock, what_is_refused, read_into_the_chip, a_full_disk),
+    *(mounted, what_stays, another_user, stormy),
 )
 
 
