@@ -14,9 +14,8 @@ import subprocess
 import sys
 import time
 
-# the folder and the name of the script that loads this module
+# the folder and the name of the script that loads this module. In a clone, ./avrstk knows the built programs
 HERE, NAME = os.path.split(os.path.realpath(sys.argv[0]))
-# (in a clone, ./avrstk knows the built programs)
 IS_CLONE = os.path.exists(os.path.join(HERE, "crates.txt"))
 
 if sys.version_info < (3, 8):

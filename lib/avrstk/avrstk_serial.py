@@ -338,6 +338,7 @@ def judge(words):
     refuse(
         (re.fullmatch("net:[^:]*", words.device), f"-P {words.device}: a port of a network is -P net:HOST:PORT"),
         (not is_number, f"--retry {words.retry}: not a number from 0 to 99"),
+        (not words.has_port and not os.path.exists("/proc/net"), "there is no /proc: who calls can't be told then"),
     )
     why = is_retried and ("avrstk's own ports are run once" if words.has_port else unhealed(words))
     refuse((why, f"--retry: the same command again may not heal this one: {why}"))
