@@ -7,14 +7,13 @@ ghost use Rattle.avr_desk.specs.Named.{is_dash};
 ghost use Rattle.avr_desk.specs.Truth.{HoldsTrue};
 ghost use Rattle.avr_desk.specs.Record.{Bytes, nothing_kept};
 ghost use Rattle.avr_laws.specs.Again.{AgreesAnyway, AreKeeping};
-ghost use Rattle.avr_tool.specs.AnyLine.{Stopped, OverTurns, memories};
+ghost use Rattle.avr_tool.specs.AnyLine.{Stopped, memories};
 ghost use Rattle.avr_tool.specs.Emulated.{RunsOverEmulator, new_wire};
 ghost use Rattle.avr_tool.specs.Items.{items, has_erase};
 ghost use Rattle.avr_tool.specs.Outcome.{IsDone};
 ghost use Rattle.ghosts.specs.Stays.{Stays};
 ghost use Rattle.avr_laws.specs.ChipFound.{IsChipOf, file_held};
 ghost use Rattle.avr_laws.specs.Promise.{Promised};
-ghost use Rattle.stk_emu.specs.Device.{device};
 ghost use Rattle.avr_part.specs.ChipFile.{chip_file};
 ghost use Rattle.stk_emu.specs.Effect.{memories_of, erase_keeps_eeprom};
 

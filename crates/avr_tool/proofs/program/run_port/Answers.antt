@@ -2,15 +2,21 @@ use Rattle.std.proofs.Common.{refl}
 use Rattle.stk_host.proofs.Transcripts.Streams.{true_now}
 use Rattle.avr_tool.proofs.program.run_port.Goals as goal
 
+pub returns-in-Emulated-clause-runs : goal.returns-in-Emulated-clause-runs
+returns-in-Emulated-clause-runs g c =
+    rw c.in-Emulated.is (rw c.in-Emulated.is at c.run_emu.ensures.runs, (refl, c.leave.ensures.unused))
+
 pub returns-in-Emulated-clause-tells : goal.returns-in-Emulated-clause-tells
 returns-in-Emulated-clause-tells g c = true_now _ _ _
+
+pub returns-in-Network-clause-runs : goal.returns-in-Network-clause-runs
+returns-in-Network-clause-runs g c = rw c.in-Network.is (rw c.in-Network.is at c.run_net.ensures.runs, refl)
 
 pub returns-in-Network-clause-tells : goal.returns-in-Network-clause-tells
 returns-in-Network-clause-tells g c = true_now _ _ _
 
 pub returns-in-Served-clause-runs : goal.returns-in-Served-clause-runs
-returns-in-Served-clause-runs g c = rw c.in-Served.is
-    (rw (c.as_str-in-Served.ensures, c.as_str-in-Served-2.ensures, c.in-Served.is) at c.serve_net.ensures.serves, refl)
+returns-in-Served-clause-runs g c = rw c.in-Served.is (rw c.in-Served.is at c.serve_net.ensures.serves, refl)
 
 pub returns-in-Served-clause-tells : goal.returns-in-Served-clause-tells
 returns-in-Served-clause-tells g c = true_now _ _ _
