@@ -149,8 +149,8 @@ def ended_anywhere():
 
 
 def others_meanwhile():
-    """While a run syncs its new file, another program puts a file in the place of the chip or of the new file, or removes
-    one: the run fails, and what is there stays. So does a chip that is put where none was, however late. The old chip isn't
+    """While a run syncs its new file, another program changes which file is there. It puts one in the place of the chip or
+    of the new file, or removes one: the run fails, and what is there stays. So does a chip that is put where none was, however late. The old chip isn't
     open when it is replaced, because some file systems hide an open file before that."""
 
     def put(path):
@@ -245,9 +245,9 @@ def without_a_lock():
 
 
 def what_is_refused():
-    """These are no chip files, and refused before a frame is sent or the server waits for a caller: a link to no file or to
-    itself, a pipe, a device, a folder, a name that is too long, one in a folder that isn't there. So is a chip whose lock
-    file isn't regular."""
+    """These are no chip files, and refused before a frame is sent or the server waits for a caller. They are a link to no
+    file or to itself, a pipe, a device, a folder, a name that is too long, and one in a folder that isn't there. So is a chip
+    whose lock file isn't regular."""
     for name, make in [
         ("link.bin", lambda it: it.symlink_to("chip.bin")),
         ("loop.bin", lambda it: it.symlink_to("loop.bin")),

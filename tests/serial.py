@@ -824,8 +824,8 @@ def backups():
 
 
 def warnings():
-    """Fuses that can make a chip unreachable are warned of before the device is opened (bits by the data sheets), and an
-    image that leaves out a bootloader's pages."""
+    """Fuses that can make a chip unreachable are warned of before the device is opened. (The bits are those of the data
+    sheets.) So is an image that leaves out a bootloader's pages."""
     out = lambda update, what: f"warning: {update} turns {what}: no ISP programmer reaches the chip then"
     reset = "the reset pin off (RSTDISBL)"
     for part, update, wanted in [

@@ -1,6 +1,6 @@
 #!/usr/bin/env python3
-"""Tests avrstk-serve: clients in turn, clients that send nothing, reset the connection or are idle, a device in place of
-a port, the log, what fails in a session, and how it ends.
+"""Tests avrstk-serve: clients in turn, and clients that send nothing, reset the connection or are idle. Also a device in
+place of a port, the log, what fails in a session, and how it ends.
 
 Not proved: avrstk-serve is Python over sockets and terminals.
 

@@ -38,8 +38,8 @@ pub fn a_stop_is_a_prefix()
         → x.openings ≡ y.openings → heard x.during ≡ heard y.during → m ≡ n }
 {}
 
-/// States what becomes of a chip behind a wire: whatever session of a plan runs over a new wire to a chip of its part,
-/// with any fates of its frames, and however it ends.
+/// States what becomes of a chip behind a wire. Any session of a plan runs over a new wire to a chip of its part, with
+/// any fates of its frames, and ends in any way.
 // Proof: `over_any_line` (WirePlays), by `over_turns` and `comes_over_turns` (OverTurns).
 pub fn a_session_over_a_wire()
     ensures { (plan : Plan) (before now : WiredState) (desk desk_now : DeskState) (status : ℕ)
