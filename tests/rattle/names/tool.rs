@@ -2,7 +2,7 @@
 //= UpdateFault::BadFormat UpdateFault::NoFile UpdateFault::Memory SettingsFault::NoPart SettingsFault::BadProgrammer
 //= SettingsFault::BadPort SettingsFault::TooMany SettingsFault::BadUpdate SettingsFault::StandardTaken
 //= SettingsFault::Memory SettingsFault::NoChip parse_update UpdateFault::number settings SettingsFault::number refuse
-//= plan Plan::part drive run drive_wired run_emu serve serve_for run_net serve_net Link LinkFault Heard TapeLink
+//= plan Plan::part drive run drive_wired run_emu serve serve_for run_net serve_on serve_net Link LinkFault Heard TapeLink
 //= StreamLink Desk MemDesk SystemDesk
 use avr_tool::{
     Chip, Desk, DeskFault, Heard, Item, Link, LinkFault, MemDesk, Parts, PartsFault, Plan,
