@@ -204,7 +204,7 @@ add 755 "$front" bin/avrstk
 add 644 "$stamp" lib/avrstk/avrstk.stamp
 add 755 "$top/avrstk-serial" bin/avrstk-serial
 add 755 "$top/avrstk-serve" bin/avrstk-serve
-for file in "$top"/lib/avrstk/*; do
+for file in "$top"/lib/avrstk/*.py; do
     add 644 "$file" "lib/avrstk/${file##*/}"
 done
 for file in "$top"/parts/*; do

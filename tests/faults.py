@@ -59,7 +59,6 @@ REFUSED = {
     "a request for help": (["--help"], 0),
     "an option that isn't known": (["-p", "m328p", "--nonsense"], 1),
     "no part": (["-P", "stdio:"], 1),
-    "a programmer that isn't known": ([*EMULATED, "-c", "arduino"], 1),
 }
 
 # (before a file is created, the run looks whether it is the held chip)

@@ -218,9 +218,6 @@ def packages_hold_what_is_installed():
         same(name, unpacked(name, Path(folder, "shared")), wanted)
         wanted = [*DEVELOPMENT, *(f"usr/share/doc/libavr-records-dev/{it}" for it in docs)]
         same("libavr-records-dev", unpacked("libavr-records-dev", Path(folder, "dev")), wanted)
-        pages = list(Path(folder, "avrstk/usr/share/doc/avrstk").glob("*.md"))
-        links = [(it.name, to) for it in pages for to in re.findall(r"\]\((?!http)([^)#]+)", it.read_text())]
-        same("no link of its documents is dead", [it for it in links if not (pages[0].parent / it[1]).exists()], [])
         copyright = Path(folder, "avrstk/usr/share/doc/avrstk/copyright").read_text()
         see("the package states that there is no licence", "There is no licence yet." in copyright, copyright)
         told = Path(folder, "avrstk/usr/share/doc/avrstk/built-from").read_text()

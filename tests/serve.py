@@ -160,11 +160,6 @@ def clients_that_send_nothing():
             it.call().close()
         same("it ends", it.end(), (0, ""))
         same("the chip is not written again", (room.folder / "chip.bin").stat().st_mtime_ns, before)
-    room.clear()
-    with Serving() as it:
-        it.call().close()
-        it.end()
-        same("no chip is made", room.read("chip.bin"), None)
 
 
 def one_after_another():

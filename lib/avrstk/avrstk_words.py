@@ -26,7 +26,6 @@ AREAS = {"flash": (0, 0x800000), "eeprom": (0x810000, 0x820000), "lock": (0x8300
 AREAS.update({it: (0x820000 + place, 0x820001 + place) for place, it in enumerate(FUSES[:3])})
 KNOWN = [AREAS["flash"], AREAS["eeprom"], (0x820000, 0x820003), AREAS["lock"], (0x840000, 0x840003)]
 
-
 # options of AVRDUDE and of avrstk
 SHORT = "p:c:P:U:b:C:l:B:E:i:x:T:Y:OtysueDVnFAqvh?"
 LONG = ["parts=", "serve=", "chip=", "wait=", "retry=", "backup=", "version", "help"]
