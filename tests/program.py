@@ -122,13 +122,6 @@ def xor(held):
     return reduce(operator.xor, held, 0)
 
 
-def free_port():
-    """Returns a free port of 127.0.0.1, for a program that can't use a kept one."""
-    with socket.socket() as it:
-        it.bind(("127.0.0.1", 0))
-        return it.getsockname()[1]
-
-
 def kept_port():
     """Returns a socket that keeps a port of 127.0.0.1 while it is open. The system gives the port to no other process. A
     process can listen there only if it asks for that number with SO_REUSEADDR, as this program does when it serves."""
