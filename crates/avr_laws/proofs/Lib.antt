@@ -8,9 +8,9 @@ pub mod SecondRun
 pub mod ReportsOverTurns
 pub mod AnyLink
 pub mod AnyWire
-pub mod Planning
+pub mod Plans
 pub mod KnownFiles
-pub mod Runs
+pub mod Outcomes
 pub mod ChipFile
 pub mod TwoProcesses
 pub mod Rows

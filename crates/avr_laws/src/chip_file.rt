@@ -34,7 +34,7 @@ pub fn a_run_finds_and_leaves_the_chip_of_its_file()
 /// States the promise over files alone, for a run over the emulator with status 0 and a desk in memory. The settings
 /// and files ask for a plan. The chip file held a chip of its part, and holds what the plan makes of it. If the run was
 /// verified, these are the images. No other file has changed, but those that the plan reads into.
-// Proof: `promised` (ChipFile/Promised). The plan is `plan_asked` (Planning/AskedPlan), the memories are
+// Proof: `promised` (ChipFile/Promised). The plan is `plan_asked` (Plans/AskedPlan), the memories are
 // avr_tool's `comes_over_turns` (OverTurns), the other files are `lack_said` (ChipFile/Others).
 pub fn the_chip_file_holds_the_images()
     ensures { (settings : Settings) (file : Bytes) (stock : Stock) (old new : MemDeskState)

@@ -38,7 +38,7 @@ pub fn a_link_that_damages_one_byte_forges_no_frame<E, R>()
 
 /// States what status 0 means over such a link, without a word about forged frames. Of the frames sent, in order, each
 /// arrived whole, damaged or not at all. The replies came as above.
-// Proof: `over_damage` (Runs/OverDamage).
+// Proof: `over_damage` (Outcomes/OverDamage).
 pub fn over_a_link_that_damages_one_byte_status_0_means_the_images()
     ensures { (s : Settings) (plan : Plan) (before now : Devices) (r : IsRun s before now 0)
         → (planned s r.openings).answer ≡ Made plan → before.link.transcript ≡ []

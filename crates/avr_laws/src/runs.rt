@@ -52,7 +52,7 @@ use std::io::{Read, Write};
 /// The programmer may be in any state. It received any bytes whose good frames are some of those sent, and no reply was
 /// forged. Then the memories of its chip are what the plan's writes make of them. If the run was verified, each holds
 /// its images. Elsewhere it holds what it held before, or the FF of an erase.
-// Proof: `promise` (Runs/Promise), by `over_bytes` (AnyLink) and avr_tool's `comes_over_turns` (OverTurns). There the
+// Proof: `promise` (Outcomes/Promise), by `over_bytes` (AnyLink) and avr_tool's `comes_over_turns` (OverTurns). There the
 // memories are `session_leaves` (AnyLine/Outcomes), the images `run_written` (Memories/VerifiedRuns).
 pub fn status_0_means_the_images()
     ensures plan { (s : Settings) (before now : Devices) (r : IsRun s before now 0)
@@ -70,7 +70,7 @@ pub fn status_0_means_the_images()
 /// States what the page refuses of a run over a wire. With status 0: memories that the plan's writes don't leave, or
 /// output other than over a perfect link. With any status: a chip that changed though no frame was sent, or more than
 /// four frames for each command, by any weight.
-// Proof: `not_all_written`, `said_otherwise`, `touched_in_silence` and `too_much` (Runs/Refused).
+// Proof: `not_all_written`, `said_otherwise`, `touched_in_silence` and `too_much` (Outcomes/Refused).
 pub fn a_wrong_outcome_is_refused()
     ensures memories { (plan : Plan) (w v : WiredState) (d e : DeskState)
         → (memories v ≡ effects plan.part (items plan) (memories w) → ⊥) → OverAnyLine plan w v d e 0 → ⊥ }
@@ -133,7 +133,7 @@ pub fn a_further_run_heals()
 
 /// States that a worked run, `-p m328p` with all its replies, has one outcome: with another status, frame or line it
 /// is no run.
-// Proof: `another_status`, `another_frame` and `another_line` (Runs/Refused).
+// Proof: `another_status`, `another_frame` and `another_line` (Outcomes/Refused).
 pub fn a_worked_run_has_one_outcome()
     ensures status { (transcript : Transcript) (a b : ℕ) (d e : DeskState)
         → heard transcript ≡ worked_answers → IsRun worked_settings (devices (link_state [] a) d)

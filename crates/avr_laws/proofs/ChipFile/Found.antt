@@ -19,7 +19,7 @@ use Rattle.avr_desk.specs.declared.record.Writing.{Writing}
 use Rattle.avr_tool.specs.Emulated.{RunsOverEmulator}
 use Rattle.avr_part.specs.Part.{Part}
 use Rattle.avr_part.specs.State.{ChipState as Chip}
-use Rattle.avr_laws.proofs.Planning.OnlyReading.{only_reads}
+use Rattle.avr_laws.proofs.Plans.OnlyReading.{only_reads}
 use Rattle.avr_laws.proofs.KnownFiles.PastUses.{ArePast, none_made, only_opened, opened, opened_past, past_shown, run_past, saved_past}
 use Rattle.avr_laws.specs.ChipFound.{IsChipOf, file_held}
 

@@ -12,7 +12,7 @@ use Rattle.avr_tool.specs.Emulated.{RunsOverEmulator}
 use Rattle.avr_tool.proofs.Plans.Items.{items_by_tasks}
 use Rattle.avr_tool.specs.AnyLine.{ComesOverTurns, events_over}
 use Rattle.avr_part.specs.ChipFile.{chip_file}
-use Rattle.avr_laws.proofs.Planning.AskedPlan.{plan_asked}
+use Rattle.avr_laws.proofs.Plans.AskedPlan.{plan_asked}
 use Rattle.avr_laws.specs.AskedPlan.{IsAsked}
 use Rattle.avr_laws.specs.FilesRead.{AreSeen}
 use Rattle.avr_plan.specs.Plan.{Plan}

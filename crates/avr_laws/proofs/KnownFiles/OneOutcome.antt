@@ -11,7 +11,7 @@ use Rattle.stk_frame.specs.Frame.{frame}
 use Rattle.stk_host.specs.Dialog.{Dialog, Done, Say, Ask, Event, Frame, Said, played, behind, by_answer, next, bytes_sent, outputs}
 use Rattle.stk_host.specs.Tape.{Tape, Reading, answer}
 use Rattle.stk_host.specs.declared.link.Item.TheVariants.{End}
-use Rattle.avr_laws.proofs.Runs.Refused.{answered_due, sent_due, said_due}
+use Rattle.avr_laws.proofs.Outcomes.Refused.{answered_due, sent_due, said_due}
 use Rattle.avr_tool.specs.Headline.{run}
 use Rattle.avr_laws.proofs.KnownFiles.RunsInMemory.{left_by}
 use Rattle.avr_laws.specs.InMemory.{RunOutcome, run_outcome, run_of, Leaves}

@@ -18,8 +18,8 @@ use Rattle.avr_desk.specs.declared.record.FileUse.TheVariants.{Opened, Created}
 use Rattle.avr_desk.specs.declared.record.Open.{Open}
 use Rattle.avr_desk.specs.declared.record.Opening.{Opening}
 use Rattle.avr_desk.specs.declared.record.Writing.{Writing}
-use Rattle.avr_laws.proofs.Planning.FilesRead.{seen_first, seen_is_planned}
-use Rattle.avr_laws.proofs.Planning.OnlyReading.{only_reads}
+use Rattle.avr_laws.proofs.Plans.FilesRead.{seen_first, seen_is_planned}
+use Rattle.avr_laws.proofs.Plans.OnlyReading.{only_reads}
 use Rattle.avr_laws.specs.FilesRead.{AreSeen, lines_in, planned_of}
 use Rattle.avr_laws.specs.OnlyReading.{OnlyReads}
 use Rattle.avr_plan.specs.Plan.{Plan}

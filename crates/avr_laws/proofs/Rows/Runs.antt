@@ -16,7 +16,7 @@ use Rattle.avr_part.specs.Part.{Part, IsPart}
 use Rattle.avr_part.specs.Sound.{IsSoundChip}
 use Rattle.avr_part.specs.State.{ChipState as Chip, fresh_state}
 use Rattle.avr_part.specs.declared.part.Mem.TheVariants.{Flash, Lfuse}
-use Rattle.avr_laws.proofs.Planning.Fitted.{plan_fitted}
+use Rattle.avr_laws.proofs.Plans.Fitted.{plan_fitted}
 use Rattle.avr_laws.specs.AskedPlan.{Files, HasImage, IsAsked}
 use Rattle.avr_plan.specs.ImageFile.{Given}
 use Rattle.avr_plan.specs.Plan.{Plan}
@@ -40,7 +40,7 @@ use Rattle.avr_tool.specs.Items.{items, asked_items}
 use Rattle.avr_laws.specs.NoFrame.{MakesNoFrame}
 use Rattle.avr_tool.specs.Written.{IsWritten}
 use Rattle.avr_laws.proofs.SecondRun.PlanRows.{tiny, erasing}
-use Rattle.avr_laws.proofs.Runs.Promise.{promise}
+use Rattle.avr_laws.proofs.Outcomes.Promise.{promise}
 use Rattle.avr_tool.specs.Headline.{IsRun}
 use Rattle.avr_laws.specs.Promise.{Promised}
 use Rattle.avr_laws.specs.Worked.{worked_settings}

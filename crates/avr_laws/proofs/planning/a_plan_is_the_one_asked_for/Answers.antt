@@ -1,4 +1,4 @@
-use Rattle.avr_laws.proofs.Planning.AskedPlan.{plan_asked}
+use Rattle.avr_laws.proofs.Plans.AskedPlan.{plan_asked}
 use Rattle.avr_laws.proofs.planning.a_plan_is_the_one_asked_for.Goals as goal
 
 pub returns : goal.returns

@@ -1,4 +1,4 @@
-use Rattle.avr_laws.proofs.Runs.Refused.{another_status, another_frame, another_line}
+use Rattle.avr_laws.proofs.Outcomes.Refused.{another_status, another_frame, another_line}
 use Rattle.avr_laws.proofs.runs.a_worked_run_has_one_outcome.Goals as goal
 
 pub returns-clause-status : goal.returns-clause-status

@@ -1,4 +1,4 @@
-use Rattle.avr_laws.proofs.Runs.Refused.{not_all_written, said_otherwise, touched_in_silence, too_much}
+use Rattle.avr_laws.proofs.Outcomes.Refused.{not_all_written, said_otherwise, touched_in_silence, too_much}
 use Rattle.avr_laws.proofs.runs.a_wrong_outcome_is_refused.Goals as goal
 
 pub returns-clause-memories : goal.returns-clause-memories

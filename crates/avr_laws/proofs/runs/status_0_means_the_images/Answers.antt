@@ -1,4 +1,4 @@
-use Rattle.avr_laws.proofs.Runs.Promise.{made, promise}
+use Rattle.avr_laws.proofs.Outcomes.Promise.{made, promise}
 use Rattle.avr_laws.proofs.runs.status_0_means_the_images.Goals as goal
 
 pub returns-clause-plan : goal.returns-clause-plan

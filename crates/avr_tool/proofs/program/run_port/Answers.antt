@@ -4,7 +4,7 @@ use Rattle.avr_tool.proofs.program.run_port.Goals as goal
 
 pub returns-in-Emulated-clause-runs : goal.returns-in-Emulated-clause-runs
 returns-in-Emulated-clause-runs g c =
-    rw c.in-Emulated.is (rw c.in-Emulated.is at c.run_emu.ensures.runs, refl, c.leave.ensures.unused)
+    rw c.in-Emulated.is (rw c.in-Emulated.is at c.run_emu.ensures.runs, refl, c.leave-in-Emulated.ensures.unused)
 
 pub returns-in-Emulated-clause-tells : goal.returns-in-Emulated-clause-tells
 returns-in-Emulated-clause-tells g c = true_now _ _ _

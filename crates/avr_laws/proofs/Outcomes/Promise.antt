@@ -7,7 +7,7 @@ use Rattle.avr_desk.specs.Stage.{Made, StageAnswer}
 use Rattle.avr_part.specs.Sound.{IsSoundChip}
 use Rattle.avr_plan.specs.Plan.{Plan}
 use Rattle.avr_plan.specs.Planning.{planned}
-use Rattle.avr_laws.proofs.Planning.Fitted.{plan_fitted}
+use Rattle.avr_laws.proofs.Plans.Fitted.{plan_fitted}
 use Rattle.avr_session.specs.Runs.{Devices}
 use Rattle.avr_session.specs.Session.{session}
 use Rattle.avr_laws.specs.AnyLink.{WholeOverTurns}

@@ -13,7 +13,7 @@ use Rattle.avr_desk.specs.declared.record.Opening.{Opening}
 use Rattle.avr_plan.specs.declared.image_file.TheConstants.{LARGEST_IMAGE_FILE}
 use Rattle.avr_plan.specs.declared.part_choice.TheConstants.{LARGEST_PART_FILE}
 use Rattle.avr_plan.proofs.Files.Images.{kind-prefix}
-use Rattle.avr_laws.proofs.Planning.EachStage.{whole_plan}
+use Rattle.avr_laws.proofs.Plans.EachStage.{whole_plan}
 use Rattle.avr_records.specs.declared.kind.Found.{Found as FoundKind}
 use Rattle.avr_laws.specs.FilesRead.{files_read, read_whole, files_give, planned_of, lines_in, AreSeen}
 use Rattle.avr_plan.specs.ImageFile.{file_within, kind_of}

@@ -28,8 +28,8 @@ use Rattle.avr_laws.specs.AnyTape.{became_by}
 use Rattle.avr_laws.specs.Damaged.{Arrived, Arrival, BringsReplies, as_tape}
 use Rattle.avr_laws.specs.NoFrame.{MakesNoFrame}
 use Rattle.avr_laws.proofs.Lines.Damaged.{arrived_came, brings_no_frame}
-use Rattle.avr_laws.proofs.Planning.Fitted.{plan_fitted}
-use Rattle.avr_laws.proofs.Runs.Promise.{tape, done, same, sent_is, promise}
+use Rattle.avr_laws.proofs.Plans.Fitted.{plan_fitted}
+use Rattle.avr_laws.proofs.Outcomes.Promise.{tape, done, same, sent_is, promise}
 
 abbrev IsGood : List ℕ → Type 0
 IsGood piece = is_good piece ≡ true

@@ -19,8 +19,8 @@ use Rattle.avr_part.specs.Part.{Part, size_of}
 use Rattle.avr_part.specs.declared.fault.PartFault.{PartFault}
 use Rattle.avr_part.specs.declared.part.Mem.{Mem}
 use Rattle.avr_records.specs.declared.kind.Ending.{Ending}
-use Rattle.avr_laws.proofs.Planning.FilesRead.{IsLimited, limited_image, seen_first, seen_second}
-use Rattle.avr_laws.proofs.Planning.Fitted.{Image, given, settled}
+use Rattle.avr_laws.proofs.Plans.FilesRead.{IsLimited, limited_image, seen_first, seen_second}
+use Rattle.avr_laws.proofs.Plans.Fitted.{Image, given, settled}
 use Rattle.avr_laws.specs.AskedPlan.{Files, HasImage, IsTaskOf, AreTasksOf, IsAsked}
 use Rattle.avr_laws.specs.FilesRead.{AreSeen}
 use Rattle.avr_plan.specs.ImageFile.{image_within}
