@@ -1,4 +1,5 @@
 -- in the order in which to read; the list beside a folder says what the folder holds
+pub mod Limits
 pub mod Lines
 pub mod Bounds
 pub mod FewBad

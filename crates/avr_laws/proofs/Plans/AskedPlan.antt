@@ -26,7 +26,7 @@ use Rattle.avr_laws.specs.FilesRead.{AreSeen}
 use Rattle.avr_plan.specs.ImageFile.{image_within}
 use Rattle.avr_plan.specs.Plan.{Plan}
 use Rattle.avr_plan.specs.Planning.{planned, part_or_line, tasks_stage, task_stage, op_stage, update_image, image_stage, file_image_stage, judged_image, warning_says}
-use Rattle.avr_plan.specs.declared.image_file.TheConstants.{LARGEST_IMAGE_FILE}
+use Rattle.avr_laws.proofs.Limits.{LARGEST_IMAGE_FILE}
 use Rattle.avr_plan.specs.declared.planned.Task.{Task}
 use Rattle.avr_plan.specs.declared.planned.Task.TheVariants.{Write, Verify}
 

@@ -10,8 +10,7 @@ use Rattle.avr_desk.specs.Said.{OutputEvent, Opens, Line}
 use Rattle.avr_desk.specs.Stage.{Stage, StageResult, StageAnswer, Made, Refused, Unread, told_in, behind_outputs, going_on, ◌>>=◌, output_stage, verdict_stage, under_name, content_stage, file_stage}
 use Rattle.avr_desk.specs.Truth.{IsTrueOpening}
 use Rattle.avr_desk.specs.declared.record.Opening.{Opening}
-use Rattle.avr_plan.specs.declared.image_file.TheConstants.{LARGEST_IMAGE_FILE}
-use Rattle.avr_plan.specs.declared.part_choice.TheConstants.{LARGEST_PART_FILE}
+use Rattle.avr_laws.proofs.Limits.{LARGEST_IMAGE_FILE, LARGEST_PART_FILE}
 use Rattle.avr_plan.proofs.Files.Images.{kind-prefix}
 use Rattle.avr_laws.proofs.Plans.EachStage.{whole_plan}
 use Rattle.avr_records.specs.declared.kind.Found.{Found as FoundKind}

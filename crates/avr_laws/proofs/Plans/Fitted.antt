@@ -24,7 +24,7 @@ use Rattle.avr_plan.proofs.Stages.Tasks.{all_one}
 use Rattle.avr_plan.specs.ImageFile.{Given, image_within}
 use Rattle.avr_plan.specs.Plan.{Plan, IsFitted}
 use Rattle.avr_plan.specs.Planning.{planned, parts_stage, part_stage, tasks_stage, task_stage, op_stage, write_stage, update_image, file_image_stage, judged_image, image_or_line, warning_says}
-use Rattle.avr_plan.specs.declared.image_file.TheConstants.{LARGEST_IMAGE_FILE}
+use Rattle.avr_laws.proofs.Limits.{LARGEST_IMAGE_FILE}
 use Rattle.avr_plan.specs.declared.planned.Task.{Task}
 use Rattle.avr_plan.specs.declared.planned.Task.TheVariants.{Write, Verify, Read}
 

@@ -4,8 +4,7 @@ use Rattle.avr_cli.specs.declared.settings.Settings.{Settings}
 use Rattle.avr_desk.specs.declared.record.Opening.{Opening}
 use Rattle.avr_desk.specs.Record.{Bytes}
 use Rattle.avr_desk.specs.Said.{OutputEvent, Opens, Line}
-use Rattle.avr_plan.specs.declared.image_file.TheConstants.{LARGEST_IMAGE_FILE}
-use Rattle.avr_plan.specs.declared.part_choice.TheConstants.{LARGEST_PART_FILE}
+use Rattle.avr_laws.proofs.Limits.{LARGEST_IMAGE_FILE, LARGEST_PART_FILE}
 use Rattle.avr_laws.proofs.Plans.EachStage.{whole_plan}
 use Rattle.avr_laws.specs.OnlyReading.{OnlyReads}
 use Rattle.avr_plan.specs.Planning.{judged_parts, judged_image, planned}

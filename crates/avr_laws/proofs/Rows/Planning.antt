@@ -18,8 +18,7 @@ use Rattle.avr_desk.specs.Said.{OutputEvent, Opens, Line, TellsLine, TellsFailur
 use Rattle.avr_part.specs.BuiltIn.{m328p}
 use Rattle.avr_part.specs.declared.part.Mem.TheVariants.{Eeprom, Flash}
 use Rattle.avr_records.specs.declared.kind.Ending.{Ending}
-use Rattle.avr_plan.specs.declared.image_file.TheConstants.{LARGEST_IMAGE_FILE}
-use Rattle.avr_plan.specs.declared.part_choice.TheConstants.{LARGEST_PART_FILE}
+use Rattle.avr_laws.proofs.Limits.{LARGEST_IMAGE_FILE, LARGEST_PART_FILE}
 use Rattle.avr_plan.specs.Lines.{no_part_line}
 use Rattle.avr_plan.specs.Plan.{Plan}
 use Rattle.avr_plan.specs.Planning.{planned, file_image_stage, judged_image}

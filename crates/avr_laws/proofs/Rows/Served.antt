@@ -2,7 +2,7 @@
 -- answers to a frame with a command that no programmer knows.
 use Rattle.std.proofs.Common.{◌≡◌, refl, ap, ℕ, List, [], ◌∷◌, length, Ok, Err, arith, rules}
 use Rattle.avr_desk.specs.Record.{Bytes, DeskState, Record, after_err, nothing_kept, showing, with_held, with_replaced}
-use Rattle.avr_tool.specs.declared.loading.TheConstants.{LARGEST_CHIP_FILE}
+use Rattle.avr_laws.proofs.Limits.{LARGEST_CHIP_FILE}
 use Rattle.avr_tool.specs.Holding.{HoldsFile}
 use Rattle.avr_tool.specs.Lines.{in_use_line}
 use Rattle.avr_tool.specs.Saving.{Saves}
