@@ -1,5 +1,5 @@
 -- A session over a wire: its reports, and its end.
-use Rattle.std.proofs.Common.{◌≡◌, ℕ, [], List, All, length, sym, ap, ◌∙◌, subst, inl, inr, length-append, rules}
+use Rattle.std.proofs.Common.{◌≡◌, ◌≤◌, ℕ, [], List, All, length, sym, ap, ◌∙◌, subst, arith, inl, inr, length-append, rules}
 use Rattle.std.proofs.lemmas.List.{append-nil}
 use Rattle.ghosts.specs.Stays.{Stays}
 use Rattle.avr_cli.specs.declared.settings.Settings.{Settings}
@@ -14,6 +14,7 @@ use Rattle.avr_session.specs.Stopping.{IsPlayed}
 use Rattle.stk_frame.specs.Cut.{frames}
 use Rattle.stk_host.specs.Dialog.{Dialog, Event, bytes_sent, played, outputs, frames_in}
 use Rattle.stk_host.specs.Play.{InTurn, IsPrefixOf, progress_at}
+use Rattle.stk_host.specs.Tape.{Tape}
 use Rattle.stk_host.specs.Transcript.{sent, heard}
 use Rattle.stk_emu.specs.Along.{AsksBodies}
 use Rattle.stk_emu.specs.Device.{device}
@@ -39,7 +40,15 @@ pub honest_heard : {E R : Type 0} (d : Dialog E R) (n : ℕ) (p : Programmer) (f
     → IsPrefixOf (sent w.transcript) (bytes_sent (played d n (heard w.transcript)).events)
     → AreHonest device d n (heard w.transcript) p (becames_of (length (frames_in (played d n (heard w.transcript)).events)) fates)
 honest_heard d n p fates w asks lawful keeps turns prefix =
-    search (rules, frames_prefix, sends_whole, length-append, honest_prefix, never_idle, goes_along)
+    let events = (played d n (heard w.transcript)).events in
+    let becames = becames_of (length (frames_in events)) fates in
+    let some = frames_prefix events (sent w.transcript) prefix.0 (sends_whole d n (heard w.transcript) asks) prefix.1 in
+    let le : length (frames (sent w.transcript)) ≤ length (frames_in events) =
+    let all = ap length some.1 in omega (arith, all, length-append (frames (sent w.transcript)) some.0) in
+    let brings = keeps.brings (never_idle d n p fates w.transcript asks lawful turns) in
+    honest_prefix device d n (heard w.transcript) w.waits p becames
+    (subst (λ (t : Tape). AreHonest device d n t p becames) brings
+    ((goes_along d n p fates w asks lawful keeps turns prefix).honest (length (frames_in events)) le))
 
 module _ (plan : Plan) (w v : WiredState) (fresh : IsFresh w) (stays : Stays ComesOf w v)
     (is_sound : IsSoundChip w.wire.programmer.chip)

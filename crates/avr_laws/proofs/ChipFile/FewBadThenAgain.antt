@@ -15,7 +15,7 @@ use Rattle.stk_emu.specs.Turn.{Turn}
 use Rattle.stk_emu.specs.Wired.{WiredState}
 use Rattle.avr_laws.specs.Again.{AreKeeping, AgreesAnyway}
 use Rattle.avr_tool.specs.AnyLine.{Stopped, OverAnyLine, OverTurns, memories, events_over, wire_and_desk}
-use Rattle.avr_laws.specs.AnyLink.{WholeOverTurns}
+use Rattle.avr_laws.specs.AnyLink.{OverAnyWire, WholeOverTurns}
 use Rattle.avr_tool.specs.Items.{items, asked_items, has_erase}
 use Rattle.avr_tool.specs.Outcome.{IsTouched, IsDone, IsExpectedRun}
 use Rattle.avr_tool.specs.Written.{IsWritten}
@@ -86,5 +86,5 @@ further_heals_link plan p q x y turns more bytes others events further sound fit
     let zero = second.1.again few erases both in (
       zero,
       done_further plan (memories_of p.chip) (memories_of x.chip) (memories_of y.chip) sound fitted fits erases both
-          kept (search rules) (second.1.done zero),
+          kept (search rules) (second.1.comes.done zero),
     )

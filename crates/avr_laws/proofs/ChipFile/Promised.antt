@@ -11,6 +11,7 @@ use Rattle.avr_desk.specs.Truth.{HoldsTrue}
 use Rattle.avr_tool.specs.Emulated.{RunsOverEmulator}
 use Rattle.avr_tool.proofs.Plans.Items.{items_by_tasks}
 use Rattle.avr_tool.specs.AnyLine.{ComesOverTurns, events_over}
+use Rattle.avr_laws.proofs.AnyWire.{emulated_wire}
 use Rattle.avr_part.specs.ChipFile.{chip_file}
 use Rattle.avr_laws.proofs.Plans.AskedPlan.{plan_asked}
 use Rattle.avr_laws.specs.AskedPlan.{IsAsked}
@@ -57,7 +58,7 @@ module _ (settings : Settings) (file : Bytes) (stock : Stock) (old new : MemDesk
       let played : Lack name (all_files r.played_desk.kept) =
       subst (λ (k : Record). Lack name (all_files k)) (sym came.1)
       (lack_said name r.plan unread (memories_of r.chip) (events_over r.plan r.after) (turns_of [])
-      (fresh_programmer r.chip) r.loaded_desk.kept r.line.line.believable begun) in
+      (fresh_programmer r.chip) r.loaded_desk.kept (emulated_wire r).line.believable begun) in
       lack_held name stock (all_files new.kept)
       (lack_saved name (sent r.after.transcript) r.played_desk (memory_state new) file
       (chip_file r.after.wire.programmer.chip) r.ran differs r.saved played)

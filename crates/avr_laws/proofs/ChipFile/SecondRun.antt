@@ -11,7 +11,9 @@ use Rattle.avr_desk.specs.Truth.{HoldsTrue}
 use Rattle.avr_laws.proofs.SecondRun.EveryChip.{agrees_anyway}
 use Rattle.avr_laws.proofs.SecondRun.Status.{done_again}
 use Rattle.avr_laws.specs.Again.{AgreesAnyway, AreKeeping}
-use Rattle.avr_tool.specs.AnyLine.{OverAnyLine, Stopped, memories}
+use Rattle.avr_tool.specs.AnyLine.{Stopped, memories}
+use Rattle.avr_laws.specs.AnyLink.{OverAnyWire}
+use Rattle.avr_laws.proofs.AnyWire.{emulated_wire}
 use Rattle.avr_tool.specs.Emulated.{IsSaved, RunsOverEmulator, new_wire}
 use Rattle.avr_tool.specs.Items.{items, has_erase}
 use Rattle.avr_tool.specs.Outcome.{IsDone, IsTouched, page_writes}
@@ -141,7 +143,9 @@ module _ (settings : Settings) (file : Bytes) (stock : Stock) (old mid new : Mem
       ]
 
   second : OverAnyWire plan (new_wire two.chip []) two.after two.loaded_desk two.played_desk two.ran
-  second = search rules
+  second =
+      subst (λ (p : Plan). OverAnyWire p (new_wire two.chip []) two.after two.loaded_desk two.played_desk two.ran) same_plan
+      (emulated_wire two)
 
   pub heals_file : has_erase (items plan) ≡ true → AgreesAnyway plan
       → (erase_keeps_eeprom plan.part before ≡ true → AreKeeping plan.part (items plan))

@@ -26,7 +26,7 @@ made_done = refl
 
 pub promise_void : (p q : Programmer) (turns : List Turn) (bytes : List ℕ) (events : List (Event OutputEvent))
     → (p.chip.lfuse ≡ 0xE2 → ⊥) → WholeOverTurns fuse_plan p q turns bytes events 0 → ⊥
-promise_void p q turns bytes events other over = other ((over.1.done refl).agrees.1.0 0 0xE2 refl (omega arith))
+promise_void p q turns bytes events other over = other ((over.1.comes.done refl).agrees.1.0 0 0xE2 refl (omega arith))
 
 -- So such a frame was forged: with a chip whose fuse differs, no link that forges none brings this tape.
 pub frame_made : (s : chips.ChipState) (got : List ℕ) (through : List Bool) → IsSoundChip s → s.part ≡ fuse_plan.part
