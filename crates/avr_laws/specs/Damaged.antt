@@ -8,7 +8,7 @@ use Rattle.stk_host.specs.Tape.{Tape, on_tape, Reading, Answered, Silent, Ended,
 use Rattle.stk_host.specs.Dialog.{Dialog, Done, Say, Ask, next}
 use Rattle.stk_emu.specs.Device.{Device, refusal}
 use Rattle.stk_emu.specs.Turn.{Became, after_became}
-use Rattle.avr_laws.specs.AnyTape.{first_became, other_becames}
+use Rattle.avr_tool.specs.Honest.{first_became, other_becames}
 use Rattle.avr_laws.specs.NoFrame.{given}
 
 -- These bytes differ in one place.

@@ -18,7 +18,8 @@ use Rattle.stk_host.proofs.Tapes.Answers.{answer_silent, answer_ended, answer_wa
 use Rattle.stk_emu.specs.Device.{Device, refusal}
 use Rattle.stk_emu.specs.Lawful.{IsBody}
 use Rattle.stk_emu.specs.Turn.{Became, Kept, Obeyed, Anew, after_became}
-use Rattle.avr_laws.specs.AnyTape.{first_became, other_becames, on_answer, let_through, CameThrough}
+use Rattle.avr_tool.specs.Honest.{first_became, other_becames, on_answer}
+use Rattle.avr_laws.specs.AnyTape.{let_through, CameThrough}
 use Rattle.avr_laws.specs.NoFrame.{given, IsAmong, WasSent, WereSent, MakesNoFrame}
 use Rattle.avr_laws.specs.Damaged.{DifferInOne, IsDamaged, Arrived, Arrival, Whole, Pause, Stop, as_tape, burst, IsOf, Refuses, AreReplies, up_to_reply, read_first, when_read, BringsReplies}
 

@@ -1,5 +1,5 @@
 -- Status 0 means the images, over a link that loses, delays and damages frames.
-use Rattle.std.proofs.Common.{◌≡◌, ℕ, true, false, Bool, List, [], ◌∷◌, sym, ap, ◌∙◌, subst}
+use Rattle.std.proofs.Common.{◌≡◌, ℕ, true, false, Bool, List, [], ◌∷◌, Option, Some, None, sym, ap, ◌∙◌, subst}
 use Rattle.std.proofs.lemmas.List.Elements.{All-nil, All-cons}
 use Rattle.std.specs.Prelude.{All}
 use Rattle.avr_cli.specs.declared.settings.Settings.{Settings}
@@ -47,11 +47,11 @@ good_by go_on (Some (reading, left)) each = each reading left
 
 sends_good : {E R : Type 0} (d : Dialog E R) (n : ℕ) (t : Tape) → AsksBodies d
     → All IsGood (frames_in (played d n t).events)
-sends_good (Done r) n t asks = All-nil IsGood
-sends_good (Say e d) n t asks = sends_good d n t asks
-sends_good (Ask bytes go_on) n t asks = All-cons IsGood _ _ (frame_is_good n bytes asks.0.some)
+sends_good (Done r) n t sound = All-nil IsGood
+sends_good (Say e d) n t sound = sends_good d n t sound
+sends_good (Ask bytes go_on) n t sound = All-cons IsGood _ _ (frame_is_good n bytes sound.0.some)
     (good_by (λ reading. played (go_on reading) (next n)) (answer n t)
-    (λ reading left. sends_good (go_on reading) (next n) left (asks.1 reading)))
+    (λ reading left. sends_good (go_on reading) (next n) left (sound.1 reading)))
 
 module _ (s : Settings) (x y : Devices) (r : IsRun s x y 0) (plan : Plan)
     (made_is : (planned s r.openings).answer ≡ Made plan) (silent : x.link.transcript ≡ []) where
