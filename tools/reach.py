@@ -1,7 +1,8 @@
 #!/usr/bin/env python3
 """Measures how much a reader has to read: the definitions that a contract reaches.
 
-    tools/reach.py FILE.NAME ..      for these definitions of specs/; CRATE.FILE.NAME if several crates have one
+    tools/reach.py FILE.NAME ..      for these definitions of specs/; CRATE.FILE.NAME if several crates have one; a name
+                                     alone is a law, for all that its clauses name
     tools/reach.py -v ..             also lists them, file by file
     tools/reach.py --check           compares the table of docs/PROOFS with the figures; --write writes them there. It also
                                      looks for each definition (`File.name`) and law that the documents name
@@ -23,7 +24,7 @@ NAMING = ("PROOFS", "PROMISES", "PROMISE", "CHECK", "LIBRARY")
 TABLE = "| Sentence | Definition | Definitions | Lines |"
 
 HEADER = re.compile(r"^\s*(?:(?:abbrev|unfoldable) pub|pub (?:record|data)) (\S+)")
-USE = re.compile(r"^use Rattle\.(\w+)\.specs\.(\w+)(?: as (\w+)|\.\{(.*)\})?$")
+USE = re.compile(r"^(?:ghost )?use Rattle\.(\w+)\.specs\.(\w+)(?: as (\w+)|\.\{(.*)\})?;?$")
 CONSTRUCTOR = re.compile(r"^\s+(\w+) : ")
 WORD = re.compile(r"[A-Za-z_][\w']*(?:\.[A-Za-z_][\w']*)*")
 
@@ -116,6 +117,18 @@ def definition(name):
     return known[0]
 
 
+def roots_of(name):
+    """Returns the definition of a name with its file, or those that a law's clauses name."""
+    if "." in name:
+        return [definition(name)]
+    for path in TOP.glob("crates/*/src/**/*.rt"):
+        law = re.search(rf"^pub fn {name}\b.*?^\{{\}}$", path.read_text(), re.M | re.S)
+        if law:
+            FILES["law", name] = File(path)
+            return [it for it in named_in("law", name, law[0]) if it]
+    return sys.exit(f"{name}: no law of this name\n\n{__doc__}")
+
+
 def lines_of(places):
     return sum(len(FILES[crate, file].definitions[name]) for crate, file, name in places)
 
@@ -127,7 +140,7 @@ def with_figures(page):
     made = rows.splitlines()[:2]
     for row in rows.splitlines()[2:]:
         sentence, named, *_ = row.strip("| ").split(" | ")
-        seen = [reached(map(definition, re.findall("`([^`]*)`", it))) for it in named.split(";")]
+        seen = [reached(root for name in re.findall("`([^`]*)`", it) for root in roots_of(name)) for it in named.split(";")]
         counts = ["; ".join(f"{count:,}" for count in counts) for counts in (map(len, seen), map(lines_of, seen))]
         made.append(f"| {sentence} | {named} | {counts[0]} | {counts[1]} |")
     return f"{head}{TABLE}" + "\n".join(made) + f"\n\n{behind}"
@@ -170,7 +183,7 @@ def main(words):
         wrong += lacking()
         print("\n".join([*wrong, f"{int(not wrong)} passed, {len(wrong)} failed"]))
         return sys.exit(int(bool(wrong)))
-    roots = [definition(it) for it in words if it != "-v"] or sys.exit(__doc__)
+    roots = [root for it in words if it != "-v" for root in roots_of(it)] or sys.exit(__doc__)
     seen = reached(roots)
     files = sorted({(crate, file) for crate, file, _ in seen})
     print(f"{len(seen)} definitions, {lines_of(seen)} lines, in {len(files)} files")
