@@ -1,7 +1,8 @@
 #!/usr/bin/env bash
 # Installs the built program, avrstk-serial, avrstk-serve, the part file, the man pages and the completions, or removes
-# them again. The program is the proved one, or else the one without proofs, and then a line reports that. With --with-c
-# the library for C is installed too: archive, shared library, header, pkg-config's file.
+# them again. The program is the proved one, or else the one without proofs, and then a line reports that. The documents
+# are installed as a site, if cmark-gfm is there to make it. With --with-c the library for C is installed too: archive,
+# shared library, header, pkg-config's file.
 #
 #     ./install.sh [--with-c] [PREFIX]      PREFIX is /usr/local by default
 #     ./install.sh --remove [PREFIX]        removes what any version of this script installed there, and the folders that
@@ -62,6 +63,9 @@ add_link() {
     places+=("$2")
 }
 
+# where the site is, under the prefix
+html=share/doc/avrstk/html
+
 # the names of installed files, and of the folders that were made for them (these end with a slash), under the prefix
 manifest=$prefix/share/avrstk/manifest
 
@@ -116,6 +120,8 @@ put() {
         set -- "${files[at]}" "${files[at + 1]}" "$prefix/${files[at + 2]}"
         install -d -m 755 "$(dirname "$3")"
         place "$@"
+        # (of the site's many pages the first one)
+        [[ ${3#"$prefix/$html"/} == @("$3"|README.html) ]] || continue
         echo "installed $3"
     done
     for ((at = 0; at < ${#links[@]}; at += 2)); do
@@ -153,10 +159,11 @@ if [ -n "$remove" ]; then
 fi
 
 # A started command runs in a process group of its own, which ends with this script.
-started='' unfinished='' front='' stamp=''
+started='' unfinished='' front='' stamp='' site=''
 finish() {
     [ -z "$started" ] || kill -- "-$started" 2>/dev/null || true
     rm -f ${unfinished:+"$unfinished"} ${front:+"$front"} ${stamp:+"$stamp"}
+    rm -rf ${site:+"$site"}
 }
 trap finish EXIT
 trap 'exit 1' INT TERM HUP
@@ -221,6 +228,16 @@ for file in avrstk-serial avrstk-serve; do
     add_link avrstk "share/bash-completion/completions/$file"
     add_link avrstk.fish "share/fish/vendor_completions.d/$file.fish"
 done
+if [ -f "$top/tools/site.py" ]; then
+    site=$(mktemp -d)
+    if command -v cmark-gfm >/dev/null && PYTHONDONTWRITEBYTECODE=1 start "$top/tools/site.py" "$site"; then
+        while IFS= read -r file; do
+            add 644 "$site/$file" "$html/$file"
+        done < <(cd "$site" && find . -type f -printf '%P\n' | LC_ALL=C sort)
+    else
+        echo "the documents are not installed as a site, which needs cmark-gfm and python3"
+    fi
+fi
 library=(lib/libavr_records.a include/avr_records.h lib/pkgconfig/avr_records.pc lib/libavr_records.so "lib/$shared")
 check "${places[@]}" ${with_c:+"${library[@]}"}
 [ -n "$destination" ] || note

@@ -1,12 +1,10 @@
-#!/usr/bin/env python3
-"""Writes the pages of docs/api: what the crates of `CRATES` export, from the comments and signatures of their sources.
-
-    tools/api.py             fails if a page is out of date, or if docs/LIBRARY has no link to it
-    tools/api.py --write     writes the pages
+"""Makes the pages of the crates' calls, for tools/site.py: what the crates of `CRATES` export, from the comments and
+signatures of their sources.
 
 A page has the crate's own text, a table of its exports, and then each type, trait and call: its signature without ghost
-members and private fields, its text, and its contract, folded. Laws (functions with an empty body) come last. An export
-of a crate without a page is here, too; one of another page is a link. Sources are read as `rt fmt` leaves them.
+members and private fields, its text, and its contract, folded. The definitions that a contract names follow it: as links,
+and as a text if they are short. Laws (functions with an empty body) come last. An export of a crate without a page is
+here, too; one of another page is a link. Sources are read as `rt fmt` leaves them.
 """
 
 import re
@@ -16,6 +14,7 @@ from pathlib import Path
 
 sys.path.append(str(Path(__file__).resolve().parent.parent / "tests"))
 from rattle import EXPORT, MORE, TOP
+from reach import FILES, File, named_in
 
 CRATES = "avr_image avr_records avr_part stk_frame stk_host stk_emu avr_desk avr_cli avr_plan avr_session avr_tool".split()
 
@@ -33,42 +32,49 @@ FOLDED = {"trait": "In contracts", "law": "Law"}
 HIDDEN = re.compile(r"impl.* (?:Model|fmt::Debug) for ")
 
 
-# an item of a source: its comment, its signature, its contract, and the items in it
-Item = namedtuple("Item", "kind name doc shown contract inner")
+# the most lines of a definition that follows a contract as a text
+SHORT = 6
+
+# an item of a source, with the source's place in `FILES`: its comment, its signature, its contract, and the items in it
+Item = namedtuple("Item", "kind name doc shown contract inner place")
 
 
-def items(source):
+def items(source, place):
     """Yields the items at the left margin of a source."""
     for comment, attributes, whole in ITEM.findall(source):
         kind, name = NAME.match(whole).groups()
         rows = (whole.removesuffix(";") if kind == "fn" else whole).splitlines()
         doc, derived = re.findall("^/// ?(.*)", comment, re.M), re.findall(r"^#\[derive.*", attributes, re.M)
-        inner = list(items("\n".join(re.findall("^(?:    (.*))?$", whole, re.M)))) if kind in ("trait", "impl") else []
+        inner = list(items("\n".join(re.findall("^(?:    (.*))?$", whole, re.M)), place)) if kind in ("trait", "impl") else []
         ghosts = [row for it in inner if it.kind == "ghost" for row in ["", *it.shown]][1:]
         calls = [it for it in inner if it.kind in ("fn", "const")]
         if kind == "fn":
             first = next((at for at, it in enumerate(rows) if re.match(r"\s+(?:requires|ensures|//)|\{", it)), len(rows))
             shown = [re.sub(r" \{\}?$", "", it) for it in rows[:first]]
             clauses = [it[4:] for it in rows[first:] if it not in ("{", "{}")]
-            yield Item("law" if rows[-1] == "{}" else kind, name, doc, shown, clauses, [])
+            yield Item("law" if rows[-1] == "{}" else kind, name, doc, shown, clauses, [], place)
         elif kind == "struct":
             fields = re.sub(r"(?:^    ///.*\n)*^    (?:pub\(|pub ghost |(?!pub )\w).*\n", "\0", whole, flags=re.M)
-            yield Item(kind, name, doc, [*derived, *re.sub("\0+", "    // private fields\n", fields).splitlines()], [], [])
+            yield Item(kind, name, doc, [*derived, *re.sub("\0+", "    // private fields\n", fields).splitlines()], [], [], place)
         elif kind == "trait":
             types = [f"    {row}" for it in inner if it.kind == "type" for row in it.shown]
-            yield Item(kind, name, doc, [rows[0], *types, "}"] if types else [rows[0].rstrip(" {")], ghosts, calls)
+            yield Item(kind, name, doc, [rows[0], *types, "}"] if types else [rows[0].rstrip(" {")], ghosts, calls, place)
         elif kind == "impl":
             head = re.match(r".*?(?= ?\{\}?$)", whole, re.M | re.S)[0].splitlines()
             name = re.sub(r"^impl(?:<.*?>(?= [A-Z&]))? |.* for |<.*", "", head[0])
-            yield Item(kind, name, doc, head, [], calls)
+            yield Item(kind, name, doc, head, [], calls, place)
         else:
-            yield Item(kind, name, doc, [*(f"/// {it}" for it in doc if kind == "ghost"), *derived, *rows], [], [])
+            yield Item(kind, name, doc, [*(f"/// {it}" for it in doc if kind == "ghost"), *derived, *rows], [], [], place)
 
 
 def exports(crate):
     """Returns the items that a crate exports, in the order of its root, and the names of other crates that have a page."""
     source = TOP / "crates" / crate / "src"
-    files = {it.stem: list(items(it.read_text())) for it in sorted(source.glob("*.rt"))}
+    files = {}
+    for path in sorted(source.glob("*.rt")):
+        place = (crate, f"src/{path.stem}")
+        FILES[place] = File(path)
+        files[path.stem] = list(items(path.read_text(), place))
     root, own, others = (source / "lib.rt").read_text(), [], {}
     for path in EXPORT.findall(root):
         module, _, listed = " ".join(path.split()).partition("::")
@@ -81,7 +87,7 @@ def exports(crate):
     for module in re.findall(r"^pub mod (\w+);", root, re.M):
         own += [it for it in files[module] if it.kind == "law"]
         numbers = [row for it in files[module] if it.kind == "const" and it not in own for row in it.shown]
-        own += [Item("mod", module, re.findall("^//! ?(.*)", (source / f"{module}.rt").read_text(), re.M), numbers, [], [])] if numbers else []
+        own += [Item("mod", module, re.findall("^//! ?(.*)", (source / f"{module}.rt").read_text(), re.M), numbers, [], [], None)] if numbers else []
     for it in [it for file in files.values() for it in file if it.kind == "impl" and not HIDDEN.match(it.shown[0])]:
         of = re.search(r"(\w+)(?:<.*>)? for ", it.shown[0])
         if owner := next((x for name in (it.name, of and of[1]) for x in own if x.name == name), None):
@@ -110,11 +116,27 @@ def block(kind, rows):
     return ["", f"```{kind}", *rows, "```"] if rows else []
 
 
+def anchor(file, name):
+    """Returns the anchor of a definition on the page of its crate's definitions."""
+    return f"{file}.{name}".strip("◌").lower()
+
+
+def cited(it):
+    """Yields the rows on the definitions that a contract names."""
+    places = sorted({place for place in named_in(*it.place, "\n".join(it.contract)) if place})
+    if places:
+        links = (f'<a href="../definitions/{crate}.html#{anchor(file, name)}">{name}</a>' for crate, file, name in places)
+        yield from ["", f"Definitions: {', '.join(links)}"]
+    for crate, file, name in places:
+        rows = FILES[crate, file].definitions[name]
+        yield from block("text", rows) if len(rows) <= SHORT else []
+
+
 def shown(it, crate, mark="##", of=""):
     """Yields the rows of an item: its heading, signature, comment and contract, and then what is in it."""
     yield from ["", f"{mark} {of}{it.name}", *block("rust", [] if it.kind == "law" else it.shown), "", text(it.doc, crate)]
     if it.contract:
-        yield from ["", f"<details><summary>{FOLDED.get(it.kind, 'Contract')}</summary>", *block("text", it.contract), "", "</details>"]
+        yield from ["", f"<details><summary>{FOLDED.get(it.kind, 'Contract')}</summary>", *block("text", it.contract), *cited(it), "", "</details>"]
     for inner in (x for x in it.inner if x.kind != "impl"):
         yield from shown(inner, crate, "###", f"{it.name}::")
     made = [row for x in it.inner if x.kind == "impl" for row in x.shown]
@@ -138,14 +160,3 @@ def page(crate):
 
 # the anchors of each page
 HEADINGS = {crate: {f"{it.name}{name}".lower() for it in exports(crate)[0] for name in ["", *(x.name for x in it.inner)]} for crate in CRATES}
-
-if __name__ == "__main__":
-    library = (TOP / "docs/LIBRARY.md").read_text()
-    wrong = [f"docs/LIBRARY.md has no link to api/{it}.md" for it in CRATES if f"(api/{it}.md)" not in library]
-    for file, made in ((TOP / f"docs/api/{it}.md", page(it)) for it in CRATES):
-        if sys.argv[1:] == ["--write"]:
-            file.write_text(made)
-        elif not file.exists() or file.read_text() != made:
-            wrong.append(f"{file.name} is out of date: tools/api.py --write")
-    print("\n".join([*wrong, f"{2 * len(CRATES) - len(wrong)} passed, {len(wrong)} failed"]))
-    sys.exit(int(bool(wrong)))
