@@ -33,9 +33,8 @@ SOUGHT = {"flash:w": "docs/USAGE.html", "HostFault::Differs": "docs/api/stk_host
 MOST = 2_000
 
 HEADING = re.compile(r"<h([1-6])>(.*?)</h\1>")
-DEFINITION = re.compile(r'(?<=<a id=")[^"]*')
 HREF = re.compile(r'(?<=href=")(?!https?:)([^"#]*)((?:#[^"]*)?)(?=")')
-ENUM = re.compile(r"<pre><code[^>]*>(?:#\[.*\]\n)*pub enum (\w+).*?</code></pre>", re.S)
+ENUM = re.compile(r"<pre><code[^>]*>(?:#\[[^\n]*\n)*pub enum (\w+).*?</code></pre>", re.S)
 STYLE = """
 body { max-width: 62em; margin: 0 auto 4em; padding: 0 1em; font: 16px/1.5 sans-serif; color: #222; background: #fff }
 nav { padding: .8em 0; border-bottom: 1px solid #ccc } nav a { margin-right: .8em } nav input { float: right; font: inherit }
