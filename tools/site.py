@@ -35,11 +35,19 @@ MOST = 2_000
 HEADING = re.compile(r"<h([1-6])>(.*?)</h\1>")
 HREF = re.compile(r'(?<=href=")(?!https?:)([^"#]*)((?:#[^"]*)?)(?=")')
 ENUM = re.compile(r"<pre><code[^>]*>(?:#\[[^\n]*\n)*pub enum (\w+).*?</code></pre>", re.S)
+CODE = re.compile(r"<pre><code>(.*?)</code></pre>", re.S)
+# the shapes of characters in a drawing, in a field of 9 by 20
+SHAPES = {
+    "│": "M4,0L4,20", "▶": "M0,4L9,10L0,16z", "◀": "M9,4L0,10L9,16z", "▼": "M-1,6L4,18L9,6z", "▲": "M-1,16L4,4L9,16z",
+    "╳": "M0,4L9,16M9,4L0,16",
+}
 STYLE = """
 body { max-width: 62em; margin: 0 auto 4em; padding: 0 1em; font: 16px/1.5 sans-serif; color: #222; background: #fff }
 nav { padding: .8em 0; border-bottom: 1px solid #ccc } nav a { margin-right: .8em } nav input { float: right; font: inherit }
 #found a { display: block; padding: .1em 0 } #found { background: #f6f6f6; padding: 0 .6em }
 pre { background: #f6f6f6; padding: .6em; overflow: auto; font-size: 14px } table { border-collapse: collapse }
+svg { background: #f6f6f6; padding: .6em; width: 100%; max-height: 30em; box-sizing: border-box }
+svg text { font: 15px monospace; white-space: pre } svg path { stroke: #222; fill: #222; stroke-width: 1.5 }
 td, th { border: 1px solid #ccc; padding: .2em .5em; vertical-align: top; text-align: left } img { max-width: 100% }
 """
 SCRIPT = """
@@ -93,6 +101,26 @@ def blocks(path, named):
     for block in filter(None, re.split(r"\n{2,}", text.strip())):
         names = re.findall(r"^(?:(?:abbrev|unfoldable) pub|pub (?:record|data)) (\S+)", block, re.M)
         yield from [*(f'<a id="{anchor(path.stem, it)}"></a>' for it in names if it in named), "", "```text", block, "```", ""]
+
+
+def drawn(block):
+    """Returns a block of code as a drawing, if it has arrows: lines for the characters of lines, and texts."""
+    rows = html.unescape(block[1]).splitlines()
+    if not re.search("[─│][▶▼]|[◀▲][─│]", "".join(rows)) and "▼" not in block[1]:
+        return block[0]
+    made = []
+    for y, row in enumerate(rows):
+        for run in re.finditer("[─]+|[^─│▶◀▼▲╳ ]+(?: [^─│▶◀▼▲╳ ]+)*|[│▶◀▼▲╳]", row):
+            x, top, width = run.start() * 9, y * 20, len(run[0]) * 9
+            at = lambda shape: re.sub(r"(-?\d+),(-?\d+)", lambda it: f"{x + int(it[1])},{top + int(it[2])}", shape)
+            if run[0] in SHAPES:
+                made.append(f'<path d="{at(SHAPES[run[0]])}"/>')
+            elif run[0].startswith("─"):
+                made.append(f'<path d="M{x},{top + 10}h{width}"/>')
+            else:
+                made.append(f'<text x="{x}" y="{top + 15}" textLength="{width}">{html.escape(run[0])}</text>')
+    size = f"0 0 {9 * max(map(len, rows))} {20 * len(rows)}"
+    return f'<svg viewBox="{size}" role="img">{"".join(made)}</svg>'
 
 
 def slug(title):
@@ -161,7 +189,7 @@ def whole(name, body):
 
 def rendered(text):
     ran = subprocess.run(["cmark-gfm", "--unsafe", "-e", "table"], input=text, capture_output=True, text=True, check=True)
-    return with_anchors(ran.stdout)
+    return with_anchors(CODE.sub(drawn, ran.stdout))
 
 
 def write(folder):
@@ -172,13 +200,9 @@ def write(folder):
         found += entries(name, body)
         bodies[name], files = linked(name, body, pages)
         copied |= files
-    for file in copied:
-        path = TOP / file
-        if path.suffix == ".svg":
-            (folder / file).parent.mkdir(parents=True, exist_ok=True)
-            shutil.copyfile(path, folder / file)
-        elif path.is_file():
-            bodies[file] = f"<h1>{file}</h1><pre><code>{html.escape(path.read_text())}</code></pre>"
+    for path in (TOP / file for file in copied):
+        if path.is_file():
+            bodies[str(path.relative_to(TOP))] = f"<h1>{path.name}</h1><pre><code>{html.escape(path.read_text())}</code></pre>"
     for name, body in bodies.items():
         place = folder / f"{name}.html"
         place.parent.mkdir(parents=True, exist_ok=True)
