@@ -58,6 +58,13 @@ def the_first_change():
         see(f"the counts: {told}", f"`{told}`" in text("CONTRIBUTING.md"))
 
 
+def the_hint():
+    """README's hint is one that avrstk-serial prints (tests/serial.py, case refused)."""
+    shown = re.search(r"^    avrstk-serial: (.*); (nothing was sent.*)$", text("README.md"), re.M)
+    for it in shown.groups():
+        see(f"is a hint: {it}", f'"{it}"' in text("lib/avrstk/avrstk_hints.py") + text("lib/avrstk/avrstk_words.py"))
+
+
 def files_of_recipes():
     """The files that CONTRIBUTING's table of changes names are there, each in the crate named before it."""
     rows = re.search(r"^\| Change \| Files \|.*?\n\n", text("CONTRIBUTING.md"), re.M | re.S)[0]
@@ -86,4 +93,4 @@ def the_logic():
 
 
 if __name__ == "__main__":
-    sys.exit(run_cases(named(what_check_quotes, the_first_change, files_of_recipes, the_logic), __doc__))
+    sys.exit(run_cases(named(what_check_quotes, the_first_change, the_hint, files_of_recipes, the_logic), __doc__))
