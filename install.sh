@@ -217,8 +217,8 @@ done
 for file in "$top"/parts/*; do
     add 644 "$file" "share/avrstk/${file##*/}"
 done
-for file in "$top"/docs/*.1; do
-    add 644 "$file" "share/man/man1/${file##*/}"
+for file in "$top"/docs/*.[17]; do
+    add 644 "$file" "share/man/man${file##*.}/${file##*/}"
 done
 # (bash and fish look for a command's completions under its name)
 add 644 "$top/completions/avrstk.bash" share/bash-completion/completions/avrstk

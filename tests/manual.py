@@ -3,7 +3,7 @@
 
 Not proved: Documents and man pages are not code.
 
-    tests/manual.py [CASE ..]  docs/*.1 have the manual's text, a man page's sections, and every option of --help;
+    tests/manual.py [CASE ..]  docs/*.1 and *.7 have the manual's text, a man page's sections, and every option of --help;
                                mandoc and groff give no warning; USAGE, the completions and docs/PART name the options and
                                parts of the program's --help; runs over `emu:` print what README and the manual show; USAGE's
                                differences from AVRDUDE are true: needs a built program (program.py)
@@ -21,7 +21,7 @@ from cases import leave_out, named, run_cases, same, see
 from program import PROGRAM, TOP
 
 sys.path.append(str(TOP / "tools"))
-from man_pages import HERE_ALONE, MANUAL, PAGES, blocks_of, cells, escaped, page
+from man_pages import HERE_ALONE, MANUAL, PAGES, SECTIONS, blocks_of, cells, escaped, page
 
 USAGE = MANUAL[0]
 VERSION = (TOP / "VERSION").read_text().strip()
@@ -108,8 +108,9 @@ def differences():
         yield f"one byte of EEPROM: {eeprom.hex()}", eeprom == b"\xff" * 100 + b"\x2a" + b"\xff" * 923
 
 
-# the headings of each page, in this order, with others between OPTIONS and EXIT STATUS
-HEADINGS = ["NAME", "SYNOPSIS", "DESCRIPTION", "OPTIONS", "EXIT STATUS", "ENVIRONMENT", "FILES", "EXAMPLES", "SEE ALSO"]
+# the headings of a page, in this order, with others between OPTIONS and ENVIRONMENT; those of a page that is no command's
+HEADINGS = ["NAME", "SYNOPSIS", "DESCRIPTION", "EXAMPLES", "OPTIONS", "EXIT STATUS", "ENVIRONMENT", "FILES", "SEE ALSO"]
+COMMON = ["NAME", "DESCRIPTION", "EXAMPLES", "FILES", "SEE ALSO"]
 
 # the repository's folders and files that are not installed
 NOT_INSTALLED = re.compile(r"\b(?:docs|examples|crates|tests|tools|parts)/|\./|\binstall\.sh|CHANGELOG|README|" + HERE_ALONE.pattern)
@@ -118,22 +119,22 @@ NOT_INSTALLED = re.compile(r"\b(?:docs|examples|crates|tests|tools|parts)/|\./|\
 def pages_are_made():
     """The man pages' parts from the manual are up to date."""
     for name, file in PAGES.items():
-        see(f"docs/{name}.1 has what is made of the manual", file.read_text() == page(name), "tools/man_pages.py --write")
+        see(f"{file.name} has what is made of the manual", file.read_text() == page(name), "tools/man_pages.py --write")
 
 
 def pages_are_whole():
     """Each page has its headings and the version, and names no file that is not installed."""
     for name, file in PAGES.items():
         text = file.read_text()
-        head = rf'\.TH {re.escape(escaped(name.upper()))} 1 \d{{4}}-\d\d-\d\d "avrstk {re.escape(VERSION)}" '
-        see(f"{name}(1) has its name, a date and the version", re.match(head, text), text.splitlines()[0])
+        head = rf'\.TH {re.escape(escaped(name.upper()))} {SECTIONS[name]} \d{{4}}-\d\d-\d\d "avrstk {re.escape(VERSION)}" '
+        see(f"{name} has its name, a date and the version", re.match(head, text), text.splitlines()[0])
         headings = [it for it in re.findall(r"^\.SH (.*)", text, re.M) if it in HEADINGS]
-        same(f"{name}(1) has its headings", headings, HEADINGS)
+        same(f"{name} has its headings", headings, HEADINGS if SECTIONS[name] == 1 else COMMON)
         shown = re.sub(r'^\.\\".*|\\f.|\\(?=-)', "", text, flags=re.M)
-        same(f"{name}(1) names what is installed", NOT_INSTALLED.findall(shown), [])
+        same(f"{name} names what is installed", NOT_INSTALLED.findall(shown), [])
         others = {escaped(it) for it in PAGES if it != name}
-        named = set(re.findall(r"^\.BR (\S+) \(1\)", text.split("\n.SH SEE ALSO\n")[1], re.M))
-        see(f"{name}(1) names the other pages", others <= named, named)
+        named = set(re.findall(r"^\.BR (\S+) \([17]\)", text.split("\n.SH SEE ALSO\n")[1], re.M))
+        see(f"{name} names the other pages", others <= named, named)
 
 
 def pages_have_the_options():
@@ -147,7 +148,7 @@ def pages_have_the_options():
         tags = re.findall(r"^\.T[PQ]\n(.*)", PAGES[name].read_text(), re.M)
         found = set(re.findall(r"(?<![\w-])--?[\w?][\w-]*", " ".join(tags).replace("\\-", "-").replace("\\fB", " ")))
         see(f"{name} --help names options", not ran.returncode and wanted, ran)
-        same(f"{name}(1) has the options of --help", wanted - found, set())
+        same(f"{name} has the options of --help", wanted - found, set())
 
 
 def pages_are_clean():
@@ -155,17 +156,17 @@ def pages_are_clean():
     if shutil.which("mandoc"):
         for name, file in PAGES.items():
             ran = subprocess.run(["mandoc", "-T", "lint", file], capture_output=True, text=True)
-            same(f"mandoc's findings in {name}(1)", (ran.returncode, ran.stdout), (0, ""))
+            same(f"mandoc's findings in {name}", (ran.returncode, ran.stdout), (0, ""))
     else:
         leave_out("the man pages as mandoc takes them", "mandoc is not installed")
     if not shutil.which("groff"):
         return leave_out("the man pages as groff shows them", "groff is not installed")
     for name, file in PAGES.items():
         ran = subprocess.run(["groff", "-ww", "-man", "-Tutf8", "-rLL=100n", file], capture_output=True, text=True)
-        see(f"{name}(1) is without warnings", not ran.returncode and not ran.stderr, ran.stderr[:300])
+        see(f"{name} is without warnings", not ran.returncode and not ran.stderr, ran.stderr[:300])
         plain = re.sub(r"\x1b\[[0-9;]*m|.\x08", "", ran.stdout)
-        see(f"{name}(1) shows commands as they are typed", f"\n           {name} " in plain)
-        see(f"{name}(1) shows no mark of the manual", "`" not in plain and "**" not in plain)
+        see(f"{name} shows commands as they are typed", re.search(r"\n           avrstk\S* -", plain))
+        see(f"{name} shows no mark of the manual", "`" not in plain and "**" not in plain)
 
 
 def examples_of(name):

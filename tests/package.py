@@ -207,7 +207,7 @@ def packages_hold_what_is_installed():
         environment = os.environ | {"AVRSTK": str(PROGRAM)}
         subprocess.run([TOP / "install.sh", prefix], env=environment, check=True, stdout=subprocess.DEVNULL)
         (prefix / "share/avrstk/manifest").unlink()
-        placed = lambda it: it.replace("zsh/site-functions", "zsh/vendor-completions") + ".gz" * it.endswith(".1")
+        placed = lambda it: it.replace("zsh/site-functions", "zsh/vendor-completions") + ".gz" * it.endswith((".1", ".7"))
         wanted = [f"usr/{placed(it)}" for it in files(prefix)]
         docs = ["built-from", "changelog.gz", "copyright"]
         own = [*docs, "examples/blink.hex", *(f"{it}.md" for it in DOCUMENTS)]

@@ -1,5 +1,6 @@
 #!/usr/bin/env python3
-"""Writes the parts of the man pages (docs/*.1) that come from the manual (docs/USAGE, EMULATOR, TROUBLESHOOTING, BOARDS).
+"""Writes the parts of the man pages (docs/*.1 and *.7) that come from the manual (docs/USAGE, EMULATOR, TROUBLESHOOTING,
+BOARDS).
 
     tools/man_pages.py             fails if a page is out of date
     tools/man_pages.py --write     writes these parts: each is between a comment with its page, its section (and the kind of
@@ -13,7 +14,8 @@ from textwrap import wrap
 
 TOP = Path(__file__).resolve().parent.parent
 MANUAL = [TOP / f"docs/{it}.md" for it in ["USAGE", "EMULATOR", "TROUBLESHOOTING", "BOARDS"]]
-PAGES = {it: TOP / f"docs/{it}.1" for it in ["avrstk", "avrstk-serial", "avrstk-serve"]}
+SECTIONS = {"avrstk": 1, "avrstk-serial": 1, "avrstk-serve": 1, "avrstk-emulator": 7}
+PAGES = {name: TOP / f"docs/{name}.{section}" for name, section in SECTIONS.items()}
 
 # the first line of a part that comes from the manual, with its section and a kind of block; and the last line
 MADE = re.compile(r'\.\\" docs/[A-Z]+\.md, ([^:\n]+)(?:: (\w+))?')
@@ -170,7 +172,7 @@ def for_page(text, page, places):
         where = places.get(found[1])
         if where is None:
             return found[0]
-        return f"(see **{where[1]}**" + ("" if where[0] == page else f" in {where[0]}(1)") + ")"
+        return f"(see **{where[1]}**" + ("" if where[0] == page else f" in {where[0]}({SECTIONS[where[0]]})") + ")"
 
     return re.sub(r'\("([^"]+)"(?:, below)?\)', named, text)
 
@@ -217,7 +219,7 @@ def main():
             file.write_text(page(name))
     old = [name for name, file in PAGES.items() if file.read_text() != page(name)]
     for name in old:
-        print(f"docs/{name}.1 is out of date: tools/man_pages.py --write")
+        print(f"{PAGES[name].name} is out of date: tools/man_pages.py --write")
     print(f"{len(PAGES) - len(old)} passed, {len(old)} failed")
     return int(bool(old))
 

@@ -150,7 +150,7 @@ fi
 mkdir "$all/DEBIAN"
 strip --remove-section=.comment --remove-section=.note "${programs[@]}"
 printf '%s\ncommit: %s\nkit: %s\n' "${stamp%%$'\n'*}" "$commit" "$kit" >"$all/usr/lib/avrstk/avrstk.stamp"
-gzip -9n "$all"/usr/share/man/man1/*.1
+gzip -9n "$all"/usr/share/man/man[17]/*
 document avrstk "$all" "$version" "$proof" "$kit"
 docs=$all/usr/share/doc/avrstk
 install -D -m 644 -t "$docs/examples" "$top/examples/blink.hex"
