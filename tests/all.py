@@ -37,7 +37,7 @@ PROVED = TOP / "crates/avrstk/out/avrstk"
 PROGRAMS = {it.parent.parent.name: it.parent.parent / "out" for it in TOP.glob("crates/*/src/main.rt")}
 
 # scripts of tools/, which only read
-CHECKED = ("measure --check", "reach --check", "site --check", "tests_page")
+CHECKED = ("measure --check", "reach --check", "site --check", "promises", "tests_page")
 # scripts that run no program of this project, or compile it themselves; the longest first
 SOURCES = ("rattle tests", "rattle programs", "rattle refused", "rattle names", "vendor", "build", "documents", *CHECKED)
 # scripts over the library for C, which takes minutes to prove and build, so that only --all runs them

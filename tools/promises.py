@@ -1,0 +1,65 @@
+#!/usr/bin/env python3
+"""Writes the tables of docs/PROMISES: the laws and calls of the crates that carry the headline, from their own comments.
+
+    tools/promises.py             fails if the page is out of date
+    tools/promises.py --write     writes the tables
+
+A law has its first sentences, and a call the definitions that its contract names.
+"""
+
+import re
+import sys
+from pathlib import Path
+
+from api import TOP, exports
+from reach import FILES, named_in
+
+PAGE = TOP / "docs/PROMISES.md"
+CRATES = ("avr_laws", "avr_tool", "avr_session", "avr_plan")
+CALLS = ("avr_tool", "avr_session")
+# a row has the sentences of a comment that fit into this many characters, and the first one in any case
+ROOM = 130
+MADE = re.compile(r"(<!-- made: (\w+) -->\n).*?(<!-- end -->\n)", re.S)
+
+
+def begun(doc):
+    """Returns the first sentences of a comment."""
+    shown = re.sub(r"\[(`[^`]*`)\](?:\([^)]*\))?", r"\1", " ".join(doc).split(" # ")[0].split("```")[0])
+    sentences = re.split(r"(?<=[.:]) +(?=[A-Z`])", shown.strip())
+    kept = sentences[:1]
+    for it in sentences[1:]:
+        if len(" ".join(kept)) + len(it) > ROOM:
+            break
+        kept.append(it)
+    return " ".join(kept).removeprefix("States that ").removeprefix("States ").replace("|", "\\|")
+
+
+def laws():
+    yield from ["| Law | What it states |", "| --- | --- |"]
+    for crate in CRATES:
+        for it in sorted(exports(crate)[0]):
+            if it.kind == "law":
+                yield f"| `{it.name}`{'' if crate == 'avr_laws' else f' of {crate}'} | {begun(it.doc)} |"
+
+
+def calls():
+    yield from ["| Call | What it does | Definitions |", "| --- | --- | --- |"]
+    for crate in CALLS:
+        for it in exports(crate)[0]:
+            named = {place for place in named_in(*it.place, "\n".join(it.contract)) if place} if it.kind == "fn" else ()
+            own = [f"`{file}.{name}`" for of, file, name in sorted(named) if of == crate]
+            if own:
+                yield f"| `{it.name}` of {crate} | {begun(it.doc)} | {', '.join(own)} |"
+
+
+def page():
+    made = {"laws": laws, "calls": calls}
+    return MADE.sub(lambda it: f"{it[1]}{''.join(f'{row}{chr(10)}' for row in made[it[2]]())}{it[3]}", PAGE.read_text())
+
+
+if __name__ == "__main__":
+    if sys.argv[1:] == ["--write"]:
+        PAGE.write_text(page())
+    is_made = PAGE.read_text() == page()
+    print(f"{PAGE.name} is out of date: tools/promises.py --write\n" * (not is_made) + f"{int(is_made)} passed, {int(not is_made)} failed")
+    sys.exit(int(not is_made))
