@@ -65,6 +65,21 @@ def the_hint():
         see(f"is a hint: {it}", f'"{it}"' in text("lib/avrstk/avrstk_hints.py") + text("lib/avrstk/avrstk_words.py"))
 
 
+# the conditions of the promise, as docs/PROOFS has them
+CONDITIONS = (
+    "every valid frame that arrives was sent in this run", "no command arrives twice or out of order",
+    "no reply comes 256 frames late", "of the part that `-p` names", "during the run",
+)
+
+
+def the_conditions():
+    """Each document that states the promise states all its conditions, in the same words."""
+    for page in sorted([TOP / "README.md", *TOP.glob("docs/*.md"), *TOP.glob("crates/*/README.md")]):
+        words = " ".join(page.read_text().split()).lower()
+        if CONDITIONS[0] in words or page.name == "PROOFS.md":
+            same(f"{page.name} has all conditions", [it for it in CONDITIONS if it.lower() not in words], [])
+
+
 def files_of_recipes():
     """The files that CONTRIBUTING's table of changes names are there, each in the crate named before it."""
     rows = re.search(r"^\| Change \| Files \|.*?\n\n", text("CONTRIBUTING.md"), re.M | re.S)[0]
@@ -93,4 +108,4 @@ def the_logic():
 
 
 if __name__ == "__main__":
-    sys.exit(run_cases(named(what_check_quotes, the_first_change, the_hint, files_of_recipes, the_logic), __doc__))
+    sys.exit(run_cases(named(what_check_quotes, the_first_change, the_hint, the_conditions, files_of_recipes, the_logic), __doc__))
