@@ -1,6 +1,6 @@
 -- An update that is written reads back.
 use Rattle.std.proofs.lemmas.Grind.{common_steps}
-use Rattle.std.proofs.Common.{◌≡◌, ◌≢◌, refl, arith, ℕ, false, ◌==◌, [], ◌∷◌, ◌++◌, length, rules}
+use Rattle.std.proofs.Common.{◌≡◌, ◌≢◌, arith, ℕ, false, ◌==◌, [], ◌∷◌, ◌++◌, length, rules}
 use Rattle.std.proofs.Common.{Some, Ok}
 use Rattle.std.proofs.lemmas.Bool.Decides.{nat_tests}
 use Rattle.std.proofs.lemmas.List.{length-append, get_or-append-add}
@@ -8,7 +8,7 @@ use Rattle.std.proofs.Math.Seq.{get_or-append_seam, take-append_seam}
 use Rattle.avr_part.specs.declared.part.Mem.{Mem}
 use Rattle.avr_part.specs.PartFile.{Bytes}
 use Rattle.avr_cli.specs.Split.{colon}
-use Rattle.avr_cli.specs.Update.{file_and_letter, format_of, op_name, update_by, update_in, update_of, update_text, with_memory}
+use Rattle.avr_cli.specs.Update.{file_and_letter, format_of, op_name, update_by, update_of, update_text, with_memory}
 use Rattle.avr_cli.specs.declared.update.Format.{Format}
 use Rattle.avr_cli.specs.declared.update.Op.{Op}
 
@@ -23,10 +23,6 @@ of_op memory op rest = search rules
 
 pub not_empty : (text : Bytes) → text ≢ [] → (length text == 0) ≡ false
 not_empty text some = grind (arith, common_steps, nat_tests)
-
-of_file : (memory : Mem) (op : Op) (file : Bytes) (letter : ℕ) → file ≢ []
-    → update_by memory op (file, Some letter) ≡ update_in memory op file (format_of op (Some letter))
-of_file memory op file letter some = rw (not_empty file some) refl
 
 pub update_is_read : (memory : Mem) (op : Op) (file : Bytes) (letter : ℕ) (format : Format) → file ≢ []
     → format_of op (Some letter) ≡ Some format

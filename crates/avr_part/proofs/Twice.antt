@@ -1,6 +1,6 @@
 -- Changing a chip twice is changing it once.
 use Rattle.std.proofs.lemmas.Grind.{common_steps}
-use Rattle.std.proofs.Common.{◌≡◌, refl, ap₂, ℕ, suc, List, [], ◌∷◌, Option, unwrap_or, rules, arith}
+use Rattle.std.proofs.Common.{◌≡◌, refl, ap₂, ℕ, suc, List, [], ◌∷◌, rules, arith}
 use Rattle.std.proofs.lemmas.List.{length-replicate}
 use Rattle.std.proofs.lemmas.Nat.{and_assoc}
 use Rattle.avr_part.specs.declared.instruction.Fuse.{Fuse}
@@ -19,9 +19,6 @@ changed-changed k f (x ∷ xs) each = ap₂ (λ (z : ℕ) (zs : List ℕ). z ∷
 anded-anded : (start : ℕ) (page : List ℕ) (i x : ℕ)
     → byte_and_page start page i (byte_and_page start page i x) ≡ byte_and_page start page i x
 anded-anded start page i x = grind (arith, common_steps, and_assoc)
-
-laid_twice : (o : Option ℕ) (x : ℕ) → unwrap_or o (unwrap_or o x) ≡ unwrap_or o x
-laid_twice o x = search rules
 
 pub flash_page_twice : (word : ℕ) (s : ChipState)
     → with_flash_page word (flash_loaded_as s (with_flash_page word s)) ≡ with_flash_page word s

@@ -1,5 +1,5 @@
 -- Laws of the cutting.
-use Rattle.std.proofs.Common.{◌≡◌, ℕ, zero, suc, ◌-◌, ◌<◌, ◌≤◌, List, [], ◌∷◌, ◌++◌, length, take, drop, refl, ap, ◌∙◌, subst, append_assoc, arith, true, false, cond, length-append, inl, inr, rules}
+use Rattle.std.proofs.Common.{◌≡◌, ℕ, zero, suc, ◌-◌, ◌<◌, ◌≤◌, List, [], ◌∷◌, ◌++◌, length, take, drop, refl, ap, ◌∙◌, subst, append_assoc, arith, true, false, length-append, inl, inr, rules}
 use Rattle.std.proofs.lemmas.Bool.{leb-true, leb-false, le-leb, cases_Bool, false≢true, cond-true}
 use Rattle.std.proofs.lemmas.Bool.Decides.{nat_tests}
 use Rattle.std.proofs.lemmas.List.{take-append-le, drop-append-le, take-append-drop, length-take-le}
@@ -24,10 +24,6 @@ size_positive bytes = search (rules, nat_tests)
 
 long_size : (a b c d e : ℕ) (more : List ℕ) → (a == 27) ≡ true → 5 ≤ piece_size (a ∷ b ∷ c ∷ d ∷ e ∷ more)
 long_size a b c d e more start = rw start (grind (arith, nat_tests))
-
--- fewer than five bytes are whole only if they don't begin with the start byte
-short : (a n : ℕ) → n < 5 → cond (a == 27) 5 1 ≤ n → (a == 27) ≡ false
-short a n few whole = grind (arith, nat_tests)
 
 -- more bytes don't change the size of a piece that is whole
 pub size_stays : (x y : List ℕ) → piece_size x ≤ length x → piece_size (x ++ y) ≡ piece_size x

@@ -73,10 +73,6 @@ pub fed_up_to : (bytes : List ℕ) (place : Option ℕ) → IsFirstByte (is_byte
     → Fed [] (take (unwrap_or place (length bytes)) bytes) [] []
 fed_up_to bytes place none = search (rules, fed_noise)
 
--- one more span of a piece
-rest_of : (piece : List ℕ) (used : ℕ) → take (length piece - used) (drop used piece) ≡ drop used piece
-rest_of piece used = take_all (length piece - used) (drop used piece) (omega (arith, length-drop used piece))
-
 pub within_span : (piece : List ℕ) (used taken : ℕ) → used ≤ length piece
     → taken ≤ length (take (length piece - used) (drop used piece)) → used + taken ≤ length piece
 within_span piece used taken within few = search (rules, length-drop)

@@ -1,8 +1,8 @@
 -- A text that is put together, or written, piece by piece.
 use Rattle.std.proofs.lemmas.Grind.{common_steps}
 use Rattle.std.proofs.lemmas.Bool.Decides.{nat_tests}
-use Rattle.std.proofs.Common.{◌≡◌, refl, arith, ℕ, List, [], ◌++◌, length, append_assoc, Option}
-use Rattle.std.proofs.KnownBytes.{Appends-nil, Appends-trans}
+use Rattle.std.proofs.Common.{◌≡◌, arith, ℕ, List, [], ◌++◌, length, append_assoc, Option}
+use Rattle.std.proofs.KnownBytes.{Appends-trans}
 use Rattle.std.proofs.lemmas.List.{append-nil, length-append, nil_from_length}
 use Rattle.std.specs.Io.KnownBytes.{Appends}
 
@@ -23,9 +23,6 @@ pub record Written (old now : Option (List ℕ)) (left whole : List ℕ) : Type 
   pub prefix : List ℕ
   pub appended : Appends old now prefix
   pub split : prefix ++ left ≡ whole
-
-pub none_written : (old : Option (List ℕ)) (whole : List ℕ) → Written old old whole whole
-none_written old whole = record { prefix = []; appended = Appends-nil old; split = refl }
 
 pub piece_written : (old now new : Option (List ℕ)) (piece before left whole : List ℕ)
     → Written old now before whole → before ≡ piece ++ left → Appends now new piece → Written old new left whole

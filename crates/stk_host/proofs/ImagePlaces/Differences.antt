@@ -25,12 +25,6 @@ held_as run = map (λ byte. Some byte) run
 
 -- ---- a run
 
-first_byte : (addr b : ℕ) (run bytes : List ℕ) (at : ℕ) → at < length bytes
-    → difference_from addr (held_as (b ∷ run)) (drop at bytes)
-    ≡ decided (get_or bytes at 0 == b) addr b (get_or bytes at 0)
-    (difference_from (addr + 1) (held_as run) (drop (at + 1) bytes))
-first_byte addr b run bytes at there = search (rules, drop_at)
-
 pub run_goes_on : (addr i : ℕ) (run found : List ℕ) → i < length run → i < length found
     → (get_or found i 0 == get_or run i 0) ≡ true
     → difference_from (addr + i) (held_as (drop i run)) (drop i found)

@@ -1,6 +1,6 @@
 -- Which places have steps: the pages that are used, and the first byte of each run.
 use Rattle.std.proofs.lemmas.Grind.{common_steps}
-use Rattle.std.proofs.Common.{◌≡◌, ◌∙◌, ap, refl, arith, ℕ, suc, zero, ◌+◌, ◌-◌, ◌*◌, ◌/◌, ◌%◌, ◌<◌, ◌≤◌, List, [], ◌∷◌, ◌++◌, length, true, false, Option, None, is_some, inl, inr, ◌⊎◌, rules}
+use Rattle.std.proofs.Common.{◌≡◌, ◌∙◌, ap, refl, arith, ℕ, suc, zero, ◌+◌, ◌-◌, ◌*◌, ◌/◌, ◌%◌, ◌<◌, ◌≤◌, List, [], ◌∷◌, ◌++◌, length, true, false, Option, None, inl, inr, ◌⊎◌, rules}
 use Rattle.std.proofs.lemmas.Bool.{cases_lt}
 use Rattle.std.proofs.Math.Nat.{mul-mod_left, zero-mod}
 use Rattle.avr_image.specs.Image.{byte_at, holds_any, run_end}
@@ -29,10 +29,6 @@ pub page_most : (page : ℕ) → 0 < page → 256 % page ≡ 0 → page ≤ 256
 page_most page some fits = search rules
 
 -- where runs begin
-
-begun : (page : ℕ) (image : List (Option ℕ)) (addr : ℕ) → is_some (byte_at image addr) ≡ true
-    → (addr % page ≡ 0) ⊎ (byte_at image (addr - 1) ≡ None) → begins_run page image addr ≡ true
-begun page image addr held e' = search rules
 
 -- whether a place has a step
 

@@ -52,12 +52,6 @@ play_done bytes f = played_from f
 
 -- how the outcome of steps is judged
 
--- a fault of a step, as the host reports it, is none of the link, and no failed allocation
-told_ends : {A : Type 0} (takes : Bool) (dialog : Dialog ⊥ (Result A HostFault)) (fault : StepFault) (m n : Progress)
-    (o p : LinkState)
-    → PlaysOver dialog m o p (Err (host_fault fault)) n → EndsCall takes dialog m o p (Err (host_fault fault)) n
-told_ends takes dialog fault m n o p e = search rules
-
 pub stop_ends : {A : Type 0} (takes : Bool) (first : Dialog ⊥ StepOutcome) (judge : StepOutcome → Result A HostFault)
     → ((fault : StepFault) → judge (Err fault) ≡ Err (host_fault fault)) → (fault : HostFault) (m n : Progress)
     (o p : LinkState) → StopsSteps first m o p fault n

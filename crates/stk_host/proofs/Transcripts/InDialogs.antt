@@ -188,11 +188,6 @@ pub breaks_bind : {E A B : Type 0} (SaidPart : E → E → Type 0) {a : Dialog E
 breaks_bind SaidPart {a = a} {m = m} {transcript = transcript} go_on f =
     search (rules, played_bind, append_assoc, turns_bind)
 
--- nothing of the dialog has happened
-pub breaks_here : {E R : Type 0} (SaidPart : E → E → Type 0) (dialog : Dialog E R) (m : Progress)
-    → Breaks SaidPart dialog m [] []
-breaks_here SaidPart dialog m = search rules
-
 pub by_bind : {E A B : Type 0} (by : HostFault) (a : Dialog E A) (m : Progress) (transcript : Transcript)
     (shown : List (Event E)) (go_on : A → Dialog E B)
     → BreaksBy by a m transcript shown → BreaksBy by (a >>= go_on) m transcript shown
