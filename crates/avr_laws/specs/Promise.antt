@@ -7,7 +7,7 @@ use Rattle.avr_tool.specs.Items.{asked_items}
 use Rattle.avr_tool.specs.Written.{IsWritten}
 use Rattle.avr_part.specs.ChipFile.{chip_file}
 use Rattle.avr_part.specs.State.{ChipState as Chip}
-use Rattle.avr_laws.specs.AskedPlan.{Files, IsAsked}
+use Rattle.avr_laws.specs.AskedPlan.{Files, Holding, IsAsked}
 use Rattle.avr_plan.specs.Plan.{Plan}
 use Rattle.avr_plan.specs.declared.planned.Task.{Task}
 use Rattle.avr_plan.specs.declared.planned.Task.TheVariants.{Read}
@@ -25,7 +25,7 @@ IsReadInto name task = ⊥
 -- elsewhere what they held before, or an erase's FF. No other file has changed, but those that the plan reads into.
 pub record Promised (settings : Settings) (file : Bytes) (files after : Files) : Type 0 where
   pub plan : Plan
-  pub asked : IsAsked settings files plan
+  pub asked : IsAsked settings (Holding files) plan
   pub chip : Chip
   pub left : Chip
   pub was : IsChipOf plan.part (files file) chip

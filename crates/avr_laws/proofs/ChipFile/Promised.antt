@@ -13,8 +13,8 @@ use Rattle.avr_tool.proofs.Plans.Items.{items_by_tasks}
 use Rattle.avr_tool.specs.AnyLine.{ComesOverTurns, events_over}
 use Rattle.avr_laws.proofs.AnyWire.{emulated_wire}
 use Rattle.avr_part.specs.ChipFile.{chip_file}
-use Rattle.avr_laws.proofs.Plans.AskedPlan.{plan_asked}
-use Rattle.avr_laws.specs.AskedPlan.{IsAsked}
+use Rattle.avr_laws.proofs.Plans.Given.{seen_asked}
+use Rattle.avr_laws.specs.AskedPlan.{Holding, IsAsked}
 use Rattle.avr_laws.specs.FilesRead.{AreSeen}
 use Rattle.avr_plan.specs.Plan.{Plan}
 use Rattle.stk_emu.specs.Effect.{memories_of}
@@ -32,13 +32,13 @@ use Rattle.avr_laws.specs.Promise.{IsReadInto, Promised}
 module _ (settings : Settings) (file : Bytes) (stock : Stock) (old new : MemDeskState) (no_dash : is_dash file ≡ false)
     (unused : old.kept ≡ nothing_kept) (holds : HoldsTrue stock new)
     (r : RunsOverEmulator settings file (memory_state old) (memory_state new) 0) where
-  asked : IsAsked settings (stood_for stock []) r.plan
+  asked : IsAsked settings (Holding (stood_for stock [])) r.plan
   asked =
       let judged : ◌≡◌ {A = StageAnswer Plan} (Made r.plan) Unread → ⊥ = λ e. cc in
       let says : AreSeen stock r.made.says =
       seen settings stock (memory_state old) r.planned_desk (Made r.plan) unused
       (planned_true settings file stock old new 0 holds r) judged r.made in
-      plan_asked stock settings (r.made.passed ++ []) r.plan
+      seen_asked stock settings (r.made.passed ++ []) r.plan
       (subst (λ (p : StageResult Plan). AreSeen stock p.says) (sym (r.made.comes [])) says)
       (ap (λ (p : StageResult Plan). p.answer) (r.made.comes []))
 

@@ -1,5 +1,5 @@
 -- Status 0 means the images, over any link that forges no frame.
-use Rattle.std.proofs.Common.{◌≡◌, ℕ, Bool, false, List, [], ◌++◌, map, Some, sym, ap, ◌∙◌, subst, Option, None, rules}
+use Rattle.std.proofs.Common.{◌≡◌, ℕ, false, List, [], ◌++◌, map, Some, refl, sym, ap, ◌∙◌, subst, rules}
 use Rattle.std.proofs.lemmas.List.{append-nil}
 use Rattle.avr_cli.specs.declared.settings.Settings.{Settings}
 use Rattle.avr_desk.specs.Said.{OutputEvent}
@@ -11,14 +11,16 @@ use Rattle.avr_laws.proofs.Plans.Fitted.{plan_fitted}
 use Rattle.avr_session.specs.Runs.{Devices}
 use Rattle.avr_session.specs.Session.{session}
 use Rattle.avr_laws.specs.AnyLink.{WholeOverTurns}
-use Rattle.avr_laws.specs.AnyTape.{CameThrough, became_by, turns_heard}
-use Rattle.avr_tool.specs.Items.{items, asked_items}
+use Rattle.avr_laws.specs.AnyTape.{CameThrough, after_bytes, turns_heard}
+use Rattle.avr_tool.specs.Items.{asked_items}
+use Rattle.avr_tool.specs.Outcome.{IsDone}
 use Rattle.avr_laws.specs.NoFrame.{MakesNoFrame}
 use Rattle.avr_tool.specs.Written.{IsWritten}
 use Rattle.avr_laws.proofs.AnyLink.{over_bytes}
-use Rattle.stk_emu.specs.Device.{device, after_frames}
-use Rattle.stk_emu.specs.Effect.{effects, memories_of}
+use Rattle.stk_emu.specs.Device.{device}
+use Rattle.stk_emu.specs.Effect.{memories_of}
 use Rattle.stk_emu.specs.Programmer.{Programmer}
+use Rattle.stk_emu.specs.Turn.{Became}
 use Rattle.stk_frame.specs.Cut.{frames}
 use Rattle.stk_host.specs.Dialog.{Event, Played, Said, behind, bytes_sent, played}
 use Rattle.stk_host.specs.Tape.{Tape, on_tape}
@@ -61,16 +63,17 @@ module _ (s : Settings) (x y : Devices) (r : IsRun s x y 0) where
     pub sent_is : bytes_sent done ≡ sent r.during
     sent_is = search (rules, said_bytes, over_plan)
 
-    pub promise : (p : Programmer) (got : List ℕ) (through : List Bool) → IsSoundChip p.chip → p.chip.part ≡ plan.part
-        → CameThrough got (frames (sent y.link.transcript)) through
-        → MakesNoFrame device (session plan) 1 (heard y.link.transcript) p (became_by through) []
-        → (memories_of (after_frames device (frames got) p).chip ≡ effects plan.part (items plan) (memories_of p.chip))
+    pub promise : (p : Programmer) (got : List ℕ) (later : List (List ℕ)) (becames : List Became) → IsSoundChip p.chip
+        → p.chip.part ≡ plan.part → CameThrough got later (frames (sent y.link.transcript)) becames
+        → MakesNoFrame device (session plan) 1 (heard y.link.transcript) p becames []
+        → IsDone plan (memories_of p.chip) (memories_of (after_bytes device got later p).chip)
         × (plan.switches.no_verify ≡ false → IsWritten plan.part (asked_items plan) (memories_of p.chip)
-        (memories_of (after_frames device (frames got) p).chip))
-    promise p got through sound part_is came none =
-        let whole : WholeOverTurns plan p (after_frames device (frames got) p)
-        (turns_heard (session plan) 1 tape (became_by through)) (sent r.during) done 0 =
-        over_bytes plan p sound part_is (plan_fitted s r.openings plan made_is) got (sent r.during) through tape
-        (subst (λ (t : Transcript). CameThrough got (frames (sent t)) through) same came)
-        (subst (λ (t : Transcript). MakesNoFrame device (session plan) 1 (heard t) p (became_by through) []) same none)
-        left_over done 0 r.next played_is sent_is in search rules
+        (memories_of (after_bytes device got later p).chip))
+    promise p got later becames sound part_is came none =
+        let whole : WholeOverTurns plan p (after_bytes device got later p)
+        (turns_heard (session plan) 1 tape becames) (sent r.during) done 0 =
+        over_bytes plan p sound part_is (plan_fitted s r.openings plan made_is) got (sent r.during) later becames tape
+        (subst (λ (t : Transcript). CameThrough got later (frames (sent t)) becames) same came)
+        (subst (λ (t : Transcript). MakesNoFrame device (session plan) 1 (heard t) p becames []) same none)
+        left_over done 0 r.next played_is sent_is in
+        (whole.1.comes.done refl, whole.1.comes.images refl)
