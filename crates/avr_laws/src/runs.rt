@@ -59,7 +59,8 @@ pub fn status_0_means_the_images()
     ensures plan { (s : Settings) (before now : Devices) (r : IsRun s before now 0)
         → (plan : Plan) × ((planned s r.openings).answer ≡ Made plan) }
     ensures images { (s : Settings) (plan : Plan) (before now : Devices) (r : IsRun s before now 0)
-        → (planned s r.openings).answer ≡ Made plan → before.link.transcript ≡ [] → IsKept plan now.link.transcript }
+        → (planned s r.openings).answer ≡ Made plan → before.link.transcript ≡ []
+        → IsKept plan now.link.transcript before.desk now.desk }
 {}
 
 /// States what the page refuses of a run over a wire. With status 0: memories that the plan's writes don't leave, or
