@@ -1,5 +1,5 @@
 -- The plan that settings and files ask for, as a relation. It says nothing of the order in which files are read.
-use Rattle.std.specs.Prelude.{◌≡◌, ℕ, List, [], ◌∷◌, Contains, drop, length, Option, Some, None, Ok, true}
+use Rattle.std.specs.Prelude.{◌≡◌, ◌≤◌, ℕ, List, [], ◌∷◌, Contains, drop, length, Option, Some, None, Ok, true}
 use Rattle.avr_cli.specs.declared.settings.Settings.{Settings}
 use Rattle.avr_cli.specs.declared.update.Format.{Format}
 use Rattle.avr_cli.specs.declared.update.Format.TheVariants.{Immediate}
@@ -11,7 +11,7 @@ use Rattle.avr_image.specs.Values.{values}
 use Rattle.avr_part.specs.BuiltIn.{part_of_id}
 use Rattle.avr_part.specs.Part.{Part, size_of}
 use Rattle.avr_part.specs.PartFile.{parts_of}
-use Rattle.avr_plan.specs.ImageFile.{image_within}
+use Rattle.avr_plan.specs.ImageFile.{kind_of, whole_file}
 use Rattle.avr_plan.specs.Plan.{Plan}
 use Rattle.avr_plan.specs.declared.planned.Task.{Task}
 use Rattle.avr_plan.specs.declared.planned.Task.TheVariants as task
@@ -35,12 +35,12 @@ Gave old new name text =
     Contains (drop (length (all_openings old.kept)) (all_openings new.kept))
     (Found (record { name = name; bytes = text; ended = true }))
 
--- The image of an update: the values on the command line, or what its file holds in its format.
+-- The image of an update: the values on the command line, or what its file holds in its format, if that isn't too long.
 abbrev pub HasImage : Giving → Bytes → Format → ℕ → List (Option ℕ) → Type 0
 HasImage Gives name Immediate size image = values name size ≡ Ok image
 HasImage Gives name format size image =
-    (text : Bytes) × (ending : Ending) × Gives name text
-    × (image_within 4194304 format text size ≡ Ok (image, ending))
+    (text : Bytes) × (ending : Ending) × Gives name text × (length text ≤ 4194304)
+    × (whole_file (kind_of format text) text size ≡ Ok (image, ending))
 
 -- A task does what its update asks.
 abbrev pub IsTaskOf : Giving → Part → Update → Task → Type 0

@@ -17,11 +17,9 @@ ghost use Rattle.stk_emu.specs.Effect.{memories_of};
 ghost use Rattle.stk_emu.specs.Programmer.{Programmer};
 ghost use Rattle.stk_emu.specs.Turn.{Became};
 ghost use Rattle.avr_tool.specs.Headline.{IsRun};
-ghost use Rattle.avr_tool.specs.Items.{asked_items};
-ghost use Rattle.avr_tool.specs.Outcome.{IsDone};
-ghost use Rattle.avr_tool.specs.Written.{IsWritten};
 ghost use Rattle.avr_laws.specs.AnyTape.{CameThrough, became_by};
 ghost use Rattle.avr_laws.specs.Damaged.{Arrived, Arrival, BringsReplies, as_tape};
+ghost use Rattle.avr_laws.specs.Kept.{Keeps};
 ghost use Rattle.avr_laws.specs.NoFrame.{MakesNoFrame};
 
 /// States that a link forges no frame if it loses or delays whole frames and changes at most one byte of each: any
@@ -48,7 +46,6 @@ pub fn over_a_link_that_damages_one_byte_status_0_means_the_images()
         → IsSoundChip p.chip → p.chip.part ≡ plan.part
         → Arrived (frames (sent now.link.transcript)) through got → heard now.link.transcript ≡ as_tape come
         → BringsReplies device (session plan) 1 come p (became_by through) []
-        → IsDone plan (memories_of p.chip) (memories_of (after_frames device (frames got) p).chip)
-        × (plan.switches.no_verify ≡ false → IsWritten plan.part (asked_items plan) (memories_of p.chip)
-        (memories_of (after_frames device (frames got) p).chip)) }
+        → Keeps plan (memories_of p.chip) (memories_of (after_frames device (frames got) p).chip)
+        before.desk now.desk }
 {}

@@ -181,9 +181,9 @@ module _ {P : Type 0} (m : Device P) where
       → after_got (let_through becames sent).0 (let_through becames sent).1 p ≡ after_pieces m sent becames p
   let_through_after [] [] p = refl
   let_through_after [] (piece ∷ sent) p = let_through_after [] sent p
-  let_through_after (became ∷ more) [] p = refl
-  let_through_after (became ∷ more) (piece ∷ sent) p = getting_after became piece (let_through more sent) p
-      ∙ let_through_after more sent (after_became became (after_frame m piece p) p m.reset)
+  let_through_after (first ∷ more) [] p = refl
+  let_through_after (first ∷ more) (piece ∷ sent) p = getting_after first piece (let_through more sent) p
+      ∙ let_through_after more sent (after_became first (after_frame m piece p) p m.reset)
 
   good_later : (got : List ℕ) (later : List (List ℕ)) (p : P)
       → after_bytes m got later p ≡ after_got (good_frames got) (map good_frames later) p

@@ -1,5 +1,5 @@
 -- Status 0 means the plan, by what was sent and received alone.
-use Rattle.std.proofs.Common.{◌≡◌, ℕ, List, [], ◌∷◌, take, sym, ap, ◌∙◌, subst, Option, Some, None}
+use Rattle.std.proofs.Common.{◌≡◌, ◌⊎◌, ℕ, List, [], ◌∷◌, take, sym, ap, arith, ◌∙◌, inl, inr, subst, Option, Some, None}
 use Rattle.avr_cli.specs.declared.settings.Settings.{Settings}
 use Rattle.avr_desk.specs.Stage.{Made}
 use Rattle.avr_plan.specs.Plan.{Plan}
@@ -14,13 +14,14 @@ use Rattle.stk_frame.proofs.Laws.{body_of_frame}
 use Rattle.stk_host.specs.Dialog.{Dialog, Done, Say, Ask, by_answer, frames_in, next, played}
 use Rattle.stk_host.specs.Tape.{Tape, Reading, answer, bytes_in, limit}
 use Rattle.stk_host.specs.Transcript.{Transcript, heard, sent}
-use Rattle.avr_tool.specs.Headline.{IsRun}
+use Rattle.avr_tool.specs.Headline.{IsRun, IsStopped}
 use Rattle.avr_tool.specs.Honest.{first_became, on_answer, other_becames}
 use Rattle.avr_tool.proofs.Lines.InTurn.{frames_sent, sends_whole}
 use Rattle.avr_tool.proofs.OverTurns.{asks}
+use Rattle.avr_laws.specs.AskedPlan.{Gave, IsAsked}
 use Rattle.avr_laws.specs.Kept.{IsKept, NoneForged}
 use Rattle.avr_laws.specs.NoFrame.{MakesNoFrame, WereSent, given}
-use Rattle.avr_laws.proofs.Outcomes.Promise.{done, promise, same, sent_is, tape}
+use Rattle.avr_laws.proofs.Outcomes.Promise.{asked as asked_for, done, made, promise, same, sent_is, tape}
 use Rattle.avr_laws.proofs.Plans.Fitted.{plan_fitted}
 
 -- ---- of the frames that a dialog sent, over the tape that it received, none was forged: the same of the dialog
@@ -76,7 +77,7 @@ module _ (s : Settings) (plan : Plan) (x y : Devices) (r : IsRun s x y 0)
       ∙ (ap frames (sym (sent_is s x y r plan made_is silent))
       ∙ frames_sent (done s x y r plan made_is silent) (sends_whole (session plan) 1 (tape s x y r) bodies))
 
-  pub kept : IsKept plan y.link.transcript
+  pub kept : IsKept plan y.link.transcript x.desk y.desk
   kept p got later becames sound part_is came none =
       let is : y.link.transcript ≡ r.during = same s x y r plan made_is silent in
       let bodies : AsksBodies (session plan) = asks plan p sound part_is (plan_fitted s r.openings plan made_is) in
@@ -87,3 +88,15 @@ module _ (s : Settings) (plan : Plan) (x y : Devices) (r : IsRun s x y 0)
       promise s x y r plan made_is silent p got later becames sound part_is came
       (subst (λ (t : Transcript). MakesNoFrame device (session plan) 1 (heard t) p becames []) (sym is)
       (none_forged device (session plan) 1 (heard r.during) p becames [] forged))
+
+-- ---- whatever a call over a link and a desk came to, as avr_tool's `run` states it
+
+pub promised : (s : Settings) (x y : Devices) (status : ℕ) → (IsRun s x y status ⊎ IsStopped s x y status)
+    → status ≡ 0 → x.link.transcript ≡ []
+    → (plan : Plan) × (IsAsked s (Gave x.desk y.desk) plan × IsKept plan y.link.transcript x.desk y.desk)
+promised s x y status (inl ran) zero silent =
+    let r : IsRun s x y 0 = subst (λ (k : ℕ). IsRun s x y k) zero ran in
+    let plan : Plan = (made s x y r).0 in
+    let made_is : (planned s r.openings).answer ≡ Made plan = (made s x y r).1 in
+    (plan, (asked_for s x y r plan made_is silent, kept s plan x y r made_is silent))
+promised s x y status (inr stopped) zero silent = absurd (let one = stopped.1 in omega (arith, one, zero))

@@ -20,12 +20,10 @@ use Rattle.stk_emu.specs.Effect.{memories_of}
 use Rattle.stk_emu.specs.Programmer.{Programmer}
 use Rattle.stk_emu.proofs.Answers.BodySizes.{obey_body}
 use Rattle.avr_tool.specs.Headline.{IsRun}
-use Rattle.avr_tool.specs.Items.{asked_items}
-use Rattle.avr_tool.specs.Outcome.{IsDone}
-use Rattle.avr_tool.specs.Written.{IsWritten}
 use Rattle.avr_tool.proofs.Lines.InTurn.{AreWhole, sends_whole}
 use Rattle.avr_tool.proofs.OverTurns.{asks}
 use Rattle.avr_laws.specs.AnyTape.{became_by}
+use Rattle.avr_laws.specs.Kept.{Keeps}
 use Rattle.avr_laws.specs.Damaged.{Arrived, Arrival, BringsReplies, as_tape}
 use Rattle.avr_laws.specs.NoFrame.{MakesNoFrame}
 use Rattle.avr_laws.proofs.Lines.Damaged.{arrived_came, brings_no_frame}
@@ -61,9 +59,7 @@ module _ (s : Settings) (x y : Devices) (r : IsRun s x y 0) (plan : Plan)
       → p.chip.part ≡ plan.part
       → Arrived (frames (sent y.link.transcript)) through got → heard y.link.transcript ≡ as_tape come
       → BringsReplies device (session plan) 1 come p (became_by through) []
-      → IsDone plan (memories_of p.chip) (memories_of (after_frames device (frames got) p).chip)
-      × (plan.switches.no_verify ≡ false → IsWritten plan.part (asked_items plan) (memories_of p.chip)
-      (memories_of (after_frames device (frames got) p).chip))
+      → Keeps plan (memories_of p.chip) (memories_of (after_frames device (frames got) p).chip) x.desk y.desk
   over_damage p got through come sound part_is arrived is brings =
       let asked : AsksBodies (session plan) = asks plan p sound part_is (plan_fitted s r.openings plan made_is) in
       let these = frames_are s plan x y r made_is silent asked in

@@ -23,7 +23,7 @@ use Rattle.avr_part.specs.declared.part.Mem.{Mem}
 use Rattle.avr_records.specs.declared.kind.Ending.{Ending}
 use Rattle.avr_laws.proofs.Plans.Fitted.{Image, given, settled}
 use Rattle.avr_laws.specs.AskedPlan.{Giving, HasImage, IsTaskOf, AreTasksOf, ArePartsOf, IsAsked}
-use Rattle.avr_plan.specs.ImageFile.{image_within}
+use Rattle.avr_plan.specs.ImageFile.{image_within, kind_of, whole_file}
 use Rattle.avr_plan.specs.Plan.{Plan}
 use Rattle.avr_plan.specs.Planning.{planned, judged_parts, part_or_line, parts_stage, part_stage, tasks_stage, task_stage, op_stage, update_image, image_stage, file_image_stage, judged_image, warning_says}
 use Rattle.avr_laws.proofs.Limits.{LARGEST_IMAGE_FILE, LARGEST_PART_FILE}
@@ -78,29 +78,36 @@ module _ (Gives : Giving) where
       → length text ≤ LARGEST_PART_FILE
   limited_parts name text parts is = search (rules, nat_tests)
 
-  limited_image : (name : Bytes) (kind : Format) (size : ℕ) (text : Bytes) (made : Image × Ending)
-      → judged_image name kind size text ≡ Ok made → length text ≤ LARGEST_IMAGE_FILE
-  limited_image name kind size text made is = search (rules, nat_tests)
+  -- what an image's file is, within the limit
+  abbrev IsWithin : Format → Bytes → ℕ → Image × Ending → Type 0
+  IsWithin kind text size made =
+      (length text ≤ LARGEST_IMAGE_FILE) × (whole_file (kind_of kind text) text size ≡ Ok made)
+
+  within : (kind : Format) (text : Bytes) (size : ℕ) (made : Image × Ending)
+      → image_within LARGEST_IMAGE_FILE kind text size ≡ Ok made → IsWithin kind text size made
+  within kind text size made is = search (rules, nat_tests)
+
+  within_judged : (name : Bytes) (kind : Format) (size : ℕ) (text : Bytes) (made : Image × Ending)
+      → judged_image name kind size text ≡ Ok made → IsWithin kind text size made
+  within_judged name kind size text made is =
+      within kind text size made (given name (image_within LARGEST_IMAGE_FILE kind text size) made is)
 
   -- ---- the plan
 
   file_image : (switches : Switches) (name : Bytes) (kind : Format) (size : ℕ) (openings : List Opening) (image : Image)
       → Saw (file_image_stage switches name kind size) openings image
-      → (text : Bytes) × (ending : Ending) × Gives name text
-      × (image_within LARGEST_IMAGE_FILE kind text size ≡ Ok (image, ending))
+      → (text : Bytes) × (ending : Ending) × Gives name text × (length text ≤ LARGEST_IMAGE_FILE)
+      × (whole_file (kind_of kind text) text size ≡ Ok (image, ending))
   file_image switches name kind size openings image saw =
       let judge = judged_image name kind size in
       let first = saw_first (file_stage name LARGEST_IMAGE_FILE judge)
       (λ (g : Image × Ending). output_stage (warning_says switches name g.1) >>= λ ok. verdict_stage (Ok g.0))
       openings image saw in
-      let file = file_saw name LARGEST_IMAGE_FILE judge (limited_image name kind size) openings first.0 first.1.0 in
-      let same : first.0.0 ≡ image = cc in (
-        file.0,
-        first.0.1,
-        file.1.0,
-        given name (image_within LARGEST_IMAGE_FILE kind file.0 size) first.0 file.1.1
-            ∙ ap (λ (i : Image). Ok (i, first.0.1)) same,
-      )
+      let file = file_saw name LARGEST_IMAGE_FILE judge (λ text made is. (within_judged name kind size text made is).0)
+      openings first.0 first.1.0 in
+      let same : first.0.0 ≡ image = cc in
+      let is = within_judged name kind size file.0 first.0 file.1.1 in
+      (file.0, first.0.1, file.1.0, is.0, is.1 ∙ ap (λ (i : Image). Ok (i, first.0.1)) same)
 
   image : (switches : Switches) (memory : Mem) (size : ℕ) (name : Bytes) (kind : Format) (openings : List Opening)
       (made : Image) → Saw (image_stage switches memory size name kind) openings made

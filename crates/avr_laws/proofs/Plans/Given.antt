@@ -114,14 +114,14 @@ went_asked s plan old new went =
 
 drop_more : {A : Type 0} (n : ℕ) (xs ys : List A) (x : A) → Contains (drop n xs) x → Contains (drop n (xs ++ ys)) x
 drop_more zero xs ys x has = Contains-append_left xs ys x has
-drop_more (suc n) [] ys x has = absurd (let below = has.1.0 in omega (arith, below))
+drop_more (suc n) [] ys x has = absurd (let below = has.1 in omega (arith, below))
 drop_more (suc n) (y ∷ xs) ys x has = drop_more n xs ys x has
 
 module _ (G H : Giving) (each : (name text : Bytes) → G name text → H name text) where
   image_more : (name : Bytes) (kind : Format) (size : ℕ) (image : Image) → HasImage G name kind size image
       → HasImage H name kind size image
   image_more name Immediate size image has = has
-  image_more name kind size image has = (has.0, has.1, each name has.0 has.2.0, has.2.1)
+  image_more name kind size image has = (has.0, has.1, each name has.0 has.2, has.3, has.4)
 
   task_more : (part : Part) (u : Update) (task : Task) → IsTaskOf G part u task → IsTaskOf H part u task
   task_more part u (Write mem image) (op, memory, has) = (op, memory, image_more u.file u.format _ image has)
@@ -153,6 +153,8 @@ pub later_asked : (s : Settings) (plan : Plan) (old mid new : DeskState) (more :
     → IsAsked s (Gave old new) plan
 later_asked s plan old mid new more grows asked =
     asked_more (Gave old mid) (Gave old new)
-    (λ name text among. subst (λ (os : List Opening). Contains (drop (length (all_openings old.kept)) os) _)
-    (sym grows) (drop_more (length (all_openings old.kept)) (all_openings mid.kept) more _ among))
+    (λ name text among. subst (λ (os : List Opening). Contains (drop (length (all_openings old.kept)) os)
+    (Found (record { name = name; bytes = text; ended = true })))
+    (sym grows) (drop_more (length (all_openings old.kept)) (all_openings mid.kept) more
+    (Found (record { name = name; bytes = text; ended = true })) among))
     s plan asked

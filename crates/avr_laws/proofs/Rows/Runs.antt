@@ -80,7 +80,7 @@ pub only_the_images : (s : Settings) (before now : Devices) (r : IsRun s before 
     → NoneForged device (frames (sent now.link.transcript)) (heard now.link.transcript) p becames []
     → memories_of (after_bytes device got later p).chip ≡ left (1 ∷ 2 ∷ 255 ∷ 255 ∷ [])
 only_the_images s before now r is silent p got later becames sound part held came none =
-    (kept s plan before now r is silent p got later becames sound part came none).0.memories
+    (kept s plan before now r is silent p got later becames sound part came none).done.memories
     ∙ ap (effects small (items plan)) held
 
 abbrev Holds : List ℕ → Type 0

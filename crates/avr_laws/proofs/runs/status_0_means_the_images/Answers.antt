@@ -1,9 +1,5 @@
-use Rattle.avr_laws.proofs.Outcomes.Kept.{kept}
-use Rattle.avr_laws.proofs.Outcomes.Promise.{made}
+use Rattle.avr_laws.proofs.Outcomes.Kept.{promised}
 use Rattle.avr_laws.proofs.runs.status_0_means_the_images.Goals as goal
 
-pub returns-clause-plan : goal.returns-clause-plan
-returns-clause-plan c = made
-
-pub returns-clause-images : goal.returns-clause-images
-returns-clause-images c = kept
+pub returns-clause-promise : goal.returns-clause-promise
+returns-clause-promise g c = promised _ _ _ _ c.run.ensures.runs
