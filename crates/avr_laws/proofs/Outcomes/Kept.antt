@@ -21,7 +21,7 @@ use Rattle.avr_tool.proofs.OverTurns.{asks}
 use Rattle.avr_laws.specs.AskedPlan.{Gave, IsAsked}
 use Rattle.avr_laws.specs.Kept.{IsKept, NoneForged}
 use Rattle.avr_laws.specs.NoFrame.{MakesNoFrame, WereSent, given}
-use Rattle.avr_laws.proofs.Outcomes.Promise.{asked as asked_for, done, made, promise, same, sent_is, tape}
+use Rattle.avr_laws.proofs.Outcomes.Promise.{asked as asked_for, done, made, promise, same, sent_is, tape as over_tape}
 use Rattle.avr_laws.proofs.Plans.Fitted.{plan_fitted}
 
 -- ---- of the frames that a dialog sent, over the tape that it received, none was forged: the same of the dialog
@@ -75,7 +75,7 @@ module _ (s : Settings) (plan : Plan) (x y : Devices) (r : IsRun s x y 0)
   frames_are bodies =
       ap (λ (t : Transcript). frames (sent t)) (same s x y r plan made_is silent)
       ∙ (ap frames (sym (sent_is s x y r plan made_is silent))
-      ∙ frames_sent (done s x y r plan made_is silent) (sends_whole (session plan) 1 (tape s x y r) bodies))
+      ∙ frames_sent (done s x y r plan made_is silent) (sends_whole (session plan) 1 (over_tape s x y r) bodies))
 
   pub kept : IsKept plan y.link.transcript x.desk y.desk
   kept p got later becames sound part_is came none =

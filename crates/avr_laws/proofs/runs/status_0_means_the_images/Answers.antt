@@ -1,5 +1,5 @@
 use Rattle.avr_laws.proofs.Outcomes.Kept.{promised}
 use Rattle.avr_laws.proofs.runs.status_0_means_the_images.Goals as goal
 
-pub returns-clause-promise : goal.returns-clause-promise
-returns-clause-promise g c = promised _ _ _ _ c.run.ensures.runs
+pub returns : goal.returns
+returns g c = record { promise = promised _ _ _ _ c.run.ensures.runs }
