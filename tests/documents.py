@@ -30,8 +30,9 @@ def text(name):
 def what_check_quotes():
     """The law, mutants, files and lines of code that docs/CHECK quotes are there, and the mutant is tried."""
     page = text("docs/CHECK.md")
-    law = re.search(r"^    \$ rt check --only runs::(\w+)$", page, re.M)[1]
-    see("the law", f"pub fn {law}()\n" in text("crates/avr_laws/src/runs.rt") and f"avr_laws::runs::{law}: proved" in page, law)
+    module, law = re.search(r"^    \$ rt check --only (\w+)::(\w+)$", page, re.M).groups()
+    source = text(f"crates/avr_laws/src/{module}.rt")
+    see("the law", re.search(rf"^pub fn {law}\b", source, re.M) and f"avr_laws::{module}::{law}: proved" in page, law)
     files = {it.rstrip(".") for it in re.findall(r"\bcrates/\w+(?:/[\w.-]+)*", page)}
     for file in sorted(files):
         see(f"there is {file}", (TOP / file).exists())
@@ -39,6 +40,9 @@ def what_check_quotes():
     see("the mutant is of that crate", f"crates/{tried}/must-fail/any_sequence.edit" in files, files)
     words = lambda it: " ".join(it.split())
     quoted = [it for it in page.splitlines() if it.startswith("    ") and not it.startswith(("    $", "    fn ", "    only="))]
+    # (the drawing quotes nothing)
+    drawn = page[page.index("    the chip holds your images") : page.index("    your board")] + "    your board"
+    quoted = [it for it in quoted if it not in drawn.splitlines()]
     sources = [f"crates/{it}" for it in (
         "stk_host/must-fail/any_sequence.edit", "stk_host/src/listen.rt", "avr_image/must-fail/later_byte_loses.edit",
         "avr_image/src/image.rt", "avr_image/specs/Image.antt")]
