@@ -2,7 +2,7 @@
 """Measures how much a reader has to read: the definitions that a contract reaches.
 
     tools/reach.py FILE.NAME ..      for these definitions of specs/; CRATE.FILE.NAME if several crates have one; a name
-                                     alone is a law, for all that its clauses name
+                                     alone is a law or another function, for all that its clauses name
     tools/reach.py -v ..             also lists them, file by file
     tools/reach.py --check           compares the table of docs/PROOFS with the figures; --write writes them there. It also
                                      looks for each definition (`File.name`) and law that the documents name
@@ -118,15 +118,15 @@ def definition(name):
 
 
 def roots_of(name):
-    """Returns the definition of a name with its file, or those that a law's clauses name."""
+    """Returns the definition of a name with its file, or those that the clauses of a function name."""
     if "." in name:
         return [definition(name)]
     for path in TOP.glob("crates/*/src/**/*.rt"):
-        law = re.search(rf"^pub fn {name}\b.*?^\{{\}}$", path.read_text(), re.M | re.S)
-        if law:
+        head = re.search(rf"^pub fn {name}\b.*?^\{{", path.read_text(), re.M | re.S)
+        if head:
             FILES["law", name] = File(path)
-            return [it for it in named_in("law", name, law[0]) if it]
-    return sys.exit(f"{name}: no law of this name\n\n{__doc__}")
+            return [it for it in named_in("law", name, head[0][head[0].index(" ensures") :]) if it]
+    return sys.exit(f"{name}: no law or function of this name\n\n{__doc__}")
 
 
 def lines_of(places):

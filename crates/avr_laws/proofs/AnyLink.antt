@@ -1,5 +1,5 @@
 -- A session over any link that forges no frame.
-use Rattle.std.proofs.Common.{◌≡◌, ◌≤◌, ℕ, Bool, List, [], ◌++◌, All, length, take, sym, ap, ◌∙◌, subst, arith, inl, inr, Some, length-append, rules}
+use Rattle.std.proofs.Common.{◌≡◌, ◌≤◌, ℕ, List, [], ◌++◌, All, length, take, sym, ap, ◌∙◌, subst, arith, inl, inr, Some, length-append, rules}
 use Rattle.std.proofs.lemmas.List.{append-nil, take-append-le, take_all}
 use Rattle.avr_desk.specs.Said.{OutputEvent, SaidPart}
 use Rattle.avr_part.specs.Sound.{IsSoundChip}
@@ -13,12 +13,12 @@ use Rattle.stk_host.specs.Play.{InTurn, IsPrefixOf}
 use Rattle.stk_host.specs.Transcript.{Transcript, Grows, sent, heard}
 use Rattle.stk_host.specs.Tape.{Tape}
 use Rattle.stk_emu.specs.Along.{along, said_along, AsksBodies}
-use Rattle.avr_laws.specs.AnyTape.{GoesAs, CameThrough, after_pieces, became_by, turns_heard}
+use Rattle.avr_laws.specs.AnyTape.{GoesAs, CameThrough, after_bytes, after_pieces, turns_heard}
 use Rattle.avr_tool.specs.Honest.{AreHonest}
 use Rattle.avr_laws.specs.NoFrame.{MakesNoFrame}
 use Rattle.avr_laws.proofs.Lines.NoFrame.{no_frame_honest}
 use Rattle.stk_emu.specs.Turn.{Turn, Became}
-use Rattle.stk_emu.specs.Device.{device, after_frames}
+use Rattle.stk_emu.specs.Device.{device}
 use Rattle.stk_emu.specs.Programmer.{Programmer}
 use Rattle.avr_tool.proofs.Lines.InTurn.{sends_whole, frames_prefix, frames_sent, shown_prefix}
 use Rattle.avr_laws.proofs.Lines.AnyTape.{goes_as, through_after}
@@ -92,45 +92,46 @@ module _ (plan : Plan) (begun : Programmer) (is_sound : IsSoundChip begun.chip) 
       )
 
   -- over a link that forges no frame, from the bytes that the programmer got
-  module _ (got bytes : List ℕ) (through : List Bool) (tape : Tape) (came : CameThrough got (frames bytes) through)
-      (none : MakesNoFrame device (session plan) 1 tape begun (became_by through) []) where
-    honest_bytes : AreHonest device (session plan) 1 tape begun (became_by through)
-    honest_bytes = no_frame_honest device (session plan) 1 tape begun (became_by through) [] tt none
+  module _ (got bytes : List ℕ) (later : List (List ℕ)) (becames : List Became) (tape : Tape)
+      (came : CameThrough got later (frames bytes) becames)
+      (none : MakesNoFrame device (session plan) 1 tape begun becames []) where
+    honest_bytes : AreHonest device (session plan) 1 tape begun becames
+    honest_bytes = no_frame_honest device (session plan) 1 tape begun becames [] tt none
 
-    left_bytes : after_pieces device (frames bytes) (became_by through) begun ≡ after_frames device (frames got) begun
-    left_bytes = sym (through_after device got (frames bytes) through begun came)
+    left_bytes : after_pieces device (frames bytes) becames begun ≡ after_bytes device got later begun
+    left_bytes = sym (through_after device got later (frames bytes) becames begun came)
 
     pub over_bytes : (left : Tape) (events : List (Event OutputEvent)) (status next : ℕ)
         → played (session plan) 1 tape ≡ record { events = events; outcome = Some (status, next, left) }
         → bytes_sent events ≡ bytes
-        → WholeOverTurns plan begun (after_frames device (frames got) begun)
-        (turns_heard (session plan) 1 tape (became_by through)) bytes events status
+        → WholeOverTurns plan begun (after_bytes device got later begun)
+        (turns_heard (session plan) 1 tape becames) bytes events status
     over_bytes left events status next is sent_is =
-        subst (λ q. WholeOverTurns plan begun q (turns_heard (session plan) 1 tape (became_by through)) bytes events
+        subst (λ q. WholeOverTurns plan begun q (turns_heard (session plan) 1 tape becames) bytes events
         status) left_bytes
-        (over_any_line tape (became_by through) honest_bytes bytes left events status next is sent_is)
+        (over_any_line tape becames honest_bytes bytes left events status next is sent_is)
 
     pub end_bytes : IsPrefixOf bytes (bytes_sent (played (session plan) 1 tape).events)
-        → ReportsOverTurns plan begun (after_frames device (frames got) begun)
-        (turns_heard (session plan) 1 tape (became_by through)) bytes
+        → ReportsOverTurns plan begun (after_bytes device got later begun)
+        (turns_heard (session plan) 1 tape becames) bytes
         (played (session plan) 1 tape).events
     end_bytes prefix =
-        subst (λ q. ReportsOverTurns plan begun q (turns_heard (session plan) 1 tape (became_by through)) bytes
+        subst (λ q. ReportsOverTurns plan begun q (turns_heard (session plan) 1 tape becames) bytes
         (played (session plan) 1 tape).events) left_bytes
-        (over_any_end tape (became_by through) honest_bytes bytes prefix)
+        (over_any_end tape becames honest_bytes bytes prefix)
 
   -- whatever the outcome of a call over a new link
-  module _ (got : List ℕ) (through : List Bool) (old new : Devices) (status : ℕ)
+  module _ (got : List ℕ) (later : List (List ℕ)) (becames : List Became) (old new : Devices) (status : ℕ)
       (silent : old.link.transcript ≡ []) where
     abbrev transcript : Transcript
     transcript = new.link.transcript
 
     pub over_any_run : RunsSession plan old new status
-        → CameThrough got (frames (sent transcript)) through
-        → MakesNoFrame device (session plan) 1 (heard transcript) begun (became_by through) []
-        → ReportsOverTurns plan begun (after_frames device (frames got) begun)
-        (turns_heard (session plan) 1 (heard transcript) (became_by through)) (sent transcript)
+        → CameThrough got later (frames (sent transcript)) becames
+        → MakesNoFrame device (session plan) 1 (heard transcript) begun becames []
+        → ReportsOverTurns plan begun (after_bytes device got later begun)
+        (turns_heard (session plan) 1 (heard transcript) becames) (sent transcript)
         (played (session plan) 1 (heard transcript)).events
     over_any_run runs came none =
-        end_bytes got (sent transcript) through (heard transcript) came none
+        end_bytes got (sent transcript) later becames (heard transcript) came none
         (sent_first plan old new status silent runs).1

@@ -1,4 +1,6 @@
 -- What status 0 means, and outcomes that are refused.
+pub mod Saved
 pub mod Promise
+pub mod Kept
 pub mod OverDamage
 pub mod Refused

@@ -3,4 +3,5 @@ pub mod Fitted
 pub mod EachStage
 pub mod FilesRead
 pub mod AskedPlan
+pub mod Given
 pub mod OnlyReading

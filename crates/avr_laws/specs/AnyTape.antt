@@ -1,11 +1,11 @@
 -- A dialog run over any tape, given what happened to the programmer at each question, as avr_tool's Honest.
-use Rattle.std.specs.Prelude.{ℕ, suc, Bool, true, false, List, [], ◌∷◌, ◌≡◌, ◌≤◌, Option, Some, None, length, filter, take, if◌then◌else◌}
+use Rattle.std.specs.Prelude.{ℕ, suc, Bool, true, false, List, [], ◌∷◌, ◌≡◌, ◌≤◌, Option, Some, None, length, filter, map, take, if◌then◌else◌}
 use Rattle.std.specs.Str.{bytes_eq}
 use Rattle.stk_frame.specs.Cut.{frames, is_good}
 use Rattle.stk_host.specs.Tape.{Tape, Reading, Answered, Silent, Ended, Babbled, answer}
 use Rattle.stk_host.specs.Dialog.{Dialog, Done, Say, Ask, played, next, frames_in, outputs}
-use Rattle.stk_emu.specs.Device.{Device, after_frame, refusal}
-use Rattle.stk_emu.specs.Turn.{Became, Kept, Obeyed, after_became, Turn, Right, Wrong, Refusal, Nothing, Babble, Ending}
+use Rattle.stk_emu.specs.Device.{Device, after_frame, after_frames, refusal}
+use Rattle.stk_emu.specs.Turn.{Became, Kept, Obeyed, Anew, after_became, Turn, Right, Wrong, Refusal, Nothing, Babble, Ending}
 use Rattle.stk_emu.specs.Along.{along, said_along}
 use Rattle.avr_tool.specs.Honest.{first_became, other_becames}
 
@@ -62,17 +62,36 @@ pub record GoesAs {E R P : Type 0} (m : Device P) (d : Dialog E R) (n : ℕ) (ta
       → WaitsAlong m d p (turns_heard d n tape becames) (frames_in (played d n tape).events)
       (outputs (played d n tape).events)
 
--- Some of these frames, in order, each at most once: those that arrived.
-abbrev pub let_through : List Bool → List (List ℕ) → List (List ℕ)
-let_through [] sent = []
-let_through (through ∷ more) [] = []
-let_through (true ∷ more) (piece ∷ sent) = piece ∷ let_through more sent
-let_through (false ∷ more) (piece ∷ sent) = let_through more sent
+-- The frames that the programmer gets of those sent, in order, each at most once, given what happened to it at each:
+-- those up to its first restart, and those after each restart.
+abbrev pub Got : Type 0
+Got = List (List ℕ) × List (List (List ℕ))
 
--- A programmer that got any bytes: the good frames cut from them are some of those sent.
-pub record CameThrough (got : List ℕ) (sent : List (List ℕ)) (through : List Bool) : Type 0 where
-  pub good : filter is_good (frames got) ≡ let_through through sent
+abbrev pub getting : Became → List ℕ → Got → Got
+getting Kept piece got = got
+getting Obeyed piece got = (piece ∷ got.0, got.1)
+getting (Anew became) piece got = getting became piece ([], got.0 ∷ got.1)
 
+abbrev pub let_through : List Became → List (List ℕ) → Got
+let_through [] sent = ([], [])
+let_through (became ∷ more) [] = ([], [])
+let_through (became ∷ more) (piece ∷ sent) = getting became piece (let_through more sent)
+
+abbrev pub good_frames : List ℕ → List (List ℕ)
+good_frames bytes = filter is_good (frames bytes)
+
+-- A programmer that got any bytes, and `later` after each of its restarts: the good frames cut from them are some of
+-- those sent.
+pub record CameThrough (got : List ℕ) (later : List (List ℕ)) (sent : List (List ℕ)) (becames : List Became)
+    : Type 0 where
+  pub good : let_through becames sent ≡ (good_frames got, map good_frames later)
+
+-- The device after it got these bytes, and after it restarted and got these more, each time.
+abbrev pub after_bytes : {P : Type 0} → Device P → List ℕ → List (List ℕ) → P → P
+after_bytes m got [] p = after_frames m (frames got) p
+after_bytes m got (first ∷ later) p = after_bytes m first later (m.reset (after_frames m (frames got) p))
+
+-- Without a restart: true for each frame that arrived.
 abbrev pub became_by : List Bool → List Became
 became_by [] = []
 became_by (true ∷ more) = Obeyed ∷ became_by more

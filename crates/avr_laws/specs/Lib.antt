@@ -5,6 +5,7 @@ pub mod AskedPlan
 -- what a link does to a conversation with the emulated programmer, and what holds along it
 pub mod AnyTape
 pub mod NoFrame
+pub mod Kept
 pub mod Damaged
 pub mod Few
 pub mod Bound

@@ -1,7 +1,7 @@
 //! Laws of what a run leaves in a chip and how much it sends, whatever the link does. No code.
 #![tactic(auto)]
 
-ghost use Rattle.std.specs.Prelude.{◌≡◌, ◌*◌, ◌++◌, ℕ, Bool, List, [], All, Some, take};
+ghost use Rattle.std.specs.Prelude.{◌≡◌, ◌*◌, ◌++◌, ℕ, List, [], All, Some, take};
 ghost use Rattle.avr_cli.specs.declared.settings.Settings.{Settings};
 ghost use Rattle.avr_desk.specs.Record.{Bytes, DeskState};
 ghost use Rattle.avr_desk.specs.Said.{OutputEvent, SaidPart};
@@ -12,7 +12,7 @@ ghost use Rattle.avr_session.specs.Runs.{Devices, devices};
 ghost use Rattle.avr_session.specs.Session.{session};
 ghost use Rattle.avr_session.specs.Stopping.{IsPlayed};
 ghost use Rattle.stk_emu.specs.Along.{along, said_along};
-ghost use Rattle.stk_emu.specs.Device.{device, after_frames};
+ghost use Rattle.stk_emu.specs.Device.{device};
 ghost use Rattle.stk_emu.specs.Effect.{Memories, effects, memories_of};
 ghost use Rattle.stk_emu.specs.Programmer.{Programmer, fresh_programmer};
 ghost use Rattle.stk_emu.specs.Settled.{Idle, FitsPart};
@@ -21,7 +21,7 @@ ghost use Rattle.stk_emu.specs.Wired.{WiredState, ComesOf, IsFresh, wired_link};
 ghost use Rattle.avr_tool.specs.Emulated.{RunsOverEmulator, new_wire};
 ghost use Rattle.ghosts.specs.Stays.{Stays};
 ghost use Rattle.stk_emu.specs.Turn.{Turn, Became};
-ghost use Rattle.avr_laws.specs.AnyTape.{CameThrough, after_pieces, became_by, turns_heard};
+ghost use Rattle.avr_laws.specs.AnyTape.{CameThrough, after_bytes, after_pieces, turns_heard};
 ghost use Rattle.avr_tool.specs.Honest.{AreHonest};
 ghost use Rattle.avr_laws.specs.NoFrame.{MakesNoFrame};
 ghost use Rattle.avr_part.specs.Sound.{IsSoundChip};
@@ -143,15 +143,14 @@ pub fn a_session_over_any_line()
         → bytes_sent events ≡ bytes
         → WholeOverTurns plan p (after_pieces device (frames bytes) becames p)
         (turns_heard (session plan) 1 tape becames) bytes events status }
-    ensures bytes { (plan : Plan) (p : Programmer) (got bytes : List ℕ) (through : List Bool) (tape left : Tape)
-        (events : List (Event OutputEvent)) (status next : ℕ)
+    ensures bytes { (plan : Plan) (p : Programmer) (got bytes : List ℕ) (later : List (List ℕ)) (becames : List Became)
+        (tape left : Tape) (events : List (Event OutputEvent)) (status next : ℕ)
         → IsSoundChip p.chip → p.chip.part ≡ plan.part → All (IsFitted plan.part) plan.tasks
-        → CameThrough got (frames bytes) through
-        → MakesNoFrame device (session plan) 1 tape p (became_by through) []
+        → CameThrough got later (frames bytes) becames → MakesNoFrame device (session plan) 1 tape p becames []
         → played (session plan) 1 tape ≡ record { events = events; outcome = Some (status, next, left) }
         → bytes_sent events ≡ bytes
-        → WholeOverTurns plan p (after_frames device (frames got) p)
-        (turns_heard (session plan) 1 tape (became_by through)) bytes events status }
+        → WholeOverTurns plan p (after_bytes device got later p)
+        (turns_heard (session plan) 1 tape becames) bytes events status }
     ensures end { (plan : Plan) (p : Programmer) (becames : List Became) (bytes : List ℕ) (tape : Tape)
         → IsSoundChip p.chip → p.chip.part ≡ plan.part → All (IsFitted plan.part) plan.tasks
         → AreHonest device (session plan) 1 tape p becames
@@ -165,12 +164,13 @@ pub fn a_session_over_any_line()
 /// by what was received, and at most one more. Its output is the expected run's, up to the line of a failed step.
 // Proof: `over_any_run` (AnyLink); its page writes are avr_tool's `session_makes` (AnyLine/PageWriteOrder).
 pub fn whatever_becomes_of_a_session_its_first_page_writes_were_made()
-    ensures { (plan : Plan) (p : Programmer) (got : List ℕ) (through : List Bool) (old new : Devices) (status : ℕ)
+    ensures { (plan : Plan) (p : Programmer) (got : List ℕ) (later : List (List ℕ)) (becames : List Became)
+        (old new : Devices) (status : ℕ)
         → IsSoundChip p.chip → p.chip.part ≡ plan.part → All (IsFitted plan.part) plan.tasks
         → old.link.transcript ≡ [] → RunsSession plan old new status
-        → CameThrough got (frames (sent new.link.transcript)) through
-        → MakesNoFrame device (session plan) 1 (heard new.link.transcript) p (became_by through) []
-        → ReportsOverTurns plan p (after_frames device (frames got) p)
-        (turns_heard (session plan) 1 (heard new.link.transcript) (became_by through)) (sent new.link.transcript)
+        → CameThrough got later (frames (sent new.link.transcript)) becames
+        → MakesNoFrame device (session plan) 1 (heard new.link.transcript) p becames []
+        → ReportsOverTurns plan p (after_bytes device got later p)
+        (turns_heard (session plan) 1 (heard new.link.transcript) becames) (sent new.link.transcript)
         (played (session plan) 1 (heard new.link.transcript)).events }
 {}

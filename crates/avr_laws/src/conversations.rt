@@ -1,7 +1,7 @@
 //! Laws of a conversation with the emulated programmer over a bad link. What a link does to a question is a turn. A
 //! conversation goes along the turns question by question, over a wire and over any tape without forged frames.
 
-ghost use Rattle.std.specs.Prelude.{filter, true, ◌≡◌, ◌++◌, ℕ, List, [], ◌∷◌, Ok, Bool, length, replicate, ◌<◌, ◌≤◌, Err};
+ghost use Rattle.std.specs.Prelude.{filter, true, ◌≡◌, ◌++◌, ℕ, List, [], ◌∷◌, Ok, length, replicate, ◌<◌, ◌≤◌, Err};
 ghost use Rattle.avr_part.specs.Part.{Part, IsPart};
 ghost use Rattle.stk_frame.specs.declared.command.Command.{Command};
 ghost use Rattle.stk_frame.specs.Frame.{frame};
@@ -12,9 +12,9 @@ ghost use Rattle.stk_host.specs.Play.{Progress, progress_at, InTurn, IsPrefixOf,
 ghost use Rattle.stk_host.specs.Steps.{StepOutcome, step, play};
 ghost use Rattle.stk_host.specs.Transcript.{Transcript, sent, heard};
 ghost use Rattle.stk_emu.specs.Programmer.{Programmer};
-ghost use Rattle.stk_emu.specs.Device.{device, after_frames};
+ghost use Rattle.stk_emu.specs.Device.{device};
 ghost use Rattle.avr_laws.specs.NoFrame.{MakesNoFrame};
-ghost use Rattle.avr_laws.specs.AnyTape.{GoesAs, CameThrough, after_pieces, became_by};
+ghost use Rattle.avr_laws.specs.AnyTape.{GoesAs, CameThrough, after_bytes, after_pieces, became_by};
 ghost use Rattle.avr_tool.specs.Honest.{AreHonest};
 ghost use Rattle.stk_emu.specs.Lawful.{IsClear};
 ghost use Rattle.stk_emu.specs.Wire.{Wire, AreLawful, becames_of, tape_of, turns_of};
@@ -61,9 +61,8 @@ pub fn few_bad_fates_bring_all_data()
 pub fn over_any_tape_a_conversation_goes_along_turns<E, R>()
     ensures goes { (d : Dialog E R) (n : ℕ) (tape : Tape) (p : Programmer) (becames : List Became)
         → AsksBodies d → AreHonest device d n tape p becames → GoesAs device d n tape p becames }
-    ensures got { (got : List ℕ) (sent : List (List ℕ)) (through : List Bool) (p : Programmer)
-        → CameThrough got sent through
-        → after_frames device (frames got) p ≡ after_pieces device sent (became_by through) p }
+    ensures got { (got : List ℕ) (later sent : List (List ℕ)) (becames : List Became) (p : Programmer)
+        → CameThrough got later sent becames → after_bytes device got later p ≡ after_pieces device sent becames p }
 {}
 
 /// States that everything read on a link that forges no frame is honest, from the first frame on. A reply that is
@@ -83,7 +82,7 @@ pub fn a_wire_is_an_honest_line<E, R>()
         → frames_in (played d n (tape_of device sent w)).events ≡ sent ++ more
         → AreHonest device d n (tape_of device sent w) w.programmer (becames_of (length sent) w.fates) }
     ensures prefix { (got : List ℕ) (sent others : List (List ℕ)) → sent ≡ frames got ++ others
-        → filter is_good sent ≡ sent → CameThrough got sent (replicate (length (frames got)) true) }
+        → filter is_good sent ≡ sent → CameThrough got [] sent (became_by (replicate (length (frames got)) true)) }
 {}
 
 /// States that a conversation over a wire never receives while nothing waits, if it receives only when it is due.

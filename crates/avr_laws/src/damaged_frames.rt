@@ -13,14 +13,13 @@ ghost use Rattle.stk_frame.specs.Cut.{IsPiece, frames, is_good};
 ghost use Rattle.stk_host.specs.Dialog.{Dialog};
 ghost use Rattle.stk_host.specs.Transcript.{heard, sent};
 ghost use Rattle.stk_emu.specs.Device.{device, after_frames};
-ghost use Rattle.stk_emu.specs.Effect.{effects, memories_of};
+ghost use Rattle.stk_emu.specs.Effect.{memories_of};
 ghost use Rattle.stk_emu.specs.Programmer.{Programmer};
 ghost use Rattle.stk_emu.specs.Turn.{Became};
 ghost use Rattle.avr_tool.specs.Headline.{IsRun};
-ghost use Rattle.avr_tool.specs.Items.{items, asked_items};
-ghost use Rattle.avr_tool.specs.Written.{IsWritten};
 ghost use Rattle.avr_laws.specs.AnyTape.{CameThrough, became_by};
 ghost use Rattle.avr_laws.specs.Damaged.{Arrived, Arrival, BringsReplies, as_tape};
+ghost use Rattle.avr_laws.specs.Kept.{Keeps};
 ghost use Rattle.avr_laws.specs.NoFrame.{MakesNoFrame};
 
 /// States that a link forges no frame if it loses or delays whole frames and changes at most one byte of each: any
@@ -31,7 +30,8 @@ ghost use Rattle.avr_laws.specs.NoFrame.{MakesNoFrame};
 // Proof: `arrived_came` and `brings_no_frame` (Lines/Damaged).
 pub fn a_link_that_damages_one_byte_forges_no_frame<E, R>()
     ensures programmer { (sent : List (List ℕ)) (through : List Bool) (got : List ℕ) → All IsPiece sent
-        → All (λ piece. is_good piece ≡ true) sent → Arrived sent through got → CameThrough got sent through }
+        → All (λ piece. is_good piece ≡ true) sent → Arrived sent through got
+        → CameThrough got [] sent (became_by through) }
     ensures host { (d : Dialog E R) (n : ℕ) (come : List Arrival) (p : Programmer) (becames : List Became)
         → BringsReplies device d n come p becames [] → MakesNoFrame device d n (as_tape come) p becames [] }
 {}
@@ -46,7 +46,6 @@ pub fn over_a_link_that_damages_one_byte_status_0_means_the_images()
         → IsSoundChip p.chip → p.chip.part ≡ plan.part
         → Arrived (frames (sent now.link.transcript)) through got → heard now.link.transcript ≡ as_tape come
         → BringsReplies device (session plan) 1 come p (became_by through) []
-        → (memories_of (after_frames device (frames got) p).chip ≡ effects plan.part (items plan) (memories_of p.chip))
-        × (plan.switches.no_verify ≡ false → IsWritten plan.part (asked_items plan) (memories_of p.chip)
-        (memories_of (after_frames device (frames got) p).chip)) }
+        → Keeps plan (memories_of p.chip) (memories_of (after_frames device (frames got) p).chip)
+        before.desk now.desk }
 {}

@@ -6,7 +6,7 @@ ghost use Rattle.avr_desk.specs.Record.{Record, showing, Bytes};
 ghost use Rattle.avr_desk.specs.declared.record.Opening.{Opening};
 ghost use Rattle.avr_desk.specs.Lines.{memory_line};
 ghost use Rattle.avr_desk.specs.Memory.{Stock, stood_for};
-ghost use Rattle.avr_laws.specs.AskedPlan.{IsAsked};
+ghost use Rattle.avr_laws.specs.AskedPlan.{Holding, IsAsked};
 ghost use Rattle.avr_laws.specs.FilesRead.{AreSeen, lines_in, planned_of};
 ghost use Rattle.avr_laws.specs.OnlyReading.{OnlyReads};
 ghost use Rattle.avr_plan.specs.Planning.{planned};
@@ -51,5 +51,5 @@ pub fn a_plan_fits_its_part()
 pub fn a_plan_is_the_one_asked_for()
     ensures { (s : Settings) (stock : Stock) (openings : List Opening) (plan : Plan)
         → AreSeen stock (planned s openings).says → (planned s openings).answer ≡ Made plan
-        → IsAsked s (stood_for stock []) plan }
+        → IsAsked s (Holding (stood_for stock [])) plan }
 {}

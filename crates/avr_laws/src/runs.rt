@@ -1,6 +1,6 @@
 //! Laws of runs: what status 0 means, what few bad frames and a further run do, and worked outcomes. No code.
 
-ghost use Rattle.std.specs.Prelude.{◌≡◌, ◌<◌, ◌*◌, ◌⊎◌, ℕ, Bool, true, false, List, [], All, Some, map};
+ghost use Rattle.std.specs.Prelude.{◌≡◌, ◌<◌, ◌*◌, ◌⊎◌, ℕ, true, false, List, [], All, Some, map};
 ghost use Rattle.avr_cli.specs.declared.settings.Settings.{Settings};
 ghost use Rattle.avr_desk.specs.Memory.{MemDeskState, Stock, memory_state, stock_of};
 ghost use Rattle.avr_desk.specs.Truth.{HoldsTrue};
@@ -29,43 +29,52 @@ ghost use Rattle.avr_session.specs.Stopping.{IsSound, LacksMemory, keeping, link
 ghost use Rattle.avr_tool.specs.Headline.{IsRun, IsStopped};
 ghost use Rattle.avr_laws.specs.InMemory.{AreUnused, Leaves, LeavesStreams, RunOutcome, shown_by};
 ghost use Rattle.avr_laws.specs.Worked.{absent_outcome, absent_settings, frames_due, fuse_plan, lines_due, made_answers, no_stock, worked_answers, worked_outcome, worked_settings};
-ghost use Rattle.stk_emu.specs.Device.{device, after_frames};
+ghost use Rattle.stk_emu.specs.Device.{device};
 ghost use Rattle.stk_emu.specs.Effect.{memories_of, erase_keeps_eeprom, effects};
 ghost use Rattle.avr_laws.specs.Few.{AreFew};
+ghost use Rattle.avr_laws.specs.AskedPlan.{Gave, IsAsked};
+ghost use Rattle.avr_laws.specs.Kept.{IsKept};
 ghost use Rattle.stk_emu.specs.Programmer.{Programmer, fresh_programmer};
 ghost use Rattle.stk_emu.specs.Settled.{FitsPart};
 ghost use Rattle.stk_emu.specs.Wire.{turns_of};
 ghost use Rattle.stk_emu.specs.Wired.{WiredState};
 ghost use Rattle.stk_frame.specs.Cut.{body_of, frames};
-ghost use Rattle.stk_emu.specs.Turn.{Turn};
-ghost use Rattle.avr_laws.specs.AnyTape.{CameThrough, became_by};
+ghost use Rattle.stk_emu.specs.Turn.{Became, Turn};
+ghost use Rattle.avr_laws.specs.AnyTape.{CameThrough};
 ghost use Rattle.avr_laws.specs.NoFrame.{MakesNoFrame};
 ghost use Rattle.stk_host.specs.Dialog.{Event, played, bytes_sent, outputs};
 ghost use Rattle.stk_host.specs.Transcript.{Transcript, heard, sent};
 ghost use Rattle.stk_host.specs.Tape.{Tape};
 
+use avr_cli::Settings;
+use avr_desk::Desk;
+use avr_tool::run;
+use std::alloc::Global;
 use std::io::{Read, Write};
+use stk_host::Link;
 
-/// States what status 0 means, over any link over which nothing had passed: a plan was made, and the chip holds its
-/// images.
+/// Runs what the settings ask for over a link, as [`avr_tool::run`] does, and states what status 0 means then. Nothing had
+/// passed over the link. The settings and the files that were opened ask for a plan, and the chip holds its images.
 ///
-/// The programmer may be in any state. It received any bytes whose good frames are some of those sent, and no reply was
-/// forged. Then the memories of its chip are what the plan's writes make of them. If the run was verified, each holds
-/// its images. Elsewhere it holds what it held before, or the FF of an erase.
-// Proof: `promise` (Outcomes/Promise), by `over_bytes` (AnyLink) and avr_tool's `comes_over_turns` (OverTurns). There the
-// memories are `session_leaves` (AnyLine/Outcomes), the images `run_written` (Memories/VerifiedRuns).
-pub fn status_0_means_the_images()
-    ensures plan { (s : Settings) (before now : Devices) (r : IsRun s before now 0)
-        → (plan : Plan) × ((planned s r.openings).answer ≡ Made plan) }
-    ensures images { (s : Settings) (plan : Plan) (before now : Devices) (r : IsRun s before now 0)
-        → (planned s r.openings).answer ≡ Made plan → before.link.transcript ≡ []
-        → (p : Programmer) (got : List ℕ) (through : List Bool) → IsSoundChip p.chip → p.chip.part ≡ plan.part
-        → CameThrough got (frames (sent now.link.transcript)) through
-        → MakesNoFrame device (session plan) 1 (heard now.link.transcript) p (became_by through) []
-        → (memories_of (after_frames device (frames got) p).chip ≡ effects plan.part (items plan) (memories_of p.chip))
-        × (plan.switches.no_verify ≡ false → IsWritten plan.part (asked_items plan) (memories_of p.chip)
-        (memories_of (after_frames device (frames got) p).chip)) }
-{}
+/// The programmer may be in any state. It received any bytes whose good frames are some of those sent, also after it
+/// restarted, and no reply was forged. Then the memories of its chip are what the plan's writes make of them, and all that
+/// the plan compares agreed. If the run was verified, each holds its images. Elsewhere it holds what it held before, or the
+/// FF of an erase. Each file that a memory was read into has the text of what the chip held then.
+// Proof: `promised` (Outcomes/Kept), by `over_bytes` (AnyLink) and avr_tool's `comes_over_turns` (OverTurns). There the
+// memories are `session_leaves` (AnyLine/Outcomes), the images `run_written` (Memories/VerifiedRuns). The files are
+// `expected_writes` (Outcomes/Saved), the plan `desk_asked` (Plans/Given).
+pub fn status_0_means_the_images<D: Desk, L: Link>(
+    alloc: Global,
+    settings: &Settings,
+    desk: &mut D,
+    link: &mut L,
+) -> u8
+    ensures promise { result ≡ 0 → (L.view link.old).transcript ≡ []
+        → (plan : Plan) × (IsAsked settings.now (Gave (D.view desk.old) (D.view desk.new)) plan
+        × IsKept plan (L.view link.new).transcript (D.view desk.old) (D.view desk.new)) }
+{
+    run(alloc, settings, desk, link)
+}
 
 /// States what the page refuses of a run over a wire. With status 0: memories that the plan's writes don't leave, or
 /// output other than over a perfect link. With any status: a chip that changed though no frame was sent, or more than
@@ -187,8 +196,8 @@ pub fn a_made_frame_voids_the_promise()
     ensures ends { (played (session fuse_plan) 1 made_answers).outcome ≡ Some (0, 8, []) }
     ensures void { (p q : Programmer) (turns : List Turn) (bytes : List ℕ) (events : List (Event OutputEvent))
         → (p.chip.lfuse ≡ 0xE2 → ⊥) → WholeOverTurns fuse_plan p q turns bytes events 0 → ⊥ }
-    ensures made { (s : Chip) (got : List ℕ) (through : List Bool)
+    ensures made { (s : Chip) (got : List ℕ) (later : List (List ℕ)) (becames : List Became)
         → IsSoundChip s → s.part ≡ fuse_plan.part → (s.lfuse ≡ 0xE2 → ⊥)
-        → CameThrough got (frames (bytes_sent (played (session fuse_plan) 1 made_answers).events)) through
-        → MakesNoFrame device (session fuse_plan) 1 made_answers (fresh_programmer s) (became_by through) [] → ⊥ }
+        → CameThrough got later (frames (bytes_sent (played (session fuse_plan) 1 made_answers).events)) becames
+        → MakesNoFrame device (session fuse_plan) 1 made_answers (fresh_programmer s) becames [] → ⊥ }
 {}

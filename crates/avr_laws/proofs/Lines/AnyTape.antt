@@ -1,5 +1,5 @@
 -- A dialog over any tape goes along turns.
-use Rattle.std.proofs.Common.{◌≡◌, ◌≤◌, ℕ, zero, suc, List, [], ◌∷◌, ◌++◌, length, take, refl, sym, ap, ◌∙◌, arith, Bool, true, false, Option, Some, None, rules}
+use Rattle.std.proofs.Common.{◌≡◌, ◌≤◌, ℕ, zero, suc, List, [], ◌∷◌, ◌++◌, length, map, take, refl, sym, ap, ◌∙◌, arith, Bool, true, false, Option, Some, None, rules}
 use Rattle.std.proofs.lemmas.Bool.{cond-true}
 use Rattle.std.proofs.lemmas.Slice.Eq.{bytes_eq-Decides}
 use Rattle.std.proofs.lemmas.Option.{none-some}
@@ -11,9 +11,9 @@ use Rattle.stk_host.specs.Tape.{Tape, Reading, answer}
 use Rattle.stk_host.specs.Dialog.{Dialog, Done, Say, Ask, Frame, Played, played, behind, by_answer, next, frames_in}
 use Rattle.stk_emu.specs.Device.{Device, after_frame, after_frames}
 use Rattle.stk_emu.specs.Lawful.{IsBody}
-use Rattle.stk_emu.specs.Turn.{Became, Obeyed, Anew, Nothing, Turn, Wrong, after_became, after_turn, turn_reading, IsHonest}
+use Rattle.stk_emu.specs.Turn.{Became, Kept, Obeyed, Anew, Nothing, Turn, Wrong, after_became, after_turn, turn_reading, IsHonest}
 use Rattle.stk_emu.specs.Along.{along, AsksBodies}
-use Rattle.avr_laws.specs.AnyTape.{after_pieces, turn_by, turns_from, turns_heard, GoesAs, let_through, CameThrough, became_by}
+use Rattle.avr_laws.specs.AnyTape.{after_pieces, turn_by, turns_from, turns_heard, GoesAs, Got, getting, let_through, good_frames, after_bytes, CameThrough}
 use Rattle.avr_tool.specs.Honest.{first_became, other_becames, on_answer, AreHonest}
 use Rattle.avr_tool.proofs.Given.LaterAnswers.{answer_extends}
 use Rattle.avr_tool.proofs.Lines.Plays.{played_along, said_played, done_played, waits_played}
@@ -160,14 +160,38 @@ module _ {P : Type 0} (m : Device P) where
   good_alone [] p = refl
   good_alone (piece ∷ pieces) p = search (rules, good_alone pieces (after_frame m piece p), good_alone pieces p)
 
-  let_through_after : (through : List Bool) (sent : List (List ℕ)) (p : P)
-      → after_frames m (let_through through sent) p ≡ after_pieces m sent (became_by through) p
+  -- the good frames that it got, and those after each restart
+  abbrev after_got : List (List ℕ) → List (List (List ℕ)) → P → P
+  after_got got [] p = after_frames m got p
+  after_got got (first ∷ later) p = after_got first later (m.reset (after_frames m got p))
+
+  one_more : (piece : List ℕ) (got : List (List ℕ)) (later : List (List (List ℕ))) (p : P)
+      → after_got (piece ∷ got) later p ≡ after_got got later (after_frame m piece p)
+  one_more piece got [] p = refl
+  one_more piece got (first ∷ later) p = refl
+
+  getting_after : (became : Became) (piece : List ℕ) (g : Got) (p : P)
+      → after_got (getting became piece g).0 (getting became piece g).1 p
+      ≡ after_got g.0 g.1 (after_became became (after_frame m piece p) p m.reset)
+  getting_after Kept piece g p = refl
+  getting_after Obeyed piece g p = one_more piece g.0 g.1 p
+  getting_after (Anew became) piece g p = getting_after became piece ([], g.0 ∷ g.1) p
+
+  let_through_after : (becames : List Became) (sent : List (List ℕ)) (p : P)
+      → after_got (let_through becames sent).0 (let_through becames sent).1 p ≡ after_pieces m sent becames p
   let_through_after [] [] p = refl
   let_through_after [] (piece ∷ sent) p = let_through_after [] sent p
-  let_through_after (through ∷ more) [] p = refl
-  let_through_after (true ∷ more) (piece ∷ sent) p = let_through_after more sent (after_frame m piece p)
-  let_through_after (false ∷ more) (piece ∷ sent) p = let_through_after more sent p
+  let_through_after (first ∷ more) [] p = refl
+  let_through_after (first ∷ more) (piece ∷ sent) p = getting_after first piece (let_through more sent) p
+      ∙ let_through_after more sent (after_became first (after_frame m piece p) p m.reset)
 
-  pub through_after : (got : List ℕ) (sent : List (List ℕ)) (through : List Bool) (p : P) → CameThrough got sent through
-      → after_frames m (frames got) p ≡ after_pieces m sent (became_by through) p
-  through_after got sent through p c = search (rules, good_alone, let_through_after)
+  good_later : (got : List ℕ) (later : List (List ℕ)) (p : P)
+      → after_bytes m got later p ≡ after_got (good_frames got) (map good_frames later) p
+  good_later got [] p = good_alone (frames got) p
+  good_later got (first ∷ later) p = good_later first later (m.reset (after_frames m (frames got) p))
+      ∙ ap (λ (q : P). after_got (good_frames first) (map good_frames later) (m.reset q)) (good_alone (frames got) p)
+
+  pub through_after : (got : List ℕ) (later : List (List ℕ)) (sent : List (List ℕ)) (becames : List Became) (p : P)
+      → CameThrough got later sent becames → after_bytes m got later p ≡ after_pieces m sent becames p
+  through_after got later sent becames p c = good_later got later p
+      ∙ (ap (λ (g : Got). after_got g.0 g.1 p) (sym c.good) ∙ let_through_after becames sent p)

@@ -19,7 +19,7 @@ use Rattle.stk_emu.specs.Device.{Device, refusal}
 use Rattle.stk_emu.specs.Lawful.{IsBody}
 use Rattle.stk_emu.specs.Turn.{Became, Kept, Obeyed, Anew, after_became}
 use Rattle.avr_tool.specs.Honest.{first_became, other_becames, on_answer}
-use Rattle.avr_laws.specs.AnyTape.{let_through, CameThrough}
+use Rattle.avr_laws.specs.AnyTape.{Got, getting, let_through, good_frames, CameThrough, became_by}
 use Rattle.avr_laws.specs.NoFrame.{given, IsAmong, WasSent, WereSent, MakesNoFrame}
 use Rattle.avr_laws.specs.Damaged.{DifferInOne, IsDamaged, Arrived, Arrival, Whole, Pause, Stop, as_tape, burst, IsOf, Refuses, AreReplies, up_to_reply, read_first, when_read, BringsReplies}
 
@@ -115,26 +115,29 @@ IsGood piece = is_good piece ≡ true
 came_by : (piece more got : List ℕ) → IsPiece piece → got ≡ piece ++ more → frames got ≡ filter is_frame (piece ∷ cut more)
 came_by piece more got whole e = ap frames e ∙ ap (filter is_frame) (cut_first piece more whole)
 
+abbrev alone : List (List ℕ) → Got
+alone got = (got, [])
+
 good_arrived : (sent : List (List ℕ)) (through : List Bool) (got : List ℕ) → All IsPiece sent → All IsGood sent
-    → Arrived sent through got → filter is_good (frames got) ≡ let_through through sent
-good_arrived [] [] got whole good e = ap (λ g. filter is_good (frames g)) e
-good_arrived [] (t ∷ through) got whole good e = ap (λ g. filter is_good (frames g)) e
-good_arrived (piece ∷ sent) [] got whole good e = ap (λ g. filter is_good (frames g)) e
+    → Arrived sent through got → let_through (became_by through) sent ≡ alone (good_frames got)
+good_arrived [] [] got whole good e = ap (λ (g : List ℕ). alone (good_frames g)) (sym e)
+good_arrived [] (true ∷ through) got whole good e = ap (λ (g : List ℕ). alone (good_frames g)) (sym e)
+good_arrived [] (false ∷ through) got whole good e = ap (λ (g : List ℕ). alone (good_frames g)) (sym e)
+good_arrived (piece ∷ sent) [] got whole good e = ap (λ (g : List ℕ). alone (good_frames g)) (sym e)
 good_arrived (piece ∷ sent) (true ∷ through) got whole good (more, e, later) =
-    ap (filter is_good) (came_by piece more got (All-head IsPiece piece sent whole) e)
-    ∙ (good_kept piece (cut more) (All-head IsGood piece sent good)
-    ∙ ap (λ ps. piece ∷ ps) (good_arrived sent through more (All-tail IsPiece piece sent whole)
-    (All-tail IsGood piece sent good) later))
+    ap (getting Obeyed piece) (good_arrived sent through more (All-tail IsPiece piece sent whole)
+    (All-tail IsGood piece sent good) later)
+    ∙ ap alone (sym (ap (filter is_good) (came_by piece more got (All-head IsPiece piece sent whole) e)
+    ∙ good_kept piece (cut more) (All-head IsGood piece sent good)))
 good_arrived (piece ∷ sent) (false ∷ through) got whole good (inl later) =
     good_arrived sent through got (All-tail IsPiece piece sent whole) (All-tail IsGood piece sent good) later
 good_arrived (piece ∷ sent) (false ∷ through) got whole good (inr (came, more, e, d, later)) =
     let bad = damaged piece came (All-head IsPiece piece sent whole) (All-head IsGood piece sent good) d in
-    ap (filter is_good) (came_by came more got bad.0 e)
-    ∙ (bad_dropped came (cut more) bad.1
-    ∙ good_arrived sent through more (All-tail IsPiece piece sent whole) (All-tail IsGood piece sent good) later)
+    good_arrived sent through more (All-tail IsPiece piece sent whole) (All-tail IsGood piece sent good) later
+    ∙ ap alone (sym (ap (filter is_good) (came_by came more got bad.0 e) ∙ bad_dropped came (cut more) bad.1))
 
 pub arrived_came : (sent : List (List ℕ)) (through : List Bool) (got : List ℕ) → All IsPiece sent → All IsGood sent
-    → Arrived sent through got → CameThrough got sent through
+    → Arrived sent through got → CameThrough got [] sent (became_by through)
 arrived_came sent through got whole good came = record { good = good_arrived sent through got whole good came }
 
 -- ---- what the host hears: whose each piece is

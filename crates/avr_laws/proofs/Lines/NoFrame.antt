@@ -1,5 +1,5 @@
 -- On a link that forges no frame all that is read is honest.
-use Rattle.std.proofs.Common.{◌≡◌, ℕ, zero, suc, ◌+◌, ◌%◌, ◌≤◌, List, [], ◌∷◌, ◌++◌, length, take, refl, sym, ap, ◌∙◌, arith, inl, inr, ◌⊎◌, Bool, true, false, Option, Some, None, rules}
+use Rattle.std.proofs.Common.{◌≡◌, ℕ, zero, suc, ◌+◌, ◌%◌, ◌≤◌, List, [], ◌∷◌, ◌++◌, length, take, refl, sym, ap, subst, ◌∙◌, arith, inl, inr, ◌⊎◌, Bool, true, false, Option, Some, None, rules}
 use Rattle.std.proofs.lemmas.Bool.{cases_Bool, and_parts, eqb-true, false≢true, cond-true, cond-false}
 use Rattle.std.specs.Prelude.{◌==◌, filter, replicate}
 use Rattle.stk_frame.specs.Cut.{cut, frames, is_good, seq_of, body_of}
@@ -8,7 +8,7 @@ use Rattle.stk_host.specs.Tape.{Tape, Reading, Answered, answer, read_to, silenc
 use Rattle.stk_host.specs.Dialog.{Dialog, Done, Say, Ask, next}
 use Rattle.stk_emu.specs.Device.{Device, refusal}
 use Rattle.stk_emu.specs.Turn.{Became, Obeyed, after_became, IsHonest}
-use Rattle.avr_laws.specs.AnyTape.{let_through, CameThrough}
+use Rattle.avr_laws.specs.AnyTape.{Got, getting, let_through, CameThrough, became_by}
 use Rattle.avr_tool.specs.Honest.{first_became, other_becames, on_answer, AreHonest}
 use Rattle.avr_tool.proofs.Lines.Plays.{tail_is}
 use Rattle.avr_laws.specs.NoFrame.{given, IsAmong, WasSent, WereSent, MakesNoFrame}
@@ -142,9 +142,13 @@ module _ {P : Type 0} (m : Device P) where
 
 -- ---- a programmer that got a prefix of the bytes sent, as over a link that keeps their order
 
-all_through : (xs ys : List (List ℕ)) → let_through (replicate (length xs) true) (xs ++ ys) ≡ xs
+abbrev alone : List (List ℕ) → Got
+alone got = (got, [])
+
+all_through : (xs ys : List (List ℕ))
+    → let_through (became_by (replicate (length xs) true)) (xs ++ ys) ≡ alone xs
 all_through [] ys = refl
-all_through (x ∷ xs) ys = ap (λ zs. x ∷ zs) (all_through xs ys)
+all_through (x ∷ xs) ys = ap (getting Obeyed x) (all_through xs ys)
 
 all_good : (xs ys : List (List ℕ)) → filter is_good (xs ++ ys) ≡ xs ++ ys → filter is_good xs ≡ xs
 all_good [] ys e = refl
@@ -169,5 +173,9 @@ all_good (x ∷ xs) ys e = elim (cases_Bool (is_good x)) [
 
 pub prefix_came : (got : List ℕ) (sent others : List (List ℕ)) → sent ≡ frames got ++ others
     → filter is_good sent ≡ sent
-    → CameThrough got sent (replicate (length (frames got)) true)
-prefix_came got sent others is good = search (rules, all_good, all_through)
+    → CameThrough got [] sent (became_by (replicate (length (frames got)) true))
+prefix_came got sent others is good = record {
+  good = ap (let_through (became_by (replicate (length (frames got)) true))) is
+      ∙ (all_through (frames got) others
+      ∙ ap alone (sym (all_good (frames got) others (subst (λ (s : List (List ℕ)). filter is_good s ≡ s) is good))));
+}

@@ -13,23 +13,23 @@ use Rattle.stk_frame.specs.Cut.{IsPiece, frames, is_good}
 use Rattle.stk_frame.proofs.Laws.{frame_is_good}
 use Rattle.stk_host.specs.Dialog.{Dialog, Done, Say, Ask, Played, played, by_answer, next, frames_in}
 use Rattle.stk_host.specs.Tape.{Tape, Reading, answer}
-use Rattle.stk_host.specs.Transcript.{Transcript, heard, sent}
+use Rattle.stk_host.specs.Transcript.{heard, sent}
 use Rattle.stk_emu.specs.Along.{AsksBodies}
 use Rattle.stk_emu.specs.Device.{device, after_frames}
-use Rattle.stk_emu.specs.Effect.{effects, memories_of}
+use Rattle.stk_emu.specs.Effect.{memories_of}
 use Rattle.stk_emu.specs.Programmer.{Programmer}
 use Rattle.stk_emu.proofs.Answers.BodySizes.{obey_body}
 use Rattle.avr_tool.specs.Headline.{IsRun}
-use Rattle.avr_tool.specs.Items.{items, asked_items}
-use Rattle.avr_tool.specs.Written.{IsWritten}
-use Rattle.avr_tool.proofs.Lines.InTurn.{AreWhole, sends_whole, frames_sent}
+use Rattle.avr_tool.proofs.Lines.InTurn.{AreWhole, sends_whole}
 use Rattle.avr_tool.proofs.OverTurns.{asks}
 use Rattle.avr_laws.specs.AnyTape.{became_by}
+use Rattle.avr_laws.specs.Kept.{Keeps}
 use Rattle.avr_laws.specs.Damaged.{Arrived, Arrival, BringsReplies, as_tape}
 use Rattle.avr_laws.specs.NoFrame.{MakesNoFrame}
 use Rattle.avr_laws.proofs.Lines.Damaged.{arrived_came, brings_no_frame}
 use Rattle.avr_laws.proofs.Plans.Fitted.{plan_fitted}
-use Rattle.avr_laws.proofs.Outcomes.Promise.{tape, done, same, sent_is, promise}
+use Rattle.avr_laws.proofs.Outcomes.Kept.{frames_are}
+use Rattle.avr_laws.proofs.Outcomes.Promise.{tape, promise}
 
 abbrev IsGood : List ℕ → Type 0
 IsGood piece = is_good piece ≡ true
@@ -55,23 +55,15 @@ sends_good (Ask bytes go_on) n t sound = All-cons IsGood _ _ (frame_is_good n by
 
 module _ (s : Settings) (x y : Devices) (r : IsRun s x y 0) (plan : Plan)
     (made_is : (planned s r.openings).answer ≡ Made plan) (silent : x.link.transcript ≡ []) where
-  frames_are : AsksBodies (session plan) → frames (sent y.link.transcript) ≡ frames_in (done s x y r plan made_is silent)
-  frames_are asked =
-      ap (λ (t : Transcript). frames (sent t)) (same s x y r plan made_is silent)
-      ∙ (ap frames (sym (sent_is s x y r plan made_is silent))
-      ∙ frames_sent (done s x y r plan made_is silent) (sends_whole (session plan) 1 (tape s x y r) asked))
-
   pub over_damage : (p : Programmer) (got : List ℕ) (through : List Bool) (come : List Arrival) → IsSoundChip p.chip
       → p.chip.part ≡ plan.part
       → Arrived (frames (sent y.link.transcript)) through got → heard y.link.transcript ≡ as_tape come
       → BringsReplies device (session plan) 1 come p (became_by through) []
-      → (memories_of (after_frames device (frames got) p).chip ≡ effects plan.part (items plan) (memories_of p.chip))
-      × (plan.switches.no_verify ≡ false → IsWritten plan.part (asked_items plan) (memories_of p.chip)
-      (memories_of (after_frames device (frames got) p).chip))
+      → Keeps plan (memories_of p.chip) (memories_of (after_frames device (frames got) p).chip) x.desk y.desk
   over_damage p got through come sound part_is arrived is brings =
       let asked : AsksBodies (session plan) = asks plan p sound part_is (plan_fitted s r.openings plan made_is) in
-      let these = frames_are asked in
-      promise s x y r plan made_is silent p got through sound part_is
+      let these = frames_are s plan x y r made_is silent asked in
+      promise s x y r plan made_is silent p got [] (became_by through) sound part_is
       (arrived_came (frames (sent y.link.transcript)) through got
       (subst (All IsPiece) (sym these) (all_pieces _ (sends_whole (session plan) 1 (tape s x y r) asked)))
       (subst (All IsGood) (sym these) (sends_good (session plan) 1 (tape s x y r) asked)) arrived)

@@ -1,9 +1,10 @@
 -- Status 0 means the images, over any link that forges no frame.
-use Rattle.std.proofs.Common.{◌≡◌, ℕ, Bool, false, List, [], ◌++◌, map, Some, sym, ap, ◌∙◌, subst, Option, None, rules}
+use Rattle.std.proofs.Common.{◌≡◌, ℕ, false, List, [], ◌++◌, map, Some, refl, sym, ap, ◌∙◌, subst, rules}
 use Rattle.std.proofs.lemmas.List.{append-nil}
 use Rattle.avr_cli.specs.declared.settings.Settings.{Settings}
-use Rattle.avr_desk.specs.Said.{OutputEvent}
-use Rattle.avr_desk.specs.Stage.{Made, StageAnswer}
+use Rattle.avr_desk.specs.Record.{Passes}
+use Rattle.avr_desk.specs.Said.{OutputEvent, after_all}
+use Rattle.avr_desk.specs.Stage.{Made, StageAnswer, all_told}
 use Rattle.avr_part.specs.Sound.{IsSoundChip}
 use Rattle.avr_plan.specs.Plan.{Plan}
 use Rattle.avr_plan.specs.Planning.{planned}
@@ -11,20 +12,26 @@ use Rattle.avr_laws.proofs.Plans.Fitted.{plan_fitted}
 use Rattle.avr_session.specs.Runs.{Devices}
 use Rattle.avr_session.specs.Session.{session}
 use Rattle.avr_laws.specs.AnyLink.{WholeOverTurns}
-use Rattle.avr_laws.specs.AnyTape.{CameThrough, became_by, turns_heard}
-use Rattle.avr_tool.specs.Items.{items, asked_items}
+use Rattle.avr_laws.specs.AnyTape.{CameThrough, after_bytes, turns_heard}
+use Rattle.avr_tool.specs.ExpectedRun.{expected_run}
 use Rattle.avr_laws.specs.NoFrame.{MakesNoFrame}
-use Rattle.avr_tool.specs.Written.{IsWritten}
 use Rattle.avr_laws.proofs.AnyLink.{over_bytes}
-use Rattle.stk_emu.specs.Device.{device, after_frames}
-use Rattle.stk_emu.specs.Effect.{effects, memories_of}
+use Rattle.stk_emu.specs.Device.{device}
+use Rattle.stk_emu.specs.Effect.{Memories, memories_of}
 use Rattle.stk_emu.specs.Programmer.{Programmer}
+use Rattle.stk_emu.specs.Turn.{Became}
 use Rattle.stk_frame.specs.Cut.{frames}
-use Rattle.stk_host.specs.Dialog.{Event, Played, Said, behind, bytes_sent, played}
+use Rattle.stk_host.specs.Dialog.{Event, Played, Said, behind, bytes_sent, outputs, played}
 use Rattle.stk_host.specs.Tape.{Tape, on_tape}
 use Rattle.stk_host.specs.Transcript.{Transcript, heard, sent}
 use Rattle.avr_tool.specs.Headline.{after_answer, IsRun}
-use Rattle.avr_tool.proofs.Runs.Joined.{said_bytes}
+use Rattle.avr_tool.proofs.Runs.Joined.{said_bytes, said_outputs}
+use Rattle.avr_laws.specs.AskedPlan.{Gave, IsAsked}
+use Rattle.avr_laws.specs.Kept.{AreSaved, Keeps, saved_files}
+use Rattle.avr_laws.specs.OnlyReading.{OnlyReads}
+use Rattle.avr_laws.proofs.Outcomes.Saved.{WritesFiles, both, expected_writes, reading_writes, these_saved}
+use Rattle.avr_laws.proofs.Plans.Given.{desk_asked}
+use Rattle.avr_laws.proofs.Plans.OnlyReading.{only_reads}
 
 module _ (s : Settings) (x y : Devices) (r : IsRun s x y 0) where
   abbrev pub tape : Tape
@@ -61,16 +68,43 @@ module _ (s : Settings) (x y : Devices) (r : IsRun s x y 0) where
     pub sent_is : bytes_sent done ≡ sent r.during
     sent_is = search (rules, said_bytes, over_plan)
 
-    pub promise : (p : Programmer) (got : List ℕ) (through : List Bool) → IsSoundChip p.chip → p.chip.part ≡ plan.part
-        → CameThrough got (frames (sent y.link.transcript)) through
-        → MakesNoFrame device (session plan) 1 (heard y.link.transcript) p (became_by through) []
-        → (memories_of (after_frames device (frames got) p).chip ≡ effects plan.part (items plan) (memories_of p.chip))
-        × (plan.switches.no_verify ≡ false → IsWritten plan.part (asked_items plan) (memories_of p.chip)
-        (memories_of (after_frames device (frames got) p).chip))
-    promise p got through sound part_is came none =
-        let whole : WholeOverTurns plan p (after_frames device (frames got) p)
-        (turns_heard (session plan) 1 tape (became_by through)) (sent r.during) done 0 =
-        over_bytes plan p sound part_is (plan_fitted s r.openings plan made_is) got (sent r.during) through tape
-        (subst (λ (t : Transcript). CameThrough got (frames (sent t)) through) same came)
-        (subst (λ (t : Transcript). MakesNoFrame device (session plan) 1 (heard t) p (became_by through) []) same none)
-        left_over done 0 r.next played_is sent_is in search rules
+    outputs_are : outputs r.events ≡ (planned s r.openings).says ++ outputs done
+    outputs_are = ap (λ (p : Played OutputEvent ℕ). outputs p.events) (sym over_plan)
+        ∙ said_outputs (planned s r.openings).says done
+
+    only_read : OnlyReads (planned s r.openings).says
+    only_read = subst (λ (answer : StageAnswer Plan). OnlyReads (all_told (planned s r.openings).says answer)) made_is
+        (only_reads s r.openings)
+
+    keeps_files : (m : Memories) → (expected_run plan m).status ≡ 0 → outputs done ≡ (expected_run plan m).says
+        → AreSaved (saved_files plan m) x.desk y.desk
+    keeps_files m zero said =
+        these_saved ((planned s r.openings).says ++ outputs done) (saved_files plan m) x.desk y.desk
+        (both (planned s r.openings).says (outputs done) [] (saved_files plan m)
+        (reading_writes (planned s r.openings).says only_read)
+        (subst (λ (says : List OutputEvent). WritesFiles says (saved_files plan m)) (sym said)
+        (expected_writes plan m zero)))
+        (subst (λ (says : List OutputEvent). Passes (after_all says) x.desk y.desk) outputs_are r.kept)
+
+    -- so the plan is the one that the settings and the files that were opened ask for
+    pub asked : IsAsked s (Gave x.desk y.desk) plan
+    asked = desk_asked s r.openings plan x.desk y.desk (outputs done) made_is
+        (subst (λ (says : List OutputEvent). Passes (after_all says) x.desk y.desk) outputs_are r.kept)
+
+    pub promise : (p : Programmer) (got : List ℕ) (later : List (List ℕ)) (becames : List Became) → IsSoundChip p.chip
+        → p.chip.part ≡ plan.part → CameThrough got later (frames (sent y.link.transcript)) becames
+        → MakesNoFrame device (session plan) 1 (heard y.link.transcript) p becames []
+        → Keeps plan (memories_of p.chip) (memories_of (after_bytes device got later p).chip) x.desk y.desk
+    promise p got later becames sound part_is came none =
+        let whole : WholeOverTurns plan p (after_bytes device got later p)
+        (turns_heard (session plan) 1 tape becames) (sent r.during) done 0 =
+        over_bytes plan p sound part_is (plan_fitted s r.openings plan made_is) got (sent r.during) later becames tape
+        (subst (λ (t : Transcript). CameThrough got later (frames (sent t)) becames) same came)
+        (subst (λ (t : Transcript). MakesNoFrame device (session plan) 1 (heard t) p becames []) same none)
+        left_over done 0 r.next played_is sent_is in
+        let come = whole.1.comes in
+        let expected = come.success refl in record {
+          done = come.done refl;
+          images = come.images refl;
+          saved = keeps_files (memories_of p.chip) (sym expected.status_is) expected.said;
+        }

@@ -1,6 +1,6 @@
--- A plan that was made over true openings is the one that settings and files ask for.
+-- A plan that was made over some openings is the one that settings and these files ask for.
 use Rattle.std.proofs.Common.{rules}
-use Rattle.std.proofs.Common.{◌≡◌, ◌∙◌, sym, ap, subst, ℕ, List, [], ◌∷◌, ◌++◌, append_assoc, append-nil, refl, Some, Result, Ok, inl, inr}
+use Rattle.std.proofs.Common.{◌≡◌, ◌≤◌, ◌∙◌, sym, ap, subst, ℕ, List, [], ◌∷◌, ◌++◌, append_assoc, append-nil, refl, Some, None, Option, Result, Ok, true, inl, inr, length}
 use Rattle.std.proofs.lemmas.Bool.{cases_Bool}
 use Rattle.std.proofs.lemmas.Bool.Decides.{nat_tests}
 use Rattle.avr_cli.specs.declared.settings.Settings.{Settings}
@@ -10,85 +10,117 @@ use Rattle.avr_cli.specs.declared.update.Format.TheVariants as format
 use Rattle.avr_cli.specs.declared.update.Op.{Op}
 use Rattle.avr_cli.specs.declared.update.Op.TheVariants as op
 use Rattle.avr_cli.specs.declared.update.Update.{Update}
-use Rattle.avr_desk.specs.Memory.{Stock, stood_for}
 use Rattle.avr_desk.specs.Record.{Bytes}
+use Rattle.avr_desk.specs.Said.{OutputEvent, Opens}
 use Rattle.avr_desk.specs.Stage.{Stage, Made, ◌>>=◌, verdict_stage, output_stage, file_stage}
 use Rattle.avr_desk.specs.declared.record.Opening.{Opening}
+use Rattle.avr_desk.specs.declared.record.Opening.TheVariants.{Absent, Found}
 use Rattle.avr_part.specs.Mem.{is_writable}
 use Rattle.avr_part.specs.Part.{Part, size_of}
+use Rattle.avr_part.specs.PartFile.{parts_of}
 use Rattle.avr_part.specs.declared.fault.PartFault.{PartFault}
 use Rattle.avr_part.specs.declared.part.Mem.{Mem}
 use Rattle.avr_records.specs.declared.kind.Ending.{Ending}
-use Rattle.avr_laws.proofs.Plans.FilesRead.{IsLimited, limited_image, seen_first, seen_second}
 use Rattle.avr_laws.proofs.Plans.Fitted.{Image, given, settled}
-use Rattle.avr_laws.specs.AskedPlan.{Files, HasImage, IsTaskOf, AreTasksOf, IsAsked}
-use Rattle.avr_laws.specs.FilesRead.{AreSeen}
-use Rattle.avr_plan.specs.ImageFile.{image_within}
+use Rattle.avr_laws.specs.AskedPlan.{Giving, HasImage, IsTaskOf, AreTasksOf, ArePartsOf, IsAsked}
+use Rattle.avr_plan.specs.ImageFile.{image_within, kind_of, whole_file}
 use Rattle.avr_plan.specs.Plan.{Plan}
-use Rattle.avr_plan.specs.Planning.{planned, part_or_line, tasks_stage, task_stage, op_stage, update_image, image_stage, file_image_stage, judged_image, warning_says}
-use Rattle.avr_laws.proofs.Limits.{LARGEST_IMAGE_FILE}
+use Rattle.avr_plan.specs.Planning.{planned, judged_parts, part_or_line, parts_stage, part_stage, tasks_stage, task_stage, op_stage, update_image, image_stage, file_image_stage, judged_image, warning_says}
+use Rattle.avr_laws.proofs.Limits.{LARGEST_IMAGE_FILE, LARGEST_PART_FILE}
 use Rattle.avr_plan.specs.declared.planned.Task.{Task}
 use Rattle.avr_plan.specs.declared.planned.Task.TheVariants.{Write, Verify}
 
--- ---- what a stage made over openings that were true
+-- ---- what whole openings gave
 
-record Saw {A : Type 0} (stock : Stock) (stage : Stage A) (openings : List Opening) (a : A) : Type 0 where
-  made : (stage openings).answer ≡ Made a
-  seen : AreSeen stock (stage openings).says
+module _ (Gives : Giving) where
+  -- Each whole opening among these output events gave this.
+  abbrev pub AreGiven : List OutputEvent → Type 0
+  AreGiven [] = Unit {0}
+  AreGiven (Opens (Found reading) ∷ says) =
+      (reading.ended ≡ true → Gives reading.name reading.bytes) × AreGiven says
+  AreGiven (output ∷ says) = AreGiven says
 
-saw_first : {A B : Type 0} (stock : Stock) (stage : Stage A) (go_on : A → Stage B) (openings : List Opening) (b : B)
-    → Saw stock (stage >>= go_on) openings b
-    → (a : A) × (Saw stock stage openings a × Saw stock (go_on a) (stage openings).left b)
-saw_first stock stage go_on openings b saw = search (rules, seen_first, seen_second)
+  given_first : (first second : List OutputEvent) → AreGiven (first ++ second) → AreGiven first
+  given_first [] second are = tt
+  given_first (Opens (Found reading) ∷ first) second are = (are.0, given_first first second are.1)
+  given_first (Opens (Absent name) ∷ first) second are = given_first first second are
+  given_first (output ∷ first) second are = given_first first second are
 
--- ---- a file
+  given_second : (first second : List OutputEvent) → AreGiven (first ++ second) → AreGiven second
+  given_second [] second are = are
+  given_second (Opens (Found reading) ∷ first) second are = given_second first second are.1
+  given_second (Opens (Absent name) ∷ first) second are = given_second first second are
+  given_second (output ∷ first) second are = given_second first second are
 
-abbrev IsOf : {A : Type 0} → Stock → Bytes → (Bytes → Result A Bytes) → A → Type 0
-IsOf stock name judge a = (text : Bytes) × ((stood_for stock [] name ≡ Some text) × (judge text ≡ Ok a))
+  -- ---- what a stage made over openings that gave this
 
-module _ {A : Type 0} (stock : Stock) (name : Bytes) (limit : ℕ) (judge : Bytes → Result A Bytes)
-    (limited : IsLimited stock limit judge) where
-  file_saw : (openings : List Opening) (a : A) → Saw stock (file_stage name limit judge) openings a
-      → IsOf stock name judge a
-  file_saw openings a saw = search (rules, nat_tests)
+  record Saw {A : Type 0} (stage : Stage A) (openings : List Opening) (a : A) : Type 0 where
+    made : (stage openings).answer ≡ Made a
+    are : AreGiven (stage openings).says
 
--- ---- the plan
+  saw_first : {A B : Type 0} (stage : Stage A) (go_on : A → Stage B) (openings : List Opening) (b : B)
+      → Saw (stage >>= go_on) openings b
+      → (a : A) × (Saw stage openings a × Saw (go_on a) (stage openings).left b)
+  saw_first stage go_on openings b saw = search (rules, given_first, given_second)
 
-module _ (stock : Stock) where
-  abbrev files : Files
-  files name = stood_for stock [] name
+  -- ---- a file
+
+  abbrev IsOf : {A : Type 0} → Bytes → (Bytes → Result A Bytes) → A → Type 0
+  IsOf name judge a = (text : Bytes) × (Gives name text × (judge text ≡ Ok a))
+
+  -- a longer text has no result
+  module _ {A : Type 0} (name : Bytes) (limit : ℕ) (judge : Bytes → Result A Bytes)
+      (limited : (text : Bytes) (a : A) → judge text ≡ Ok a → length text ≤ limit) where
+    file_saw : (openings : List Opening) (a : A) → Saw (file_stage name limit judge) openings a → IsOf name judge a
+    file_saw openings a saw = search (rules, nat_tests, limited)
+
+  limited_parts : (name text : Bytes) (parts : List Part) → judged_parts name text ≡ Ok parts
+      → length text ≤ LARGEST_PART_FILE
+  limited_parts name text parts is = search (rules, nat_tests)
+
+  -- what an image's file is, within the limit
+  abbrev IsWithin : Format → Bytes → ℕ → Image × Ending → Type 0
+  IsWithin kind text size made =
+      (length text ≤ LARGEST_IMAGE_FILE) × (whole_file (kind_of kind text) text size ≡ Ok made)
+
+  within : (kind : Format) (text : Bytes) (size : ℕ) (made : Image × Ending)
+      → image_within LARGEST_IMAGE_FILE kind text size ≡ Ok made → IsWithin kind text size made
+  within kind text size made is = search (rules, nat_tests)
+
+  within_judged : (name : Bytes) (kind : Format) (size : ℕ) (text : Bytes) (made : Image × Ending)
+      → judged_image name kind size text ≡ Ok made → IsWithin kind text size made
+  within_judged name kind size text made is =
+      within kind text size made (given name (image_within LARGEST_IMAGE_FILE kind text size) made is)
+
+  -- ---- the plan
 
   file_image : (switches : Switches) (name : Bytes) (kind : Format) (size : ℕ) (openings : List Opening) (image : Image)
-      → Saw stock (file_image_stage switches name kind size) openings image
-      → (text : Bytes) × (ending : Ending) × (files name ≡ Some text)
-      × (image_within LARGEST_IMAGE_FILE kind text size ≡ Ok (image, ending))
+      → Saw (file_image_stage switches name kind size) openings image
+      → (text : Bytes) × (ending : Ending) × Gives name text × (length text ≤ LARGEST_IMAGE_FILE)
+      × (whole_file (kind_of kind text) text size ≡ Ok (image, ending))
   file_image switches name kind size openings image saw =
       let judge = judged_image name kind size in
-      let first = saw_first stock (file_stage name LARGEST_IMAGE_FILE judge)
+      let first = saw_first (file_stage name LARGEST_IMAGE_FILE judge)
       (λ (g : Image × Ending). output_stage (warning_says switches name g.1) >>= λ ok. verdict_stage (Ok g.0))
       openings image saw in
-      let file = file_saw stock name LARGEST_IMAGE_FILE judge (limited_image stock name kind size) openings first.0
-      first.1.0 in
-      let same : first.0.0 ≡ image = cc in (
-        file.0,
-        first.0.1,
-        file.1.0,
-        given name (image_within LARGEST_IMAGE_FILE kind file.0 size) first.0 file.1.1
-            ∙ ap (λ (i : Image). Ok (i, first.0.1)) same,
-      )
+      let file = file_saw name LARGEST_IMAGE_FILE judge (λ text made is. (within_judged name kind size text made is).0)
+      openings first.0 first.1.0 in
+      let same : first.0.0 ≡ image = cc in
+      let is = within_judged name kind size file.0 first.0 file.1.1 in
+      (file.0, first.0.1, file.1.0, is.0, is.1 ∙ ap (λ (i : Image). Ok (i, first.0.1)) same)
 
   image : (switches : Switches) (memory : Mem) (size : ℕ) (name : Bytes) (kind : Format) (openings : List Opening)
-      (made : Image) → Saw stock (image_stage switches memory size name kind) openings made
-      → HasImage files name kind size made
+      (made : Image) → Saw (image_stage switches memory size name kind) openings made
+      → HasImage Gives name kind size made
   image switches memory size name format.Immediate openings made saw = search rules
   image switches memory size name kind openings made saw = file_image switches name kind size openings made saw
 
   module _ (switches : Switches) (part : Part) where
     imaged : (u : Update) (make : Image → Task) (openings : List Opening) (task : Task)
-        → Saw stock (update_image switches part u >>= λ made. verdict_stage (Ok (make made))) openings task
-        → (made : Image) × (HasImage files u.file u.format (size_of u.memory part) made × (task ≡ make made))
+        → Saw (update_image switches part u >>= λ made. verdict_stage (Ok (make made))) openings task
+        → (made : Image) × (HasImage Gives u.file u.format (size_of u.memory part) made × (task ≡ make made))
     imaged u make openings task saw =
-        let first = saw_first stock (update_image switches part u) (λ made. verdict_stage (Ok (make made))) openings
+        let first = saw_first (update_image switches part u) (λ made. verdict_stage (Ok (make made))) openings
         task saw in
         let same : task ≡ make first.0 = cc in (
           first.0,
@@ -96,39 +128,66 @@ module _ (stock : Stock) where
         )
 
     operation : (u : Update) (o : Op) (openings : List Opening) (task : Task) → u.op ≡ o
-        → Saw stock (op_stage switches part u o) openings task → IsTaskOf files part u task
+        → Saw (op_stage switches part u o) openings task → IsTaskOf Gives part u task
     operation u op.Write openings task is saw = elim (cases_Bool (is_writable u.memory)) [
       | inl may ↦
           let made = imaged u (Write u.memory) openings task (rw may at saw) in
-          subst (IsTaskOf files part u) (sym made.1.1) (is, refl, made.1.0)
+          subst (IsTaskOf Gives part u) (sym made.1.1) (is, refl, made.1.0)
       | inr never ↦ let none = saw.made in cc (rw never at none)
     ]
     operation u op.Verify openings task is saw =
         let made = imaged u (Verify u.memory) openings task saw in
-        subst (IsTaskOf files part u) (sym made.1.1) (is, refl, made.1.0)
+        subst (IsTaskOf Gives part u) (sym made.1.1) (is, refl, made.1.0)
     operation u op.Read openings task is saw = search rules
 
     tasks : (before : List Task) (updates : List Update) (openings : List Opening) (made : List Task)
-        → Saw stock (tasks_stage switches part before updates) openings made
-        → (later : List Task) × ((made ≡ before ++ later) × AreTasksOf files part updates later)
+        → Saw (tasks_stage switches part before updates) openings made
+        → (later : List Task) × ((made ≡ before ++ later) × AreTasksOf Gives part updates later)
     tasks before [] openings made saw =
         let last : Made before ≡ Made made = saw.made in
         let same : made ≡ before = cc in
         ([], (same ∙ sym (append-nil before), tt))
     tasks before (u ∷ updates) openings made saw =
-        let first = saw_first stock (task_stage switches part u)
+        let first = saw_first (task_stage switches part u)
         (λ task. tasks_stage switches part (before ++ task ∷ []) updates) openings made saw in
         let rest = tasks (before ++ first.0 ∷ []) updates (task_stage switches part u openings).left made first.1.1 in
         search (rules, append_assoc, operation)
 
     all_tasks : (updates : List Update) (openings : List Opening) (made : List Task)
-        → Saw stock (tasks_stage switches part [] updates) openings made → AreTasksOf files part updates made
+        → Saw (tasks_stage switches part [] updates) openings made → AreTasksOf Gives part updates made
     all_tasks updates openings made saw =
         let all = tasks [] updates openings made saw in search rules
 
   part_given : (id : Bytes) (r : Result Part PartFault) (part : Part) → part_or_line id r ≡ Ok part → r ≡ Ok part
   part_given id r part is = search rules
 
-  pub plan_asked : (s : Settings) (openings : List Opening) (plan : Plan) → AreSeen stock (planned s openings).says
-      → (planned s openings).answer ≡ Made plan → IsAsked s files plan
-  plan_asked s openings plan seen made = search (rules, cases_Bool, part_given, settled, all_tasks)
+  parts_given : (name : Bytes) (text : Bytes) (parts : List Part) → judged_parts name text ≡ Ok parts
+      → parts_of text ≡ Ok parts
+  parts_given name text parts is = search (rules, nat_tests)
+
+  parts_saw : (file : Option Bytes) (openings : List Opening) (parts : List Part)
+      → Saw (parts_stage file) openings parts → ArePartsOf Gives file parts
+  parts_saw None openings parts saw = search rules
+  parts_saw (Some name) openings parts saw =
+      let file = file_saw name LARGEST_PART_FILE (judged_parts name) (limited_parts name) openings parts saw in
+      (file.0, file.1.0, parts_given name file.0 parts file.1.1)
+
+  -- THE LAW
+  pub plan_asked : (s : Settings) (openings : List Opening) (plan : Plan) → AreGiven (planned s openings).says
+      → (planned s openings).answer ≡ Made plan → IsAsked s Gives plan
+  plan_asked s openings plan are made =
+      let of_part : Part → Stage Plan = λ part. tasks_stage s.switches part [] s.updates
+      >>= λ tasks. verdict_stage (Ok (record { part = part; tasks = tasks; switches = s.switches })) in
+      let whole : Saw (planned s) openings plan = record { made = made; are = are } in
+      let parts = saw_first (parts_stage s.parts) (λ all. part_stage s.part all >>= of_part) openings plan whole in
+      let part = saw_first (part_stage s.part parts.0) of_part _ plan parts.1.1 in
+      let done = saw_first (tasks_stage s.switches part.0 [] s.updates)
+      (λ ts. verdict_stage (Ok (record { part = part.0; tasks = ts; switches = s.switches }))) _ plan part.1.1 in
+      let same : record { part = part.0; tasks = done.0; switches = s.switches } ≡ plan = cc in
+      subst (IsAsked s Gives) same (record {
+        parts = parts.0;
+        are_parts = parts_saw s.parts openings parts.0 parts.1.0;
+        part = search (rules, part_given, settled);
+        tasks = all_tasks s.switches part.0 s.updates _ done.0 done.1.0;
+        switches = refl;
+      })

@@ -1,5 +1,5 @@
 -- What the promise refuses: worked wrong outcomes of its two laws. docs/PROMISE.md lists them.
-use Rattle.std.proofs.Common.{◌≡◌, ◌∙◌, ap, refl, sym, arith, ℕ, Bool, true, false, List, [], ◌∷◌, ◌++◌, Some, None, Ok, subst, rules}
+use Rattle.std.proofs.Common.{◌≡◌, ◌∙◌, ap, refl, sym, arith, ℕ, Bool, true, false, ◌≤◌, List, [], ◌∷◌, ◌++◌, length, Some, None, Ok, subst, rules}
 use Rattle.std.specs.Prelude.{codes, if◌then◌else◌, unwrap_or}
 use Rattle.std.specs.Str.{bytes_eq}
 use Rattle.avr_cli.specs.declared.settings.Settings.{Settings}
@@ -17,17 +17,17 @@ use Rattle.avr_part.specs.Sound.{IsSoundChip}
 use Rattle.avr_part.specs.State.{ChipState as Chip, fresh_state}
 use Rattle.avr_part.specs.declared.part.Mem.TheVariants.{Flash, Lfuse}
 use Rattle.avr_laws.proofs.Plans.Fitted.{plan_fitted}
-use Rattle.avr_laws.specs.AskedPlan.{Files, HasImage, IsAsked}
+use Rattle.avr_laws.specs.AskedPlan.{Files, HasImage, Holding, IsAsked}
 use Rattle.avr_plan.specs.ImageFile.{Given}
 use Rattle.avr_plan.specs.Plan.{Plan}
 use Rattle.avr_plan.specs.Planning.{planned}
 use Rattle.avr_plan.specs.declared.planned.Task.{Task}
 use Rattle.avr_plan.specs.declared.planned.Task.TheVariants.{Write}
 use Rattle.avr_session.specs.Runs.{Devices}
-use Rattle.avr_session.specs.Session.{session}
 use Rattle.stk_emu.specs.Device.{device, after_frames}
 use Rattle.stk_emu.specs.Effect.{Memories, Image, effects, memories_of}
 use Rattle.stk_emu.specs.Programmer.{Programmer, fresh_programmer}
+use Rattle.stk_emu.specs.Turn.{Became, Kept, Obeyed, Anew}
 use Rattle.stk_frame.specs.Commands.{body}
 use Rattle.stk_frame.specs.Cut.{frames}
 use Rattle.stk_frame.specs.Frame.{frame}
@@ -35,12 +35,12 @@ use Rattle.stk_frame.specs.HostCommands.{program_page}
 use Rattle.stk_host.specs.Places.{load_flash}
 use Rattle.stk_host.specs.Transcript.{heard, sent}
 use Rattle.avr_laws.specs.Again.{chip_of}
-use Rattle.avr_laws.specs.AnyTape.{CameThrough, became_by}
+use Rattle.avr_laws.specs.AnyTape.{CameThrough, Got, after_bytes, getting, let_through}
 use Rattle.avr_tool.specs.Items.{items, asked_items}
-use Rattle.avr_laws.specs.NoFrame.{MakesNoFrame}
+use Rattle.avr_laws.specs.Kept.{NoneForged}
 use Rattle.avr_tool.specs.Written.{IsWritten}
 use Rattle.avr_laws.proofs.SecondRun.PlanRows.{tiny, erasing}
-use Rattle.avr_laws.proofs.Outcomes.Promise.{promise}
+use Rattle.avr_laws.proofs.Outcomes.Kept.{kept}
 use Rattle.avr_tool.specs.Headline.{IsRun}
 use Rattle.avr_laws.specs.Promise.{Promised}
 use Rattle.avr_laws.specs.Worked.{worked_settings}
@@ -74,12 +74,14 @@ the_images = refl
 -- So a run with status 0 leaves them, if its link forges no frame.
 pub only_the_images : (s : Settings) (before now : Devices) (r : IsRun s before now 0)
     → (planned s r.openings).answer ≡ Made plan → before.link.transcript ≡ []
-    → (p : Programmer) (got : List ℕ) (through : List Bool) → IsSoundChip p.chip → p.chip.part ≡ small
-    → memories_of p.chip ≡ old → CameThrough got (frames (sent now.link.transcript)) through
-    → MakesNoFrame device (session plan) 1 (heard now.link.transcript) p (became_by through) []
-    → memories_of (after_frames device (frames got) p).chip ≡ left (1 ∷ 2 ∷ 255 ∷ 255 ∷ [])
-only_the_images s before now r is silent p got through sound part held came none =
-    (promise s before now r plan is silent p got through sound part came none).0 ∙ ap (effects small (items plan)) held
+    → (p : Programmer) (got : List ℕ) (later : List (List ℕ)) (becames : List Became) → IsSoundChip p.chip
+    → p.chip.part ≡ small → memories_of p.chip ≡ old
+    → CameThrough got later (frames (sent now.link.transcript)) becames
+    → NoneForged device (frames (sent now.link.transcript)) (heard now.link.transcript) p becames []
+    → memories_of (after_bytes device got later p).chip ≡ left (1 ∷ 2 ∷ 255 ∷ 255 ∷ [])
+only_the_images s before now r is silent p got later becames sound part held came none =
+    (kept s plan before now r is silent p got later becames sound part came none).done.memories
+    ∙ ap (effects small (items plan)) held
 
 abbrev Holds : List ℕ → Type 0
 Holds flash = IsWritten small (asked_items plan) old (left flash)
@@ -114,12 +116,25 @@ whole_page = refl
 abbrev sign_on : List ℕ
 sign_on = frame 1 (0x01 ∷ [])
 
-pub twice : (through : List Bool) → CameThrough (sign_on ++ sign_on) (sign_on ∷ []) through → ⊥
+-- after a restart it got more
+no_fewer : (became : Became) (piece : List ℕ) (g : Got) → length g.1 ≤ length (getting became piece g).1
+no_fewer Kept piece g = omega arith
+no_fewer Obeyed piece g = omega arith
+no_fewer (Anew became) piece g = let more = no_fewer became piece ([], g.0 ∷ g.1) in omega (arith, more)
+
+no_restart : (became : Became) {got : List (List ℕ)} → getting became sign_on ([], [] ∷ []) ≡ (got, []) → ⊥
+no_restart became is =
+    let more = no_fewer became sign_on ([], [] ∷ []) in
+    let none = ap (λ (g : Got). length g.1) is in omega (arith, more, none)
+
+pub twice : (becames : List Became) → CameThrough (sign_on ++ sign_on) [] (sign_on ∷ []) becames → ⊥
 twice [] came = cc came.good
-twice (true ∷ []) came = cc came.good
-twice (true ∷ more ∷ through) came = cc came.good
-twice (false ∷ []) came = cc came.good
-twice (false ∷ more ∷ through) came = cc came.good
+twice (Kept ∷ []) came = cc came.good
+twice (Kept ∷ more ∷ becames) came = cc came.good
+twice (Obeyed ∷ []) came = cc came.good
+twice (Obeyed ∷ more ∷ becames) came = cc came.good
+twice (Anew became ∷ []) came = no_restart became came.good
+twice (Anew became ∷ more ∷ becames) came = no_restart became came.good
 
 -- 6. Status 0 with a wrong byte, or with a byte missing.
 pub a_wrong_byte : Holds (1 ∷ 3 ∷ 255 ∷ 255 ∷ []) → ⊥
@@ -162,7 +177,7 @@ first_byte (Write mem (Some byte ∷ image) ∷ more) = byte
 first_byte more = 0
 
 -- not that of another one,
-pub another_file : IsAsked (settings false) files (fuse_plan 0x62) → ⊥
+pub another_file : IsAsked (settings false) (Holding files) (fuse_plan 0x62) → ⊥
 another_file asked = search rules
 
 -- whether it has a byte at address 0
@@ -171,7 +186,7 @@ begins (Ok (Some byte ∷ image, ending)) = 1
 begins given = 0
 
 -- and not at another address.
-pub another_address : HasImage files (codes "low") Raw 2 (None ∷ Some 0xE2 ∷ []) → ⊥
+pub another_address : HasImage (Holding files) (codes "low") Raw 2 (None ∷ Some 0xE2 ∷ []) → ⊥
 another_address has = search rules
 
 -- 7. The promise over files is an equation too: these bytes are in the chip file, and no others.

@@ -1,0 +1,160 @@
+-- What openings gave: at files in memory, and by the record of any desk.
+use Rattle.std.proofs.Common.{◌≡◌, ◌∙◌, sym, ap, subst, ℕ, zero, suc, Bool, true, List, [], ◌∷◌, ◌++◌, append_assoc, append-nil, refl, length, drop, arith, rules, Option, Some, None}
+use Rattle.std.proofs.lemmas.List.Elements.{Contains-append_left, Contains-append_right}
+use Rattle.std.specs.Prelude.{Contains}
+use Rattle.avr_cli.specs.declared.settings.Settings.{Settings}
+use Rattle.avr_cli.specs.declared.update.Format.{Format}
+use Rattle.avr_cli.specs.declared.update.Format.TheVariants.{Immediate}
+use Rattle.avr_cli.specs.declared.update.Update.{Update}
+use Rattle.avr_desk.proofs.Stages.Breaks.{openings_in, openings_shown}
+use Rattle.avr_desk.specs.Memory.{Stock, stood_for}
+use Rattle.avr_desk.specs.Record.{Bytes, DeskState, Passes, Record, all_openings}
+use Rattle.avr_desk.specs.Said.{OutputEvent, Opens, after_all}
+use Rattle.avr_desk.specs.Playing.{Went}
+use Rattle.avr_desk.specs.Stage.{Made, StageResult}
+use Rattle.avr_desk.specs.declared.record.Opening.{Opening}
+use Rattle.avr_desk.specs.declared.record.Opening.TheVariants.{Absent, Found}
+use Rattle.avr_part.specs.Part.{Part}
+use Rattle.avr_plan.specs.Plan.{Plan}
+use Rattle.avr_plan.specs.Planning.{planned}
+use Rattle.avr_plan.specs.declared.planned.Task.{Task}
+use Rattle.avr_plan.specs.declared.planned.Task.TheVariants.{Write, Verify, Read}
+use Rattle.avr_laws.proofs.Plans.Fitted.{Image}
+use Rattle.avr_laws.proofs.Plans.AskedPlan.{AreGiven, plan_asked}
+use Rattle.avr_laws.specs.AskedPlan.{ArePartsOf, AreTasksOf, Gave, Giving, HasImage, Holding, IsAsked, IsTaskOf}
+use Rattle.avr_laws.specs.FilesRead.{AreSeen}
+
+-- ---- at files in memory
+
+seen_given : (stock : Stock) (says : List OutputEvent) → AreSeen stock says
+    → AreGiven (Holding (stood_for stock [])) says
+seen_given stock [] seen = tt
+seen_given stock (Opens (Found reading) ∷ says) seen = search (rules, seen_given stock says seen.1)
+seen_given stock (Opens (Absent name) ∷ says) seen = seen_given stock says seen.1
+seen_given stock (output ∷ says) seen = seen_given stock says seen
+
+pub seen_asked : (stock : Stock) (s : Settings) (openings : List Opening) (plan : Plan)
+    → AreSeen stock (planned s openings).says
+    → (planned s openings).answer ≡ Made plan → IsAsked s (Holding (stood_for stock [])) plan
+seen_asked stock s openings plan seen made =
+    plan_asked (Holding (stood_for stock [])) s openings plan (seen_given stock (planned s openings).says seen) made
+
+-- ---- by a desk's record
+
+module _ (G H : Giving) (each : (name text : Bytes) → G name text → H name text) where
+  given_more : (says : List OutputEvent) → AreGiven G says → AreGiven H says
+  given_more [] are = tt
+  given_more (Opens (Found reading) ∷ says) are =
+      (λ ended. each reading.name reading.bytes (are.0 ended), given_more says are.1)
+  given_more (Opens (Absent name) ∷ says) are = given_more says are
+  given_more (output ∷ says) are = given_more says are
+
+-- this whole text is of one of these openings
+abbrev Among : List Opening → Giving
+Among openings name text = Contains openings (Found (record { name = name; bytes = text; ended = true }))
+
+later : (first : List Opening) (openings : List Opening) (name text : Bytes) → Among openings name text
+    → Among (first ++ openings) name text
+later first openings name text among = Contains-append_right first openings _ among
+
+among : (says : List OutputEvent) → AreGiven (Among (openings_in says)) says
+among [] = tt
+among (Opens (Found reading) ∷ says) = (
+  λ ended. subst (λ (b : Bool). Contains (Found reading ∷ openings_in says) (Found (record reading { ended = b })))
+      ended (0, omega arith, refl),
+  given_more (Among (openings_in says)) (Among (Found reading ∷ openings_in says))
+      (later (Found reading ∷ []) (openings_in says)) says (among says),
+)
+among (Opens (Absent name) ∷ says) =
+    given_more (Among (openings_in says)) (Among (Absent name ∷ openings_in says))
+    (later (Absent name ∷ []) (openings_in says)) says (among says)
+among (output ∷ says) = among says
+
+openings_joined : (first second : List OutputEvent)
+    → openings_in (first ++ second) ≡ openings_in first ++ openings_in second
+openings_joined [] second = refl
+openings_joined (output ∷ first) second = search (rules, append_assoc, openings_joined first second)
+
+past : {A : Type 0} (xs ys : List A) → drop (length xs) (xs ++ ys) ≡ ys
+past [] ys = refl
+past (x ∷ xs) ys = past xs ys
+
+-- what was opened since is in the output
+since : (old new : DeskState) (outputs : List OutputEvent) → Passes (after_all outputs) old new
+    → drop (length (all_openings old.kept)) (all_openings new.kept) ≡ openings_in outputs
+since old new outputs passes =
+    ap (λ (r : Record). drop (length (all_openings old.kept)) (all_openings r)) passes
+    ∙ (ap (drop (length (all_openings old.kept))) (openings_shown outputs old.kept)
+    ∙ past (all_openings old.kept) (openings_in outputs))
+
+-- so a plan is the one that the settings and the files that were opened ask for
+pub desk_asked : (s : Settings) (openings : List Opening) (plan : Plan) (old new : DeskState)
+    (more : List OutputEvent) → (planned s openings).answer ≡ Made plan
+    → Passes (after_all ((planned s openings).says ++ more)) old new → IsAsked s (Gave old new) plan
+desk_asked s openings plan old new more made passes =
+    let says = (planned s openings).says in
+    let are : openings_in says ++ openings_in more
+    ≡ drop (length (all_openings old.kept)) (all_openings new.kept) =
+    sym (since old new (says ++ more) passes ∙ openings_joined says more) in
+    plan_asked (Gave old new) s openings plan
+    (given_more (Among (openings_in says)) (Gave old new)
+    (λ name text among. subst (λ (os : List Opening). Among os name text) are
+    (Contains-append_left (openings_in says) (openings_in more) _ among))
+    says (among says)) made
+
+pub went_asked : (s : Settings) (plan : Plan) (old new : DeskState) → Went (planned s) old new (Made plan)
+    → IsAsked s (Gave old new) plan
+went_asked s plan old new went =
+    desk_asked s (went.passed ++ []) plan old new []
+    (ap (λ (p : StageResult Plan). p.answer) (went.comes []))
+    (subst (λ (says : List OutputEvent). Passes (after_all says) old new)
+    (sym (append-nil _ ∙ ap (λ (p : StageResult Plan). p.says) (went.comes []))) went.kept)
+
+-- ---- a later state of the desk shows the same openings, and more
+
+drop_more : {A : Type 0} (n : ℕ) (xs ys : List A) (x : A) → Contains (drop n xs) x → Contains (drop n (xs ++ ys)) x
+drop_more zero xs ys x has = Contains-append_left xs ys x has
+drop_more (suc n) [] ys x has = absurd (let below = has.1 in omega (arith, below))
+drop_more (suc n) (y ∷ xs) ys x has = drop_more n xs ys x has
+
+module _ (G H : Giving) (each : (name text : Bytes) → G name text → H name text) where
+  image_more : (name : Bytes) (kind : Format) (size : ℕ) (image : Image) → HasImage G name kind size image
+      → HasImage H name kind size image
+  image_more name Immediate size image has = has
+  image_more name kind size image has = (has.0, has.1, each name has.0 has.2, has.3, has.4)
+
+  task_more : (part : Part) (u : Update) (task : Task) → IsTaskOf G part u task → IsTaskOf H part u task
+  task_more part u (Write mem image) (op, memory, has) = (op, memory, image_more u.file u.format _ image has)
+  task_more part u (Verify mem image) (op, memory, has) = (op, memory, image_more u.file u.format _ image has)
+  task_more part u (Read mem format file) is = is
+
+  tasks_more : (part : Part) (updates : List Update) (tasks : List Task) → AreTasksOf G part updates tasks
+      → AreTasksOf H part updates tasks
+  tasks_more part [] [] are = are
+  tasks_more part [] (task ∷ tasks) are = are
+  tasks_more part (u ∷ updates) [] are = are
+  tasks_more part (u ∷ updates) (task ∷ tasks) are = (task_more part u task are.0, tasks_more part updates tasks are.1)
+
+  parts_more : (file : Option Bytes) (parts : List Part) → ArePartsOf G file parts → ArePartsOf H file parts
+  parts_more None parts are = are
+  parts_more (Some name) parts (text, gives, is) = (text, each name text gives, is)
+
+  asked_more : (s : Settings) (plan : Plan) → IsAsked s G plan → IsAsked s H plan
+  asked_more s plan asked = record {
+    parts = asked.parts;
+    are_parts = parts_more s.parts asked.parts asked.are_parts;
+    part = asked.part;
+    tasks = tasks_more plan.part s.updates plan.tasks asked.tasks;
+    switches = asked.switches;
+  }
+
+pub later_asked : (s : Settings) (plan : Plan) (old mid new : DeskState) (more : List Opening)
+    → all_openings new.kept ≡ all_openings mid.kept ++ more → IsAsked s (Gave old mid) plan
+    → IsAsked s (Gave old new) plan
+later_asked s plan old mid new more grows asked =
+    asked_more (Gave old mid) (Gave old new)
+    (λ name text among. subst (λ (os : List Opening). Contains (drop (length (all_openings old.kept)) os)
+    (Found (record { name = name; bytes = text; ended = true })))
+    (sym grows) (drop_more (length (all_openings old.kept)) (all_openings mid.kept) more
+    (Found (record { name = name; bytes = text; ended = true })) among))
+    s plan asked
