@@ -19,6 +19,7 @@ use Rattle.avr_desk.specs.declared.desk.DeskFault.{DeskFault}
 use Rattle.avr_desk.specs.declared.stream.Stream.{Stream}
 use Rattle.avr_desk.specs.declared.stream.Stream.TheVariants.{Output, Messages}
 use Rattle.avr_tool.specs.Asked.{IsRefused}
+use Rattle.avr_tool.specs.declared.command_line.CommandLine.{Ghosts as CommandLine}
 use Rattle.avr_tool.specs.Headline.{IsRun, IsStopped}
 use Rattle.avr_tool.specs.OverNet.{RunsOverNet}
 use Rattle.avr_tool.specs.ServedNet.{ServesNet}
@@ -94,9 +95,9 @@ abbrev pub RunsProgram : Peers → List Bytes → Devices → Devices → ℕ �
 RunsProgram peers words old new status =
     ActsOnWords peers words old new (Ok status) ⊎ TellsUsage peers words old new status
 
--- From the start of a process: its command line, which no clause knows, was read and run. Or it could not be read,
--- this was reported, and the status is 1.
-abbrev pub StartsProgram : Peers → Devices → Devices → ℕ → Type 0
-StartsProgram peers old new status =
-    ((words : List Bytes) × RunsProgram peers words old new status)
-    ⊎ ((status ≡ 1) × ReportsText AnyPart old.desk new.desk × (new.link ≡ old.link) × peers.unused)
+-- From the start of a process: its command line was read and run. Or it could not be read, this was reported, and the
+-- status is 1.
+abbrev pub StartsProgram : {C : Type 0} → CommandLine C → Peers → Devices → Devices → ℕ → Type 0
+StartsProgram line peers old new status =
+    ((words : List Bytes) × line.is_words words × RunsProgram peers words old new status)
+    ⊎ (line.unread × (status ≡ 1) × ReportsText AnyPart old.desk new.desk × (new.link ≡ old.link) × peers.unused)

@@ -4,7 +4,7 @@
 //! there was no fault, otherwise 1. The crates below do most of it; this one gathers their calls and adds the
 //! network. A socket is a reader and a writer, so it is used through a [`stk_host::StreamLink`].
 //!
-//! A program's `main` calls [`run_program`], which does all of it with two writers, a reader and the command line.
+//! A program's `main` calls [`run_command_line`], which does all of it with two writers, a reader and the command line.
 //! Step by step:
 //!
 //! ```text
@@ -44,6 +44,7 @@ mod serving;
 // from a command line to settings
 mod asking;
 // from a command line to a status
+mod command_line;
 mod program;
 mod texts;
 // the runs of the headline
@@ -59,6 +60,7 @@ pub use avr_cli::{
     make_command, parse_update, port_number, read_settings, read_settings as settings, read_words,
 };
 pub use avr_session::refuse;
+pub use command_line::CommandLine;
 pub use laws::{a_run_is_one_function, a_session_over_a_wire, a_stop_is_a_prefix};
 // what a run reads and writes beside its link
 pub use avr_desk::{
@@ -75,7 +77,7 @@ pub use numbers::the_numbers_are;
 pub use over_emulator::{drive_wired, run_emu};
 pub use over_net::run_net;
 pub use ports::{accept, listen};
-pub use program::{run_program, run_words};
+pub use program::{run_command_line, run_program, run_words};
 pub use running::{run, run_wired};
 pub use served_run::{READS, judge_part, serve, serve_chip, serve_for, serve_part};
 pub use serving::{serve_net, serve_on};

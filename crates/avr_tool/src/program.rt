@@ -2,24 +2,27 @@
 ghost use Rattle.std.specs.Prelude.{◌≡◌, map, string_bytes};
 ghost use Rattle.clap.specs.Words.{kind_of};
 ghost use Rattle.avr_tool.specs.Asked.{LeavesWords};
-ghost use Rattle.avr_tool.specs.Program.{ActsAtPort, RunsProgram, ActsOnWords, usage_status, usage_stream};
+ghost use Rattle.avr_tool.specs.Program.{ActsAtPort, RunsProgram, ActsOnWords, StartsProgram, usage_status, usage_stream};
+ghost use Rattle.avr_desk.specs.Shown.{IsTrueSince as IsTrueDesk, TellsAll, shown_state};
 ghost use Rattle.avr_session.specs.Runs.{devices};
 ghost use Rattle.avr_tool.specs.Sockets.{peers_of};
 ghost use Rattle.stk_host.specs.Links.{IsTrueSince, stream_state};
 ghost use Rattle.ghosts.specs.Stays.{Stays};
 
 use crate::asking::{NotAsked, asked};
+use crate::command_line::CommandLine;
 use crate::network::Network;
 use crate::over_emulator::run_emu;
 use crate::over_net::run_net;
 use crate::running::run;
 use crate::serving::serve_net;
-use crate::texts::print_text;
+use crate::texts::{print_text, refuse_text};
 use avr_cli::{Port, Settings, SettingsFault};
-use avr_desk::{ChipDesk, Desk, DeskFault, Stream};
+use avr_desk::{ChipDesk, Desk, DeskFault, FileSystem, Stream, SystemDesk};
 use avr_session::refuse;
 use clap::Error;
 use clap::error::ErrorKind;
+use ghosts::Outlet;
 use std::alloc::Global;
 use std::io::{Read, Write};
 use stk_host::StreamLink;
@@ -164,6 +167,42 @@ pub fn run_program<N: Network, D: ChipDesk, R: Read + Drop, W: Write + Drop>(
         Err(error) => {
             let printed = print_text(desk, stream_of_usage(&error), &error);
             status_of_usage(&error, printed)
+        }
+    }
+}
+
+/// Reads the command line of a process, and runs what it asks for at a program's desk, as [`run_program`] does.
+///
+/// Returns the status of the run. If the command line can't be read, the error is reported, and the status is 1.
+pub fn run_command_line<
+    C: CommandLine,
+    N: Network,
+    S: FileSystem + Drop,
+    O: Outlet + Drop,
+    M: Outlet + Drop,
+    R: Read + Drop,
+    W: Write + Drop,
+>(
+    line: &C,
+    network: N,
+    alloc: Global,
+    desk: &mut SystemDesk<S, O, M>,
+    link: &mut StreamLink<R, W>,
+) -> u8
+    ensures starts { StartsProgram C.CommandLine (peers_of N.Network N.Listener.Callers N.Stream.Read
+        N.Stream.Write N.Stream.closed)
+        (devices (stream_state link.old) (shown_state desk.old))
+        (devices (stream_state link.new) (shown_state desk.new)) result }
+    ensures tells { IsTrueSince R.remaining W.contents link.old link.new }
+    ensures shows { IsTrueDesk S.FileSystem S.File.Read S.File.Write S.Input.Read O.Write M.Write desk.old
+        desk.new }
+    ensures all { TellsAll S.FileSystem S.File.Read S.File.Write S.Input.Read desk.old desk.new }
+{
+    match line.words(alloc) {
+        Ok(words) => run_program(network, alloc, words.as_slice(), desk, link),
+        Err(error) => {
+            network.leave();
+            refuse_text(desk, &error)
         }
     }
 }

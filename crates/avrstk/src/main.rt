@@ -1,20 +1,14 @@
 //! Programs AVR parts through an STK500v2 programmer, as AVRDUDE does with `-c stk500v2`.
 #![tactic(auto)]
 
-ghost use Rattle.std.specs.Prelude.{◌≡◌};
-ghost use Rattle.avr_tool.specs.Links.{stream_state};
-ghost use Rattle.avr_tool.specs.Program.{StartsProgram};
-ghost use Rattle.avr_tool.specs.Runs.{devices};
-ghost use Rattle.avr_tool.specs.Shown.{TellsAll, shown_state};
-ghost use Rattle.avr_tool.specs.Sockets.{peers_of};
-
-use avr_tool::{FileSystem, Network, Outlet, StreamLink, SystemDesk, refuse_text, run_program};
+use avr_tool::{
+    CommandLine, FileSystem, Network, Outlet, StreamLink, SystemDesk, run_command_line,
+};
 use std::alloc::Global;
-use std::env::Env;
 use std::fs::File;
 use std::io::{Read, Write};
 use std::process::ExitCode;
-use std::{env, fs, io};
+use std::{fs, io};
 
 fn main(rt: HostRuntime) -> ExitCode {
     let _taken = take_closed_streams(&rt);
@@ -39,7 +33,7 @@ fn take_closed_streams(rt: &HostRuntime) -> [io::Result<File>; 3] {
 /// Runs what the command line asks for. The port `stdio:` is `input` and `replies`.
 // (The borrow checker covers a desk over any system, but in `main` none over the runtime's own.)
 fn start<
-    E: Env + Alloc<A = Global>,
+    E: CommandLine + Alloc<A = Global>,
     N: Network,
     S: FileSystem + Drop,
     O: Outlet + Drop,
@@ -49,35 +43,5 @@ fn start<
 >(rt: &E, network: N, system: S, input: R, replies: W, output: O, messages: M) -> u8 {
     let mut desk = SystemDesk::new(system, output, messages);
     let mut link = StreamLink::new(input, replies);
-    run(rt, network, &mut desk, &mut link)
-}
-
-/// Runs what the command line asks for.
-fn run<
-    E: Env + Alloc<A = Global>,
-    N: Network,
-    S: FileSystem + Drop,
-    O: Outlet + Drop,
-    M: Outlet + Drop,
-    R: Read + Drop,
-    W: Write + Drop,
->(rt: &E, network: N, desk: &mut SystemDesk<S, O, M>, link: &mut StreamLink<R, W>) -> u8
-    ensures starts { StartsProgram (peers_of N.Network N.Listener.Callers N.Stream.Read N.Stream.Write
-        N.Stream.closed)
-        (devices (stream_state link.old) (shown_state desk.old))
-        (devices (stream_state link.new) (shown_state desk.new)) result }
-    ensures all { TellsAll S.FileSystem S.File.Read S.File.Write S.Input.Read desk.old desk.new }
-{
-    match read_arguments(rt) {
-        Ok(words) => run_program(network, rt.alloc(), words.as_slice(), desk, link),
-        Err(error) => {
-            network.leave();
-            refuse_text(desk, &error)
-        }
-    }
-}
-
-/// Returns the command line, whose first element is the program's name.
-fn read_arguments<E: Env + Alloc<A = Global>>(rt: &E) -> io::Result<Vec<String>> {
-    Ok(env::args(rt)?.collect(rt.alloc())?)
+    run_command_line(rt, network, rt.alloc(), &mut desk, &mut link)
 }

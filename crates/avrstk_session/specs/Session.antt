@@ -12,6 +12,7 @@ use Rattle.avr_desk.specs.Lines.{error, memory_pieces}
 use Rattle.avr_desk.specs.Record.{Bytes, DeskState}
 use Rattle.avr_desk.specs.Said.{Tells}
 use Rattle.avr_tool.specs.Asked.{IsRefused}
+use Rattle.avr_tool.specs.declared.command_line.CommandLine.{Ghosts as CommandLine}
 use Rattle.avr_tool.specs.ServedRun.{JudgesPart, RunsServed}
 use Rattle.avr_part.specs.Part.{Part}
 use Rattle.avr_session.specs.Runs.{Devices}
@@ -69,7 +70,8 @@ ServesWords words old new status =
     TakesWords words old new status
     ⊎ ((IsRefused words old.desk new.desk status ⊎ IsUntaken words old.desk new.desk status) × (new.link ≡ old.link))
 
--- From the start of a process: its command line, which no clause knows, was read and served. Or it could not be read.
-abbrev pub StartsSession : Devices → Devices → ℕ → Type 0
-StartsSession old new status =
-    ((words : List Bytes) × ServesWords words old new status) ⊎ RefusesUse old new status
+-- From the start of a process: its command line was read and served. Or it could not be read.
+abbrev pub StartsSession : {C : Type 0} → CommandLine C → Devices → Devices → ℕ → Type 0
+StartsSession line old new status =
+    ((words : List Bytes) × line.is_words words × ServesWords words old new status)
+    ⊎ (line.unread × RefusesUse old new status)

@@ -7,10 +7,12 @@
 
 ghost use Rattle.std.specs.Prelude.{◌≡◌, map, string_bytes};
 ghost use Rattle.clap.specs.Words.{kind_of};
+ghost use Rattle.avr_desk.specs.Shown.{IsTrueSince, TellsAll, shown_state};
 ghost use Rattle.avr_session.specs.Runs.{devices};
 ghost use Rattle.avrstk_session.specs.Outline.{Outlines, PrintsOutline, outline_text};
 ghost use Rattle.avr_tool.specs.Ports.{HasChip, chip_file_of};
 ghost use Rattle.avrstk_session.specs.Session.{JudgesOnly, ServesPort, ServesWords, StartsSession, TellsUsage, usage_pieces};
+ghost use Rattle.ghosts.specs.Stays.{Stays};
 
 mod outline;
 
@@ -19,16 +21,15 @@ use avr_desk::{
     ChipDesk, Desk, FileSystem, Message, Stream, SystemDesk, memory_message, refuse, write_all,
 };
 use avr_plan::{Plan, plan};
-use avr_tool::{NotAsked, asked, judge_part, serve};
+use avr_tool::{CommandLine, NotAsked, asked, judge_part, serve};
 use clap::Error;
 use clap::error::ErrorKind;
 use ghosts::{Inlet, Outlet};
 use outline::outline_text;
 use std::alloc::Global;
-use std::env::Env;
 use std::fs::File;
 use std::process::ExitCode;
-use std::{env, fs, io};
+use std::{fs, io};
 use stk_host::{Link, StreamLink};
 
 fn main(rt: HostRuntime) -> ExitCode {
@@ -45,7 +46,8 @@ fn take_closed_streams(rt: &HostRuntime) -> [io::Result<File>; 3] {
 /// Checks that the part and the chip file of these settings can be served, and returns the status.
 fn judge<D: ChipDesk>(alloc: Global, settings: &Settings, desk: &mut D) -> u8
     requires { HasChip settings.now.port }
-    ensures { JudgesOnly settings.now (chip_file_of settings.now.port) (D.view desk.old) (D.view desk.new) result }
+    ensures judges { JudgesOnly settings.now (chip_file_of settings.now.port) (D.view desk.old) (D.view desk.new) result }
+    ensures stays { Stays D.comes_of desk.old desk.new }
 {
     match judge_part(alloc, settings, desk) {
         Ok(_) => 0,
@@ -64,7 +66,8 @@ fn usage_message<'a>() -> Message<'a>
 
 /// Prints the outline of the plan's session on standard output.
 fn print_outline<D: Desk>(alloc: Global, desk: &mut D, plan: &Plan) -> u8
-    ensures { PrintsOutline (outline_text plan.now) (D.view desk.old) (D.view desk.new) result }
+    ensures prints { PrintsOutline (outline_text plan.now) (D.view desk.old) (D.view desk.new) result }
+    ensures stays { Stays D.comes_of desk.old desk.new }
 {
     let Ok(text) = outline_text(alloc, plan) else {
         return refuse(desk, &memory_message());
@@ -77,7 +80,8 @@ fn print_outline<D: Desk>(alloc: Global, desk: &mut D, plan: &Plan) -> u8
 
 /// Reads the files that the settings name, and prints the outline of their session. No file is created.
 fn outline_session<D: Desk>(alloc: Global, settings: &Settings, desk: &mut D) -> u8
-    ensures { Outlines settings.now (D.view desk.old) (D.view desk.new) result }
+    ensures outlines { Outlines settings.now (D.view desk.old) (D.view desk.new) result }
+    ensures stays { Stays D.comes_of desk.old desk.new }
 {
     match plan(alloc, settings, desk) {
         Ok(plan) => print_outline(alloc, desk, &plan),
@@ -93,8 +97,10 @@ fn serve_port<D: ChipDesk, L: Link>(
     desk: &mut D,
     link: &mut L,
 ) -> u8
-    ensures { ServesPort settings.now.port settings.now (devices (L.view link.old) (D.view desk.old))
+    ensures serves { ServesPort settings.now.port settings.now (devices (L.view link.old) (D.view desk.old))
         (devices (L.view link.new) (D.view desk.new)) result }
+    ensures comes { Stays L.comes_of link.old link.new }
+    ensures stays { Stays D.comes_of desk.old desk.new }
 {
     match &settings.port {
         Port::Emulated(_) => {
@@ -111,7 +117,8 @@ fn serve_port<D: ChipDesk, L: Link>(
 
 /// Reports an error of `clap`, and returns the status: 0 for help, otherwise 1.
 fn tell_usage<D: Desk>(desk: &mut D, error: &Error) -> u8
-    ensures { TellsUsage (kind_of error.now) (D.view desk.old) (D.view desk.new) result }
+    ensures tells { TellsUsage (kind_of error.now) (D.view desk.old) (D.view desk.new) result }
+    ensures stays { Stays D.comes_of desk.old desk.new }
 {
     match error.kind() {
         ErrorKind::DisplayHelp => {
@@ -130,8 +137,10 @@ fn serve_words<D: ChipDesk, L: Link>(
     desk: &mut D,
     link: &mut L,
 ) -> u8
-    ensures { ServesWords (map string_bytes words.now) (devices (L.view link.old) (D.view desk.old))
+    ensures serves { ServesWords (map string_bytes words.now) (devices (L.view link.old) (D.view desk.old))
         (devices (L.view link.new) (D.view desk.new)) result }
+    ensures comes { Stays L.comes_of link.old link.new }
+    ensures stays { Stays D.comes_of desk.old desk.new }
 {
     match asked(alloc, words, desk) {
         Ok(settings) => serve_port(alloc, &settings, desk, link),
@@ -143,7 +152,7 @@ fn serve_words<D: ChipDesk, L: Link>(
 /// Serves what the command line asks for, to the client behind `input` and `replies`.
 // (The borrow checker covers a desk over any system, but in `main` none over the runtime's own.)
 fn start<
-    E: Env + Alloc<A = Global>,
+    E: CommandLine + Alloc<A = Global>,
     S: FileSystem + Drop,
     R: Inlet + Drop,
     W: Outlet + Drop,
@@ -152,21 +161,25 @@ fn start<
 >(rt: &E, system: S, input: R, replies: W, output: O, messages: M) -> u8 {
     let mut desk = SystemDesk::new(system, output, messages);
     let mut link = StreamLink::new(input, replies);
-    run(rt, &mut desk, &mut link)
+    run(rt, rt.alloc(), &mut desk, &mut link)
 }
 
 /// Serves what the process's command line asks for.
-fn run<E: Env + Alloc<A = Global>, D: ChipDesk, L: Link>(rt: &E, desk: &mut D, link: &mut L) -> u8
-    ensures { StartsSession (devices (L.view link.old) (D.view desk.old))
-        (devices (L.view link.new) (D.view desk.new)) result }
+fn run<C: CommandLine, S: FileSystem + Drop, O: Outlet + Drop, M: Outlet + Drop, L: Link>(
+    line: &C,
+    alloc: Global,
+    desk: &mut SystemDesk<S, O, M>,
+    link: &mut L,
+) -> u8
+    ensures starts { StartsSession C.CommandLine (devices (L.view link.old) (shown_state desk.old))
+        (devices (L.view link.new) (shown_state desk.new)) result }
+    ensures comes { Stays L.comes_of link.old link.new }
+    ensures shows { IsTrueSince S.FileSystem S.File.Read S.File.Write S.Input.Read O.Write M.Write desk.old
+        desk.new }
+    ensures all { TellsAll S.FileSystem S.File.Read S.File.Write S.Input.Read desk.old desk.new }
 {
-    match read_arguments(rt) {
-        Ok(words) => serve_words(rt.alloc(), words.as_slice(), desk, link),
+    match line.words(alloc) {
+        Ok(words) => serve_words(alloc, words.as_slice(), desk, link),
         Err(_) => refuse(desk, &usage_message()),
     }
-}
-
-/// Returns the command line, whose first element is the program's name.
-fn read_arguments<E: Env + Alloc<A = Global>>(rt: &E) -> io::Result<Vec<String>> {
-    Ok(env::args(rt)?.collect(rt.alloc())?)
 }
