@@ -1,5 +1,4 @@
 -- Bytes laid down and taken away, address by address.
 pub mod Laid
 pub mod ByAddress
-pub mod Overlaps
 pub mod Removed

@@ -1,6 +1,5 @@
 -- How many commands the steps of a plan have.
-use Rattle.std.proofs.Common.{◌≡◌, refl, arith, ℕ, zero, suc, ◌+◌, ◌*◌, ◌-◌, ◌<◌, ◌≤◌, true, false, Option, List, [], ◌∷◌, ◌++◌, drop, min, ◌^◌, rules}
-use Rattle.avr_image.specs.Image.{holds_any}
+use Rattle.std.proofs.Common.{◌≡◌, arith, ℕ, zero, suc, ◌+◌, ◌*◌, ◌-◌, ◌<◌, ◌≤◌, Option, List, [], ◌∷◌, ◌++◌, drop, min, ◌^◌, rules}
 use Rattle.avr_part.specs.Part.{Part}
 use Rattle.avr_part.specs.declared.part.Mem.{Mem}
 use Rattle.avr_plan.specs.Plan.{Plan}
@@ -11,7 +10,7 @@ use Rattle.stk_frame.specs.declared.command.Command.{Command}
 use Rattle.stk_host.specs.Bound.{commands_in}
 use Rattle.stk_host.specs.Places.{each_from}
 use Rattle.stk_host.specs.ReadSteps.{read_steps}
-use Rattle.stk_host.specs.WriteSteps.{page_steps, write_steps}
+use Rattle.stk_host.specs.WriteSteps.{write_steps}
 
 pub commands_append : (first second : List (List Command))
     → commands_in (first ++ second) ≡ commands_in first + commands_in second
@@ -28,14 +27,6 @@ pub write_and_read : (part : Part) (mem : Mem) (image : List (Option ℕ))
     → commands_in (actions_steps part (WriteImage mem image ∷ CompareImage mem image ∷ []))
     ≡ commands_in (write_steps part mem image) + commands_in (read_steps part mem)
 write_and_read part mem image = search (rules, commands_append)
-
-pub two_used : (part : Part) (image : List (Option ℕ)) (page : ℕ)
-    → holds_any image (page * part.flash_page) part.flash_page ≡ true → 2 ≡ commands_in (page_steps part image page)
-two_used part image page is = rw is refl
-
-pub none_used : (part : Part) (image : List (Option ℕ)) (page : ℕ)
-    → holds_any image (page * part.flash_page) part.flash_page ≡ false → 0 ≡ commands_in (page_steps part image page)
-none_used part image page is = rw is refl
 
 module _ (steps_at : ℕ → List (List Command)) where
   -- the commands from this place on are those at it and those after it

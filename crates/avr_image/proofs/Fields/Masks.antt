@@ -84,26 +84,18 @@ ones_are low high i a b l =
 one_of_two : (a b i : ℕ) → eqb (bit_at (bit_or a b) i) 1 ≡ (eqb (bit_at b i) 1 || eqb (bit_at a i) 1)
 one_of_two a b i = grind (arith, nat_tests, bit_at_or)
 
-pub within_yes : (from end k : ℕ) → from ≤ k → k < end → is_within from end k ≡ true
-within_yes from end k a b = grind (arith, nat_tests)
-
 pub within_low : (from end k : ℕ) → k < from → is_within from end k ≡ false
 within_low from end k a = let first : nat_le from k ≡ false = grind (arith, nat_tests) in rw first refl
 
 pub within_high : (from end k : ℕ) → end ≤ k → is_within from end k ≡ false
 within_high from end k b = grind (arith, nat_tests)
 
--- the part of a word's bits that a span has, compared with the span
-in_word : (at stop k : ℕ) → at < stop → stop ≤ at / 64 * 64 + 64 → k / 64 ≡ at / 64
-    → is_within (at % 64) (stop - at / 64 * 64) (k % 64) ≡ is_within at stop k
-in_word at stop k l room same = grind (arith, nat_tests)
-
 -- one word of a span
 pub span_word : (words : List ℕ) (at stop bits k : ℕ) → at < stop → stop ≤ at / 64 * 64 + 64 → at / 64 < length words
     → ((i : ℕ) → i < 64 → eqb (bit_at bits i) 1 ≡ is_within (at % 64) (stop - at / 64 * 64) i)
     → is_present (set words (at / 64) (bit_or (get_or words (at / 64) 0) bits)) k
     ≡ (is_within at stop k || is_present words k)
-span_word words at stop bits k l room within ones = search (rules, in_word, one_of_two)
+span_word words at stop bits k l room within ones = search (rules, one_of_two)
 
 -- two spans, the one after the other
 pub spans_join : (from at stop k : ℕ) (b : Bool) → from ≤ at → at ≤ stop

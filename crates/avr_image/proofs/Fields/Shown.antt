@@ -3,12 +3,12 @@ use Rattle.std.proofs.lemmas.Bool.Decides.{nat_tests}
 use Rattle.std.proofs.Common.{◌≡◌, ◌≢◌, ◌∙◌, sym, ap, ap₂, refl, arith, ℕ, suc, zero, ◌+◌, ◌*◌, ◌/◌, ◌%◌, ◌^◌, ◌<◌, ◌≤◌, List, [], ◌∷◌, length, get_or, set, Bool, true, false, Option, Some, None, replicate, bit_or, is_some, inl, inr, nat_lt, w64, min, take, drop, ◌++◌, ◌-◌, rules}
 use Rattle.std.proofs.Math.ListN.{get_or-eq_default}
 use Rattle.std.proofs.lemmas.Bool.{cases_eq, cases_lt, lt-ltb, le-ltb}
-use Rattle.std.proofs.lemmas.List.{get_or-set_same, get_or-set_other, length-set, length-drop, length-take, get_or-take, get_or-drop, drop_all}
+use Rattle.std.proofs.lemmas.List.{get_or-set_same, get_or-set_other, length-set, length-drop, length-take, get_or-take, get_or-drop}
 use Rattle.std.proofs.lemmas.Nat.Bits.{bit_at_set_same, bit_at_set_other}
 use Rattle.std.proofs.lemmas.List.Sums.{prefix_len_is}
 use Rattle.std.specs.List.{list_any, position_from, prefix_len}
 use Rattle.std.proofs.lemmas.List.Folds.{list_any_at}
-use Rattle.avr_image.specs.Image.{byte_at, or_blank, filled_bytes, first_from, holds_any, run_end, HoldsBytes}
+use Rattle.avr_image.specs.Image.{byte_at, or_blank, filled_bytes, first_from, holds_any, run_end}
 use Rattle.avr_image.specs.Present.{is_present, with_mark, FirstPlace}
 use Rattle.avr_image.specs.Dense.{shown_byte, shown_from, dense_image, with_span}
 
@@ -84,9 +84,6 @@ present-other words a i within other =
           (bit_or (get_or words (a / 64) 0) (1 * 2 ^ (a % 64) % 2 ^ 64)) 0 differ) refl
     ]
 
-pub length-marked : (words : List ℕ) (a : ℕ) → length (with_mark words a) ≡ length words
-length-marked words a = length-set words (a / 64) _
-
 pub shown-marked : (words bytes : List ℕ) (a b : ℕ) → a < length bytes → a / 64 < length words
     → dense_image (with_mark words a) (set bytes a b) ≡ set (dense_image words bytes) a (Some b)
 shown-marked words bytes a b l within =
@@ -105,16 +102,6 @@ pub same_default : (xs : List ℕ) (i d e : ℕ) → i < length xs → get_or xs
 same_default [] i d e l = absurd (omega (arith, l))
 same_default (x ∷ xs) zero d e l = refl
 same_default (x ∷ xs) (suc i) d e l = same_default xs i d e (omega (arith, l))
-
-pub got : (words bytes : List ℕ) {image : List (Option ℕ)} (i b : ℕ) → dense_image words bytes ≡ image
-    → i < length bytes
-    → is_present words i ≡ true → b ≡ get_or bytes i b → Some b ≡ byte_at image i
-got words bytes {image} i b seen l present item = grind (arith, nat_tests, same_default, byte_at-shown)
-
-pub absent : (words bytes : List ℕ) {image : List (Option ℕ)} (i : ℕ) → dense_image words bytes ≡ image
-    → i < length bytes
-    → is_present words i ≡ false → None ≡ byte_at image i
-absent words bytes {image} i seen l present = grind (arith, nat_tests, byte_at-shown)
 
 pub past : (words bytes : List ℕ) {image : List (Option ℕ)} (i : ℕ) → dense_image words bytes ≡ image → length bytes ≤ i
     → None ≡ byte_at image i
@@ -224,9 +211,6 @@ run_is words bytes {image} addr end place seen found l =
     (λ j. let rest : addr + (place - addr) ≡ place = omega (arith, found.after) in
     search (rules, presence)) in search rules
 
-pub no_run_past : (image : List (Option ℕ)) (addr end : ℕ) → length image ≤ addr → addr ≡ run_end image addr end
-no_run_past image addr end l = grind (arith, nat_tests, drop_all)
-
 -- all stored bytes are what `fill` writes for all addresses
 pub kept_whole : (words bytes : List ℕ) {image : List (Option ℕ)} → dense_image words bytes ≡ image
     → ((i : ℕ) → i < length bytes → is_present words i ≡ false → get_or bytes i 0 ≡ 255)
@@ -237,12 +221,6 @@ kept_whole words bytes {image} seen blank =
     same_default bytes i 0 255 (omega (arith, l, size))
     ∙ kept_byte words bytes i seen blank
     ∙ ap (λ (k : ℕ). or_blank (byte_at image k)) (omega arith))
-
--- what is stored as bytes is shown as bytes
-pub holds_bytes : (words bytes : List ℕ) {image : List (Option ℕ)} → dense_image words bytes ≡ image
-    → ((i : ℕ) → get_or bytes i 0 < 256) → HoldsBytes image
-holds_bytes words bytes {image} seen small addr byte is =
-    grind (arith, nat_tests, byte_at-shown, past, byte_at-past, sized)
 
 -- ---- bytes stay bytes
 

@@ -1,5 +1,5 @@
 -- Bytes laid down at addresses: place by place, in parts, and as a span.
-use Rattle.std.proofs.Common.{rules, append_assoc, ◌≡◌, ◌≢◌, ◌∙◌, sym, ap, ap₂, refl, arith, ℕ, suc, zero, ◌+◌, ◌-◌, ◌<◌, ◌≤◌, List, [], ◌∷◌, ◌++◌, length, get_or, set, Bool, true, false, cond, ◌||◌, Option, Some, None, inl, inr, ◌⊎◌}
+use Rattle.std.proofs.Common.{rules, append_assoc, ◌≡◌, ◌≢◌, ◌∙◌, sym, ap, ap₂, refl, arith, ℕ, suc, zero, ◌+◌, ◌-◌, ◌<◌, ◌≤◌, List, [], ◌∷◌, ◌++◌, length, get_or, set, Bool, true, cond, ◌||◌, Option, Some, None, inl, inr, ◌⊎◌}
 use Rattle.std.proofs.lemmas.Bool.{cases_lt}
 use Rattle.std.proofs.lemmas.List.{get_or-set_same, get_or-set_other, length-set, length-drop, length-take, length-append, length-replicate, get_or_append_left, get_or-append_right, get_or-take, get_or-drop, length-map, map-append, set_at, append-nil}
 use Rattle.std.proofs.lemmas.Bool.Decides.{nat_tests}
@@ -7,7 +7,7 @@ use Rattle.std.specs.List.{enumerate_from}
 use Rattle.avr_image.specs.Image.{byte_at, over, empty, image_of_pairs, laid_over, from_zero, fits, with_byte}
 use Rattle.avr_image.specs.Present.{is_present, is_within}
 use Rattle.avr_image.specs.Dense.{dense_image, with_span, IsKept}
-use Rattle.avr_image.proofs.Fields.Masks.{within_yes, within_low, within_high}
+use Rattle.avr_image.proofs.Fields.Masks.{within_low, within_high}
 use Rattle.avr_image.proofs.Fields.Shown.{same_items, byte_at-shown, length_shown, small-pasted}
 
 pub length-laid_over : (image : List (Option ℕ)) (places : List (ℕ × ℕ))
@@ -152,16 +152,12 @@ pub kept-pasted : (words words' bytes span : List ℕ) (addr : ℕ) → addr + l
     → length words' ≡ length words
     → ((i : ℕ) → get_or span i 0 < 256) → IsKept words bytes → IsKept words' (with_span addr span bytes)
 kept-pasted words words' bytes span addr room bits same small kept =
-    search (rules, length-pasted, small-pasted, pasted_low, within_yes, within_high, pasted_high)
+    search (rules, length-pasted, small-pasted, pasted_low, within_high, pasted_high)
 
 -- ---- whether a span fits
 
 pub fits_yes : (addr : ℕ) (bytes : List ℕ) (size : ℕ) → addr + length bytes ≤ size → fits addr bytes size ≡ true
 fits_yes addr bytes size l = search (rules, nat_tests)
-
-pub fits_no : (addr : ℕ) (bytes : List ℕ) (size : ℕ) → 0 < length bytes → size < addr + length bytes
-    → fits addr bytes size ≡ false
-fits_no addr bytes size some l = search (rules, nat_tests)
 
 -- ---- bytes from address 0 on
 

@@ -28,9 +28,6 @@ cleared-other words a i within other =
           (bit_and (get_or words (a / 64) 0) (2 ^ 64 - 1 - 1 * 2 ^ (a % 64) % 2 ^ 64)) 0 differ) refl
     ]
 
-pub length-cleared : (words : List ℕ) (a : ℕ) → length (without_mark words a) ≡ length words
-length-cleared words a = length-set words (a / 64) _
-
 pub shown-removed : (words bytes : List ℕ) (a : ℕ) → a < length bytes → a / 64 < length words
     → dense_image (without_mark words a) (set bytes a 255) ≡ set (dense_image words bytes) a None
 shown-removed words bytes a l within =

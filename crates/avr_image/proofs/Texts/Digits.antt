@@ -1,6 +1,6 @@
 -- Digits, as the code reads and writes them.
 use Rattle.std.proofs.lemmas.Grind.{common_steps}
-use Rattle.std.proofs.Common.{◌≡◌, ◌∙◌, sym, ap, refl, arith, ℕ, suc, ◌+◌, ◌*◌, ◌/◌, ◌%◌, ◌^◌, ◌<◌, ◌≤◌, List, [], ◌∷◌, length, get_or, set, drop, min, true, false, cond, eqb, nat_lt, ◌≢◌, rules}
+use Rattle.std.proofs.Common.{◌≡◌, ◌∙◌, sym, ap, refl, arith, ℕ, suc, ◌+◌, ◌*◌, ◌/◌, ◌%◌, ◌^◌, ◌<◌, ◌≤◌, List, [], ◌∷◌, length, get_or, set, drop, min, true, false, cond, eqb, ◌≢◌, rules}
 use Rattle.std.proofs.lemmas.Bool.Decides.{nat_tests}
 use Rattle.std.proofs.lemmas.List.{drop_more, drop_all, drop-set}
 use Rattle.std.specs.List.{list_all}
@@ -65,12 +65,6 @@ pub all_written : (radix byte rest at next glyph : ℕ) (buffer : List ℕ) → 
     → drop next (set buffer next glyph) ≡ digits radix false byte
 all_written radix byte rest at next glyph buffer before step l here last =
     let e = written-step radix rest at next glyph buffer step l here in search rules
-
-pub lt_test : (a b : ℕ) → a < b → nat_lt a b ≡ true
-lt_test a b l = grind (arith, nat_tests)
-
-pub ne_test : (a b : ℕ) → a ≢ b → eqb a b ≡ false
-ne_test a b n = grind (arith, nat_tests)
 
 -- a number other than 0 needs a digit
 pub digit_more : (n places : ℕ) → n ≢ 0 → n < 2 ^ places → 0 < places

@@ -1,14 +1,14 @@
 -- The stages of a plan, one after another.
-use Rattle.std.proofs.Common.{◌≡◌, ap, append-nil, ℕ, false, List, [], ◌++◌, Result, Ok, Err, rules}
+use Rattle.std.proofs.Common.{◌≡◌, ap, append-nil, ℕ, false, List, [], ◌++◌, Ok, Err, rules}
 use Rattle.avr_cli.specs.declared.settings.Settings.{Settings}
-use Rattle.avr_desk.specs.Record.{DeskState, Bytes}
+use Rattle.avr_desk.specs.Record.{DeskState}
 use Rattle.avr_part.specs.Part.{Part}
 use Rattle.avr_desk.specs.Said.{OutputEvent}
 use Rattle.avr_desk.specs.declared.record.Opening.{Opening}
 use Rattle.avr_desk.proofs.Stages.Files.{taken_never}
 use Rattle.avr_desk.proofs.Stages.Played.{goes_on, goes_no_further, went_went}
 use Rattle.avr_plan.specs.Plan.{Plan}
-use Rattle.avr_plan.specs.Planning.{LacksPart, parts_stage, part_stage, tasks_stage, planned}
+use Rattle.avr_plan.specs.Planning.{parts_stage, part_stage, tasks_stage, planned}
 use Rattle.avr_desk.specs.Playing.{AtStart, Goes, Taking, Went}
 use Rattle.avr_plan.specs.Taking.{AtUpdate, AtTask}
 use Rattle.avr_desk.specs.Stage.{Stage, Made, going_on, ◌>>=◌, verdict_stage}
@@ -82,9 +82,3 @@ pub went_whole_plan : (s : Settings) (old first mid new : DeskState) (parts : Li
     → Went (tasks_stage s.switches part [] s.updates) mid new (Made tasks)
     → Went (planned s) old new (Made (plan_of s part tasks))
 went_whole_plan s old first mid new parts part tasks went found made = search (rules, went_went)
-
--- no part has the id, whatever it is called here
-pub lacks_part : {E : Type 0} (id own : Bytes) (parts : List Part) (old mid new : DeskState) → id ≡ own
-    → ◌≡◌ {A = Result (List Part) E} (Ok parts) (Ok []) → mid ≡ old → LacksPart id parts mid new
-    → LacksPart own [] old new
-lacks_part id own parts old mid new same given view lacks = search rules

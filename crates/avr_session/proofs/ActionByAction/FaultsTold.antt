@@ -56,11 +56,6 @@ abbrev Ends : {R : Type 0} → (List OutputEvent → R → Type 0) → List Outp
 Ends P said None = Unit {0}
 Ends P said (Some x) = P said x.0
 
-ends_behind : {R : Type 0} (P : List OutputEvent → R
-    → Type 0) (e : OutputEvent) (said : List OutputEvent) (o : Option (R × ℕ × Tape))
-    → Ends (λ said r. P (e ∷ said) r) said o → Ends P (e ∷ said) o
-ends_behind P e said o g = search rules
-
 along_play : {R : Type 0} (P : List OutputEvent → R → Type 0) (dialog : Dialog OutputEvent R) (seq : ℕ) (tape : Tape)
     → Along P dialog → Ends P (outputs (played dialog seq tape).events) (played dialog seq tape).outcome
 along_play P (Done r) seq tape f = f

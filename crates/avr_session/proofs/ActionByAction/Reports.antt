@@ -1,8 +1,8 @@
 -- Reports, one after another.
 use Rattle.std.proofs.lemmas.Grind.{common_steps}
-use Rattle.std.proofs.Common.{◌≡◌, ◌≤◌, ℕ, arith, List, [], ◌∷◌, ◌++◌, Result, Ok, Err, refl, sym, inl, IfErr, append-nil, nat_lt, false, rules}
+use Rattle.std.proofs.Common.{◌≡◌, ◌≤◌, ℕ, arith, List, [], ◌∷◌, ◌++◌, Result, Ok, Err, refl, sym, inl, IfErr, nat_lt, false, rules}
 use Rattle.std.proofs.lemmas.Bool.Decides.{nat_tests}
-use Rattle.avr_desk.specs.Record.{Record, DeskState, Passes, after_err}
+use Rattle.avr_desk.specs.Record.{DeskState, Passes, after_err}
 use Rattle.avr_desk.specs.Fault.{Counts, Follows, HasFailedAt, HasFailedToSay, HasSameCounts}
 use Rattle.avr_desk.specs.declared.desk.Desk.{Ghosts}
 use Rattle.avr_desk.specs.declared.desk.DeskFault.{DeskFault}
@@ -16,9 +16,6 @@ use Rattle.avr_session.specs.Runs.{cause_line, Cause, OfFile, OfPrinting, FileTr
 use Rattle.avr_session.specs.Reporting.{SaysPrefix, SaidSome, SaysOrStops, Reports, Outputs, PrintStops, Prints, FileStops, DeskStops}
 use Rattle.avr_session.specs.Saving.{SaveStops}
 use Rattle.avr_session.proofs.Runs.Stops.{outputs_by, line_part, prefix_behind, prefix_of}
-
-pub kept_nothing : (d : Record) → d ≡ after_err [] d
-kept_nothing d = search (rules, append-nil)
 
 -- nothing more is printed after printing failed
 said_until : (old new : DeskState) (outputs : List OutputEvent) → SaysPrefix OfPrinting old new outputs

@@ -1,16 +1,12 @@
 -- Blocks that are read: the bytes, and the chip after them.
 use Rattle.std.proofs.lemmas.Grind.{common_steps}
-use Rattle.std.proofs.Common.{◌≡◌, ℕ, zero, suc, ◌+◌, ◌*◌, ◌/◌, ◌%◌, ◌≤◌, ◌<◌, List, [], ◌∷◌, length, get_or, take, drop, refl, sym, ap, ◌∙◌, arith, Bool, false, cond, drop-cons, rules}
+use Rattle.std.proofs.Common.{◌≡◌, ℕ, zero, suc, ◌+◌, ◌*◌, ◌/◌, ◌%◌, ◌≤◌, ◌<◌, List, [], ◌∷◌, length, get_or, take, drop, refl, ap, ◌∙◌, arith, Bool, false, cond, rules}
 use Rattle.std.proofs.Math.Nat.{mod-eq_of_lt}
 use Rattle.std.proofs.lemmas.Bool.{cond-false}
 use Rattle.std.specs.Prelude.{slice_index}
 use Rattle.avr_part.specs.State as chip
 use Rattle.stk_emu.specs.Programmer.{sent_to, extension, flash_looks, eeprom_looks, look, for_half, word_at, byte_address, at_address, high, low}
 use Rattle.stk_emu.proofs.Memories.Pages.{extended_is}
-
--- a memory from a place on, by its first byte
-one_more : (xs : List ℕ) (j n : ℕ) → j < length xs → get_or xs j 0 ∷ take n (drop (suc j) xs) ≡ take (suc n) (drop j xs)
-one_more xs j n l = ap (take (suc n)) (sym (drop-cons xs j 0 l))
 
 -- the bytes read after an instruction whose answer is known
 pub look_by : (x : List ℕ) (s : chip.ChipState) {got : List ℕ × chip.ChipState}

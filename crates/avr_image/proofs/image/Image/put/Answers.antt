@@ -1,14 +1,14 @@
 use Rattle.std.proofs.Common.{arith, length}
 use Rattle.std.proofs.lemmas.Bool.Decides.{nat_tests}
 use Rattle.std.proofs.lemmas.List.{length-set}
-use Rattle.avr_image.proofs.Fields.Shown.{shown-marked, blank-marked, length-marked, length_shown, sized, small-set}
+use Rattle.avr_image.proofs.Fields.Shown.{shown-marked, blank-marked, length_shown, sized, small-set}
 use Rattle.avr_image.proofs.image.Image.put.Goals as goal
 
 pub returns-then-at-len-clause-judged : goal.returns-then-at-len-clause-judged
 returns-then-at-len-clause-judged c = grind (arith, nat_tests, sized)
 
 pub invariant_of-self : goal.invariant_of-self
-invariant_of-self c = grind (arith, length-marked, length-set, length, small-set, blank-marked)
+invariant_of-self c = grind (arith, length-set, length, small-set, blank-marked)
 
 pub returns-clause-judged : goal.returns-clause-judged
 returns-clause-judged c = grind (arith, nat_tests, sized)

@@ -1,11 +1,11 @@
 use Rattle.std.proofs.Common.{◌<◌, ◌+◌, ◌≤◌, arith, length, rules}
 use Rattle.std.proofs.lemmas.Bool.Decides.{nat_tests}
 use Rattle.avr_image.proofs.Fields.Shown.{sized, length_shown}
-use Rattle.avr_image.proofs.Places.Laid.{shown-pasted, kept-pasted, length-pasted, fits_yes, fits_no}
+use Rattle.avr_image.proofs.Places.Laid.{shown-pasted, kept-pasted, length-pasted, fits_yes}
 use Rattle.avr_image.proofs.image.Image.put_slice.Goals as goal
 
 pub returns-then-bytes-saturating_sub-clause-judged : goal.returns-then-bytes-saturating_sub-clause-judged
-returns-then-bytes-saturating_sub-clause-judged c = grind (arith, nat_tests, sized, fits_no)
+returns-then-bytes-saturating_sub-clause-judged c = grind (arith, nat_tests, sized)
 
 pub invariant_of-self : goal.invariant_of-self
 invariant_of-self c =
