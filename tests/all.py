@@ -22,13 +22,12 @@ import sys
 import tempfile
 import threading
 import time
-from collections import Counter
+from collections import Counter, defaultdict
 from concurrent.futures import ThreadPoolExecutor
 from dataclasses import dataclass
 from pathlib import Path
 
 from cases import LATE
-from checks import Checks
 
 TOP = Path(__file__).resolve().parent.parent
 UNPROVED = TOP / "out/unproved/avrstk"
@@ -37,15 +36,15 @@ PROVED = TOP / "crates/avrstk/out/avrstk"
 PROGRAMS = {it.parent.parent.name: it.parent.parent / "out" for it in TOP.glob("crates/*/src/main.rt")}
 
 # scripts of tools/, which only read
-CHECKED = ("measure --check", "reach --check", "site --check", "promises", "tests_page")
+CHECKED = ("measure --check", "reach --check", "site --check", "man_pages", "promises", "tests_page")
 # scripts that run no program of this project, or compile it themselves; the longest first
 SOURCES = ("rattle tests", "rattle programs", "rattle refused", "rattle names", "vendor", "build", "documents", *CHECKED)
 # scripts over the library for C, which takes minutes to prove and build, so that only --all runs them
-LIBRARY = ("from_c", "others")
+LIBRARY = ("from_c",)
 # scripts that take seconds
 SHORT = ("bad_lines", "made_frames", "manual")
 # scripts that ./test runs with the unproved program; the longest first
-QUICK = ("serial", "parts", "avrdude", "runs", "chips", "package", "serve", "recipes", "why", "claims", "lines", "hostile", *SHORT)
+QUICK = ("serial", "parts", "avrdude", "runs", "chips", "package", "serve", "recipes", "why", "lines", "hostile", *SHORT)
 # those that --all runs with both programs: two compilers made what these compare byte for byte
 BOTH = ("runs", "lines")
 # counts of bench/run.py
@@ -176,6 +175,57 @@ def current():
     return subprocess.run(["./avrstk", "--which"], cwd=TOP, capture_output=True).returncode == 0
 
 
+# Each check under rt ci is measured by a look at /proc each second.
+TICKS = os.sysconf("SC_CLK_TCK")
+NAMED = re.compile(rb"/rattle\0(?:build|check)\0.*?--crate-name\0(\w+)\0", re.S)
+
+
+def look(pid):
+    """Returns the crate that a process of rt ci checks, the folder where, and its processor seconds; None for others."""
+    named = NAMED.search(Path(f"/proc/{pid}/cmdline").read_bytes())
+    if not named:
+        return None
+    fields = Path(f"/proc/{pid}/stat").read_text().rpartition(")")[2].split()
+    return named[1].decode(), os.readlink(f"/proc/{pid}/cwd"), (int(fields[11]) + int(fields[12])) / TICKS
+
+
+class Checks(threading.Thread):
+    """The checks so far: the processor seconds of each process, by crate and folder. A crate is proved in its own folder,
+    and each mutant in a folder that rt makes for it."""
+
+    def __init__(self):
+        super().__init__(daemon=True)
+        self.seconds = defaultdict(dict)
+        self.ended = threading.Event()
+
+    def run(self):
+        while not self.ended.wait(1):
+            for pid in filter(str.isdigit, os.listdir("/proc")):
+                try:
+                    found = look(pid)
+                except OSError:
+                    continue
+                if found:
+                    self.seconds[found[:2]][pid] = found[2]
+
+    def of(self, crate):
+        """Returns the seconds of a crate's first check, and those of each of its mutants in turn."""
+        sums = {folder: sum(each.values()) for (name, folder), each in self.seconds.items() if name == crate}
+        mutants = [seconds for folder, seconds in sums.items() if "/rt-edit-" in folder]
+        return sums.get(str(TOP / "crates" / crate), 0), mutants
+
+    def table(self):
+        """Returns a line for each crate: its first check and its mutants, the first of which proves the crate once more."""
+        lines = ["crate          first check   mutants   the slowest after the first"]
+        for folder in sorted((TOP / "crates").iterdir()):
+            names = sorted(it.stem for it in folder.glob("must-fail/*.edit"))
+            first, mutants = self.of(folder.name)
+            slow = sorted(zip(mutants[1:], names[1:]), reverse=True)[:3]
+            told = ", ".join(f"{name} {seconds:.0f}" for seconds, name in slow)
+            lines.append(f"{folder.name:14} {first:9.0f} s {sum(mutants):7.0f} s   {told}".rstrip())
+        return lines
+
+
 class Proving:
     """The run of rt ci: what it has proved so far, and its checks."""
 
@@ -190,7 +240,7 @@ class Proving:
             self.changed.notify_all()
 
     def wait_for(self, *crates):
-        """Waits until the crates are proved or rt ci has ended. Returns all crates that are proved, for tests/proved.py."""
+        """Waits until the crates are proved or rt ci has ended. Returns all crates that are proved, for tests/vendor.py."""
         with self.changed:
             self.changed.wait_for(lambda: self.is_over or set(crates) <= set(self.proved))
             return " ".join(self.proved)
@@ -214,7 +264,7 @@ def free_memory():
 
 
 def over_library(folder, proving):
-    """Runs the scripts over the library for C. The first one builds it in this folder, and the others find it there."""
+    """Runs the scripts over the library for C, which is built in this folder."""
     proved = proving.wait_for("avr_records")
     return [script(it, before=LAST, AVR_RECORDS_C=folder, PROVED_BY_CI=proved) for it in LIBRARY]
 

@@ -10,9 +10,8 @@ For an ATmega328P, an ATtiny85 and an ATmega2560, each request is made twice wit
 to `--serve`, and by this program over `emu:` to a chip file of its own. Flash and EEPROM are filled with random bytes,
 and fuses and the lock are written. All memories are read into files, compared, and erased, with EEPROM kept and not kept.
 Some requests must fail. Both programs end with the same outcome; the server ends with status 0 and prints nothing. The
-chip files are identical, and so are the files read. Then AVRDUDE is killed in the middle of a session that writes flash,
-and of one that writes EEPROM. Each byte is then the erased one or the new one, and AVRDUDE's next run leaves the same
-chip as `emu:`.
+chip files are identical, and so are the files read. (What the server does with the frames of a client that is killed is a
+law.)
 
 This tests one version, three parts and these requests. AVRDUDE sends only the bits of an extended fuse that its
 configuration has, and 0 for the others: the values here have no others.
@@ -22,11 +21,9 @@ import os
 import random
 import subprocess
 import sys
-import threading
 from dataclasses import dataclass
 
 from cases import PATIENCE, leave_out, run_cases, same, see
-from line import BadLine
 from program import Room, Server, has_avrdude
 
 
@@ -66,9 +63,10 @@ def updates(*texts):
 class Beside:
     """Two chips of one part: one served to AVRDUDE, one used by this program over `emu:`. Both are new at first."""
 
-    def __init__(self, name):
-        self.name, self.part = name, PARTS[name]
-        self.room = Room()
+    def __init__(self, name, part=None, parts=None):
+        self.name, self.part, self.room = name, part or PARTS[name], Room()
+        # a part that isn't built in comes from a part file
+        self.front = ["--parts", str(parts)] if parts else []
         self.flash, self.eeprom = drawn(f"{name} flash", self.part.flash), drawn(f"{name} EEPROM", self.part.eeprom)
         self.room.put("flash.bin", self.flash)
         self.room.put("eeprom.bin", self.eeprom)
@@ -83,14 +81,14 @@ class Beside:
 
     def by_avrdude(self, words, part=None):
         """Returns AVRDUDE's status and messages, and how the server ended."""
-        with Server(self.room, "served.bin", part or self.name) as server:
+        with Server(self.room, "served.bin", part or self.name, self.front) as server:
             with self.asked(server.port, words) as client:
                 _, messages = client.communicate(timeout=PATIENCE)
             return client.returncode, messages, server.end()
 
     def by_this(self, words):
         """Makes the same request over `emu:`."""
-        status, _, messages = self.room.run(["-c", "stk500v2", "-p", self.name, "-P", "emu:own.bin", "-qq", *words])
+        status, _, messages = self.room.run([*self.front, "-c", "stk500v2", "-p", self.name, "-P", "emu:own.bin", "-qq", *words])
         return status, messages
 
     def chips_are_alike(self, what):
@@ -162,45 +160,6 @@ class Beside:
         self.request("an erase", ["-e"])
         self.holds("an erase", 0, b"\xff" * (self.part.flash + self.part.eeprom))
 
-    def killed(self, memory, frame):
-        """AVRDUDE writes a memory of an erased chip and is killed at this frame; then it is run once more."""
-        words = updates(f"{memory}:w:{memory}.bin:r")
-        self.request(f"an erase before {memory}", ["-e"])
-        fates = Killing(frame)
-        peer = BadLine(self.room, fates, self.name)
-        with self.asked(peer.port, words) as client:
-            fates.give(client)
-            client.communicate(timeout=PATIENCE)
-        same(f"{self.name}: {memory}: killed at frame {frame}", (client.returncode, len(peer.end())), (-9, frame))
-        chip, image = self.room.read("served.bin") or b"", self.flash + self.eeprom
-        written = [at for at, byte in enumerate(chip[: len(image)]) if byte != 0xFF]
-        good = len(chip) == self.part.chip and all(chip[at] == image[at] for at in written)
-        few = 0 < len(written) < len(self.flash if memory == "flash" else self.eeprom)
-        what = f"{self.name}: {memory}: the chip has some of it, and nothing else"
-        see(what, good and few, f"{len(written)} bytes")
-        self.request(f"{memory}, after AVRDUDE was killed", words)
-
-
-class Killing:
-    """The fates of a link whose client is killed at a frame: the command is executed, and its reply is lost."""
-
-    def __init__(self, frame):
-        self.frame = frame
-        self.client = None
-        self.given = threading.Event()
-
-    def give(self, client):
-        self.client = client
-        self.given.set()
-
-    def get(self, number, good):
-        if number < self.frame:
-            return good
-        self.given.wait(PATIENCE)
-        self.client.kill()
-        self.client.wait()
-        return "lost answer"
-
 
 def all_of(name):
     """Makes all requests to a part in turn, each to the chip that the one before left."""
@@ -211,8 +170,6 @@ def all_of(name):
     beside.read()
     beside.refused()
     beside.erased()
-    beside.killed("flash", 40)
-    beside.killed("eeprom", 30)
 
 
 CASES = {name: lambda name=name: all_of(name) for name in PARTS}

@@ -5,29 +5,24 @@ Not proved: That two processes and their sockets are such a link; how often a ru
 
     tests/bad_lines.py [CASE ..]    needs a built program (program.py)
 
-    cuts      all bytes arrive at once, in pieces: each run succeeds
-    stalls    5 % of the frames come late, or their rest does: just before the next frame of that direction
-    lags      from some exchange on, each reply comes late: most runs end there
-    losses    1, 5 and 20 % of the exchanges fail: a frame is lost, changed or late
+    cuts           all bytes arrive at once, in pieces: each run succeeds
+    stalls         5 % of the frames come late, or their rest does: just before the next frame of that direction
+    lags           from some exchange on, each reply comes late: most runs end there
+    losses of N %  1, 5 and 20 % of the exchanges fail: a frame is lost, changed or late
 
 Each run is checked against what is proved of a link that forges no frame. With status 0 the chip has what was written, and
 the messages are those of `emu:`. With any status the chip is the result of a prefix of the plan's writes: the erase, pages
 of flash in order, pages of EEPROM, the fuse. The messages before an error are a prefix of those of `emu:`. A run in which
 changed bytes became a valid frame by chance is counted apart, and its chip isn't judged.
-
-`losses` prints how many runs ended with status 0, and the expected figure. An attempt at n commands succeeds if none of
-them fails: (1 - p)^n. A step succeeds if one of four attempts does: for two commands, 1 - (1 - (1 - p)^2)^4. It is a little
-lower in fact, since a changed length can make the programmer take the next commands for the rest of this one.
 """
 
 import random
-import socket
 import sys
-import threading
 from concurrent.futures import ThreadPoolExecutor
+from dataclasses import dataclass
 
-from cases import PATIENCE, named, run_cases, same, see
-from line import Peer, frame_size, frames_of
+from cases import named, run_cases, same, see
+from line import Link, frame_size, frames_of
 from program import CHIP_FILE, Room, Server, xor
 
 AT_ONCE = 24
@@ -78,25 +73,16 @@ class Plan:
         status, _, messages = room.run([*self.words, "-P", port])
         return status, messages.splitlines()
 
-    def succeeds(self, rate):
-        """Returns the probability that each step gets its data in one of four attempts, for a plan without flash."""
-        # SIGN_ON, ENTER, the signature, the fuse and LEAVE; then pages and blocks of EEPROM, with their addresses
-        steps = [1] * 8 + [2] * (-(-len(self.eeprom) // EEPROM_PAGE) + EEPROM // 256)
-        chance = 1.0
-        for commands in steps:
-            chance *= 1 - (1 - (1 - rate / 100) ** commands) ** 4
-        return chance
-
 
 class Direction:
     """What goes to one side of a link, in pieces of at most `most` bytes: what arrived, and the places of the frames that
     arrived unchanged. `held` comes just before the next frame."""
 
-    def __init__(self, sink, draw, most):
-        self.sink, self.draw, self.most = sink, draw, most
+    def __init__(self, draw, most):
+        self.draw, self.most = draw, most
         self.arrived, self.whole, self.held = b"", set(), b""
 
-    def send(self, frame, fate):
+    def send(self, sink, frame, fate):
         if fate == "lost":
             return
         now = self.held + (self.spoiled(frame) if fate == "spoiled" else frame)
@@ -105,13 +91,11 @@ class Direction:
         kept = {"late": len(self.held), "cut": len(now) - self.draw.randrange(1, len(frame))}.get(fate, len(now))
         self.held = now[kept:]
         self.arrived += now[:kept]
-        self.put(now[:kept])
-
-    def put(self, bytes_):
-        while bytes_:
+        now = now[:kept]
+        while now:
             size = self.draw.randint(1, self.most)
-            self.sink.sendall(bytes_[:size])
-            bytes_ = bytes_[size:]
+            sink.sendall(now[:size])
+            now = now[size:]
 
     def spoiled(self, frame):
         """Returns the frame with one to three bytes changed."""
@@ -130,42 +114,30 @@ def is_valid(frame):
     return frame[:1] == b"\x1b" and frame[4:5] == b"\x0e" and len(frame) == frame_size(frame) and xor(frame) == 0
 
 
-class BadLink(Peer):
-    """A link to an emulated programmer that the tool serves. `fate_of` gives the fate of each exchange, from 1."""
+class BadLink(Link):
+    """A link to a programmer that the tool serves. `fate_of` gives the fate of each exchange, from 1."""
 
     def __init__(self, room, seed, most, fate_of):
-        self.draw, self.most, self.fate_of = random.Random(f"link {seed}"), most, fate_of
+        draw = random.Random(f"link {seed}")
+        self.up, self.down = (Direction(random.Random(draw.random()), most) for _ in range(2))
         # the fate of the reply to each sequence number
-        self.fates, self.directions = {}, []
-        self.server = Server(room)
-        super().__init__()
+        self.fate_of, self.fates = fate_of, {}
+        super().__init__(Server(room))
 
-    def serve(self, caller):
-        with self.server.call() as programmer:
-            programmer.setsockopt(socket.IPPROTO_TCP, socket.TCP_NODELAY, 1)
-            there, back = (Direction(it, random.Random(self.draw.random()), self.most) for it in (programmer, caller))
-            self.directions = [there, back]
-            replies = threading.Thread(target=self.reply, args=(programmer, back), daemon=True)
-            replies.start()
-            for number, frame in enumerate(frames_of(caller), 1):
-                fate, _, of = self.fate_of(number).partition(" ")
-                self.fates[frame[1]] = fate if of == "answer" else ""
-                there.send(frame, fate if of == "command" else "")
-            programmer.shutdown(socket.SHUT_WR)
-            replies.join()
+    def there(self, caller, programmer):
+        for number, frame in enumerate(frames_of(caller), 1):
+            fate, _, of = self.fate_of(number).partition(" ")
+            self.fates[frame[1]] = fate if of == "answer" else ""
+            self.up.send(programmer, frame, fate if of == "command" else "")
 
-    def reply(self, programmer, back):
+    def back(self, programmer, caller):
         for frame in frames_of(programmer):
-            try:
-                back.send(frame, self.fates.get(frame[1], ""))
-            except OSError:
-                # (the run has ended)
-                pass
+            self.down.send(caller, frame, self.fates.get(frame[1], ""))
 
     def end(self):
         """Returns whether a frame was forged, and the outcome of the server, once it has saved its chip."""
         super().end()
-        return any(it.has_forged() for it in self.directions), self.server.end()
+        return self.up.has_forged() or self.down.has_forged(), self.served
 
 
 def run(plan, seed, most, fate_of):
@@ -192,65 +164,62 @@ def holds(name, plan, status, told, is_forged, served, chip):
         see(f"{name}: and end with an error", told[-1:] and told[-1].startswith(b"avrstk: error: "), told)
 
 
-def many(name, numbers, plans, link_of):
-    """Makes the runs of these numbers. `link_of` gives the most bytes of a piece, and the fate of each exchange. Returns how
-    many succeeded, and in how many a frame was forged."""
+def drawn(rate, kinds):
+    """At a rate in percent, frames come late or cut, or are lost and changed, too. Returns what draws the fates of a run."""
+    return lambda draw: lambda number: draw.choice(kinds) if draw.random() < rate / 100 else ""
+
+
+def lagging(draw):
+    """From some exchange on each reply comes late. Returns the fates of a run."""
+    first = draw.randint(1, 40)
+    return lambda number: "late answer" if number >= first else ""
+
+
+@dataclass
+class Kind:
+    """Runs over one kind of link: their number, the most bytes of a piece, what draws the fates of exchanges, and at least
+    and at most how many succeed."""
+
+    count: int
+    pieces: list
+    fates: object
+    least: int = 0
+    most: int = 99
+    has_flash: bool = True
+
+
+KINDS = {
+    "cuts": Kind(45, [1, 7, 40, 300], drawn(0, LOSSES), least=45),
+    "stalls": Kind(42, [3, 20, 300], drawn(5, STALLS), least=34, has_flash=False),
+    "lags": Kind(15, [300], lagging, most=7),
+    **{f"losses of {it} %": Kind(16, [300], drawn(it, LOSSES), has_flash=False) for it in RATES},
+}
+
+
+def runs_over(name, kind):
+    """Makes the runs over a kind of link."""
+    plans = [Plan(it, kind.has_flash) for it in range(1 if "losses" in name else 10)]
     with ThreadPoolExecutor(AT_ONCE) as pool:
-        begun = [(it, plans[it % len(plans)]) for it in numbers]
-        found = [pool.submit(run, plan, f"{name} {it}", *link_of(random.Random(f"{name} {it}"))) for it, plan in begun]
-        found = [it.result() for it in found]
-    for (it, plan), outcome in zip(begun, found):
-        holds(f"{name} {it}", plan, *outcome)
-    return sum(it[0] == 0 for it in found), sum(it[2] for it in found)
-
-
-def cuts():
-    """All bytes arrive at once, in pieces."""
-    plans = [Plan(it) for it in range(10)]
-    SUCCEEDED["cuts"], _ = many("cuts", range(45), plans, lambda draw: (draw.choice([1, 7, 40, 300]), lambda _: ""))
-
-
-def drawn(draw, rate, kinds):
-    return lambda number: draw.choice(kinds) if draw.random() < rate / 100 else ""
-
-
-def stalls():
-    """Frames, or their rests, come just before the next one."""
-    link_of = lambda draw: (draw.choice([3, 20, 300]), drawn(draw, 5, STALLS))
-    SUCCEEDED["stalls"], _ = many("stalls", range(42), [Plan(it, False) for it in range(10)], link_of)
-
-
-def lags():
-    """From some exchange on each reply comes late."""
-
-    def link_of(draw):
-        first = draw.randint(1, 40)
-        return 300, lambda number: "late answer" if number >= first else ""
-
-    SUCCEEDED["lags"], _ = many("lags", range(15), [Plan(it) for it in range(5)], link_of)
-
-
-def losses():
-    """Frames are lost, changed and late at random."""
-    plan, count = Plan("lossy", False), 16
-    for rate in RATES:
-        good, forged = many(f"{rate} %", range(count), [plan], lambda draw: (300, drawn(draw, rate, LOSSES)))
-        print(f"{rate:3} % fail: {good} of {count} runs succeeded, {good / count:.1%} (by the figure {plan.succeeds(rate):.1%});"
-              f" in {forged} runs changed bytes became a valid frame", flush=True)
+        draws = [random.Random(f"{name} {it}") for it in range(kind.count)]
+        links = [(plans[it % len(plans)], f"{name} {it}", draw.choice(kind.pieces), kind.fates(draw)) for it, draw in enumerate(draws)]
+        found = list(pool.map(lambda it: run(*it), links))
+    for (plan, label, *_), outcome in zip(links, found):
+        holds(label, plan, *outcome)
+    good, forged = (sum(it) for it in zip(*((it[0] == 0, it[2]) for it in found)))
+    SUCCEEDED[name] = good
+    print(f"{name}: {good} of {kind.count} runs succeeded; in {forged} runs changed bytes became a valid frame", flush=True)
 
 
 def as_many_succeed():
     """Checks how many runs succeeded. On a busy machine a pause can spoil some."""
-    for case in (cuts, stalls, lags):
-        if case.__name__ not in SUCCEEDED:
-            case()
-    see("cuts: each run", SUCCEEDED["cuts"] == 45, SUCCEEDED)
-    see("stalls: most runs", SUCCEEDED["stalls"] > 33, SUCCEEDED)
-    see("lags: few runs", SUCCEEDED["lags"] < 8, SUCCEEDED)
+    for name, kind in KINDS.items():
+        if name not in SUCCEEDED:
+            runs_over(name, kind)
+        see(f"{name}: from {kind.least} to {kind.most} runs", kind.least <= SUCCEEDED[name] <= kind.most, SUCCEEDED)
 
 
 SUCCEEDED = {}
-CASES = named(cuts, stalls, lags, losses, as_many_succeed)
+CASES = {name: lambda it=(name, kind): runs_over(*it) for name, kind in KINDS.items()} | named(as_many_succeed)
 
 if __name__ == "__main__":
     sys.exit(run_cases(CASES, __doc__, timed=["as_many_succeed"]))

@@ -6,6 +6,7 @@ import signal
 import sys
 import time
 import traceback
+from pathlib import Path
 
 # A shell's background jobs ignore SIGINT, and jobs under nohup SIGHUP; their children inherit that. The programs run here
 # must not ignore them.
@@ -64,6 +65,13 @@ def wait_until(is_there):
             raise TimeoutError("what is waited for does not come")
         time.sleep(0.002)
     return found
+
+
+def table(name):
+    """Yields the rows of tests/tables/NAME.txt, each a list of cells."""
+    for row in (Path(__file__).parent / f"tables/{name}.txt").read_text().splitlines():
+        if not row.startswith("#"):
+            yield [it.strip() for it in f"{row} ".split(" | ")]
 
 
 def named(*functions):

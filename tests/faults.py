@@ -20,7 +20,6 @@ file. (Some allocations of the unproved program are not seen here.)
 
 import os
 import shutil
-import socket
 import subprocess
 import sys
 import time
@@ -99,11 +98,14 @@ class Sweep:
             self.old = CHIPS[self.words[self.words.index("-p") + 1]]
             self.room.put("chip.bin", self.old)
 
+    def refusing(self, refused):
+        """Returns the variables with which this call is refused."""
+        return {"LD_PRELOAD": str(self.shim), "REFUSE": refused, "REFUSED": "refused"} if refused else {}
+
     def done(self, refused=None):
         """Returns the status, the output and the messages, and the files that were made."""
         self.prepare()
-        environment = {"LD_PRELOAD": str(self.shim), "REFUSE": refused, "REFUSED": "refused"} if refused else None
-        ran = self.room.run(self.words, self.given, environment)
+        ran = self.room.run(self.words, self.given, self.refusing(refused))
         return *ran, self.room.read("chip.bin"), self.room.read("out.hex")
 
     def through(self, kind, how):
@@ -143,8 +145,7 @@ class Serving(Sweep):
         self.room.clear()
         self.old = CHIPS["m328p"]
         self.room.put("chip.bin", self.old)
-        environment = {"LD_PRELOAD": str(self.shim), "REFUSE": refused, "REFUSED": "refused"} if refused else {}
-        with Server(self.room, "chip.bin", waits=False, env=os.environ | environment) as server:
+        with Server(self.room, "chip.bin", waits=False, env=os.environ | self.refusing(refused)) as server:
             heard = heard_from(server)
             status, _, messages = server.end()
         return status, heard, messages.replace(str(server.port).encode(), b"PORT"), self.room.read("chip.bin"), None
@@ -197,8 +198,7 @@ class OverNet(Sweep):
         self.prepare()
         peer = BadLine(self.room, {255: "late answer"})
         self.words = ["-p", "m328p", "-P", f"net:127.0.0.1:{peer.port}", "-V", "-U", "eeprom:w:whole.bin:r"]
-        environment = {"LD_PRELOAD": str(self.shim), "REFUSE": refused, "REFUSED": "refused"} if refused else None
-        status, _, messages = self.room.run(self.words, self.given, environment)
+        status, _, messages = self.room.run(self.words, self.given, self.refusing(refused))
         return status, b"".join(peer.end()), messages.replace(str(peer.port).encode(), b"PORT"), self.room.read("served.bin"), None
 
     def is_told(self, kind, how, status, output, messages, chip, read_file):

@@ -1,17 +1,20 @@
 #!/usr/bin/env python3
-"""Tests the library for C: runs examples/c and examples/python on the examples' files, on random images with gaps, and on
-damaged files. Without a C compiler all is left out. AVR_RECORDS_C may name a folder for the library, which is built there
-if it has none.
+"""Tests the library for C: runs examples/c and examples/python on files, random images with gaps and damaged files, and
+exchanges record files with other programs. These are srec_cat, avr-objcopy and python3-intelhex. Without a C compiler all is
+left out. AVR_RECORDS_C may name a folder for the library, which is built there if it has none.
 
-Not proved: The boundary to C and Python.
+Not proved: The boundary to C and Python; the formats as other programs read and write them.
 
     tests/from_c.py [CASE ..]
+
+Images are drawn from fixed seeds. This project writes them as Intel HEX and S-records, and each other program reads them and
+writes them again for this project. Every byte must be at its address, and there must be no other byte.
 """
 
 import functools
 import importlib.util
+import itertools
 import os
-import random
 import re
 import shlex
 import shutil
@@ -21,12 +24,19 @@ import tempfile
 import time
 from pathlib import Path
 
-import proved
-from cases import leave_out, named, run_cases, same
+from cases import leave_out, named, run_cases, same, see
+from records import drawn, hex_of, image_of, runs_of
+from vendor import lend
+
+# the distribution's modules, if this python looks elsewhere
+sys.path.append("/usr/lib/python3/dist-packages")
+try:
+    from intelhex import IntelHex
+except ImportError:
+    IntelHex = None
 
 ROOT = Path(__file__).resolve().parent.parent
 IMAGES = 60
-CURSORS = 2000
 SECONDS = 20
 USAGE = "records FILE SIZE ihex|srec [ROOM]"
 # the functions that the header declares, and the faults with a text of their own
@@ -58,63 +68,17 @@ int main(void) {
 """
 
 
-def checksum(fields):
-    return -sum(fields) % 256
-
-
-def ihex_of(image):
-    """A simple writer: a record for each byte, after one for the upper half of its address."""
-    lines = []
-    for address in sorted(image):
-        offset, upper = (address % 65536).to_bytes(2, "big"), (address >> 16).to_bytes(2, "big")
-        for fields in (b"\x02\x00\x00\x04" + upper, b"\x01" + offset + b"\x00" + bytes([image[address]])):
-            lines.append(":" + (fields + bytes([checksum(fields)])).hex())
-    return "\r\n".join(lines + [":00000001ff"]).encode()
-
-
-def parse(text):
-    """A simple reader of both formats. Returns the byte at each address."""
-    image, upper = {}, 0
-    for line in text.decode().split():
-        if line[0] == ":":
-            fields = bytes.fromhex(line[1:])
-            assert sum(fields) % 256 == 0 and fields[0] == len(fields) - 5, line
-            if fields[3] == 4:
-                upper = int.from_bytes(fields[4:6], "big") << 16
-            elif fields[3] == 0:
-                start = upper + int.from_bytes(fields[1:3], "big")
-                image.update(zip(range(start, start + fields[0]), fields[4:-1]))
-        else:
-            fields = bytes.fromhex(line[2:])
-            assert sum(fields) % 256 == 255 and fields[0] == len(fields) - 1, line
-            if line[1] in "123":
-                body = 2 + int(line[1])
-                start = int.from_bytes(fields[1:body], "big")
-                image.update(zip(range(start, start + len(fields)), fields[body:-1]))
-    return image
-
-
-def drawn(seed):
-    """Returns an image with gaps, and the size of a memory that holds it."""
-    draw = random.Random(seed)
-    size = draw.choice((1, 7, 8, 9, 64, 4096, 65_537, 262_144, 16_777_217))
-    image = {}
-    for _ in range(draw.randrange(6)):
-        start = draw.randrange(size)
-        for address in range(start, min(size, start + draw.choice((1, 31, 32, 33, 700)))):
-            image[address] = draw.randrange(256)
-    return image, size
+def small_images():
+    """Yields the seed, the image, the size and the file of each drawn image for a small memory."""
+    for seed in range(IMAGES):
+        image, size, text = drawn(seed)
+        if size <= 65_537:
+            yield seed, image, size, text
 
 
 def shown(image):
     """Returns what examples/python prints for an image."""
-    lines, last = [], None
-    for address in sorted(image):
-        if last is None or address != last + 1:
-            lines.append(f"{address:08X}: ")
-        lines[-1] += f"{image[address]:02x}"
-        last = address
-    return lines
+    return [f"{at:08X}: {held.hex()}" for at, held in runs_of(image)]
 
 
 def build(folder):
@@ -124,7 +88,7 @@ def build(folder):
     shutil.copy(ROOT / "VERSION", copy)
     run = functools.partial(subprocess.run, check=True, stdout=subprocess.DEVNULL)
     run([ROOT / "tools/vendor.sh", "avr_records_c", copy])
-    proved.lend(copy)
+    lend(copy)
     run([copy / "examples/c/build.sh", folder])
 
 
@@ -177,7 +141,7 @@ class Library:
 def comes_back(library, file, image, size):
     for kind in ("ihex", "srec"):
         text = library.written(file, size, kind)
-        same(f"{file} as {kind}", parse(text), image)
+        same(f"{file} as {kind}", image_of(text), image)
         same(f"{file} as {kind} by Python", library.by_python(file, str(size), kind, check=True).stdout, text)
         again = library.folder / "again"
         again.write_bytes(text)
@@ -187,9 +151,12 @@ def comes_back(library, file, image, size):
 def files_come_back(library):
     for name in ("blink.hex", "blink.srec", "eeprom.hex"):
         file = ROOT / "examples" / name
-        image = parse(file.read_bytes())
+        image = image_of(file.read_bytes())
         comes_back(library, file, image, 32_768)
         same(f"{name} printed", library.printed(file, 32_768), shown(image))
+    file = library.folder / "empty"
+    file.write_bytes(hex_of([]))
+    comes_back(library, file, {}, 8)
 
 
 def typed_as_shown(library):
@@ -199,8 +166,8 @@ def typed_as_shown(library):
     same("the first one", first, "examples/c/build.sh out/c")
     commands = [it.replace("out/c", shlex.quote(str(library.folder))) for it in commands]
     printed = [subprocess.run(["sh", "-c", it], cwd=ROOT, capture_output=True, check=True).stdout for it in commands]
-    image = parse((ROOT / "examples/blink.hex").read_bytes())
-    same("C's", (printed[0], parse(printed[1])), (b"", image))
+    image = image_of((ROOT / "examples/blink.hex").read_bytes())
+    same("C's", (printed[0], image_of(printed[1])), (b"", image))
     same("Python's", printed[2].decode().splitlines(), shown(image))
     without = os.environ | {"AVR_RECORDS_LIBRARY": "/nowhere"}
     ran = subprocess.run(["sh", "-c", commands[2].partition(" ")[2]], cwd=ROOT, capture_output=True, text=True, env=without)
@@ -211,8 +178,8 @@ def typed_as_shown(library):
 def images_come_back(library):
     for seed in range(IMAGES):
         file = library.folder / f"seed {seed}"
-        image, size = drawn(seed)
-        file.write_bytes(ihex_of(image))
+        image, size, text = drawn(seed)
+        file.write_bytes(text)
         comes_back(library, file, image, size)
         if size <= 4096:
             same(f"seed {seed} printed", library.printed(file, size), shown(image))
@@ -220,12 +187,9 @@ def images_come_back(library):
 
 def pieces_join(library):
     """The pieces make up the file, however small the buffer is."""
-    for seed in range(IMAGES):
-        image, size = drawn(seed)
-        if size > 65_537:
-            continue
+    for seed, _, size, given in small_images():
         file = library.folder / f"pieces {seed}"
-        file.write_bytes(ihex_of(image))
+        file.write_bytes(given)
         for kind in ("ihex", "srec"):
             text = library.written(file, size, kind, 1 << 20)
             for room in (1, 7, 80, len(text), len(text) + 1):
@@ -234,10 +198,7 @@ def pieces_join(library):
 
 def lengths_are_told(library):
     records, loaded = library.in_python()
-    for seed in range(IMAGES):
-        image, size = drawn(seed)
-        if size > 65_537:
-            continue
+    for seed, image, size, _ in small_images():
         data, present = bytearray(size), bytearray((size + 7) // 8)
         for address, byte in image.items():
             data[address] = byte
@@ -252,14 +213,7 @@ def time_is_linear(library):
     """A file of about 11 MB is written through small buffers in seconds."""
     size = 4 << 20
     file = library.folder / "large"
-    rows = (b"\x10" + (n & 0xFFF0).to_bytes(2, "big") + b"\0" + bytes(16) for n in range(0, size, 16))
-    lines = []
-    for n, row in enumerate(rows):
-        if n % 4096 == 0:
-            upper = b"\x02\0\0\x04" + (n // 4096).to_bytes(2, "big")
-            lines.append(":" + (upper + bytes([checksum(upper)])).hex())
-        lines.append(":" + (row + bytes([checksum(row)])).hex())
-    file.write_text("\n".join(lines + [":00000001ff", ""]))
+    file.write_bytes(hex_of([(0, bytes(size))]))
     for kind in ("ihex", "srec"):
         text = library.written(file, size, kind, 16 << 20)
         begun = time.monotonic()
@@ -267,34 +221,6 @@ def time_is_linear(library):
         same(f"{kind} by 80", library.written(file, size, kind, 80) == text, True)
         taken = time.monotonic() - begun
         same(f"{kind} took {taken:.1f} of {SECONDS} s", taken < SECONDS, True)
-
-
-def cursors_are_judged(library):
-    """A cursor with any numbers is accepted or refused by its values. Only the buffer and the cursor change."""
-    records, loaded = library.in_python()
-    draw = random.Random(0)
-    data, present = bytearray(draw.randbytes(70_000)), bytearray(draw.randbytes(8750))
-    for _ in range(CURSORS):
-        kind = draw.choice((1, 2))
-        numbers = (
-            draw.choice((0, 1, 69_999, 70_000, 65_536, draw.randrange(1 << 32))),
-            draw.choice((0, 1, 79, 80, 5000, draw.randrange(1 << 32))),
-            draw.randrange(1 << 16),
-            draw.randrange(7),
-            draw.choice((0, 0, 0, 1, 2, 255)),
-        )
-        room = bytearray(draw.choice((0, 1, 79, 300)))
-        guarded = bytearray(b"\xa5" * 16) + room + bytearray(b"\xa5" * 16)
-        cursor = records.Cursor(*numbers)
-        part = (records.ctypes.c_uint8 * len(room)).from_buffer(guarded, 16)
-        piece = loaded.avr_records_write(kind, *records.lent(data), *records.lent(present), cursor, part, len(room))
-        bad = numbers[4] > 1 or kind == 2 and numbers[3] in (1, 5, 6)
-        same(f"{kind} {numbers}", piece.fault, 11 if bad else 0)
-        del part
-        same(f"beside {numbers}", (guarded[:16], guarded[-16:]), (b"\xa5" * 16, b"\xa5" * 16))
-        if bad:
-            after = tuple(getattr(cursor, name) for name, _ in records.Cursor._fields_)
-            same(f"after {numbers}", (piece.length, after, guarded[16:-16]), (0, numbers, room))
 
 
 def faults_are_told(library):
@@ -377,27 +303,57 @@ def only_its_calls_are_seen(library):
         same(f"what {words[-1]} exports", exported, CALLS)
 
 
+def by_srec_cat(given, kind, to, made):
+    names = {"ihex": "-intel", "srec": "-motorola"}
+    subprocess.run(["srec_cat", given, names[kind], "-o", made, names[to]], check=True)
+
+
+def by_objcopy(given, kind, to, made):
+    subprocess.run(["avr-objcopy", "-I", kind, "-O", to, given, made], check=True)
+
+
+def by_intelhex(given, kind, to, made):
+    held = IntelHex(str(given))
+    held.write_hex_file(str(made), write_start_addr=False)
+
+
+# whether each other program is installed, how it converts a file, and the formats that it knows
+OTHERS = {
+    "srec_cat": (shutil.which("srec_cat"), by_srec_cat, ["ihex", "srec"]),
+    "avr-objcopy": (shutil.which("avr-objcopy"), by_objcopy, ["ihex", "srec"]),
+    "python3-intelhex": (IntelHex, by_intelhex, ["ihex"]),
+}
+
+
+def other_programs(library):
+    """Other programs read the files that this project writes, and the other way round."""
+    given, made = library.folder / "given.hex", library.folder / "made.hex"
+    for name, (_, convert, kinds) in OTHERS.items():
+        if not OTHERS[name][0]:
+            leave_out(f"record files beside {name}", f"{name} is not installed")
+            continue
+        for seed, kind, to in itertools.product(range(IMAGES), kinds, kinds):
+            image, size, text = drawn(seed)
+            given.write_bytes(text)
+            given.write_bytes(library.written(given, size, kind))
+            convert(given, kind, to, made)
+            see(f"seed {seed}: {kind} read by {name}", image_of(made.read_bytes()) == image)
+            see(f"seed {seed}: {to} of {name} read here", image_of(library.written(made, size, "ihex")) == image)
+
+
+LOOKS = named(
+    *(typed_as_shown, files_come_back, images_come_back, pieces_join, lengths_are_told, time_is_linear),
+    *(faults_are_told, sizes_are_judged, texts_are_put, versions_agree, other_names_are_free, only_its_calls_are_seen),
+    other_programs,
+)
+
+
 def main():
-    looks = named(
-        typed_as_shown,
-        files_come_back,
-        images_come_back,
-        pieces_join,
-        lengths_are_told,
-        time_is_linear,
-        cursors_are_judged,
-        faults_are_told,
-        sizes_are_judged,
-        texts_are_put,
-        versions_agree,
-        other_names_are_free,
-        only_its_calls_are_seen,
-    )
     if shutil.which(os.environ.get("CC", "cc")) is None:
-        return run_cases({name: lambda name=name: leave_out(name, "there is no C compiler") for name in looks}, __doc__)
+        return run_cases({name: lambda name=name: leave_out(name, "there is no C compiler") for name in LOOKS}, __doc__)
     with tempfile.TemporaryDirectory() as folder:
         library = Library(Path(folder))
-        return run_cases({name: lambda look=look: look(library) for name, look in looks.items()}, __doc__)
+        return run_cases({name: lambda look=look: look(library) for name, look in LOOKS.items()}, __doc__)
 
 
 if __name__ == "__main__":

@@ -1,26 +1,32 @@
 #!/usr/bin/env python3
-"""Runs the built program in a failing environment: outputs that are closed or full, files that can't be read or created,
-programmers that disconnect, and callers that send garbage.
+"""Runs the built program in a failing environment: closed and full outputs, bad files, programmers that disconnect or are
+slow, callers that send garbage, and signals.
 
-Not proved: What the system does with closed, full and broken streams, files and sockets.
+Not proved: What the system does with closed, full and broken streams, files and sockets; time and signals.
 
     tests/hostile.py [CASE ..]      needs a built program (program.py)
 """
 
+import fcntl
 import os
+import signal
 import socket
 import struct
 import subprocess
 import sys
 import time
+from concurrent.futures import ThreadPoolExecutor
 
 from cases import PATIENCE, named, run_cases, same, see
-from line import FrontOfAnswers
-from program import ANSWERS, CHIP_FILE, ENDS, FRAMES, Room, Server, frame, lines
+from line import FrontOfAnswers, Peer, frames_of
+from program import ANSWERS, CHIP_FILE, ENDS, FRAMES, PROGRAM, Room, Server, frame, lines
 
 SIGNATURE = "device signature = 1E 95 0F"
 EMULATED = ["-p", "m328p", "-P", "emu:chip.bin"]
 SESSION = ["-p", "m328p", "-P", "stdio:"]
+NEW, LFUSE = b"\xff" * CHIP_FILE, 33_792
+ENTER = FRAMES[1][5:-1]
+LEAVE = 0x11
 
 room = Room()
 
@@ -98,12 +104,9 @@ def files_fail():
     room.given.add("folder")
     for words, told in [
         ([*EMULATED, "-U", "flash:w:folder"], ["error: folder: cannot be read"]),
-        ([*EMULATED, "--parts", "folder"], ["error: folder: cannot be read"]),
         ([*EMULATED, "--parts", "missing.toml"], ["error: missing.toml: cannot be opened"]),
         ([*EMULATED, "-U", "flash:r:folder"], [SIGNATURE, "error: folder: cannot be created"]),
-        ([*EMULATED, "-U", "flash:r:nowhere/out.hex"], [SIGNATURE, "error: nowhere/out.hex: cannot be created"]),
         ([*EMULATED, "-U", "eeprom:r:/dev/full"], [SIGNATURE, "error: /dev/full: cannot be written"]),
-        (["-p", "m328p", "-P", "emu:nowhere/chip.bin", "-e"], ["error: nowhere/chip.bin: cannot be written"]),
         (["-p", "m328p", "-P", "net:no such host:1"], ["error: port net:no such host:1 cannot be opened"]),
     ]:
         room.clear()
@@ -184,24 +187,18 @@ def answers_are_cut():
 def callers_are_odd():
     """Tests callers of the served emulator that send nothing, garbage or half a frame, or reset the connection."""
     command = bytes.fromhex("1B0900010E0518")
-    blank = b"\xff" * CHIP_FILE
-    for name, sent, answered, told in [
-        ("nothing", b"", b"", (0, b"")),
-        ("10 MB of rubbish", bytes(range(256)) * 40_000, None, (0, b"")),
-        ("half a frame", FRAMES[0][:4], b"", (0, b"")),
-        ("a frame that is spoiled and one of an unknown command", command, bytes.fromhex("1B0900020E05C9D2"), (0, b"")),
+    for name, sent, wanted in [
+        ("nothing", b"", b""),
+        ("10 MB of rubbish", bytes(range(256)) * 40_000, None),
+        ("half a frame", FRAMES[0][:4], b""),
+        ("a frame that is spoiled and one of an unknown command", command, bytes.fromhex("1B0900020E05C9D2")),
     ]:
-        room.clear()
-        found, answer = served(sent)
-        same(f"a caller with {name}", found, told)
-        if answered is not None:
-            same(f"the reply to {name}", answer, answered)
-        same(f"the chip after {name}", room.read("served.bin"), blank)
-    room.clear()
-    (status, messages), _ = served(FRAMES[0], resets=True)
+        found, answered = served(lambda caller: exchanged(caller, sent))
+        same(f"a caller with {name}", found, (0, b""))
+        see(f"the reply to {name}", wanted in (None, answered), answered)
+    (status, messages), _ = served(reset)
     faults = [lines(f"error: link cannot be {verb}") for verb in ("read", "written")]
     see("a caller that resets", status == 1 and messages in faults, f"{status}, {messages}")
-    same("the chip after a reset", room.read("served.bin"), blank)
 
 
 def a_second_caller():
@@ -245,48 +242,171 @@ def nothing_is_read():
     same("how the run ends", (started.returncode, messages), (1, lines("error: link cannot be written")))
 
 
-def served(sent, resets=False):
-    """Returns the status and messages of a server whose caller sends this, and the replies that the caller got."""
-    answered = b""
+def served(exchange):
+    """Returns how a server ended after this exchange with its caller, and what the exchange returns."""
+    room.clear()
     with Server(room) as server:
         with server.call() as caller:
-            caller.settimeout(PATIENCE)
-            if resets:
-                caller.sendall(sent)
-                caller.setsockopt(socket.SOL_SOCKET, socket.SO_LINGER, struct.pack("ii", 1, 0))
-            else:
-                answered = exchanged(caller, sent)
+            answered = exchange(caller)
         status, _, messages = server.end()
+    same("the chip after it", room.read("served.bin"), b"\xff" * CHIP_FILE)
     return (status, messages), answered
+
+
+def reset(caller):
+    caller.sendall(FRAMES[0])
+    caller.setsockopt(socket.SOL_SOCKET, socket.SO_LINGER, struct.pack("ii", 1, 0))
 
 
 def exchanged(caller, sent):
     """Sends these bytes and returns all replies, up to the end."""
-    answered = b""
-    caller.setblocking(False)
-    open_still = True
-    while True:
-        if sent:
-            try:
-                sent = sent[caller.send(sent) :]
-            except BlockingIOError:
-                pass
-        elif open_still:
-            caller.shutdown(socket.SHUT_WR)
-            open_still = False
-        try:
-            piece = caller.recv(65_536)
-            if not piece:
-                return answered
-            answered += piece
-        except BlockingIOError:
-            time.sleep(0.0005)
+    with ThreadPoolExecutor(1) as beside:
+        answered = beside.submit(lambda: b"".join(iter(lambda: caller.recv(65_536), b"")))
+        caller.sendall(sent)
+        caller.shutdown(socket.SHUT_WR)
+        return answered.result()
 
 
-CASES = named(
+class Trickle(Peer):
+    """Sends only a byte each quarter second, for more than three seconds."""
+
+    def serve(self, caller):
+        caller.settimeout(0.25)
+        for _ in range(13):
+            caller.sendall(b".")
+            begun = time.monotonic()
+            while time.monotonic() - begun < 0.25:
+                try:
+                    self.heard.append(caller.recv(4096))
+                except TimeoutError:
+                    pass
+
+
+def a_silence_is_a_second_without_a_byte():
+    """A byte comes each quarter second: the first frame isn't sent again within three seconds."""
+    peer = Trickle()
+    started = room.start(["-p", "m328p", "-P", f"net:127.0.0.1:{peer.port}"])
+    started.communicate(timeout=PATIENCE)
+    heard = [it for it in peer.end() if it]
+    see("one frame in three seconds", heard[:1] == [frame(1, 1)] and len(heard) == 1, heard)
+
+
+def standard_streams_that_do_not_block():
+    here, other = os.pipe()
+    fcntl.fcntl(here, fcntl.F_SETFL, fcntl.fcntl(here, fcntl.F_GETFL) | os.O_NONBLOCK)
+    begun = time.monotonic()
+    words = [PROGRAM, "-p", "m328p", "-P", "stdio:"]
+    ran = subprocess.run(words, stdin=here, capture_output=True, timeout=PATIENCE)
+    taken = time.monotonic() - begun
+    os.close(here)
+    os.close(other)
+    wanted = b"".join(frame(number, 1) for number in range(1, 5))
+    wanted += b"".join(frame(number, LEAVE, 1, 1) for number in range(5, 9))
+    found = ran.returncode, ran.stderr
+    see("input that doesn't block: `no answer`", found == (1, lines("error: no answer")), found)
+    # with a timeout of a second for each it would take eight
+    see("eight frames, at once", (ran.stdout, taken < 4) == (wanted, True), (len(ran.stdout), taken))
+
+
+def standard_streams_that_block():
+    """Nothing is retried while there is no reply. A command is retried if it was refused as damaged, or if 4,096 bytes
+    had no reply in them."""
+    started = room.start(["-p", "m328p", "-P", "stdio:"], subprocess.PIPE)
+    first = started.stdout.read(7)
+    try:
+        started.wait(1.5)
+        waits = False
+    except subprocess.TimeoutExpired:
+        waits = True
+    see("input that blocks: it waits", first == frame(1, 1) and waits, first)
+    started.stdin.write(frame(1, 0xB0, 0xC1))
+    started.stdin.flush()
+    see("`B0 C1`: sent again, by the next number", started.stdout.read(7) == frame(2, 1))
+    started.stdin.write(bytes(4_096))
+    started.stdin.flush()
+    see("4,096 other bytes: sent again", started.stdout.read(7) == frame(3, 1))
+    started.send_signal(signal.SIGINT)
+    found = (*started.communicate(timeout=PATIENCE), started.returncode)
+    see("Ctrl-C: no line, nothing more is sent", found == (b"", b"", -signal.SIGINT), found)
+
+
+def serving():
+    """Returns a program that serves a new chip, and a connection to it."""
+    room.clear()
+    server = Server(room, "chip.bin")
+    return server, server.call()
+
+
+def ended_from_outside():
+    """A chip is saved only if a run comes to its end."""
+    server, caller = serving()
+    with caller:
+        answers = frames_of(caller)
+        for number, body in enumerate([ENTER, bytes.fromhex("17 AC A0 00 E2")], 1):
+            caller.sendall(frame(number, body))
+            next(answers)
+        server.started.send_signal(signal.SIGTERM)
+        server.end()
+    see("--serve that is ended saves nothing", room.read("chip.bin") is None)
+    server, caller = serving()
+    with caller:
+        pass
+    found = server.end()
+    see("--serve: status 0 once the caller has gone", found == (0, b"", b""), found)
+    see("and the chip is saved", room.read("chip.bin") == NEW)
+    server, caller = serving()
+    caller.sendall(frame(1, 1))
+    next(frames_of(caller))
+    caller.setsockopt(socket.SOL_SOCKET, socket.SO_LINGER, struct.pack("ii", 1, 0))
+    caller.close()
+    found = server.end()
+    see("--serve: status 1 if a caller resets", found == (1, b"", lines("error: link cannot be read")), found)
+    see("the chip is saved all the same", room.read("chip.bin") == NEW)
+    room.clear()
+    os.mkfifo(room.folder / "pipe")
+    started = room.start([*EMULATED, "-U", "lfuse:w:0xE2:m", "-U", "lfuse:r:pipe:h"])
+    # the run blocks at the second update, because no process reads the pipe
+    while b"verified" not in started.stderr.readline():
+        pass
+    started.send_signal(signal.SIGINT)
+    started.communicate(timeout=PATIENCE)
+    see("emu: that is ended saves nothing", (started.returncode, room.read("chip.bin")) == (-signal.SIGINT, None))
+
+
+def loaded_for_its_caller():
+    """A chip that `emu:` saves before a caller comes is the one served. If the chip is refused at that time, that is
+    reported, and the chip stays as it is."""
+    room.clear()
+    server = Server(room, "chip.bin")
+    told = [SIGNATURE, "lfuse: 1 bytes written", "lfuse: 1 bytes verified", "done"]
+    found = room.run([*EMULATED, "-U", "lfuse:w:0xE2:m"])
+    see("a run before a caller comes", found == (0, b"", lines(*told)), found)
+    with server.call() as caller:
+        answers = frames_of(caller)
+        for number, (body, wanted) in enumerate([(ENTER, "10 00"), (bytes.fromhex("18 04 50 00 00 00"), "18 00 E2 00")], 1):
+            caller.sendall(frame(number, body))
+            found = next(answers)
+            see(f"frame {number} gets a reply", found == frame(number, bytes.fromhex(wanted)), found.hex(" "))
+    found = server.end()
+    see("the caller has gone", found == (0, b"", b""), found)
+    see("and the fuse is kept", room.read("chip.bin") == NEW[:LFUSE] + b"\xe2" + NEW[LFUSE + 1 :])
+    room.clear()
+    server = Server(room, "chip.bin")
+    room.put("chip.bin", b"abc")
+    with server.call() as caller:
+        see("a bad chip by then: the connection is closed", caller.recv(1) == b"")
+    found = server.end()
+    wanted = f"error: chip.bin: 3 bytes, {CHIP_FILE} expected"
+    see("and it is reported", found == (1, b"", lines(wanted)), found)
+    see("the file is left as it is", room.read("chip.bin") == b"abc")
+
+
+
+TIMED = named(nothing_is_read, a_silence_is_a_second_without_a_byte, standard_streams_that_do_not_block, standard_streams_that_block)
+CASES = TIMED | named(
     *(output_fails, input_fails, descriptors_are_closed, closed_streams_stay_closed, files_fail, files_are_full),
-    *(no_file_may_grow, answers_are_cut, nothing_is_read, callers_are_odd, a_second_caller),
+    *(no_file_may_grow, answers_are_cut, callers_are_odd, a_second_caller, ended_from_outside, loaded_for_its_caller),
 )
 
 if __name__ == "__main__":
-    sys.exit(run_cases(CASES, __doc__, timed=["nothing_is_read"]))
+    sys.exit(run_cases(CASES, __doc__, timed=TIMED))

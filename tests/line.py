@@ -1,9 +1,8 @@
-"""Programmers at a TCP port of 127.0.0.1: one that sends a prefix of a session's replies, and a bad link to an emulated one."""
+"""Programmers at a TCP port of 127.0.0.1: one that sends a prefix of a session's replies, and links to an emulated one."""
 
 import socket
 import struct
 import threading
-import time
 
 from cases import PATIENCE
 from program import Server
@@ -12,6 +11,11 @@ from program import Server
 def frame_size(begin):
     """Returns the length of a frame. Its third and fourth bytes are the length of its body."""
     return 6 + int.from_bytes(begin[2:4], "big")
+
+
+def frames_in(sent):
+    """Returns the number of frames in these bytes."""
+    return 1 + frames_in(sent[frame_size(sent) :]) if sent else 0
 
 
 def frames_of(stream):
@@ -29,11 +33,6 @@ def frames_of(stream):
         if not piece:
             return
         held += piece
-
-
-def spoiled(frame):
-    """Returns the frame with a wrong XOR."""
-    return frame[:-1] + bytes([frame[-1] ^ 1])
 
 
 class Peer:
@@ -68,6 +67,36 @@ class Peer:
         return self.heard
 
 
+class Link(Peer):
+    """A link to an emulated programmer: `there` and `back` bring what a caller and the programmer send."""
+
+    def __init__(self, server):
+        self.server = server
+        super().__init__()
+
+    def serve(self, caller):
+        with self.server.call() as programmer:
+            programmer.setsockopt(socket.IPPROTO_TCP, socket.TCP_NODELAY, 1)
+            replies = threading.Thread(target=self.bring, args=(self.back, programmer, caller), daemon=True)
+            replies.start()
+            self.bring(self.there, caller, programmer)
+            replies.join()
+
+    def bring(self, way, giver, taker):
+        try:
+            way(giver, taker)
+            taker.shutdown(socket.SHUT_WR)
+        except OSError:
+            # (the taker has gone)
+            pass
+
+    def end(self):
+        """Returns what was received, once the programmer has ended; `served` has its outcome."""
+        heard = super().end()
+        self.served = self.server.end()
+        return heard
+
+
 class FrontOfAnswers(Peer):
     """Sends the first bytes of a session's replies, and then closes or resets the connection."""
 
@@ -85,41 +114,26 @@ class FrontOfAnswers(Peer):
         self.heard.extend(frames_of(caller))
 
 
-class BadLine(Peer):
-    """A link to an emulated programmer that the tool serves. `fates` maps frame numbers, from 1, to what goes wrong: a
-    `lost command` never arrives, a `lost answer` drops the reply, and a `late answer` sends it just before the next reply.
-    A `spoiled command` or `spoiled answer` has a wrong last byte, which is the XOR. `is_late` is true if the tool waited
-    for a good reply about as long as for a lost one."""
-
-    # the tool waits for a second
-    WAITED = 0.9
+class BadLine(Link):
+    """A link to a programmer that the tool serves. `fates` maps frame numbers, from 1, to what goes wrong: a `lost command`
+    never arrives, a `lost answer` drops the reply, and a `late answer` sends it just before the next reply."""
 
     def __init__(self, room, fates, part="m328p"):
-        self.fates, self.is_late = fates, False
-        self.server = Server(room, part=part)
-        super().__init__()
+        self.fates = fates
+        super().__init__(Server(room, part=part))
 
     def serve(self, caller):
         with self.server.call() as programmer:
-            answers = frames_of(programmer)
-            late, fate, came = b"", "good", time.monotonic()
+            answers, late = frames_of(programmer), b""
             for frame in frames_of(caller):
-                self.is_late |= fate == "good" and time.monotonic() - came > self.WAITED
                 self.heard.append(frame)
-                fate, came = self.fates.get(len(self.heard), "good"), time.monotonic()
+                fate = self.fates.get(len(self.heard), "good")
                 if fate == "lost command":
                     continue
-                programmer.sendall(spoiled(frame) if fate == "spoiled command" else frame)
+                programmer.sendall(frame)
                 answer = next(answers)
                 if fate == "late answer":
                     late += answer
                 elif fate != "lost answer":
-                    caller.sendall(late + (spoiled(answer) if fate == "spoiled answer" else answer))
+                    caller.sendall(late + answer)
                     late = b""
-            self.is_late |= fate == "good" and time.monotonic() - came > self.WAITED
-
-    def end(self):
-        """Returns what was received, once the emulated programmer has saved its chip."""
-        heard = super().end()
-        self.server.end()
-        return heard

@@ -9,14 +9,14 @@ Not proved: The text of a line, byte for byte, as a user sees it; how many write
 
 import os
 import re
+import shlex
 import shutil
 import socket
 import subprocess
 import sys
-import time
 
-from cases import PATIENCE, chosen, leave_out, named, run_cases, same, see
-from line import FrontOfAnswers, Peer, frame_size, frames_of
+from cases import PATIENCE, chosen, leave_out, named, run_cases, same, see, table
+from line import FrontOfAnswers, frames_in
 from program import ANSWERS, CHIP_FILE, FRAMES, PROGRAM, TOP, Room, Server, frame, kept_port, lines, port_of
 
 PART = ["-p", "m328p"]
@@ -32,6 +32,7 @@ PART_FILE_LIMIT = 65_536
 # lines there that no row here causes, and the tests that have their texts
 ELSEWHERE = {
     "error: out of memory": "faults.py",
+    "error: no answer": "why.py",
     "error: too many reads": "rattle/served_runs.rs",
     "error: link cannot be read": "hostile.py",
     "error: link cannot be written": "hostile.py",
@@ -39,14 +40,6 @@ ELSEWHERE = {
     "error: FILE: cannot be written": "hostile.py",
     "error: FILE: cannot be read": "hostile.py",
     "error: FILE: in use by another run": "chips.py",
-}
-
-# words that each option's text has in the help
-HELP = {
-    **{"-p": "part", "-c": "programmer", "-P": "stdio:, emu:CHIPFILE or net:HOST:PORT", "-U": "16 times", "-e": "Erase the chip"},
-    **{"-D": "erase the chip before flash", "-V": "read back what was written", "-n": "nothing", "-F": "signature", "-A": "trailing FF", "-h": "help"},
-    **{"-q": "information lines; twice: warnings too", "-b": "no effect", "-v": "no effect"},
-    **{"--parts": "TOML", "--serve": "emulated programmer at this port of 127.0.0.1", "--chip": "chip file"},
 }
 
 room = Room()
@@ -79,34 +72,8 @@ def with_file(name, content):
 
 
 def settings_are_refused():
-    taken = "standard streams are taken"
-    for words, told in [
-        ([], "no part given (-p)"),
-        (["-P", "stdio:"], "no part given (-p)"),
-        (PART, "no port given (-P)"),
-        ([*EMULATED, "-c", "arduino"], "programmer arduino is not known"),
-        ([*PART, "-P", "usb"], "port usb is not known"),
-        ([*PART, "-P", "emu:"], "port emu: is not known"),
-        ([*PART, "-P", "net:host"], "port net:host is not known"),
-        ([*PART, "-P", "net::5000"], "port net::5000 is not known"),
-        ([*PART, "-P", "net:host:0"], "port net:host:0 is not known"),
-        ([*PART, "-P", "net:host:65536"], "port net:host:65536 is not known"),
-        ([*PART, "-P", "net:host:+80"], "port net:host:+80 is not known"),
-        ([*PART, "--serve", "0", "--chip", "chip.bin"], "port 0 is not known"),
-        ([*PART, "--serve", "5000x", "--chip", "chip.bin"], "port 5000x is not known"),
-        ([*PART, "--serve", "5000"], "no chip file given (--chip)"),
-        ([*EMULATED, *["-U", "lfuse:r:-"] * 17], "more than 16 updates"),
-        ([*EMULATED, "-U", "boot:w:a"], "update 1: no such memory"),
-        ([*EMULATED, "-U", "flash:x:a"], "update 1: no such operation"),
-        ([*EMULATED, "-U", "flash:w:"], "update 1: no file named"),
-        ([*EMULATED, "-U", "flash:w:a.hex:h"], "update 1: no such format here"),
-        ([*EMULATED, "-U", "lfuse:r:-", "-U", "flash:r:a:m"], "update 2: no such format here"),
-        ([*SESSION, "-U", "flash:r:-"], taken),
-        ([*EMULATED, "-U", "flash:w:-", "-U", "eeprom:w:-"], taken),
-        ([*EMULATED, "--parts", "-"], taken),
-        ([*PART, "-P", "emu:-"], taken),
-        ([*EMULATED, "--chip", "-"], taken),
-    ]:
+    for words, told in table("settings"):
+        words = shlex.split(words)
         refused(f"{words}", words, told)
 
 
@@ -119,8 +86,8 @@ def help_is_printed():
         same(f"{word}: status and messages", (status, messages), (0, b""))
         text = output.decode()
         see(f"{word}: begins with what it is for", text.startswith(texts[0] + "\n"), text)
-        for option, told in HELP.items():
-            see(f"{word}: {option}", re.search(rf"^ +{option}\b.*{told}", text, re.M), text)
+        for option, told in table("help"):
+            see(f"{word}: {option}", re.search(rf"^ +{option}\b.*  {re.escape(told)}$", text, re.M), text)
         same(f"{word}: texts that are cut", [it for it in texts if it not in text], [])
 
 
@@ -128,9 +95,7 @@ def words_are_refused():
     """If `clap` refuses an option, its message goes to standard error, with status 1."""
     for words, told in [
         (["-C", "x.conf"], "error: unexpected argument '-C' found"),
-        (["-t"], "error: unexpected argument '-t' found"),
         (["--version"], "error: unexpected argument '--version' found"),
-        (["--nowhere"], "error: unexpected argument '--nowhere' found"),
         (["flash.hex"], "error: unexpected argument 'flash.hex' found"),
         (["-p"], "error: a value is required for '-p"),
         (["-b", "x"], "error: invalid value 'x' for '-b"),
@@ -163,33 +128,26 @@ def images_are_refused():
     image(":020000040001F9\n:0100000055AA\n", "a.hex: line 2: address 00010000 out of range")
     image("S107000001020304EE\nS5030002FA\n", "a.hex: line 2: bad record count")
     image(":00000001FF\n".rjust(612), "a.hex: line 1: line too long", form=":i")
-    image(bytes(CHIP_FILE), "a.bin: address 00008000 out of range", form=":r", name="a.bin")
     image(bytes(1025), "a.bin: address 00000400 out of range", memory="eeprom", form=":r", name="a.bin")
     image(b"\x7fELF" + bytes(60), "a.elf: ELF is not read", name="a.elf")
-    image(b"\x7fELF" + bytes(60), "a.elf: line 1: no record mark", form=":i", name="a.elf")
     image(bytes(IMAGE_LIMIT + 1), f"a.bin: longer than {IMAGE_LIMIT} bytes", form=":r", name="a.bin")
-    end = b":00000001FF\n"
-    image(end.ljust(IMAGE_LIMIT + 1), f"a.hex: longer than {IMAGE_LIMIT} bytes")
-    image(end.ljust(IMAGE_LIMIT, b"\n") + b"x", f"a.hex: longer than {IMAGE_LIMIT} bytes")
     refused("a missing file", [*EMULATED, "-U", "flash:w:missing.hex"], "missing.hex: cannot be opened")
     refused("no name", [*EMULATED, "--parts", ""], ": cannot be opened")
     for values, told in [
         ("1,x", "lfuse: value 2: not a number"),
         ("256", "lfuse: value 1: above 255"),
         ("1 2", "lfuse: address 00000001 out of range"),
-        ("-", "lfuse: value 1: not a number"),
     ]:
         refused(f"values {values}", [*EMULATED, "-U", f"lfuse:w:{values}:m"], told)
-    for memory in ["signature", "calibration"]:
-        refused(f"a write to {memory}", [*EMULATED, "-U", f"{memory}:w:0:m"], f"{memory} is read-only")
+    refused("a write to signature", [*EMULATED, "-U", "signature:w:0:m"], "signature is read-only")
 
 
 def images_are_taken():
-    """Tests images at the limits of what is read."""
+    """Tests images on standard input and at the size limit, which is the system's part. (What is read of an image is proved;
+    tests/rattle/plans.rs has its limits by the byte.)"""
     blink = (TOP / "examples/blink.hex").read_bytes()
     flash = [*ERASED, "flash: 228 bytes written", "flash: 228 bytes verified", DONE]
     run("detected on standard input", [*EMULATED, "-U", "flash:w:-"], flash, 0, given=blink)
-    run("a format that is named on standard input", [*EMULATED, "-U", "flash:w:-:i"], flash, 0, given=blink)
     nothing = [*ERASED, "flash: 0 bytes written", "flash: 0 bytes verified", DONE]
     whole = with_file("whole.hex", b":00000001FF\n".ljust(IMAGE_LIMIT, b"\n"))
     run("an end record before four million bytes", [*EMULATED, "-U", f"flash:w:{whole}"], nothing, 0)
@@ -198,28 +156,6 @@ def images_are_taken():
     open_ended = with_file("open.hex", ":0400000001020304F2\n")
     warned = [f"warning: {open_ended}: no end record", *ERASED, "flash: 4 bytes written", "flash: 4 bytes verified", DONE]
     run("no end record", [*EMULATED, "-U", f"flash:w:{open_ended}"], warned, 0)
-    elf = with_file("b.elf", b"\x7fELF")
-    run("ELF as raw bytes", [*EMULATED, "-U", f"flash:w:{elf}:r"], [*ERASED, "flash: 4 bytes written", "flash: 4 bytes verified", DONE], 0)
-    same("ELF in the chip", (room.read("chip.bin") or b"")[:5], b"\x7fELF\xff")
-    fuse = [SIGNATURE, "lfuse: 0 bytes written", "lfuse: 0 bytes verified", DONE]
-    run("a fuse from an empty file", [*EMULATED, "-U", "lfuse:w:empty.bin"], fuse, 0)
-    # only the first 1,024 bytes are searched for a sign of raw bytes
-    record = ":0400000001020304F2\n:00000001FF\n"
-    early = with_file("early.hex", "\n" * 1013 + record)
-    run("a mark that is just seen", [*EMULATED, "-U", f"flash:w:{early}"], [*ERASED, "flash: 4 bytes written", "flash: 4 bytes verified", DONE], 0)
-    late = with_file("late.hex", "\n" * 1014 + record)
-    size = 1014 + len(record)
-    run("a mark that is cut", [*EMULATED, "-U", f"flash:w:{late}"], [*ERASED, f"flash: {size} bytes written", f"flash: {size} bytes verified", DONE], 0)
-
-
-def names_are_taken_whole():
-    """A blank at either end of a name belongs to it."""
-    for name, content in [("two.bin", bytes(1)), (" two.bin ", bytes(2)), ("two.bin ", bytes(3)), (" two.bin", bytes(4))]:
-        told = [SIGNATURE, f"eeprom: {len(content)} bytes written", "eeprom: 1024 bytes read", DONE]
-        updates = ["-U", f"eeprom:w:{with_file(name, content)}:r", "-U", f"eeprom:r:{name}.back:r"]
-        run(f"the file {name!r}", [*PART, "-P", f"emu:{name}.chip ", "-V", *updates], told, 0)
-        same(f"the file {name!r}: read back", room.read(f"{name}.back"), content.ljust(1024, b"\xff"))
-        same(f"the file {name!r}: the chip", len(room.read(f"{name}.chip ") or b""), CHIP_FILE)
 
 
 def part_files():
@@ -230,24 +166,17 @@ def part_files():
         refused(f"a part file with {text[:50]!r}", [*EMULATED, "--parts", with_file("p.toml", text)], told)
 
     parts("a = = 1", "p.toml: not TOML")
-    parts("a = 1", "p.toml: parts is missing")
-    parts("parts = 1", "p.toml: parts has a bad value")
     parts(re.sub("flash_page.*\n", "", good), "p.toml: flash_page is missing")
     parts(re.sub("flash_page.*\n", "flash_page = 3\n", good), "p.toml: flash_page has a bad value")
     parts(re.sub(r"eeprom_size.*\n", "eeprom_size = 1023\n", good), "p.toml: sizes do not fit")
     parts("#" * (PART_FILE_LIMIT + 1), f"p.toml: longer than {PART_FILE_LIMIT} bytes")
     longest = with_file("q.toml", (good + "#").ljust(PART_FILE_LIMIT, "x"))
-    words = ["-p", "nobody", "-P", "emu:chip.bin", "--parts", longest]
-    refused("the longest part file, and no such part", words, "no part nobody")
-    words = ["-p", name, "-P", "emu:chip.bin", "--parts", longest]
-    room.clear()
-    same("the longest part file", room.run(words)[0], 0)
+    run("the longest part file", ["-p", name, "-P", "emu:chip.bin", "--parts", longest], ["device signature = 1E 94 06", DONE], 0)
     refused("no such part", ["-p", "m328", "-P", "emu:chip.bin"], "no part m328")
 
 
 def chip_files():
-    for size in [0, 100, CHIP_FILE - 1, CHIP_FILE + 1]:
-        refused(f"a chip file of {size} bytes", EMULATED, f"chip.bin: {size} bytes, 33796 expected", chip=bytes(size))
+    refused("a short chip file", EMULATED, f"chip.bin: 100 bytes, {CHIP_FILE} expected", chip=bytes(100))
     refused("a long chip file", EMULATED, f"chip.bin: longer than {IMAGE_LIMIT} bytes", chip=bytes(IMAGE_LIMIT + 1))
 
 
@@ -285,34 +214,8 @@ def answers_are_bad():
     ]:
         room.clear()
         found_status, output, messages = room.run([*SESSION, *words], b"".join(answers))
-        same(what, (found_status, messages, count_of_frames(output)), (status, lines(*told), frames))
+        same(what, (found_status, messages, frames_in(output)), (status, lines(*told), frames))
         met.update(told)
-
-
-def count_of_frames(sent):
-    """Returns the number of frames sent."""
-    count = 0
-    while sent:
-        sent = sent[frame_size(sent) :]
-        count += 1
-    return count
-
-
-class Deaf(Peer):
-    """Never replies, and records the times at which frames came."""
-
-    def serve(self, caller):
-        for _ in frames_of(caller):
-            self.heard.append(time.monotonic())
-
-
-def a_silence_is_a_second():
-    peer = Deaf()
-    run("a programmer that never replies", [*PART, "-P", f"net:127.0.0.1:{peer.port}"], ["error: no answer"])
-    times = peer.end()
-    same("four attempts to sign on, four to leave", len(times), 8)
-    gaps = [later - time for time, later in zip(times, times[1:])]
-    see("each timeout takes a second", all(0.9 <= gap <= 1.9 for gap in gaps), gaps)
 
 
 class Elsewhere(FrontOfAnswers):
@@ -348,22 +251,18 @@ def nobody_else_is_called():
         room.clear()
         started = room.start(words, subprocess.PIPE, **tracing("socket,connect,bind,listen,accept,accept4,setsockopt"))
         same(f"{words}", started.communicate(given, PATIENCE)[1], lines(SIGNATURE, DONE))
+        timed = traced(r'SO_(RCV|SND)TIMEO\w*, "\\(\w)\\0')
+        same(f"{words}: a read times out after 1 second, a write after 10", timed, [("RCV", "1"), ("SND", "n")] if wanted else [])
         found = [it for it in traced(r"^(\w+\(.*)") if "TIMEO" not in it]
         see(f"{words}: its calls", len(found) == len(wanted), found)
         for it, (call, told) in zip(found, wanted):
             see(f"{words}: {call}", it.startswith(f"{call}(") and told in it, it)
     same("what the peer received", peer.end(), FRAMES)
-
-
-def replies_are_not_delayed():
-    """A served programmer sends without delay, too."""
-    if not shutil.which("strace"):
-        return leave_out("how replies are sent", "strace is not installed")
     room.clear()
     with Server(room, **tracing("setsockopt")) as server:
         server.call().close()
         same("a caller that says nothing", server.end()[0], 0)
-    same("without delay", len(traced(r"TCP_NODELAY, \[1\], 4\) = 0")), 1)
+    same("replies are sent without delay, too", len(traced(r"TCP_NODELAY, \[1\], 4\) = 0")), 1)
 
 
 def ports_are_refused():
@@ -411,19 +310,6 @@ def a_line_is_one_write():
         same(f"the lines of {words[4]}", len(messages), count)
 
 
-def runs_share_a_log():
-    """Fifty runs at once append to one log: no line is torn."""
-    room.clear()
-    with open(room.folder / "log", "ab") as log:
-        words = ["-U", "lfuse:w:0x62:m", "-U", "hfuse:v:0xFF:m"]
-        runs = [room.start([*PART, "-P", f"emu:chip{number}.bin", *words], stderr=log) for number in range(50)]
-        for started in runs:
-            started.communicate(timeout=PATIENCE)
-            same("a run", started.returncode, 0)
-    told = [SIGNATURE, "lfuse: 1 bytes written", "lfuse: 1 bytes verified", "hfuse: 1 bytes verified", DONE]
-    same("the log", sorted((room.read("log") or b"").splitlines()), sorted(lines(*told).splitlines() * 50))
-
-
 # ---- no line is left out
 
 
@@ -464,26 +350,10 @@ def pattern(line):
 
 
 CASES = named(
-    settings_are_refused,
-    help_is_printed,
-    words_are_refused,
-    images_are_refused,
-    images_are_taken,
-    names_are_taken_whole,
-    part_files,
-    chip_files,
-    nothing_is_written,
-    answers_are_bad,
-    a_silence_is_a_second,
-    the_named_host_is_called,
-    nobody_else_is_called,
-    replies_are_not_delayed,
-    ports_are_refused,
-    long_lines,
-    a_line_is_one_write,
-    runs_share_a_log,
-    each_line_was_met,
+    *(settings_are_refused, help_is_printed, words_are_refused, images_are_refused, images_are_taken),
+    *(part_files, chip_files, nothing_is_written, answers_are_bad, the_named_host_is_called, nobody_else_is_called),
+    *(ports_are_refused, long_lines, a_line_is_one_write, each_line_was_met),
 )
 
 if __name__ == "__main__":
-    sys.exit(run_cases(CASES, __doc__, timed=["a_silence_is_a_second"]))
+    sys.exit(run_cases(CASES, __doc__))

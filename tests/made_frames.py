@@ -10,14 +10,13 @@ Not proved: It shows what the theorem leaves out.
     tests/made_frames.py       needs a built program (program.py)
 """
 
-import socket
 import sys
-import threading
 import time
 
-from cases import PATIENCE, named, run_cases, see
-from line import Peer, frames_of
+from cases import named, run_cases, same, see
+from line import Link, frames_of
 from program import Room, Server, frame, lines, xor
+from records import hex_of
 
 room = Room()
 
@@ -32,66 +31,42 @@ PAUSE = 30
 WANTED = 0x55
 
 
-class Line:
-    """An ordered link from a caller to the served programmer. It can damage a frame, or pause once."""
+class Line(Link):
+    """An ordered link to the served programmer of an ATtiny85 with this chip. `spoil` changes a frame by its number. If
+    `pauses` has the prefix of a reply, the link pauses in it: eleven bytes later, until the caller has sent again."""
 
-    def __init__(self, chip, spoil=None, pause_in=b"", pause_at=0):
-        """`spoil` changes a frame by its number. `pause_in` is the prefix of the reply in which the link pauses. It sends
-        `pause_at` more bytes, and the others once the caller has sent again."""
-        self.spoil, self.pause_in, self.pause_at = spoil, pause_in, pause_at
-        self.sent, self.heard, self.paused = [], b"", False
+    def __init__(self, chip, spoil=lambda number, it: it, pauses=b""):
+        self.spoil, self.pauses, self.came, self.paused = spoil, pauses, b"", False
         room.clear()
         room.put("chip.bin", chip)
-        self.server = Server(room, "chip.bin", "t85")
-        self.listener = socket.create_server(("127.0.0.1", 0))
-        self.listener.settimeout(PATIENCE)
-        self.port = self.listener.getsockname()[1]
-        self.thread = threading.Thread(target=self.carry, daemon=True)
-        self.thread.start()
+        room.put("image.hex", hex_of([(0, bytes([WANTED]))]))
+        super().__init__(Server(room, "chip.bin", "t85"))
 
-    def carry(self):
-        caller, _ = self.listener.accept()
-        with caller, self.server.call() as programmer:
-            for it in (caller, programmer):
-                it.setsockopt(socket.IPPROTO_TCP, socket.TCP_NODELAY, 1)
-            upwards = threading.Thread(target=self.carry_up, args=(caller, programmer), daemon=True)
-            upwards.start()
-            self.carry_down(programmer, caller)
-            upwards.join()
-
-    def carry_up(self, caller, programmer):
+    def there(self, caller, programmer):
         for it in frames_of(caller):
-            self.sent.append(it)
-            programmer.sendall(self.spoil(it[1], it) if self.spoil else it)
-        programmer.shutdown(socket.SHUT_WR)
+            self.heard.append(it)
+            programmer.sendall(self.spoil(it[1], it))
 
-    def carry_down(self, programmer, caller):
+    def back(self, programmer, caller):
         given = 0
         while piece := programmer.recv(4096):
-            self.heard += piece
-            place = self.heard.find(self.pause_in) if self.pause_in and not self.paused else -1
-            cut = place + len(self.pause_in) + self.pause_at
-            if place >= 0 and len(self.heard) >= cut:
-                sent = len(self.sent)
-                caller.sendall(self.heard[given:cut])
+            self.came += piece
+            place = self.came.find(self.pauses) if self.pauses and not self.paused else -1
+            cut = place + len(self.pauses) + 11
+            if place >= 0 and len(self.came) >= cut:
+                sent, end = len(self.heard), time.monotonic() + PAUSE
+                caller.sendall(self.came[given:cut])
                 given, self.paused = cut, True
-                self.await_more_than(sent)
-            caller.sendall(self.heard[given:])
-            given = len(self.heard)
-
-    def await_more_than(self, sent):
-        """Waits until the caller has sent more than `count` frames."""
-        end = time.monotonic() + PAUSE
-        while len(self.sent) == sent and time.monotonic() < end:
-            time.sleep(0.02)
+                while len(self.heard) == sent and time.monotonic() < end:
+                    time.sleep(0.02)
+            caller.sendall(self.came[given:])
+            given = len(self.came)
 
     def run(self, *words):
-        """Returns the status and messages of a run over this link, and the chip's flash after it."""
-        status, output, messages = room.run(["-p", "t85", "-P", f"net:127.0.0.1:{self.port}", *words])
-        self.thread.join(PATIENCE)
-        self.listener.close()
-        self.server.end()
-        return status, messages, (room.read("chip.bin") or b"")[:FLASH]
+        """Returns the status and messages of a run over this link, and the chip after it."""
+        status, _, messages = room.run(["-p", "t85", "-P", f"net:127.0.0.1:{self.port}", *words])
+        self.end()
+        return (status, messages), room.read("chip.bin") or b""
 
 
 def chip_of(block):
@@ -119,63 +94,39 @@ def made_contents(first, read):
     raise SystemExit("no contents have this XOR")
 
 
-def image():
-    """Writes a record file with WANTED at address 0, and returns its name."""
-    record = bytes([1, 0, 0, 0, WANTED])
-    room.put("image.hex", f":{record.hex()}{-sum(record) & 255:02X}\n:00000001FF\n".upper().encode())
-    return "image.hex:i"
+def reply_to_read(number):
+    """Returns the beginning of the reply to a read of 256 bytes."""
+    return bytes([0x1B, number, 1, 3, 0x0E, 0x14, 0x00])
 
 
-def paused(first, read):
-    """Returns a link to a chip with these contents. It pauses in the reply of this number, before the bytes that look like
-    a reply."""
-    front = bytes([0x1B, read, 1, 3, 0x0E, 0x14, 0x00])
-    return Line(chip_of(made_contents(first, read)), pause_in=front, pause_at=11)
-
-
-def a_comparison_is_wrong():
-    """The chip has another byte than the image, but the comparison reports them as equal."""
-    line = paused(0xAA, 7)
-    status, messages, flash = line.run("-U", f"flash:v:{image()}")
-    told = lines(SIGNATURE, "flash: 1 bytes verified", "done")
-    see("compared over a pause: status 0 and `verified`", (status, messages) == (0, told), (status, messages))
-    see("the line has paused", line.paused)
-    see("and the chip has another byte", flash[0] == 0xAA, flash[:1])
-
-
-def a_verified_write_is_wrong():
-    """The flash isn't erased, so it can't take the byte; the comparison doesn't notice."""
-    line = paused(0x50, 9)
-    status, messages, flash = line.run("-D", "-U", f"flash:w:{image()}")
-    told = lines(SIGNATURE, "flash: 1 bytes written", "flash: 1 bytes verified", "done")
-    see("written over a pause: status 0 and `verified`", (status, messages) == (0, told), (status, messages))
-    see("and the chip has another byte", flash[0] == 0x50, flash[:1])
-
-
-def a_read_is_wrong():
-    """A file that was read differs from the chip."""
-    line = paused(0xAA, 7)
-    status, messages, flash = line.run("-A", "-U", "flash:r:out.bin:r")
-    told = lines(SIGNATURE, f"flash: {FLASH} bytes read", "done")
-    see("read over a pause: status 0", (status, messages) == (0, told), (status, messages))
-    read = room.read("out.bin") or b""
-    others = sum(one != other for one, other in zip(read, flash))
-    see("and the file isn't the chip", len(read) == FLASH and 0 < others < 256, (len(read), others))
+def a_verified_run_is_wrong():
+    """The chip has another byte than the image or the file. An image is compared; one is written to flash that isn't erased
+    and so can't take the byte; a file is read."""
+    for name, first, read, words, told in [
+        ("compared", 0xAA, 7, ["-U", "flash:v:image.hex:i"], ["flash: 1 bytes verified"]),
+        ("written", 0x50, 9, ["-D", "-U", "flash:w:image.hex:i"], ["flash: 1 bytes written", "flash: 1 bytes verified"]),
+        ("read", 0xAA, 7, ["-A", "-U", "flash:r:out.bin:r"], [f"flash: {FLASH} bytes read"]),
+    ]:
+        line = Line(chip_of(made_contents(first, read)), pauses=reply_to_read(read))
+        found, chip = line.run(*words)
+        see(f"{name} over a pause: status 0", line.paused and found == (0, lines(SIGNATURE, *told, "done")), found)
+        see(f"{name}: the chip has another byte", chip[0] == first, chip[:1])
+    file = room.read("out.bin")
+    others = sum(one != other for one, other in zip(file, chip))
+    see("the file isn't the chip", len(file) == FLASH and 0 < others < 256, (len(file), others))
 
 
 def without_a_pause_all_is_seen():
     """Tests the same chip over a link that doesn't pause, and a pause with ordinary contents."""
     line = Line(chip_of(made_contents(0xAA, 7)))
-    status, messages, _ = line.run("-U", f"flash:v:{image()}")
+    found, _ = line.run("-U", "flash:v:image.hex:i")
     told = lines(SIGNATURE, "error: flash: address 00000000: 55 expected, AA found")
-    see("without the pause the difference is reported", (status, messages) == (1, told), (status, messages))
-    other = bytes((place * 37 + 11) % 256 for place in range(256))
-    front = bytes([0x1B, 7, 1, 3, 0x0E, 0x14, 0x00])
-    line = Line(chip_of(other), pause_in=front, pause_at=11)
-    status, messages, flash = line.run("-A", "-U", "flash:r:out.bin:r")
+    same("without the pause the difference is reported", found, (1, told))
+    line = Line(chip_of(bytes((place * 37 + 11) % 256 for place in range(256))), pauses=reply_to_read(7))
+    found, chip = line.run("-A", "-U", "flash:r:out.bin:r")
     told = lines(SIGNATURE, f"flash: {FLASH} bytes read", "done")
-    see("other contents heal over the pause", (status, messages) == (0, told) and line.paused, (status, messages))
-    see("and the file is the chip", room.read("out.bin") == flash)
+    see("other contents heal over the pause", line.paused and found == (0, told), found)
+    see("and the file is the chip", room.read("out.bin") == chip[:FLASH])
 
 
 def a_spoiled_size_swallows_frames():
@@ -183,11 +134,10 @@ def a_spoiled_size_swallows_frames():
     content = bytes((place * 91 + 3) % 256 for place in range(FLASH))
     line = Line(content + b"\xff" * REST, spoil=lambda number, it: it[:3] + b"\x20" + it[4:] if number == 8 else it)
     room.put("image.bin", content)
-    status, messages, flash = line.run("-U", "flash:v:image.bin:r")
-    told = lines(SIGNATURE, "error: no answer")
-    see("a spoiled size: `no answer`, status 1", (status, messages) == (1, told), (status, messages))
-    see("the refusal of it came late", frame(8, b"\xb0\xc1") in line.heard)
-    see("and the chip is as it was", flash == content)
+    found, chip = line.run("-U", "flash:v:image.bin:r")
+    same("a spoiled size: `no answer`, status 1", found, (1, lines(SIGNATURE, "error: no answer")))
+    see("the refusal of it came late", frame(8, b"\xb0\xc1") in line.came)
+    see("and the chip is as it was", chip[:FLASH] == content)
 
 
 # an ATtiny85 with twice its flash
@@ -208,14 +158,12 @@ def with_lfuse(value):
     return bytes(chip)
 
 
-class Keeps(Peer):
+class Keeps(Line):
     """A link that keeps the reply to frame 6. Given one of an earlier run, it loses frame 6 and brings that instead."""
 
     def __init__(self, chip, earlier=None):
         self.kept, self.earlier = None, earlier
-        room.put("chip.bin", chip)
-        self.server = Server(room, "chip.bin", "t85")
-        super().__init__()
+        super().__init__(chip)
 
     def serve(self, caller):
         with self.server.call() as programmer:
@@ -231,21 +179,15 @@ class Keeps(Peer):
                 else:
                     caller.sendall(reply)
 
-    def run(self, *words):
-        """Returns the status and messages of a run over this link, and the low fuse after it."""
-        status, _, messages = room.run(["-p", "t85", "-P", f"net:127.0.0.1:{self.port}", *words])
-        self.end()
-        self.server.end()
-        return status, messages, (room.read("chip.bin") or b"")[LFUSE]
-
 
 def a_reply_of_an_earlier_run_is_taken():
     """Frame 6 reads the fuse. Its reply in the first run says 62, and is late: it comes in the second run."""
     told = lines(SIGNATURE, "lfuse: 1 bytes verified", "done")
     first = Keeps(with_lfuse(0x62))
-    see("the first run reads the fuse again", first.run("-U", "lfuse:v:0x62:m") == (0, told, 0x62))
-    found = Keeps(with_lfuse(0xE2), first.kept).run("-U", "lfuse:v:0x62:m")
-    see("the second one takes the old reply: status 0, and another fuse", found == (0, told, 0xE2), found)
+    found, chip = first.run("-U", "lfuse:v:0x62:m")
+    same("the first run reads the fuse again", (found, chip[LFUSE]), ((0, told), 0x62))
+    found, chip = Keeps(with_lfuse(0xE2), first.kept).run("-U", "lfuse:v:0x62:m")
+    same("the second one takes the old reply: status 0, and another fuse", (found, chip[LFUSE]), ((0, told), 0xE2))
 
 
 def a_part_with_too_much_flash():
@@ -264,13 +206,8 @@ def a_part_with_too_much_flash():
 
 
 CASES = named(
-    a_comparison_is_wrong,
-    a_verified_write_is_wrong,
-    a_read_is_wrong,
-    without_a_pause_all_is_seen,
-    a_spoiled_size_swallows_frames,
-    a_reply_of_an_earlier_run_is_taken,
-    a_part_with_too_much_flash,
+    *(a_verified_run_is_wrong, without_a_pause_all_is_seen, a_spoiled_size_swallows_frames),
+    *(a_reply_of_an_earlier_run_is_taken, a_part_with_too_much_flash),
 )
 
 

@@ -21,7 +21,7 @@ from cases import leave_out, named, run_cases, same, see
 from program import PROGRAM, TOP
 
 sys.path.append(str(TOP / "tools"))
-from man_pages import HERE_ALONE, MANUAL, PAGES, SECTIONS, blocks_of, cells, escaped, page
+from man_pages import HERE_ALONE, MANUAL, PAGES, SECTIONS, blocks_of, cells, escaped
 
 USAGE = MANUAL[0]
 VERSION = (TOP / "VERSION").read_text().strip()
@@ -72,7 +72,7 @@ def shown_runs(file):
 
 def differences():
     """Yields USAGE's differences from AVRDUDE that single runs can show, each with the outcome and whether it is right.
-    (tests/lines.py has the lines of -C, a device and ELF, and tests/claims.py that of a long part name.)"""
+    (tests/lines.py has the lines of -C, a device and ELF.)"""
     usage = USAGE.read_text()
     table = re.search(r"^ +\$ cat parts.toml\n((?: +.*\n)+?) +\$ avrstk", usage, re.M)[1]
     byte, end = re.search(r"`(:0100.*?)` and\s+then\s+`(:.*?)`", usage).groups()
@@ -114,12 +114,6 @@ COMMON = ["NAME", "DESCRIPTION", "EXAMPLES", "FILES", "SEE ALSO"]
 
 # the repository's folders and files that are not installed
 NOT_INSTALLED = re.compile(r"\b(?:docs|examples|crates|tests|tools|parts)/|\./|\binstall\.sh|CHANGELOG|README|" + HERE_ALONE.pattern)
-
-
-def pages_are_made():
-    """The man pages' parts from the manual are up to date."""
-    for name, file in PAGES.items():
-        see(f"{file.name} has what is made of the manual", file.read_text() == page(name), "tools/man_pages.py --write")
 
 
 def pages_are_whole():
@@ -240,7 +234,7 @@ def differences_hold():
         see(what, holds)
 
 
-PAGES_HOLD = [pages_are_made, pages_are_whole, pages_have_the_options, pages_are_clean, examples_run]
+PAGES_HOLD = [pages_are_whole, pages_have_the_options, pages_are_clean, examples_run]
 CASES = named(*PAGES_HOLD, names_agree, version_agrees, runs_of_readme, runs_of_manual, differences_hold)
 
 

@@ -13,30 +13,22 @@ support are made too. The simulation writes a page as given: it doesn't model th
 bits. Nor does it model locks, fuses or wires.
 """
 
-import random
 import shutil
 import socket
 import subprocess
 import sys
-import threading
 from pathlib import Path
 
+from avrdude import drawn, updates
 from cases import PATIENCE, leave_out, named, run_cases, same, see
+from line import Link
 from program import TOP, Room, lines
+from records import hex_of, image_of
 
 HEX = Path("/usr/share/arduino/hardware/arduino/avr/bootloaders/stk500v2/stk500boot_v2_mega2560.hex")
 HEADER = Path("/usr/include/simavr/sim_avr.h")
 FLASH, BOOT, PAGE = 262_144, 0x3E000, 256
 SIGNATURE = "device signature = 1E 98 01"
-
-
-def drawn(seed, size):
-    source = random.Random(seed)
-    return bytes(source.randrange(255) for _ in range(size))
-
-
-def updates(*texts):
-    return [word for text in texts for word in ["-U", text]]
 
 
 class Board:
@@ -66,6 +58,9 @@ class Board:
         self.started.stdout.readline()
         return started.returncode, messages
 
+    def call(self):
+        return socket.create_connection(("127.0.0.1", self.port))
+
     def flash(self):
         return self.room.read("flash.bin")
 
@@ -80,47 +75,27 @@ class Board:
 
 def bootloader():
     """Returns the boot section from the hex file."""
-    section, base = bytearray(b"\xff" * (FLASH - BOOT)), 0
-    for line in HEX.read_text().split():
-        record = bytes.fromhex(line[1:])
-        size, at, kind, data = record[0], int.from_bytes(record[1:3], "big"), record[3], record[4:-1]
-        if kind == 2:
-            base = int.from_bytes(data, "big") * 16
-        if kind == 0:
-            section[base + at - BOOT : base + at - BOOT + size] = data
-    return bytes(section)
+    image = image_of(HEX.read_bytes())
+    return bytes(image.get(at, 0xFF) for at in range(BOOT, FLASH))
 
 
-class LosingLine:
+class LosingLine(Link):
     """A link to the board that loses one byte: the nth, from 0, on the way up to it or down from it."""
 
-    def __init__(self, port, way, place):
-        self.way, self.place, self.lost = way, place, None
-        self.listener = socket.create_server(("127.0.0.1", 0))
-        self.port = self.listener.getsockname()[1]
-        threading.Thread(target=self.meet, args=(port,), daemon=True).start()
+    def __init__(self, board, way, place):
+        self.there, self.back = ((lambda *ends, it=it: self.pass_on(*ends, place if it == way else -1)) for it in ("up", "down"))
+        self.lost = None
+        super().__init__(board)
 
-    def meet(self, port):
-        caller, _ = self.listener.accept()
-        board = socket.create_connection(("127.0.0.1", port))
-        for it in (caller, board):
-            it.setsockopt(socket.IPPROTO_TCP, socket.TCP_NODELAY, 1)
-        threading.Thread(target=self.pass_on, args=(board, caller, "down"), daemon=True).start()
-        self.pass_on(caller, board, "up")
-
-    def pass_on(self, giver, taker, way):
+    def pass_on(self, giver, taker, place):
         count = 0
-        try:
-            while piece := giver.recv(4096):
-                at = self.place - count
-                count += len(piece)
-                if way == self.way and 0 <= at < len(piece):
-                    self.lost = piece[at]
-                    piece = piece[:at] + piece[at + 1 :]
-                taker.sendall(piece)
-            taker.shutdown(socket.SHUT_WR)
-        except OSError:
-            pass
+        while piece := giver.recv(4096):
+            at = place - count
+            count += len(piece)
+            if 0 <= at < len(piece):
+                self.lost = piece[at]
+                piece = piece[:at] + piece[at + 1 :]
+            taker.sendall(piece)
 
 
 def written_and_read():
@@ -155,7 +130,7 @@ def lost_bytes():
     for way, place in [("up", 4), ("up", 300), ("down", 3), ("down", 80)]:
         with Board() as board:
             board.room.put("image.bin", image)
-            line = LosingLine(board.port, way, place)
+            line = LosingLine(board, way, place)
             ended = board.run(["-D", "-V", *updates("flash:w:image.bin:r")], line.port)
             what = f"byte {place} {way} is lost"
             same(what, ended, (0, lines(SIGNATURE, "flash: 1000 bytes written", "done")))
@@ -179,26 +154,16 @@ def erased_from_the_front():
     with a higher start erases the bytes at the front, and a retried page erases the page after it."""
     image, old = drawn("small", 1_024), bytes(0x2000)
     with Board(old) as board:
-        board.room.put("further.hex", records(0x1000, image))
+        board.room.put("further.hex", hex_of([(0x1000, image)]))
         ended = board.run(["-D", "-V", *updates("flash:w:further.hex:i")])
         same("an image further on", ended, (0, lines(SIGNATURE, "flash: 1024 bytes written", "done")))
         board.holds("an image further on", b"\xff" * 1_024 + old[1_024:0x1000] + image + old[0x1400:])
     with Board(old) as board:
         board.room.put("image.bin", image)
-        line = LosingLine(board.port, "down", 80)
+        line = LosingLine(board, "down", 80)
         ended = board.run(["-D", "-V", *updates("flash:w:image.bin:r")], line.port)
         same("a page sent again", ended, (0, lines(SIGNATURE, "flash: 1024 bytes written", "done")))
         board.holds("a page sent again", image + b"\xff" * PAGE + old[1_024 + PAGE :])
-
-
-def records(base, content):
-    """Returns content at an address below 64 KiB, as Intel HEX."""
-    rows = [(base + at, 0, content[at : at + 16]) for at in range(0, len(content), 16)] + [(0, 1, b"")]
-    texts = []
-    for at, kind, data in rows:
-        record = bytes([len(data), at >> 8, at & 0xFF, kind]) + data
-        texts.append(f":{record.hex().upper()}{-sum(record) & 0xFF:02X}\n")
-    return "".join(texts).encode()
 
 
 def eeprom():

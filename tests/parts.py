@@ -9,10 +9,10 @@ Not proved: The part files are made from sources of others.
 
     tests/parts.py [CASE ..]  needs a built program (program.py); checks that need avrdude, or avr-gcc
                               with avr-libc, are left out without them
-    tests/parts.py --all      runs a session for each part
     tests/parts.py --write    writes the three files of parts/
 """
 
+import functools
 import random
 import re
 import shutil
@@ -21,8 +21,9 @@ import sys
 import tomllib
 from pathlib import Path
 
-from cases import PATIENCE, leave_out, named, run_cases, see
-from program import TOP, Room, Server
+from avrdude import Beside, Part as Sizes, updates
+from cases import leave_out, named, run_cases, same, see, table
+from program import TOP, Room
 
 CLASSIC = TOP / "parts/classic.toml"
 BITS, UNSUPPORTED = TOP / "parts/bits.txt", TOP / "parts/unsupported.txt"
@@ -49,28 +50,7 @@ HEAD_OF_UNSUPPORTED = """\
 """
 
 # the first bytes of the instructions that the program sends, by AVRDUDE's names for memories and operations
-SENT = {
-    ("part", "pgm_enable"): [0xAC, 0x53, 0, 0],
-    ("part", "chip_erase"): [0xAC, 0x80, 0, 0],
-    ("flash", "loadpage_lo"): [0x40],
-    ("flash", "loadpage_hi"): [0x48],
-    ("flash", "writepage"): [0x4C],
-    ("flash", "read_lo"): [0x20],
-    ("flash", "read_hi"): [0x28],
-    ("eeprom", "loadpage_lo"): [0xC1],
-    ("eeprom", "writepage"): [0xC2],
-    ("eeprom", "read"): [0xA0],
-    ("lfuse", "read"): [0x50, 0x00],
-    ("lfuse", "write"): [0xAC, 0xA0],
-    ("hfuse", "read"): [0x58, 0x08],
-    ("hfuse", "write"): [0xAC, 0xA8],
-    ("efuse", "read"): [0x50, 0x08],
-    ("efuse", "write"): [0xAC, 0xA4],
-    ("lock", "read"): [0x58, 0x00],
-    ("lock", "write"): [0xAC, 0xE0],
-    ("signature", "read"): [0x30],
-    ("calibration", "read"): [0x38],
-}
+SENT = {(memory, operation): bytes.fromhex(sent) for memory, operation, sent in table("instructions")}
 
 def configured():
     """Returns the ISP parts of AVRDUDE's configuration: name, properties, memories, operations."""
@@ -182,6 +162,7 @@ def by_headers(name):
     return found if device and eesave_fuse(device) == "hfuse" and value("FUSE_MEMORY_SIZE") == 3 else None
 
 
+@functools.cache
 def sources():
     """Returns the parts that belong in the file, by their short names, and why each of the others doesn't."""
     parts, without = {}, {}
@@ -234,30 +215,17 @@ def made_unsupported():
     return HEAD_OF_UNSUPPORTED + "".join(f"{names.replace(',', '')}: {why.replace('`', '')}\n" for why, names in rows)
 
 
-def notes():
-    """The parts that aren't in are named with their reason."""
-    see("unsupported.txt is as docs/PARTS has it", UNSUPPORTED.read_text() == made_unsupported(), UNSUPPORTED)
-
-
-def against_the_sources(parts, without):
-    """Compares every line with both sources, and checks that no part is missing."""
-    file = tomllib.loads(CLASSIC.read_text())["parts"]
-    wanted = {name: (short, it) for short, it in parts.items() for name in (short, it[0])}
-    see("the names", set(file) == set(wanted), sorted(set(file) ^ set(wanted)))
-    for name, (_, (_, fields, part)) in wanted.items():
-        found = file.get(name, {})
-        for field, value in by_avrdude(part).items():
-            see(f"{name}: {field}, by AVRDUDE", found.get(field) == value, (found.get(field), value))
-        for field, value in fields.items():
-            see(f"{name}: {field}, by avr-libc", found.get(field) == value, (found.get(field), value))
-    see("the text is as it is made", CLASSIC.read_text() == made(parts))
-    see("the bits are as they are made", BITS.read_text() == made_bits(parts))
-    known = re.findall(r"^([^#].*): ((?:[0-9A-F]{2}|-) ?){4}$", BITS.read_text(), re.M)
-    see("each part has its bits", sum(len(names.split()) for names, _ in known) == len(parts), known)
-    page = PAGE.read_text()
-    listed, others = page.split("## The others")
+def files_of_parts():
+    """The files of parts/ are as they are made of their sources, and docs/PARTS has each part, or why it isn't in."""
+    same("unsupported.txt, of docs/PARTS", UNSUPPORTED.read_text(), made_unsupported())
+    if not has_sources():
+        return
+    parts, without = sources()
+    same("classic.toml", CLASSIC.read_text(), made(parts))
+    same("bits.txt", BITS.read_text(), made_bits(parts))
+    listed, others = PAGE.read_text().split("## The others")
     names = [it[2][""]["desc"].split()[0] for it in parts.values()]
-    see("docs/PARTS has the parts", set(names) == set(re.findall(r"\bAT\w+\d\w*", listed)), listed)
+    same("docs/PARTS has the parts", set(re.findall(r"\bAT\w+\d\w*", listed)), set(names))
     for name in [it.split()[0] for names in without.values() for it in names]:
         see(f"docs/PARTS gives the reason why {name} is not in", re.search(rf"\b{name}\b", others))
 
@@ -290,28 +258,6 @@ def values_of(part, drawn, eesave_bit):
     return found
 
 
-def session(room, short, fields, part):
-    """AVRDUDE, by `--serve`, and the program, over `emu:`, write the same."""
-    room.clear()
-    drawn = random.Random(short)
-    room.put("f.bin", drawn.randbytes(fields["flash_size"] - 1) + b"\x5a")
-    room.put("e.bin", drawn.randbytes(fields["eeprom_size"]))
-    fuses = values_of(part, drawn, fields["eesave_bit"])
-    updates = ["flash:w:f.bin:r", "eeprom:w:e.bin:r", *(f"{it}:w:0x{value:02x}:m" for it, value in fuses.items())]
-    updates = [word for it in updates for word in ("-U", it)]
-    words = ["--parts", str(CLASSIC), "-p", short]
-    status, _, told = room.run([*words, "-P", "emu:emu.bin", *updates])
-    see(f"{short} over emu:", status == 0, told)
-    with Server(room, "served.bin", short, words[:2]) as server:
-        asked = ["avrdude", "-qq", "-c", "stk500v2", "-p", short, "-P", f"net:127.0.0.1:{server.port}", *updates]
-        ran = subprocess.run(asked, cwd=room.folder, stdin=subprocess.DEVNULL, capture_output=True, timeout=PATIENCE)
-        status, _, told = server.end()
-    see(f"{short} by AVRDUDE", (ran.returncode, status) == (0, 0), (ran.stderr, told))
-    served, wanted = room.read("served.bin"), room.read("emu.bin")
-    see(f"{short}: the chip is that of emu:", served == wanted is not None, (served[-4:].hex(), wanted[-4:].hex()))
-    room.clear()
-
-
 def has_sources():
     """Returns whether both sources are installed; reports it if not."""
     if shutil.which("avrdude") and shutil.which("avr-gcc") and HEADERS.is_dir():
@@ -319,24 +265,17 @@ def has_sources():
     return leave_out("what needs two sources", "avrdude, or avr-gcc with avr-libc, is not installed")
 
 
-def lines_of_the_file():
-    if has_sources():
-        against_the_sources(*sources())
-
-
-def sessions(names=DOZEN):
-    """Runs sessions of AVRDUDE for a dozen parts."""
+def sessions():
+    """AVRDUDE, by `--serve`, and the program, over `emu:`, write the same to each of a dozen parts."""
     if not has_sources():
         return
     parts, _ = sources()
-    room = Room()
-    for short in names or parts:
-        if see(f"{short} is in the file", short in parts):
-            session(room, short, *parts[short][1:])
-
-
-def all_sessions():
-    sessions([])
+    for short in DOZEN:
+        _, fields, part = parts[short]
+        drawn = random.Random(short)
+        beside = Beside(short, Sizes(fields["flash_size"], fields["eeprom_size"], values_of(part, drawn, fields["eesave_bit"])), CLASSIC)
+        fuses = [f"{it}:w:0x{value:02x}:m" for it, value in beside.part.fuses.items()]
+        beside.request("all", updates("flash:w:flash.bin:r", "eeprom:w:eeprom.bin:r", *fuses))
 
 
 def write():
@@ -353,12 +292,5 @@ def write():
     return 0
 
 
-CASES = named(loaded, notes, lines_of_the_file, sessions)
-
 if __name__ == "__main__":
-    if sys.argv[1:] == ["--write"]:
-        sys.exit(write())
-    if sys.argv[1:] == ["--all"]:
-        sys.argv.pop()
-        CASES = named(loaded, notes, lines_of_the_file, all_sessions)
-    sys.exit(run_cases(CASES, __doc__))
+    sys.exit(write() if sys.argv[1:] == ["--write"] else run_cases(named(loaded, files_of_parts, sessions), __doc__))

@@ -9,11 +9,10 @@ import subprocess
 import sys
 import tempfile
 import threading
-import time
 from functools import reduce
 from pathlib import Path
 
-from cases import PATIENCE
+from cases import PATIENCE, wait_until
 
 TOP = Path(__file__).resolve().parent.parent
 NAMED = os.environ.get("AVRSTK")
@@ -34,6 +33,9 @@ def program():
 
 
 PROGRAM = program()
+# the program of avrstk-serve and of plans: beside it, or in a folder of its own
+FOLDERS = [PROGRAM.parent, PROGRAM.parents[2] / "avrstk_session/out"]
+SESSION = next((it / "avrstk_session" for it in FOLDERS if (it / "avrstk_session").exists()), None)
 
 # the replies of a session that does nothing, and the number of bytes up to the end of each
 ANSWERS = (TOP / "crates/avrstk/stdin").read_bytes()
@@ -162,17 +164,9 @@ class Server:
         serving = ["-p", part, "--serve", str(self.port), "--chip", chip]
         self.started = room.start([*words, *serving], **more)
         if waits:
-            self.wait_until_listens()
-
-    def listens(self):
-        return listens_at(self.port)
-
-    def wait_until_listens(self):
-        ends = time.monotonic() + PATIENCE
-        while not self.listens():
-            if self.started.poll() is not None or time.monotonic() > ends:
-                raise ConnectionRefusedError(f"nobody serves at port {self.port}: {self.stop()}")
-            time.sleep(0.002)
+            wait_until(lambda: listens_at(self.port) or self.started.poll() is not None)
+        if waits and self.started.poll() is not None:
+            raise ConnectionRefusedError(f"nobody serves at port {self.port}: {self.stop()}")
 
     def call(self):
         """Returns a connection to it."""

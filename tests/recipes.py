@@ -22,7 +22,7 @@ import textwrap
 from pathlib import Path
 
 from cases import PATIENCE, leave_out, named, run_cases, same, see
-from program import LISTENS, PROGRAM, TOP, has_avrdude, kept_port, port_of
+from program import LISTENS, PROGRAM, SESSION, TOP, has_avrdude, kept_port, port_of
 from serial import Board
 
 # commands that are no step of using the tool, or that start proofs
@@ -58,10 +58,7 @@ class Clone:
                 shutil.copy(TOP / name, self.top / name)
         self.was = self.status()
         (self.top / "out/unproved").mkdir(parents=True)
-        for name in [it.name for it in (self.top / "crates").glob("avrstk*")]:
-            # (beside it, or each in its crate's folder)
-            there = [PROGRAM.parent / name, PROGRAM.parents[2] / name / "out" / name]
-            found = PROGRAM if name == "avrstk" else next(it for it in there if it.is_file())
+        for name, found in [("avrstk", PROGRAM), ("avrstk_session", SESSION)]:
             shutil.copyfile(found, self.top / "out/unproved" / name)
             (self.top / "out/unproved" / name).chmod(0o755)
         self.stamp("unproved")

@@ -1,7 +1,8 @@
 #!/usr/bin/env python3
 """Tests avrstk-serial over pseudo terminals with an emulated programmer behind them. Covers each AVRDUDE option that it
 takes, ignores or refuses, and each hint after a failed run. Covers boards that are deaf after a reset, disappear, don't
-reply or send other data, and signals. Runs the recipes of docs/USAGE for a serial link as they are printed there.
+reply or send other data, and signals. Runs the recipes of docs/USAGE for bridges as they are printed there (recipes.py has its
+own).
 
 Not proved: avrstk-serial is Python over serial devices.
 
@@ -31,18 +32,19 @@ from concurrent.futures import ThreadPoolExecutor
 from functools import lru_cache
 from pathlib import Path
 
-from cases import PATIENCE, leave_out, named, run_cases, same, see, wait_until
-from line import frame_size, frames_of
-from program import PROGRAM, TOP, Room, Server, forks, frame, has_avrdude, kept_port, lines, listens_at, port_of, read_whole
+from cases import PATIENCE, leave_out, named, run_cases, same, see, table, wait_until
+from line import frames_in, frames_of
+from program import PROGRAM, SESSION, TOP, Room, Server, forks, frame, has_avrdude, kept_port, lines, listens_at, port_of, read_whole
+from records import hex_of
 
 SCRIPT, SHARED = TOP / "avrstk-serial", TOP / "lib"
 PYTHON = shutil.which("python3", path="/usr/bin:/bin") or sys.executable
 SIGNATURE = "device signature = 1E 95 0F"
 FIRMWARE = [SIGNATURE, "chip erased", "flash: 228 bytes written", "flash: 228 bytes verified", "done"]
 FLASH = ["-p", "m328p", "-U", "flash:w:blink.hex:i"]
-SESSION = next(it for it in [PROGRAM.parent, PROGRAM.parents[2] / "avrstk_session/out"] if (it / "avrstk_session").exists())
-SESSION /= "avrstk_session"
 CALL = "avrstk -p m328p -P net:127.0.0.1:5000 -U flash:w:firmware.hex:i"
+# how nobody is started, if this is root, who may do everything
+ANYONE = {"user": 65534, "group": 65534, "extra_groups": []} if os.geteuid() == 0 else {}
 room = Room()
 boards = itertools.count()
 
@@ -190,12 +192,11 @@ def over(words, board=None, **more):
 
 
 def run_as_anyone(words, program):
-    """Runs the script as nobody if this is root, who may do everything. (PYTHON must not be one that only root can run.)"""
-    how = {"user": 65534, "group": 65534, "extra_groups": []} if os.geteuid() == 0 else {}
+    """Runs the script as nobody if this is root. (PYTHON must not be one that only root can run.)"""
     with tempfile.TemporaryDirectory(dir="/tmp") as folder:
         os.chmod(folder, 0o755)
         shutil.copytree(SHARED, f"{folder}/lib")
-        how |= {"stdin": subprocess.DEVNULL, "capture_output": True, "cwd": "/", "timeout": PATIENCE}
+        how = ANYONE | {"stdin": subprocess.DEVNULL, "capture_output": True, "cwd": "/", "timeout": PATIENCE}
         return subprocess.run([PYTHON, shutil.copy(SCRIPT, folder), *words], env=os.environ | {"AVRSTK": str(program)}, **how)
 
 
@@ -329,72 +330,12 @@ EMPTY = {"end.hex": b":00000001FF\n", "end.srec": b"S0030000FC\nS5030000FC\nS903
 
 def refused():
     """A refused run opens no device, and reports why."""
-    note = UNOPENED
-    good = room.read("blink.hex")
     room.put("an x.elf", b"\x7fELF\x01\x01\x01")
-    room.put("note.hex", b"# a note\n" + good)
+    room.put("note.hex", b"# a note\n" + room.read("blink.hex"))
     room.put("page.hex", b"<!DOCTYPE html>\n<p>no such firmware</p>\n")
     room.put("big.hex", hex_of([(32_768, b"x")]))
     (room.folder / "gone.hex").symlink_to("nowhere")
-    cases = [
-        (["-B", "10"], "-B is not supported: leave it out; the programmer has its own clock"),
-        (["-E", "noreset"], "-E is not supported: the pins of a parallel port"),
-        (["-O"], "-O is not supported: the oscillator is not calibrated"),
-        (["-i", "10"], "-i is not supported: the programmer has its own clock"),
-        (["-t"], "-t is not supported"),
-        (["-Y", "1"], "-Y is not supported: erase cycles are not counted"),
-        (["-x", "vtarg=5"], "-x is not supported"),
-        (["-c", "arduino", "-B", "10"], "-c arduino is the bootloader of Uno and Nano"),
-        (["-c", "usbasp"], "-c usbasp is a programmer with a protocol of its own"),
-        (["-c", "avrispmkII"], "-c avrispmkII is a programmer on USB"),
-        (["-c", "buspirate"], "-c buspirate: this speaks STK500v2 only: use avrdude -c buspirate"),
-        (["-b", "0"], "-b 0: not a speed"),
-        (["--wait", "4"], "--wait 4: not a number of seconds from 0 to 3"),
-        (["--wait"], "option --wait requires argument"),
-        (["-z"], "option -z not recognized"),
-        (["--serve", "5000"], "--serve is for a programmer without a device"),
-        (["-P", "COM3"], "COM3: there is no such device (Linux calls it /dev/ttyACM0 or /dev/ttyUSB0; -P ? lists w"),
-        (["-P", "localhost:5000"], "localhost:5000: there is no such device (a port of a network is -P net:localhost:5000)"),
-        (["-P", "net:localhost"], "-P net:localhost: a port of a network is -P net:HOST:PORT"),
-        (["-p", "uno"], "-p takes the chip's name, not the board's: m328p for Uno, m2560 for Mega 2560, m32u4"),
-        (["-p", "ATmega328P-PU"], f"without the package: -p atmega328p; {note}"),
-        (["-u", "flash:w:blink.hex:i"], "flash:w:blink.hex:i has no option before it: give -U flash:w:blink.hex:i"),
-        (["-U", "lfuse", "w", "0xE2", "m"], "an update is one word: give -U lfuse:w:0xE2:m"),
-        (["-U", "flash:w:blink.hex:hex"], f"a format is one letter: give -U flash:w:blink.hex; {note}"),
-        (["--backup", ".", "-e"], "--backup only reads: leave out -U and -e, and use a programmer, not a boot"),
-        (["--backup", "."], ".: File exists"),
-        (["--backup", ""], ": No such file or directory"),
-        (["-l", "no/where"], "no/where: No such file or directory"),
-        (["-l", "./blink.hex", "-U", "flash:w:blink.hex"], f"-l ./blink.hex: that is the file of an update: {note}"),
-        (["-P", "usb"], "-P usb is for programmers without a serial device: use avrdude"),
-        (["-p", "m9"], f"-p ? lists the parts; others need a part file (--parts); {note}"),
-        (["-e"], f"-p ? lists the parts, and -p auto reads which one it is; others need a part file (--parts); {note}"),
-        (["-p", "m8"], "atmega8 is not supported: EEPROM is written by the byte, and the program writes it by the page"),
-        (["-p", "ATtiny13"], "attiny13 is not supported: no extended fuse, two calibration bytes"),
-        (["-p", "1200"], f"at90s1200 is not supported: no flash pages, but the program writes pages. Use avrdude; {note}"),
-        (["blink.hex"], "blink.hex has no option before it: a file is given as -U flash:w:blink.hex"),
-        (["-U", "flash:r:no/where/x.hex:i"], f"no/where/x.hex cannot be created, since no/where is no folder: {note}"),
-        (["-U", "flash:r:.:i"], f". is a folder: {note}"),
-        (["-U", "lfuse:w:E2:m"], f"a value is written as 0xE2, 0b11100010, 0342 or 226; {note}"),
-        (["-U", "flash:w:blink.hex:I"], "-U flash:w:blink.hex:I: the formats are i, s, r, e, a and m to write and comp"),
-        (["-U", "flash:r:x.elf:e"], "-U flash:r:x.elf:e: the formats are i, s, r, e, a and m to write and compare, i, s, r, h"),
-        (["-U", "flash:w:x.elf:e"], f"x.elf can't be read as ELF: it is no file: {note}"),
-        (["-U", "flash:w:"], f"-U flash:w:: a file comes last, as flash:w:firmware.hex:i; {note}"),
-        (["-U", "flash:w:gone.hex:i"], f"it is a symbolic link to a missing file; {note}"),
-        (["-U", "lfuse:w:0xE2"], f"a value needs :m after it, as lfuse:w:0xE2:m; {note}"),
-        (["-U", "flash:w:an x.elf"], f"an x.elf is damaged, or no linked ELF file for AVR: {note}"),
-        (["-U", "flash:w:an x.elf:r"], f"an x.elf is ELF, not the bytes of a memory: leave out :r: {note}"),
-        (["-U", "eeprom:v:blink.hex:e"], f"blink.hex is not ELF: {note}"),
-        (["-U", "flash:w:an x.elf:i"], f"it has ELF: give flash:w:an x.elf:e; {note}"),
-        (["-U", "fuse:w:1:m"], "-U fuse:w:1:m: the memories are flash, eeprom, lfuse, "),
-        (["-U", "lfuse:r:-:h", "-U", "fl:r:x:i"], "-U fl:r:x:i: the memories are flash, eeprom, lfuse, "),
-        (["-U", "flash:x:1:m"], f"-U flash:x:1:m: the operations are w (write), v (compare) and r (read); {note}"),
-        (["-U", "flash:w:note.hex"], "something is above its first record: delete it if it is a comment, else build or dow"),
-        (["-U", "flash:w:page.hex"], f"it is not Intel HEX; {note}"),
-        (["-U", "flash:w:big.hex"], f"flash of m328p has 32,768 bytes; is -p right?; {note}"),
-        (["-U", "eeprom:w:0,0,0.hex"], f"there is no such file; {note}"),
-        (["-U", "lfuse:w:0,0:m"], f"lfuse has 1 byte: give one value; {note}"),
-    ]
+    cases = [(shlex.split(words), wanted) for words, wanted in table("refused")]
 
     def ran(words):
         it = Board()
@@ -664,34 +605,12 @@ def retries_that_are_refused():
         status, _, _, own = run(["-p", "m328p", "-P", device, "--retry", "1", *words], env=fails)
         return status, own[0].partition("may not heal this one: ")[2]
 
-    whole, kept = ["-U", "flash:w:blink.hex:i"], "a second one may erase EEPROM that this one keeps"
-    same("--retry without avrstk_session", ran(*whole, "-U", "flash:w:late.hex:i"), (1, "it writes a page of flash twice"))
+    two = ["-U", "flash:w:blink.hex:i", "-U", "flash:w:late.hex:i"]
+    same("--retry without avrstk_session", ran(*two), (1, "it writes a page of flash twice"))
     # (what prints the pages of a plan is beside avrstk)
     (room.folder / "avrstk_session").symlink_to(SESSION)
-    for words, why in [
-        (["-U", "lfuse:v:0xE2:m"], "it compares lfuse, which it didn't write before"),
-        (["-U", "flash:v:blink.hex:i", *whole], "it compares flash, which it didn't write before"),
-        (["-U", "lock:w:0xFC:m", *whole], "it writes after the lock"),
-        (["-U", "lock:w:0xFC:m", "-U", "lock:w:0xFF:m"], "it writes after the lock"),
-        ([*whole, *whole], "it writes a page of flash twice"),
-        ([*whole, "-U", "flash:w:1,2:m"], "it writes a page of flash twice"),
-        (["-U", "flash:w:pipe:i"], "pipe can't be read twice"),
-        (["-U", "flash:w:-:i"], "- can't be read twice"),
-        (["-U", "lfuse:r:-:h"], "- can't be written twice"),
-        (["-U", "lfuse:r:/dev/stdout:h"], "/dev/stdout can't be written twice"),
-        ([*whole, "-U", "hfuse:w:0xD9:m"], kept),
-        (["-e", "-U", "hfuse:w:0xD9:m"], kept),
-        (["-e", "-U", "hfuse:w:late.hex:i"], kept),
-        (["-P", "emu:chip.bin"], "avrstk's own ports are run once"),
-        ([], ""),
-        (whole, ""),
-        ([*whole, "-D"], ""),
-        ([*whole, "-U", "flash:w:late.hex:i", "-U", "eeprom:w:1:m", "-U", "lock:w:0xFC:m"], ""),
-        ([*whole, "-U", "flash:v:blink.hex:i", "-U", "flash:r:back.hex:i"], ""),
-        ([*whole, "-U", "hfuse:w:0xD1:m"], ""),
-        (["-U", "hfuse:w:0xD9:m"], ""),
-        ([*whole, "-D", "-U", "hfuse:w:0xD9:m"], ""),
-    ]:
+    for words, why in table("retries"):
+        words = shlex.split(words)
         same(f"--retry {words}", ran(*words), (1, why))
     for text in ["-1", "x", "100", "\u0663"]:
         status, _, _, own = run([*FLASH, "-P", device, f"--retry={text}"])
@@ -738,10 +657,6 @@ def screen(text):
         else:
             rows[-1], at = rows[-1][:at].ljust(at) + it + rows[-1][at + 1 :], at + 1
     return [row.rstrip() for row in rows]
-
-
-def frames_in(heard):
-    return 1 + frames_in(heard[frame_size(heard) :]) if heard else 0
 
 
 def on_a_terminal(words, answer=None, **more):
@@ -824,21 +739,9 @@ def backups():
 
 
 def warnings():
-    """Fuses that can make a chip unreachable are warned of before the device is opened. (The bits are those of the data
-    sheets.) So is an image that leaves out a bootloader's pages."""
-    out = lambda update, what: f"warning: {update} turns {what}: no ISP programmer reaches the chip then"
-    reset = "the reset pin off (RSTDISBL)"
-    for part, update, wanted in [
-        ("m328p", "lfuse:w:0x60:m", "warning: lfuse:w:0x60:m selects an external clock: the chip only works while a clock"),
-        ("m328p", "lfuse:w:0x62:m", None),
-        ("m328p", "hfuse:w:0x59:m", out("hfuse:w:0x59:m", reset)),
-        ("t85", "hfuse:w:0xFF:m", out("hfuse:w:0xFF:m", "SPIEN off")),
-        ("m2560", "hfuse:w:0x19:m", None),
-        ("m329p", "efuse:w:0xFE:m", out("efuse:w:0xFE:m", reset)),
-        ("m32u2", "hfuse:w:0x99:m", out("hfuse:w:0x99:m", reset)),
-        ("m32u2", "hfuse:w:0x59:m", None),
-        ("m328p", "hfuse:v:0x59:m", None),
-    ]:
+    """Fuses that can make a chip unreachable are warned of before the device is opened. So is an image that leaves out a
+    bootloader's pages."""
+    for part, update, wanted in table("warnings"):
         own = run(["-p", part, "-P", "emu:no.bin", "-n", "-U", update])[3]
         room.clear()
         see(f"{part} {update}", (not own and not wanted) or wanted and own[0].startswith(wanted), own)
@@ -903,7 +806,7 @@ def hints():
         ("signature 00", FLASH, "the programmer finds no chip", "error: signature is", instead(0x1B, 0, 0, 0)),
         ("signature FF", FLASH, "the programmer finds no chip", "error: signature is", instead(0x1B, 0, 0xFF, 0)),
         ("signature 12", FLASH, "another part (12 12 12), which is not known", "error: sig", instead(0x1B, 0, 0x12, 0)),
-        ("command 10", FLASH, f"the programmer can't reach the chip, which is unch", "command 10", instead(0x10, 0xC0)),
+        ("command 10", FLASH, "the programmer can't reach the chip, which is unch", "command 10", instead(0x10, 0xC0)),
         ("command 13", FLASH, f"the programmer refused the command: {partly}", "command 13", instead(0x13, 0xC0)),
         ("no bit", [*reading, "efuse:w:0xFD:m"], nobit, "expected, 05 found", instead(0x18, 0, 0x05, 0)),
         ("flash", FLASH, "run the same command again; if it always", found, instead(0x14, 0, *bytes(256), 0)),
@@ -921,18 +824,6 @@ def hints():
     status, _, told, own, _ = over([*reading, "lfuse:r:-:h"], closed=">&-")
     wanted = [f"standard output is closed or full; {stays}"]
     same("a closed output", (status, b"-: cannot be written" in told, own), (1, True, wanted))
-
-
-def hex_of(runs):
-    """Returns an Intel HEX file with these bytes at these addresses."""
-    rows, high = [], 0
-    for at, held in [(at + place, held[place : place + 16]) for at, held in runs for place in range(0, len(held), 16)]:
-        if at >> 16 != high:
-            high = at >> 16
-            rows.append(bytes([2, 0, 0, 4, *high.to_bytes(2, "big")]))
-        rows.append(bytes([len(held), *(at & 0xFFFF).to_bytes(2, "big"), 0]) + held)
-    rows.append(bytes([0, 0, 0, 1]))
-    return "".join(f":{(it + bytes([-sum(it) & 0xFF])).hex().upper()}\n" for it in rows).encode()
 
 
 def without(words, left_out):
@@ -1304,13 +1195,15 @@ def one_run_at_a_time():
     wanted = f"{device}: cannot be opened: another program has it"
     see("a second run at once", (status, own[-1:]) == (1, [wanted]), (status, told, own))
     same("the first one's speed", speed(line), (57_600, 57_600))
+    if ANYONE:
+        os.chown(device, 65534, 65534)
+    other = subprocess.run(["sh", "-c", ': <"$0"', device], capture_output=True, text=True, **ANYONE)
+    see("a program that doesn't lock", "busy" in other.stderr, other)
     echo(line)
     first.communicate(timeout=PATIENCE)
     same("the first one", first.returncode, 0)
     with tempfile.TemporaryDirectory(dir="/tmp") as folder:
         os.chmod(folder, 0o755)
-        if os.geteuid() == 0:
-            os.chown(device, 65534, 65534)
         program = stand_in(CALLS, Path(folder))["AVRSTK"]
         for count in ["a first", "a second"]:
             echo(line)
@@ -1357,7 +1250,7 @@ def strangers():
     wanted = flashed()
     it = Board()
     # (the program that starts avrstk may keep running beside it)
-    late = f"while not os.path.exists('go'):\n    time.sleep(0.01)\nimport subprocess\n"
+    late = "while not os.path.exists('go'):\n    time.sleep(0.01)\nimport subprocess\n"
     late += f"sys.exit(subprocess.call(['{PROGRAM}', *sys.argv[1:]]))\n"
     fake = stand_in("open('port', 'w').write(str(port) + '\\n')\n" + late)
     started = start([*FLASH, "-P", it.device], env=fake)
@@ -1423,14 +1316,6 @@ def ended(started):
     return started.returncode, told
 
 
-def recipe_of_the_script():
-    for begin, part, more in [("avrstk-serial -p m328p -P /dev/", "m328p", []), ("avrstk-serial -C/etc", "m2560", ["-D"])]:
-        firmware = emulated(*more, *FLASH[2:], part=part)
-        it = Board(part=part)
-        status, _ = ended(typed(recipe(begin), it.device))
-        same(begin, (status, it.end() == firmware), (0, True))
-
-
 def recipe_of_a_plain_bridge():
     """Tests socat alone. It opens the device when the tool calls: too late for a board that resets then."""
     if not shutil.which("socat"):
@@ -1480,7 +1365,7 @@ CASES = named(
     *(retries_that_are_refused, the_part_of_the_chip, hints, elf_files, hints_over_each_memory, hints_that_are_followed),
     *(progress, few_lines, backups, warnings, images_that_are_read_once, signals, cut_lines, closed_streams),
     *(messages_that_nobody_reads, one_run_at_a_time, settings_that_are_kept, devices_that_go, strangers),
-    *(names_and_interrupts, recipe_of_the_script, recipe_of_a_plain_bridge, recipe_of_ser2net),
+    *(names_and_interrupts, recipe_of_a_plain_bridge, recipe_of_ser2net),
 )
 
 # a board that replies for a time, or a signal at a moment

@@ -11,6 +11,7 @@ import ast
 import os
 import resource
 import select
+import shlex
 import shutil
 import signal
 import socket
@@ -21,15 +22,14 @@ import tempfile
 import time
 from pathlib import Path
 
-from cases import PATIENCE, leave_out, named, run_cases, same, see, wait_until
-from program import ANSWERS, CHIP_FILE, ENDS, FRAMES, NAMED, PROGRAM, TOP, Room
+from cases import PATIENCE, leave_out, named, run_cases, same, see, table, wait_until
+from program import ANSWERS, CHIP_FILE, ENDS, FRAMES, NAMED, PROGRAM, SESSION, TOP, Room
 from program import frame, has_avrdude, kept_port, lines, port_of, read_whole
+from records import image_of
 
 SCRIPT = TOP / "avrstk-serve"
 M328P = ["-p", "m328p", "--chip", "chip.bin"]
 LFUSE = 33_792
-# the program of a run: beside the built avrstk, or in a folder of its own
-SESSIONS = [PROGRAM.parent / "avrstk_session", PROGRAM.parents[2] / "avrstk_session/out/avrstk_session"]
 room = Room()
 
 
@@ -284,39 +284,20 @@ def refused():
     os.mkfifo(room.folder / "pipe")
     taken = kept_port()
     taken.listen()
-    rows = [
-        ([], 0, ""),
-        (["--help"], 0, ""),
-        (["65536", *M328P], 1, "avrstk-serve: 65536: not a port from 0 to 65535\n"),
-        (["-1", *M328P], 1, "avrstk-serve: option -1 not recognized\n"),
-        (M328P, 1, "avrstk-serve: one port is needed: avrstk-serve PORT -p PART --chip FILE\n"),
-        (["0", "5000", *M328P], 1, "avrstk-serve: one port is needed: avrstk-serve PORT -p PART --chip FILE\n"),
-        ([str(port_of(taken)), *M328P], 1, f"avrstk-serve: port {port_of(taken)}: Address already in use\n"),
-        (["0", *M328P, "--idle", "0"], 1, "avrstk-serve: --idle 0: not a number of seconds\n"),
-        (["0", *M328P, "-e"], 1, "avrstk-serve: option -e not recognized\n"),
-        (["0", "--chip", "chip.bin"], 1, "avrstk: error: no part given (-p)\n"),
-        (["0", "-p", "m328p"], 1, "avrstk-serve: no chip file given (--chip)\n"),
-        (["0", "-p", "m328p", "--chip", "\udcff"], 1, "avrstk-serve: --chip \\xff: the name is not UTF-8\n"),
-        (["0", *M328P, "--lose", "it"], 1, None),
-        (["0", *M328P, "--late", "7"], 1, "avrstk-serve: --late : not a number of seconds\n"),
-        (["0", "-p", "m328p", "--chip", "-"], 1, "avrstk: error: standard streams are taken\n"),
-        (["0", *M328P, "--pty", "link"], 1, "avrstk-serve: a port and --pty: give one of the two\n"),
-        (["--pty", "link", *M328P, "--listen", "::1"], 1, "avrstk-serve: a port and --pty: give one of the two\n"),
-        (["--pty", "blink.hex", *M328P], 1, "avrstk-serve: blink.hex: File exists\n"),
-        (["0", *M328P, "--listen", "192.0.2.1"], 1, "avrstk-serve: 192.0.2.1, port 0: Cannot assign requested address\n"),
-        (["0", *M328P, "--listen", ""], 1, None),
-        (["0", *M328P, "--listen", "\udcff" * 100], 1, None),
-        (["0", *M328P, "--log", "nowhere/log"], 1, "avrstk-serve: nowhere/log: No such file or directory\n"),
-        (["\x1b[31m\udcff", *M328P], 1, "avrstk-serve: \\x1b[31m\\xff: not a port from 0 to 65535\n"),
-        (["0", "-p", "none", "--chip", "chip.bin"], 1, "avrstk: error: no part none\n"),
-        (["0", "-p", "m328p", "--chip", "blink.hex"], 1, None),
-        (["0", *M328P, "--parts", "nowhere"], 1, "avrstk-serve: --parts nowhere: not a file that each client can read\n"),
-        (["0", *M328P, "--parts", "pipe"], 1, "avrstk-serve: --parts pipe: not a file that each client can read\n"),
+    port = str(port_of(taken))
+    rows = [(shlex.split(words.replace("TAKEN", port)), 1, told.replace("TAKEN", port)) for words, told in table("serve")]
+    rows += [
+        ([], 0, None),
+        (["--help"], 0, None),
+        (["0", "-p", "m328p", "--chip", "\udcff"], 1, "avrstk-serve: --chip \\xff: the name is not UTF-8"),
+        (["0", *M328P, "--listen", "\udcff" * 100], 1, ""),
+        (["\x1b[31m\udcff", *M328P], 1, "avrstk-serve: \\x1b[31m\\xff: not a port from 0 to 65535"),
     ]
     for words, status, told in rows:
         found, messages, output = ran(words)
         same(f"{words}: the status", found, status)
-        see(f"{words}: its messages", messages == told if told is not None else messages.count("\n") == 1, messages)
+        wanted = "" if told is None else f"{told or messages.partition(chr(10))[0]}\n"
+        same(f"{words}: its messages", messages, wanted)
         see(f"{words}: it doesn't serve", "serving at 127.0.0.1:" not in output, output)
     taken.close()
     # (Python 3.7 gets as far as the line that names the version it needs)
@@ -423,7 +404,7 @@ def no_inner_port():
 
 def errors_end_one_session():
     """If a run can't be started, the client is hung up on, and the next one is served."""
-    for it in [PROGRAM, next(it for it in SESSIONS if it.exists())]:
+    for it in [PROGRAM, SESSION]:
         shutil.copy(it, room.folder / it.name)
     copy = room.folder / "avrstk_session"
     with Serving(program=room.folder / PROGRAM.name) as it:
@@ -561,28 +542,9 @@ def logged():
     same("its lines", marks(), wanted)
 
 
-# a bad line, a bad programmer or a bad chip: the options; the log's mark; the status, the flash and the EEPROM with avrstk as
-# the client, and with AVRDUDE, which goes on after some failures
-FAULTS = [
-    ("--lose CHIP_ERASE", "CHIP_ERASE 12 09 00 ac 80 00 00: lost", (1, "old", "old"), (1, "mixed", "old")),
-    ("--lose-reply CHIP_ERASE", ": reply lost", (1, "erased", "erased"), (0, "new", "erased")),
-    ("--corrupt CHIP_ERASE", ": corrupted, refused (b0 c1)", (1, "old", "old"), (1, "mixed", "old")),
-    ("--corrupt-reply CHIP_ERASE", ": reply corrupted", (1, "erased", "erased"), (0, "new", "erased")),
-    ("--lose PROGRAM_FLASH", ": lost", (1, "erased", "erased"), (1, "erased", "erased")),
-    ("--lose 2 --corrupt 6 --corrupt-reply 9", ": lost", (0, "new", "erased"), None),
-    ("--late 6:0.5", ": reply late", (0, "new", "erased"), (0, "new", "erased")),
-    ("--drop 2% --seed 7", " lost", (0, "new", "erased"), None),
-    ("--bootloader", ": refused (12 c0)", (1, "old", "old"), (255, "old", "old")),
-    ("--bootloader -D", "PROGRAM_FLASH", (0, "new", "erased"), (0, "new", "erased")),
-    ("--no-chip", ": refused (10 c0)", (1, "old", "old"), (1, "old", "old")),
-    ("--locked", "CHIP_ERASE", (0, "new", "erased"), (0, "new", "erased")),
-    ("--locked -D", "PROGRAM_FLASH", (1, "old", "old"), (1, "old", "old")),
-]
-
-
 def state_of(memory, old):
     """Returns what a memory holds: the old bytes, none, the new image, or a mixture."""
-    image = bytes.fromhex("".join(row[9:-2] for row in room.read("blink.hex").decode().split()))
+    image = bytes(image_of(room.read("blink.hex")).values())
     kinds = {old: "old", b"\xff" * len(old): "erased", image + memory[len(image) :]: "new"}
     return kinds.get(memory, "mixed")
 
@@ -592,7 +554,7 @@ def faults():
     emulated = ["-p", "m328p", "-P", "emu:chip.bin", "-qq", "-U", "flash:w:whole.bin:r", "-U", "eeprom:w:whole.bin:r"]
     clients = [[str(PROGRAM)], ["avrdude", "-c", "stk500v2"] if has_avrdude() else None]
     old = room.read("whole.bin")
-    for options, mark, *ends in FAULTS:
+    for options, mark, *ends in table("faults"):
         own = [it for it in options.split() if it != "-D"]
         for client, wanted in zip(clients, ends):
             if not client or not wanted:
@@ -602,7 +564,7 @@ def faults():
             words = [*client, "-p", "m328p", "-P", "net:{}", "-qq", *(["-D"] if "-D" in options else []), "-U", "flash:w:blink.hex:i"]
             status, told, _ = ran(["0", *M328P, "--log", "log", *own, "--", *words])
             chip = room.read("chip.bin")
-            found = status, state_of(chip[:1024], old), state_of(chip[32_768:LFUSE], old)
+            found = f"{status}, {state_of(chip[:1024], old)}, {state_of(chip[32_768:LFUSE], old)}"
             same(f"{options}: {client[0]}: status, flash, EEPROM", found, wanted)
             see(f"{options}: {client[0]}: the log", any(mark in row for row in marks()), marks())
             see(f"{options}: the seed is printed", ("--seed 7 makes the same faults again" in told) == ("%" in options), told)

@@ -9,6 +9,7 @@ Not proved: Scripts of the shell.
     tests/vendor.py [CASE ..]
 """
 
+import os
 import re
 import shutil
 import subprocess
@@ -17,7 +18,6 @@ import tempfile
 from contextlib import contextmanager
 from pathlib import Path
 
-import proved
 from cases import named, run_cases, same, see
 
 TOP = Path(__file__).resolve().parent.parent
@@ -40,6 +40,36 @@ mod tests {
     }
 }
 """
+
+
+# Writes rt's stamps into the copy below this folder: rt takes a library for built if its stamp is the sum of its sources. No
+# command of rt writes one for what rt ci built, so this is the one place that knows the kit's own files.
+STAMPS = """
+import importlib.machinery, importlib.util, os, sys
+kit, names = sys.argv[1], sys.argv[2:]
+sys.path.insert(0, f"{kit}/bin")
+loader = importlib.machinery.SourceFileLoader("rt", f"{kit}/bin/rt")
+rt = importlib.util.module_from_spec(importlib.util.spec_from_loader("rt", loader))
+loader.exec_module(rt)
+for crate in rt.rtlib.crates_below(os.getcwd()):
+    if crate.name in names:
+        with open(f"{crate.folder}/out/rlib/stamp", "w") as file:
+            file.write(crate.stamp())
+"""
+
+
+def lend(copy):
+    """Lends to the crates of `copy` what the rt ci at work in this checkout has proved (tests/all.py names it in
+    PROVED_BY_CI). Without it, or if the kit has changed, rt proves the copy's crates itself, which takes minutes."""
+    names = [it for it in os.environ.get("PROVED_BY_CI", "").split() if (TOP / f"crates/{it}/out/rlib").is_dir()]
+    names = [it for it in names if (Path(copy) / "crates" / it).is_dir()]
+    for name in names:
+        shutil.copytree(TOP / f"crates/{name}/out/rlib", Path(copy) / f"crates/{name}/out/rlib")
+    if not names:
+        return
+    kit = Path(subprocess.run(["rt", "doc"], capture_output=True, check=True, text=True).stdout.strip()).parent
+    if subprocess.run([sys.executable, "-c", STAMPS, kit, *names], cwd=copy).returncode:
+        print("note: rt's stamps could not be written, so the libraries are proved again")
 
 
 def line_of(name, top=TOP):
@@ -175,7 +205,7 @@ def build():
 
 def proof():
     with foreign(FOREIGN, EXAMPLE) as top:
-        proved.lend(top)
+        lend(top)
         for name in (FOREIGN, EXAMPLE):
             status, text = rt(["check"], top / "crates" / name)
             see(f"{name} is proved", status == 0 and "logic=proved" in text.splitlines()[-1], text[-600:])

@@ -1,6 +1,6 @@
 #!/usr/bin/env python3
-"""Runs examples/lossy/compare.py and compares the tables of docs/WHY and README with its output. Then compares the frames
-that docs/WHY shows with those of two such runs.
+"""Compares what README and docs/WHY say beside AVRDUDE with runs of both programs: the tables of examples/lossy/compare.py,
+the frames, files that are no firmware, and a programmer that never replies.
 
 Not proved: AVRDUDE is a program of others; time.
 
@@ -9,17 +9,21 @@ Not proved: AVRDUDE is a program of others; time.
 
 import os
 import re
+import socket
 import subprocess
 import sys
 import time
 
 from cases import PATIENCE, leave_out, named, run_cases, same, see
-from line import BadLine
-from program import CHIP_FILE, PROGRAM, TOP, Room, has_avrdude
+from line import BadLine, frames_in
+from program import CHIP_FILE, PROGRAM, TOP, Room, Server, has_avrdude, lines
 
 COMMANDS = {"SIGN_ON": 0x01, "CHIP_ERASE": 0x12, "PROGRAM_FLASH": 0x13, "READ_FLASH": 0x14}
 # the other commands, which set an address or a mode: SET_PARAMETER, LOAD_ADDRESS, ENTER and LEAVE
 MODES = {0x02, 0x06, 0x10, 0x11}
+# a chip whose flash has only zeros
+FULL = bytes(32_768) + b"\xff" * (CHIP_FILE - 32_768)
+room = Room()
 
 
 def rows(text):
@@ -59,7 +63,7 @@ def frames_are_sent():
             leave_out("docs/WHY: the frames of AVRDUDE", "AVRDUDE 7.1 is not installed")
             continue
         shown = [(int(number), COMMANDS[it]) for number, it in re.findall(r"(\d+) (\w+) ─", "\n".join(column))]
-        room = Room()
+        room.clear()
         old = bytearray(b"\xff" * CHIP_FILE)
         old[8192:8448] = bytes(256)
         room.put("served.bin", old)
@@ -79,9 +83,65 @@ def frames_are_sent():
         see(f"{name}: the old firmware", is_old == (not is_right) == ("old firmware" in "\n".join(column)), is_old)
 
 
-def main():
-    return run_cases(named(table_is_printed, frames_are_sent), __doc__, timed=["frames_are_sent"])
+def bad_files():
+    """How AVRDUDE 7.1 handles files, over the served programmer."""
+    if not has_avrdude():
+        return leave_out("AVRDUDE's part", "AVRDUDE 7.1 is not installed")
+    hexes, source = ((TOP / f"examples/blink.{it}").read_text() for it in ("hex", "c"))
+    with_bad_sum = re.sub(r"(?m)^(:.*)(..)$", r"\g<1>00", hexes, count=1)
+    for name, content, update, status, is_kept in [
+        ("a bad checksum: it has erased the chip", with_bad_sum, "image.hex:i", 1, False),
+        ("no such file: it refuses before", None, "nofile.hex:i", 1, True),
+        ("a comment above Intel HEX: it reads the records", f"# a note\n{hexes}", "image.hex", 0, False),
+        ("an empty file: it refuses", "", "image.hex", 1, True),
+        ("C source: it refuses", source, "image.hex", 1, True),
+    ]:
+        room.clear()
+        room.put("chip.bin", FULL)
+        if content is not None:
+            room.put("image.hex", content.encode())
+        with Server(room, "chip.bin") as server:
+            words = ["avrdude", "-qq", "-c", "stk500v2", "-p", "m328p", "-P", f"net:127.0.0.1:{server.port}"]
+            words += ["-U", f"flash:w:{update}"]
+            ran = subprocess.run(words, cwd=room.folder, capture_output=True, text=True, timeout=PATIENCE)
+            server.end()
+        chip = room.read("chip.bin")
+        found = ran.returncode, chip == FULL
+        see(f"AVRDUDE, {name}", found == (status, is_kept), (found, ran.stderr[-300:]))
+        if status == 0:
+            see("and the chip has them", chip[:2] == b"\x0c\x94", chip[:2])
 
+
+def no_answer():
+    """README: how long avrstk and AVRDUDE try to reach a programmer that never replies."""
+    row = re.search(r"^\| a programmer that never replies \|.*", (TOP / "README.md").read_text(), re.M)[0]
+    patient, first, last = map(int, re.findall(r"(\d+) s", row))
+    room.clear()
+    with socket.create_server(("127.0.0.1", 0)) as silent:
+        port = ["-p", "m328p", "-P", f"net:127.0.0.1:{silent.getsockname()[1]}"]
+        begun = time.monotonic()
+        quiet = {"stdin": subprocess.DEVNULL, "stdout": subprocess.DEVNULL, "stderr": subprocess.DEVNULL}
+        other = subprocess.Popen(["avrdude", "-c", "stk500v2", *port], **quiet) if has_avrdude() else None
+        started = room.start(port)
+        line, taken = started.stderr.readline(), time.monotonic() - begun
+        see("`no answer`", line == lines("error: no answer") and first <= taken < first + 2, (line, taken))
+        started.communicate(timeout=PATIENCE)
+        taken = time.monotonic() - begun
+        see("the end", started.returncode == 1 and last <= taken < last + 2, taken)
+        if other:
+            time.sleep(patient - taken)
+            see(f"AVRDUDE still waits after {patient} s", other.poll() is None, other.poll())
+            other.kill()
+            other.wait()
+        else:
+            leave_out("AVRDUDE's patience", "AVRDUDE 7.1 is not installed")
+        # (one of the two that called)
+        heard = [silent.accept()[0].recv(4096) for _ in range(1 + bool(other))]
+        see("four attempts to sign on, four to leave", any(frames_in(it) == 8 for it in heard), heard)
+
+
+
+CASES = named(table_is_printed, frames_are_sent, bad_files, no_answer)
 
 if __name__ == "__main__":
-    sys.exit(main())
+    sys.exit(run_cases(CASES, __doc__, timed=["frames_are_sent", "no_answer"]))

@@ -2,16 +2,15 @@
 """Counts how large the sources are and how they read.
 
     tools/measure.py            prints the table that docs/ARCHITECTURE has
-    tools/measure.py -v         also lists lines over 120 columns, the widest definitions, and names with several meanings
+    tools/measure.py -v         also lists lines over 120 columns, and names with several meanings
     tools/measure.py --write    writes the table into docs/ARCHITECTURE, and the rounded sums into README
     tools/measure.py --check    fails if one of them is out of date, or if a document has a sentence over 30 words
-    tools/measure.py --words    counts words that the style rules of CONTRIBUTING avoid, and long sentences of documents
 
 Only files known to git are read. Code is counted in src/, without tests and contracts. Contracts are the clauses of
 functions, definitions are in specs/, and proofs in proofs/. Blank lines, comments and `use` lines are never counted. Wide
 lines have more than 120 columns, except imports. A clause is one `requires` or `ensures`; the mean is over public
-functions. The width of a definition is the number of its explicit arguments. The program's row is the sum of the crates of
-the programs (`avrstk` ..) and of all below them; the row after it has the others, such as the laws above it.
+functions. The program's row is the sum of the crates of the programs (`avrstk` ..) and of all below them; the row after it
+has the others, such as the laws above it.
 """
 
 import re
@@ -19,6 +18,8 @@ import subprocess
 import sys
 from collections import defaultdict
 from pathlib import Path
+
+from reach import FILES
 
 TOP = Path(__file__).resolve().parent.parent
 PAGE, README = TOP / "docs/ARCHITECTURE.md", TOP / "README.md"
@@ -28,14 +29,11 @@ SEVERAL = "Names that are defined in more than one file of specs/ with another m
 
 CLAUSE = re.compile(r"^\s*(?:requires|ensures)\b")
 FUNCTION = re.compile(r"^\s*(pub |pub\(crate\) )?(?:const |unsafe )?fn (\w+)")
-HEADER = re.compile(r"^\s*(?:(?:abbrev|unfoldable) pub|pub (record|data)) (\S+)(.*)")
 TYPE = re.compile(r"(?:pub(?:\(crate\))? )?(?:struct|enum|trait|type) (\w+)")
 DATA = re.compile(r"(?:pub (?:record|data)|abbrev pub(?= [A-Z]\w* : Type 0$)) ([A-Z]\w*)")
 TEST = re.compile(r"/src/(?:.*/)?(?:\w*tests?|examples)(?:/|\.rt)")
 
-AVOIDED = ["answers", "where", "stands", "so many", "told", "tell", "tells", "says", "is none"]
 LONG = 30
-COMMENT = {".rt": re.compile(r"^\s*//[/!]?(.*)"), ".antt": re.compile(r"^\s*--(.*)")}
 # code blocks, tables and titles, which aren't prose; the cells of tables are read one by one
 NO_PROSE = re.compile(r"^```.*?^```|^(?:\||#|    ).*?$", re.MULTILINE | re.DOTALL)
 PARAGRAPH = re.compile(r"\n\s*\n|\n(?=\s*(?:[-*]|\d+\.) )")
@@ -84,63 +82,10 @@ def clauses_in(name):
     return contract, functions
 
 
-def definitions_in(name):
-    """Returns the definitions of a file of specs/: the name, kind and text of each."""
-    found, block = [], None
-    for line in lines_of(name):
-        header = HEADER.match(line)
-        if header:
-            block = [header.group(2), header.group(1), line]
-            found.append(block)
-        elif block and line.strip() and not line.startswith(("use ", "--")):
-            block[2] += "\n" + line
-        elif not line.strip():
-            block = None
-    return found
-
-
-def without_nested(text):
-    """Returns a type without the text in parentheses and braces, with a mark for each explicit binder."""
-    kept, level, group = "", 0, ""
-    for character in text:
-        if character in "({":
-            level += 1
-            group = group + character if level > 1 else character
-        elif character in ")}":
-            level -= 1
-            group += character
-            if level == 0:
-                binder = re.match(r"\(([\w' ]+) :", group)
-                kept += " ".join(["#"] * len(binder.group(1).split())) + " " if binder else ("_" if group[0] == "(" else "")
-        elif level:
-            group += character
-        else:
-            kept += character
-    return kept
-
-
-def arguments_of(name, kind, text):
-    """Returns the number of explicit arguments of a definition."""
-    if kind:
-        head = text.split(" where", 1)[0].split(name, 1)[1]
-        return without_nested(head.rsplit(" : ", 1)[0]).count("#")
-    head = text.split(f"{name} : ", 1)
-    if len(head) < 2:
-        return 0
-    lines = head[1].split("\n")
-    kept = [lines[0]]
-    for line in lines[1:]:
-        if not line.startswith("    "):
-            break
-        kept.append(line)
-    plain = without_nested(" ".join(kept))
-    return plain.count("#") + sum(1 for part in plain.split("→")[:-1] if part.replace("#", "").strip())
-
-
 def measured(name):
     """Returns the figures of a crate."""
     code = contracts = definitions = proofs = over_in_proofs = 0
-    over, widest, longest, clauses = [], 0, 0, []
+    over, longest, clauses = [], 0, []
     for file in CRATES[name]:
         lines = lines_of(file)
         long = [f"{file}:{i}" for i, line in enumerate(lines, 1) if len(line) > WIDEST and "use Rattle." not in line]
@@ -151,10 +96,6 @@ def measured(name):
         count = sum(1 for line in lines if is_text(line, file))
         if "/specs/" in file:
             definitions += count
-            for definition in definitions_in(file):
-                size = arguments_of(*definition)
-                widest = max(widest, size)
-                ARGUMENTS.append((size, f"{name}.{Path(file).stem}.{definition[0]}"))
         elif "/proofs/" in file:
             proofs += count
         elif not TEST.search(file):
@@ -166,7 +107,7 @@ def measured(name):
     OVER.extend(over)
     mean = sum(clauses) / len(clauses) if clauses else 0
     most = max(clauses, default=0)
-    return code, contracts, definitions, proofs, len(over), over_in_proofs, longest, mean, most, widest
+    return code, contracts, definitions, proofs, len(over), over_in_proofs, longest, mean, most
 
 
 def meanings():
@@ -175,8 +116,8 @@ def meanings():
     for name, files in CRATES.items():
         for file in files:
             if "/specs/" in file:
-                for defined, _, text in definitions_in(file):
-                    texts[defined].setdefault(" ".join(text.split()), f"{name}.{Path(file).stem}")
+                for defined, rows in FILES[name, Path(file).stem].definitions.items():
+                    texts[defined].setdefault(" ".join(" ".join(rows).split()), f"{name}.{Path(file).stem}")
     return {defined: sorted(where.values()) for defined, where in texts.items() if len(where) > 1}
 
 
@@ -208,7 +149,7 @@ def below_programs():
 def figures():
     """Returns the table, with a row for each crate, and the two counts of names."""
     titles = ["Crate", "Code", "Contracts", "Definitions", "Proofs", "Wide lines", "in proofs", "Longest clause line",
-              "Clauses, mean", "Clauses, most", "Widest definition"]
+              "Clauses, mean", "Clauses, most"]
     rows = {name: measured(name) for name in CRATES}
     table = ["| " + " | ".join(titles) + " |", "| --- |" + " ---: |" * (len(titles) - 1)]
     for name, row in rows.items():
@@ -217,8 +158,8 @@ def figures():
     parts = {"the program": [name for name in rows if name in program], "beside and above it": [name for name in rows if name not in program]}
     for title, names in (parts | {"in all": list(rows)}).items():
         sums = [str(sum(rows[name][i] for name in names)) for i in range(6)]
-        most = [max(rows[name][i] for name in names) for i in (6, 8, 9)]
-        table.append(f"| {title} | " + " | ".join(sums) + f" | {most[0]} | | {most[1]} | {most[2]} |")
+        longest, most = (max(rows[name][i] for name in names) for i in (6, 8))
+        table.append(f"| {title} | " + " | ".join(sums) + f" | {longest} | | {most} |")
     return "\n".join(table), f"{SEVERAL}{len(meanings())}", f"{SHARED}{len(types())}"
 
 
@@ -244,12 +185,6 @@ def documents():
     return [name for name in listed.stdout.splitlines() if (TOP / name).exists()]
 
 
-def comments_in(name):
-    """Returns the comments of a source as one text."""
-    found = map(COMMENT[Path(name).suffix].match, lines_of(name))
-    return " ".join(it.group(1) for it in found if it)
-
-
 def long_sentences(name):
     """Returns the sentences of a document with more than 30 words, in paragraphs and in the cells of tables."""
     text = (TOP / name).read_text()
@@ -259,29 +194,8 @@ def long_sentences(name):
     return [it for it in sentences if len(it.split()) > LONG]
 
 
-def words():
-    """Prints how often documents and comments have each avoided word, and counts the long sentences of each document."""
-    texts = {
-        "documents": " ".join((TOP / name).read_text() for name in documents()),
-        "comments": " ".join(comments_in(name) for files in CRATES.values() for name in files),
-    }
-    print("| Word | In documents | In comments |\n| --- | ---: | ---: |")
-    for word in AVOIDED:
-        counts = [len(re.findall(rf"\b{word}\b", text)) for text in texts.values()]
-        print(f"| {word} | {counts[0]} | {counts[1]} |")
-    size = sum((TOP / name).stat().st_size for name in documents())
-    long = {name: found for name in documents() if (found := long_sentences(name))}
-    print(f"\nDocuments: {size:,} bytes; sentences over {LONG} words: {sum(map(len, long.values()))}")
-    for name, found in long.items():
-        print(f"  {name}: {len(found)}")
-        print("".join(f"    {it}\n" for it in found) if "-v" in sys.argv else "", end="")
-
-
 def main():
     page = PAGE.read_text()
-    if "--words" in sys.argv:
-        words()
-        return
     if "--check" in sys.argv:
         readme = README.read_text()
         made = {PAGE.name: with_figures(page) == page, README.name: with_sums(readme, page) == readme}
@@ -297,12 +211,10 @@ def main():
     if "-v" in sys.argv:
         print("\n".join(f"  {name}: {', '.join(where)}" for name, where in sorted(meanings().items())))
         print("\n".join(f"  {name}: {', '.join(where)}" for name, where in sorted(types().items())))
-        print("\nThe widest definitions:")
-        print("\n".join(f"  {size} {where}" for size, where in sorted(ARGUMENTS, reverse=True)[:20]))
         print("\nLines over 120 columns, imports and proofs aside:")
         print("\n".join("  " + place for place in OVER))
 
 
 CRATES = known_files()
-OVER, ARGUMENTS = [], []
+OVER = []
 main()

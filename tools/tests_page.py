@@ -16,7 +16,7 @@ from pathlib import Path
 TOP = Path(__file__).resolve().parent.parent
 PAGE = TOP / "tests/README.md"
 # the modules that the scripts share, and the runner
-SHARED = ("all", "cases", "checks", "disk", "line", "program", "proved")
+SHARED = ("all", "cases", "disk", "line", "program", "records")
 
 HEAD = """# What is tried where
 
