@@ -131,7 +131,7 @@ def each_power_cut():
             if error[:2] in ["EI", "EN"] or error == "EMFILE" or call.name == "link":
                 status, _, failed = traced(prepare, writes_fuse(0x62), f"{call.name}:error={error}:when={call.number}")
                 is_safe(f"{what}: {error} at {call.name} {call.words[:80]}", old, status, failed)
-                stays = call.name in ["link", "rename"] and status == 1
+                stays = status == 1 and call.name in ["link", "rename"] and call.words.endswith('"chip.bin"')
                 see(f"{error} at {call.name}: the new file stays", room.read(NEW_FILE.name) == new) if stays else None
                 same(f"{error} at link: the run", status, 0) if error in ["EPERM", "EOPNOTSUPP", "EMLINK"] else None
 
@@ -154,6 +154,7 @@ def others_meanwhile():
         ("no chip", fresh_room, "fsync", lambda it: CHIP.unlink(), None, []),
         ("another new file", fresh_room, "fsync", lambda it: put(NEW_FILE), OLD, []),
         ("no new file", fresh_room, "fsync", lambda it: NEW_FILE.unlink(), OLD, []),
+        ("another chip, before the last look", fresh_room, "rename", lambda it: put(CHIP), b"mine", []),
         ("a chip where none was", room.clear, "link", lambda it: put(CHIP), b"mine", [NEW_FILE.name]),
     ]:
         status = traced(prepare, writes_fuse(0x11), call, act)[0]

@@ -35,10 +35,11 @@ class File:
         return {now} if now == old else {now, old, b"", now[:half], now[:half] + old[half:], now[:half] + bytes(len(now) - half)}
 
 
-def change(names, name, file):
-    names.pop(name, None)
-    if file:
-        names[name] = file
+def named(names, changes):
+    """Returns the names after these changes: each names a file anew, or removes a name."""
+    for name, file in changes:
+        names = {it: other for it, other in names.items() if it != name} | ({name: file} if file else {})
+    return names
 
 
 class Disk:
@@ -46,14 +47,13 @@ class Disk:
     the path `unsynced` are passed over."""
 
     def __init__(self, chip, unsynced):
-        self.names = {} if chip is None else {"chip.bin": File(chip)}
-        self.synced, self.changes, self.unsynced = dict(self.names), [], unsynced
+        self.names = self.synced = {} if chip is None else {"chip.bin": File(chip)}
+        self.changes, self.unsynced = [], unsynced
 
     def name(self, *changes):
         """Names files, or removes names, in one step."""
         self.changes.append(changes)
-        for it in changes:
-            change(self.names, *it)
+        self.names = named(self.names, changes)
 
     def replay(self, call):
         """Does what a call did."""
@@ -75,24 +75,17 @@ class Disk:
         elif call.name == "fsync" and file:
             file.synced = file.content
         elif call.name == "fsync":
-            self.synced, self.changes = dict(self.names), []
-        elif call.name == "link":
-            self.name((names[1], file))
-        elif call.name == "rename":
-            self.name((names[0], None), (names[1], file))
-        elif call.name == "unlink":
-            self.name((names[0], None))
+            self.synced, self.changes = self.names, []
+        elif call.name in ["link", "rename", "unlink"]:
+            self.name(*[(names[0], None)] * (call.name != "link"), *((it, file) for it in names[1:]))
         else:
             raise AssertionError(f"a call that isn't known: {call}")
 
     def chips(self):
         """Returns each chip that a power cut may leave; None for no file."""
-        files = set()
-        for kept in itertools.product([False, True], repeat=len(self.changes)):
-            names = dict(self.synced)
-            for it in itertools.chain(*itertools.compress(self.changes, kept)):
-                change(names, *it)
-            files.add(names.get("chip.bin"))
+        all_kept = itertools.product([False, True], repeat=len(self.changes))
+        changes = [itertools.chain(*itertools.compress(self.changes, kept)) for kept in all_kept]
+        files = {named(self.synced, it).get("chip.bin") for it in changes}
         return {chip for file in files for chip in (file.left() if file else [None])}
 
 

@@ -22,36 +22,25 @@ pub struct Replacement<F: Folder> {
     parent: F::Parent,
 }
 
-impl<F: Folder> Replacement<F> {
-    /// Holds the file of this name. Returns `None` if another process does. Fails if the file may not be written.
-    fn begin(folder: &mut F, name: &str) -> io::Result<Option<Replacement<F>>>
-        ensures held { IfOk result (λ answer. MatchOption answer (F.denies name.now)
-            (λ hold. F.held_name hold.held ≡ name.now)) }
-        ensures locks { IfOk result (λ answer. MatchOption answer (Stays F.did folder.old folder.new)
-            (λ hold. Does F.did holding folder.old folder.new)) }
-        ensures fails { OnErr result (Stays F.did folder.old folder.new) }
-        ensures leaves { LeavesAlso F.left name.now (F.began name.now) folder.old folder.new }
-    {
-        let place = folder.find(name)?;
-        let parent = folder.open_parent(&place)?;
-        let Some(file) = folder.open_lock(&place)? else {
-            return Ok(None);
-        };
-        let Some(lock) = folder.lock(&place, file)? else {
-            return Ok(None);
-        };
-        let Some(held) = folder.confirm(place, lock)? else {
-            return Ok(None);
-        };
-        match folder.see(&held) {
-            Ok(seen) => Ok(Some(Replacement { held, seen, parent })),
-            Err(error) => {
-                folder.unlock(held);
-                Err(error)
-            }
-        }
-    }
+/// Locks the lock file of a place, and holds the place. Returns `None` if another process does.
+fn hold_place<F: Folder>(folder: &mut F, place: F::Place) -> io::Result<Option<F::Held>>
+    ensures named { IfOk result (λ held. MatchOption held (F.denies (F.name_of place))
+        (λ held. F.held_name held ≡ F.name_of place)) }
+    ensures holds { IfOk result (λ held. MatchOption held (Stays F.did folder.old folder.new)
+        (λ held. Does F.did holding folder.old folder.new)) }
+    ensures fails { OnErr result (Stays F.did folder.old folder.new) }
+    ensures leaves { LeavesAlso F.left (F.name_of place) (F.began (F.name_of place)) folder.old folder.new }
+{
+    let Some(file) = folder.open_lock(&place)? else {
+        return Ok(None);
+    };
+    let Some(lock) = folder.lock(&place, file)? else {
+        return Ok(None);
+    };
+    folder.confirm(place, lock)
+}
 
+impl<F: Folder> Replacement<F> {
     /// Makes a new file of these bytes, which is on the disk. Fails if what was seen at the place isn't there any more.
     fn make_ready(&self, folder: &mut F, bytes: &[u8]) -> io::Result<F::New>
         ensures keeps { IfOk result (λ file. F.keeps file bytes.now) }
@@ -119,7 +108,18 @@ impl<F: Folder> FileSystem for F {
     }
 
     fn hold_named(&mut self, name: &str) -> io::Result<Option<Replacement<F>>> {
-        Replacement::begin(self, name)
+        let place = self.find(name)?;
+        let parent = self.open_parent(&place)?;
+        let Some(held) = hold_place(self, place)? else {
+            return Ok(None);
+        };
+        match self.see(&held) {
+            Ok(seen) => Ok(Some(Replacement { held, seen, parent })),
+            Err(error) => {
+                self.unlock(held);
+                Err(error)
+            }
+        }
     }
 
     fn is_held(&self, hold: &Replacement<F>, name: &str) -> bool {

@@ -38,6 +38,10 @@ fn identity(file: &Metadata) -> Identity {
     }
 }
 
+fn own_identity(file: &File) -> io::Result<Identity> {
+    Ok(identity(&file.metadata()?))
+}
+
 fn identity_of(found: &Option<Metadata>) -> Option<Identity> {
     found.as_ref().map(identity)
 }
@@ -53,6 +57,15 @@ fn with_ending(alloc: Global, path: &str, ending: &str) -> io::Result<String> {
     let mut text = String::from_str(alloc, path)?;
     text.push_str(ending)?;
     Ok(text)
+}
+
+/// Returns the path that a name leads to. A link stays; one that leads nowhere has none.
+fn target<R: Files<File = File> + Alloc<A = Global>>(rt: &R, name: &str) -> io::Result<String> {
+    if is_link(rt, name)? {
+        Ok(fs::canonicalize(rt, name)?.into_string())
+    } else {
+        Ok(String::from_str(rt.alloc(), name)?)
+    }
 }
 
 /// Returns the folder of a path.
@@ -73,6 +86,23 @@ fn is_one_place<R: Files<File = File>>(rt: &R, one: &str, other: &str) -> io::Re
     Ok(is_same(Some(identity(&folder)), Some(identity(&other))))
 }
 
+/// Returns what a look found, if anything. Fails if that is no regular file.
+fn regular(found: io::Result<Metadata>) -> io::Result<Option<Metadata>> {
+    match unless(ErrorKind::NotFound, found) {
+        Ok(Some(there)) if !there.is_file() => Err(io::Error::from(ErrorKind::InvalidInput)),
+        found => found,
+    }
+}
+
+/// Opens the file at this path, if there is one. A link is not followed, and no pipe is opened, which could wait for
+/// ever.
+fn open_regular<R: Files<File = File>>(rt: &R, path: &str) -> io::Result<Option<File>> {
+    match regular(fs::symlink_metadata(rt, path))? {
+        Some(_) => unless(ErrorKind::NotFound, fs::open(rt, path)),
+        None => Ok(None),
+    }
+}
+
 fn is_link<R: Files<File = File>>(rt: &R, path: &str) -> io::Result<bool> {
     let found = unless(ErrorKind::NotFound, fs::symlink_metadata(rt, path))?;
     Ok(matches!(found, Some(there) if there.is_symlink()))
@@ -80,7 +110,7 @@ fn is_link<R: Files<File = File>>(rt: &R, path: &str) -> io::Result<bool> {
 
 /// Returns whether this open file has the path.
 fn is_at<R: Files<File = File>>(rt: &R, file: &File, path: &str) -> io::Result<bool> {
-    let own = identity(&file.metadata()?);
+    let own = own_identity(file)?;
     Ok(is_same(Some(own), look(rt, path)?))
 }
 
@@ -168,13 +198,8 @@ impl<'a, R: Files<File = File> + Input + Alloc<A = Global>> Folder for &'a R {
         drop(file);
     }
 
-    // A link stays, and leads to the place. One that leads nowhere has none.
     fn find(&mut self, name: &str) -> io::Result<Place> {
-        let path = if is_link(*self, name)? {
-            fs::canonicalize(*self, name)?.into_string()
-        } else {
-            String::from_str(self.alloc(), name)?
-        };
+        let path = target(*self, name)?;
         Ok(Place {
             name: String::from_str(self.alloc(), name)?,
             lock: with_ending(self.alloc(), path.as_str(), ".avrstk-lock")?,
@@ -190,20 +215,11 @@ impl<'a, R: Files<File = File> + Input + Alloc<A = Global>> Folder for &'a R {
         )
     }
 
-    // A link is not followed, and no pipe is opened, which could wait for ever.
     fn open_lock(&mut self, place: &Place) -> io::Result<Option<File>> {
         let path = place.lock.as_str();
-        match File::create_new(*self, path) {
-            Err(error) if error.kind() == ErrorKind::AlreadyExists => {
-                match unless(ErrorKind::NotFound, fs::symlink_metadata(*self, path))? {
-                    Some(there) if there.is_file() => {
-                        unless(ErrorKind::NotFound, fs::open(*self, path))
-                    }
-                    Some(_) => Err(io::Error::from(ErrorKind::InvalidInput)),
-                    None => Ok(None),
-                }
-            }
-            made => Ok(Some(made?)),
+        match unless(ErrorKind::AlreadyExists, File::create_new(*self, path)) {
+            Ok(None) => open_regular(*self, path),
+            made => made,
         }
     }
 
@@ -226,25 +242,19 @@ impl<'a, R: Files<File = File> + Input + Alloc<A = Global>> Folder for &'a R {
 
     fn see(&mut self, held: &Held) -> io::Result<Option<Metadata>> {
         let path = held.place.path.as_str();
-        match unless(ErrorKind::NotFound, fs::metadata(*self, path))? {
-            Some(there) if there.is_file() => {
+        match regular(fs::metadata(*self, path)) {
+            Ok(Some(_)) => {
                 let old = OpenOptions::new().write(true).open(*self, path)?;
                 Ok(Some(old.metadata()?))
             }
-            Some(_) => Err(io::Error::from(ErrorKind::InvalidInput)),
-            None => Ok(None),
+            found => found,
         }
     }
 
     fn open_seen(&mut self, held: &Held, seen: &Option<Metadata>) -> io::Result<Synced> {
-        let file = unless(
-            ErrorKind::NotFound,
-            fs::open(*self, held.place.path.as_str()),
-        )?;
-        let there = match &file {
-            Some(file) => Some(file.metadata().map(|it| identity(&it))),
-            None => None,
-        };
+        let path = held.place.path.as_str();
+        let file = unless(ErrorKind::NotFound, fs::open(*self, path))?;
+        let there = file.as_ref().map(own_identity);
         Ok(Synced::new(opened(identity_of(seen), file, there)?))
     }
 
@@ -278,11 +288,13 @@ impl<'a, R: Files<File = File> + Input + Alloc<A = Global>> Folder for &'a R {
         file.sync_all()
     }
 
-    // The old file is looked at last, right before the new one gets its name.
+    // The old file is looked at last, right before the new one gets its name. To rename a file to its own name changes
+    // nothing, but waits for what others have begun in the folder. So the look after it sees what these did.
     fn look_again(&mut self, held: &Held, seen: &Option<Metadata>, file: &File) -> io::Result<()> {
-        if is_at(*self, file, held.place.new.as_str())?
-            && is_same(identity_of(seen), look(*self, held.place.path.as_str())?)
-        {
+        let (new, path) = (held.place.new.as_str(), held.place.path.as_str());
+        let is_own = is_at(*self, file, new)?;
+        fs::rename(*self, new, new)?;
+        if is_own && is_same(identity_of(seen), look(*self, path)?) {
             return Ok(());
         }
         Err(io::Error::from(ErrorKind::AlreadyExists))

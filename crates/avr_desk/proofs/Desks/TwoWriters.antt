@@ -1,7 +1,8 @@
 -- A desk over two writers and the files of a system, call after call: what it keeps of them stays true.
 use Rattle.std.proofs.Common.{◌≡◌, ◌⊎◌, ◌∙◌, inl, inr, sym, ap, subst, refl, arith, ℕ, ◌==◌, ◌&&◌, ◌||◌, not, true, false, List, [], ◌∷◌, ◌++◌, append_assoc, append-nil, length, take, Option, None, Some, rules}
+use Rattle.std.specs.Prelude.{IfErr, Result}
 use Rattle.std.proofs.KnownBytes.{Appends-nil, Consumes-nil}
-use Rattle.avr_desk.specs.Record.{Bytes, Record, all_files, all_uses, nothing_kept, read_on, use_of, with_absent, with_none_held, with_open, with_replaced, with_tried, after_write}
+use Rattle.avr_desk.specs.Record.{Bytes, DeskState, Record, all_files, all_uses, nothing_kept, read_on, use_of, with_absent, with_none_held, with_open, with_replaced, with_tried, after_write}
 use Rattle.avr_desk.specs.declared.record.Open.TheVariants.{ToRead, ToWrite}
 use Rattle.std.proofs.lemmas.Bool.{or_parts}
 use Rattle.std.proofs.lemmas.Bool.Decides.{nat_tests}
@@ -17,6 +18,9 @@ use Rattle.avr_desk.specs.Named.{is_dash}
 use Rattle.avr_desk.proofs.FileUses.Calls.{opened, calls_opened, calls_replaced, made_dash, opened_dash, opened_named, calls_append}
 use Rattle.avr_desk.proofs.FileUses.Uses.{files_absent, files_opened, files_replaced}
 use Rattle.avr_desk.specs.Journal.{Counts, Does, FileCall, Gives, Leaves, LeavesAlso, LeavesNoMore, Opens, calling, count_of, done_by, holding, made, none_done}
+use Rattle.avr_desk.specs.Fault.{IsCall}
+use Rattle.avr_desk.specs.declared.desk.DeskFault.{DeskFault}
+use Rattle.avr_desk.specs.declared.desk.DeskFault.TheVariants.{Failed}
 use Rattle.avr_desk.specs.Handles.{CrashLeaves, IsTrueRecord, HasGiven, IsHeldBy, IsTrueOpen, IsTrueUse}
 use Rattle.avr_desk.specs.Standing.{FileGives, GivesBytes, FileGivesNone, IsClosed, is_output}
 use Rattle.avr_desk.specs.Shown.{Shown, IsTrueSince, TellsAll, has_dash, to_output}
@@ -63,6 +67,14 @@ module _ {H : Type 0} (reads : Reads H) where
       → HasGiven reads first new
       (record x { bytes = x.bytes ++ take n buf; ended = x.ended || (n == 0 && not (length buf == 0)) })
   given_more first old new x buf n given gives = grind (arith, common_steps, nat_tests)
+
+-- ---- what a call says
+
+pub is_call : {D S T : Type 0} {view : D → DeskState} {comes_of : S → D → Type 0}
+    {Counted : DeskState → DeskState → Result T DeskFault → Type 0} {old new : D} {r : Result T DeskFault}
+    → Counted (view old) (view new) r → IfErr r (λ e. e ≡ Failed) → Stays comes_of old new
+    → IsCall view comes_of Counted old new r
+is_call counts fault stays = record { counts = counts; fault = fault; stays = stays }
 
 -- ---- one call
 
@@ -156,8 +168,7 @@ module _ {S F I H O E : Type 0} (system : Ghosts S F I H) (reads : Reads F) (wri
   -- bytes were to replace the file of this name
   crash_tried : {s t : S} (tried : List Writing) {name own bytes : Bytes} → own ≡ name
       → LeavesAlso system.left name (λ found. system.began name found ⊎ (found ≡ Some bytes)) s t
-      → CrashLeaves system s tried
-      → CrashLeaves system t (tried ++ record { name = own; bytes = bytes } ∷ [])
+      → CrashLeaves system s tried → CrashLeaves system t (tried ++ record { name = own; bytes = bytes } ∷ [])
   crash_tried tried {name = name} {own = own} {bytes = bytes} same also leaves = λ other found is.
       elim (also other found is) [
         | inl before ↦ elim (leaves other found before) [
@@ -191,17 +202,25 @@ module _ {S F I H O E : Type 0} (system : Ghosts S F I H) (reads : Reads F) (wri
       → k.output ≡ b.kept.output → k.messages ≡ b.kept.messages
       → (has_dash (all_files k) ≡ false → has_dash (all_files b.kept) ≡ false)
       → (has_dash (all_files k) ≡ false → to_output b ≡ false → is_output o ≡ false)
-      → (Files b.system b.opened b.hold b.kept → Files s o h k)
-      → Since b (Next b s f u e o h k)
+      → (Files b.system b.opened b.hold b.kept → Files s o h k) → Since b (Next b s f u e o h k)
   quiet {b = b} put said dashes elsewhere files = search (rules, append-nil b.kept.messages)
 
   pub true_now : (a : Desk) → Since a a
   true_now a = quiet refl refl (λ none. none) (λ none was. was) (λ are. are)
 
   -- a call failed, which did nothing
-  pub failed_true : {b : Desk} {s : S} {f u : ℕ} {e : Option ErrorKind} → Stays system.did b.system s
-      → NoMore b.system s → Since b (Next b s f u e b.opened b.hold b.kept)
-  failed_true {b = b} stays keeps = search (rules, quiet)
+  pub failed_true : {b : Desk} {s : S} {f u : ℕ} {e : Option ErrorKind} (held : Option H) → held ≡ b.hold
+      → Stays system.did b.system s → (Counts system.did (count_of held) b.system → NoMore b.system s)
+      → Since b (Next b s f u e b.opened b.hold b.kept)
+  failed_true {b = b} held is_hold stays keeps = quiet refl refl (λ none. none) (λ none was. was)
+      (λ are. record {
+        uses = are.uses;
+        current = are.current;
+        denied = are.denied;
+        held = are.held;
+        did = stays _ are.did;
+        crash = crash_kept _ (keeps (holds_as b is_hold (holds b are))) are.crash;
+      })
 
   -- only the uses and the open file change
   files_now : {s t : S} {o p : OpenFile F I} {h : Option H} {r : Record} {uses : List FileUse} {current : Open}
@@ -298,15 +317,13 @@ module _ {S F I H O E : Type 0} (system : Ghosts S F I H) (reads : Reads F) (wri
 
   -- a file was replaced, and the held file released
   pub replace_true : {b c : Desk} {s t u : S} {name own bytes : Bytes} (h : Option H) → own ≡ name
-      → c.output ≡ b.output
-      → c.messages ≡ b.messages → c.hold ≡ None → c.opened ≡ open_file.Nothing → c.kept ≡ with_replaced own bytes b.kept
-      → system.replaced name bytes
-      → ((name : Option Bytes) → IsHeldBy system b.hold name → IsHeldBy system h name)
-      → (o : OpenFile F I) → o ≡ b.opened → Closed o → Does system.did (calling (made name)) b.system s
-      → Leaves system.did h s t → u ≡ t
+      → c.output ≡ b.output → c.messages ≡ b.messages → c.hold ≡ None → c.opened ≡ open_file.Nothing
+      → c.kept ≡ with_replaced own bytes b.kept → system.replaced name bytes
+      → ((name : Option Bytes) → IsHeldBy system b.hold name → IsHeldBy system h name) → (o : OpenFile F I)
+      → o ≡ b.opened → Closed o → Does system.did (calling (made name)) b.system s → Leaves system.did h s t → u ≡ t
       → Stays system.did u c.system
-      → LeavesAlso system.left name (λ found. system.began name found ⊎ (found ≡ Some bytes)) b.system s
-      → NoMore s t → NoMore u c.system → Since b c
+      → LeavesAlso system.left name (λ found. system.began name found ⊎ (found ≡ Some bytes)) b.system s → NoMore s t
+      → NoMore u c.system → Since b c
   replace_true {b = b} {c = c} {u = u} {own = own} {bytes = bytes} h same output messages hold is_open kept replaced
       still o was closed does leaves last stays also keeps keeps_on =
       let x : Writing = record { name = own; bytes = bytes } in
@@ -360,17 +377,15 @@ module _ {S F I H O E : Type 0} (system : Ghosts S F I H) (reads : Reads F) (wri
         crash = rw last (crash_kept _ keeps (crash_held _ also are.crash));
       }))
 
-  pub denied_true : {b : Desk} {s : S} {f u : ℕ} {e : Option ErrorKind} {k : Record} {name own : Bytes}
-      → own ≡ name → system.denies name → k ≡ record b.kept { denied = b.kept.denied ++ own ∷ [] }
-      → Stays system.did b.system s → LeavesAlso system.left name (system.began name) b.system s
-      → Since b (Next b s f u e b.opened b.hold k)
+  pub denied_true : {b : Desk} {s : S} {f u : ℕ} {e : Option ErrorKind} {k : Record} {name own : Bytes} → own ≡ name
+      → system.denies name → k ≡ record b.kept { denied = b.kept.denied ++ own ∷ [] } → Stays system.did b.system s
+      → LeavesAlso system.left name (system.began name) b.system s → Since b (Next b s f u e b.opened b.hold k)
   denied_true {b = b} {own = own} same denies kept stays also =
       rw kept (quiet refl refl (λ none. none) (λ none was. was) (grind (arith, common_steps)))
 
   -- it was not held
   pub unheld_true : {b : Desk} {s : S} {f u : ℕ} {e : Option ErrorKind} {name : Bytes} → Stays system.did b.system s
-      → LeavesAlso system.left name (system.began name) b.system s
-      → Since b (Next b s f u e b.opened b.hold b.kept)
+      → LeavesAlso system.left name (system.began name) b.system s → Since b (Next b s f u e b.opened b.hold b.kept)
   unheld_true stays also = search (rules, quiet)
 
   pub released_true : {b c : Desk} {t : S} → c.output ≡ b.output → c.messages ≡ b.messages → c.opened ≡ b.opened

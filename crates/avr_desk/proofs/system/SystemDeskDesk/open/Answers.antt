@@ -1,5 +1,5 @@
 use Rattle.std.proofs.Common.{rules}
-use Rattle.avr_desk.proofs.Desks.TwoWriters.{absent_true, file_true, from_inside, input_true}
+use Rattle.avr_desk.proofs.Desks.TwoWriters.{absent_true, failed_true, file_true, from_inside, input_true}
 use Rattle.avr_desk.proofs.system.SystemDeskDesk.open.Goals as goal
 
 pub returns-then-eq-clause-stays : goal.returns-then-eq-clause-stays
@@ -19,3 +19,7 @@ returns-in-Err-clause-stays g c = from_inside _ _ _ _ _ _ c.self.view_is
     (absent_true _ _ _ _ _ _ _ c.as_ref.ensures.value c.open_next-in-Err.ensures.opened c.as_bytes-in-Err.ensures.value (λ only. c.in-Err.ensures.absent only (search rules))
     c.then-self-inside-in-Err.ensures c.open_next-in-Err.ensures.closed c.in-Err.ensures.fails
     c.open_next-in-Err.ensures.stays.done c.open_named.ensures.keeps c.open_next-in-Err.ensures.stays.kept)
+
+pub returns-in-Err-2-clause-stays : goal.returns-in-Err-2-clause-stays
+returns-in-Err-2-clause-stays g c = from_inside _ _ _ _ _ _ c.self.view_is
+    (failed_true _ _ _ _ _ _ _ c.as_ref.ensures.value c.in-Err-2.ensures.fails (λ only. c.open_named.ensures.keeps))
