@@ -3,20 +3,23 @@
 //! socket. Here they are bytes and a `Vec`, so the program can print the frames that it sent.
 //!
 //! The replies and the expected output were worked out by hand from AVR068 and the ATtiny85's data sheet (signature
-//! 1E 93 0B, pages of 64 bytes). Each line has a frame's number and the first bytes of its body.
+//! 1E 93 0B, pages of 64 bytes). The programmer refuses the first erase. Each line has a frame's number and the first
+//! bytes of its body.
 //= signature: 1E 93 0B
+//= CMD_CHIP_ERASE_ISP: STATUS_CMD_FAILED
 //= 1: 01
 //= 2: 10 C8 64 19 20 00 53 03 AC 53 00 00
 //= 3: 1B 04 30 00 00 00
 //= 4: 1B 04 30 00 01 00
 //= 5: 1B 04 30 00 02 00
 //= 6: 12 09 00 AC 80 00 00
-//= 7: 06 00 00 00 00
-//= 8: 13 00 40 C1 0A 40 4C 20 FF FF 0E C0 FF FF
-//= 9: 11 01 01
+//= 7: 12 09 00 AC 80 00 00
+//= 8: 06 00 00 00 00
+//= 9: 13 00 40 C1 0A 40 4C 20 FF FF 0E C0 FF FF
+//= 10: 11 01 01
 #![tactic(auto)]
 
-use anyhow::Result;
+use anyhow::{Result, bail};
 use avr_image::Image;
 use avr_part::{Mem, Parts};
 use std::io::{self, Write};
@@ -26,17 +29,18 @@ use stk_host::{Host, StreamLink};
 /// The most bytes of a body that are printed.
 const SHOWN: usize = 14;
 
-/// The replies of the programmer: its name, programming mode entered, three bytes of the signature, chip erased,
-/// address loaded, page written, programming mode left.
+/// The replies of the programmer: its name, programming mode entered, three bytes of the signature, erase refused, chip
+/// erased, address loaded, page written, programming mode left.
 const ANSWERS: &[u8] = b"\x1B\x01\x00\x0B\x0E\x01\x00\x08STK500_2\x02\
     \x1B\x02\x00\x02\x0E\x10\x00\x05\
     \x1B\x03\x00\x04\x0E\x1B\x00\x1E\x00\x17\
     \x1B\x04\x00\x04\x0E\x1B\x00\x93\x00\x9D\
     \x1B\x05\x00\x04\x0E\x1B\x00\x0B\x00\x04\
-    \x1B\x06\x00\x02\x0E\x12\x00\x03\
-    \x1B\x07\x00\x02\x0E\x06\x00\x16\
-    \x1B\x08\x00\x02\x0E\x13\x00\x0C\
-    \x1B\x09\x00\x02\x0E\x11\x00\x0F";
+    \x1B\x06\x00\x02\x0E\x12\xC0\xC3\
+    \x1B\x07\x00\x02\x0E\x12\x00\x02\
+    \x1B\x08\x00\x02\x0E\x06\x00\x19\
+    \x1B\x09\x00\x02\x0E\x13\x00\x0D\
+    \x1B\x0A\x00\x02\x0E\x11\x00\x0C";
 
 fn main(rt: HostRuntime) -> Result<()> {
     let alloc = rt.alloc();
@@ -47,6 +51,12 @@ fn main(rt: HostRuntime) -> Result<()> {
     let mut host = Host::new(part);
     let [first, second, third] = host.open(&mut link, false)?;
     println!(rt; "signature: {first:02X} {second:02X} {third:02X}")?;
+    if let Err(fault) = host.erase(&mut link) {
+        match (fault.command_name(), fault.status_name(), link.last_error()) {
+            (Some(command), Some(status), None) => println!(rt; "{command}: {status}")?,
+            (_, _, error) => bail!("{fault} ({error:?})"),
+        }
+    }
     host.erase(&mut link)?;
     host.write(&mut link, Mem::Flash, &image)?;
     host.close(&mut link)?;

@@ -2,7 +2,8 @@
 //! Sends serial programming instructions to an emulated ATmega328P, and prints the size of each of its memories.
 //!
 //! The expected output is from the data sheet: the third byte of the reply to Programming Enable is the second one
-//! sent, the signature is 1E 95 0F, a written page reads back, and the memories have these sizes.
+//! sent, the signature is 1E 95 0F, a written page reads back, and the memories have these sizes. Of the two
+//! part files one lacks a signature, and the other gives a key twice.
 //= enabled: 53
 //= signature: 1E 95 0F
 //= word 0: 940C
@@ -15,10 +16,12 @@
 //= signature: 3
 //= calibration: 1
 //= there is no m32
+//= part x1: signature is missing
+//= line 2: not TOML
 #![tactic(auto)]
 
 use anyhow::Result;
-use avr_part::{Chip, Mem, PartFault, Parts};
+use avr_part::{Chip, Mem, PartFault, Parts, parse_part_file};
 
 fn main(rt: HostRuntime) -> Result<()> {
     let mut chip = Chip::fresh(rt.alloc(), Parts::none().find("m328p")?)?;
@@ -39,6 +42,14 @@ fn main(rt: HostRuntime) -> Result<()> {
         Ok(part) => println!(rt; "{}", part.id())?,
         Err(PartFault::NoSuchPart) => println!(rt; "there is no m32")?,
         Err(fault) => println!(rt; "{fault}")?,
+    }
+    for text in [b"[parts.x1]\n".as_slice(), b"a = 1\na = 2\n"] {
+        if let Err(fault) = parse_part_file(rt.alloc(), text) {
+            match fault.line() {
+                Some(line) => println!(rt; "line {line}: {}", fault.fault())?,
+                None => println!(rt; "part {}: {}", fault.part().unwrap_or("?"), fault.fault())?,
+            }
+        }
     }
     Ok(())
 }

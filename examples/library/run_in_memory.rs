@@ -1,7 +1,7 @@
 // crates: anyhow avr_tool
 //! Runs a command line of `avrstk` with files, messages and the programmer in memory, so that a test needs no process
-//! and no files. `asked` reads the settings from the arguments, and `run` carries them out over the link that it is
-//! given. The arguments name the port `stdio:`, which stands for that link.
+//! and no files. `asked` reads the settings from the arguments, and `run_wired` carries them out over a wire, which
+//! here loses the first reply. (`run` does so over any link.) The port `stdio:` of the arguments stands for the wire.
 //!
 //! The expected output was worked out by hand: the fuse is the byte that was written, in the format of docs/FORMATS,
 //! and the messages are those of docs/USAGE.
@@ -18,7 +18,7 @@
 #![tactic(auto)]
 
 use anyhow::{Result, bail};
-use avr_tool::{Chip, Fates, MemDesk, Parts, Wired, asked, run};
+use avr_tool::{Chip, Fate, Fates, MemDesk, Parts, Wired, asked, run_wired};
 use std::alloc::Global;
 use std::io::{self, Write};
 
@@ -45,8 +45,10 @@ fn main(rt: HostRuntime) -> Result<()> {
         bail!("this is no command line of avrstk");
     };
     let chip = Chip::fresh(alloc, Parts::none().find("m328p")?)?;
-    let mut wire = Wired::with_fates(alloc, chip, Fates::none(alloc));
-    let status = run(alloc, &settings, &mut desk, &mut wire);
+    let mut fates = Fates::none(alloc);
+    fates.push(Fate::LostAnswer)?;
+    let mut wire = Wired::with_fates(alloc, chip, fates);
+    let status = run_wired(alloc, &settings, &mut desk, &mut wire);
     println!(rt; "status {status}")?;
     let mut out = io::writer(&rt);
     out.write_all(b"fuse.txt: ")?;

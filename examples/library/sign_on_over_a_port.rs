@@ -3,13 +3,14 @@
 //! the place of the serial port.
 //!
 //! The expected output is from AVR068: the reply to SIGN_ON has 17 bytes, the eight before the XOR are the programmer's
-//! name, and a programmer sends nothing unasked.
+//! name, and a programmer sends nothing unasked. SIGN_ON writes no memory, and a fresh chip is all FF.
 //= programmer: STK500_2
 //= nothing more
+//= byte 0 of the chip: FF
 #![tactic(auto)]
 
 use anyhow::{Result, bail};
-use avr_part::{Chip, Parts};
+use avr_part::{Chip, Mem, Parts};
 use std::io::{self, ErrorKind, Read, Write};
 use stk_emu::{EmulatedPort, Emulator};
 
@@ -35,5 +36,7 @@ fn main(rt: HostRuntime) -> Result<()> {
         Err(error) if error.kind() == ErrorKind::WouldBlock => println!(rt; "nothing more")?,
         _ => bail!("an answer that nobody asked for"),
     }
+    let chip = port.into_emulator().into_chip();
+    println!(rt; "byte 0 of the chip: {:02X}", chip.byte(Mem::Flash, 0).unwrap_or(0))?;
     Ok(())
 }
