@@ -8,7 +8,7 @@ use Rattle.avr_desk.specs.Memory.{MemDeskState, Stock, stock_of, stood_for, cont
 use Rattle.avr_desk.specs.Named.{bytes_given}
 use Rattle.avr_desk.specs.Record.{Bytes, Record, all_files, all_uses, files_among, noted, nothing_kept, written_on}
 use Rattle.avr_desk.proofs.FileUses.Uses.{files_used}
-use Rattle.avr_desk.specs.Truth.{IsRead, AreTrue, IsOpenTrue, HoldsTrue}
+use Rattle.avr_desk.specs.Truth.{IsRead, AreTrue, HoldsTrue}
 use Rattle.avr_desk.specs.declared.record.FileUse.{FileUse}
 use Rattle.avr_desk.specs.declared.record.FileUse.TheVariants.{Opened, Created}
 use Rattle.avr_desk.specs.declared.record.Open.TheVariants.{Closed, ToRead, ToWrite}
