@@ -19,8 +19,8 @@ module _ (m : Device Programmer) where
       → Runs m During After d z → (k : ℕ) (r : R) → (along m k d z.0 z.1).dialog ≡ Done r → After r (spot m k d z)
   where_done {R = R} {During = During} {After = After} d z l = on d z l.holds
     where
-      on : (d : Dialog ⊥ R) (z : Spot) → HoldsFrom (this_link m) (λ bytes y. During y) NoSays After d z → (k : ℕ) (r : R)
-          → (along m k d z.0 z.1).dialog ≡ Done r → After r (spot m k d z)
+      on : (d : Dialog ⊥ R) (z : Spot) → HoldsFrom (this_link m) (λ bytes y. During y) NoSays After d z → (k : ℕ)
+          → (r : R) → (along m k d z.0 z.1).dialog ≡ Done r → After r (spot m k d z)
       on (Done a) z h k r e = subst (λ x. After x z) (done_is {E = ⊥} a r e) h
       on (Say e d) z h k r is = absurd e
       on (Ask bytes go_on) z h zero r e = absurd (asks≢done bytes go_on r e)
