@@ -1,4 +1,5 @@
 -- Runs over any tape are runs along turns, and a link that forges a frame.
+pub mod Ends
 pub mod AnyTape
 pub mod NoFrame
 pub mod MadeFrame

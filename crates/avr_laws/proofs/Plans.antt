@@ -1,4 +1,5 @@
 -- Planning, stage by stage: what fits, what is asked for, and what is read.
+pub mod Items
 pub mod Fitted
 pub mod EachStage
 pub mod FilesRead

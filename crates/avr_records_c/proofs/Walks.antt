@@ -1,9 +1,8 @@
 -- A walk over a memory's bitmap, bit by bit, finds what a walk over its image finds.
 use Rattle.std.proofs.lemmas.Bool.Decides.{nat_tests}
-use Rattle.std.proofs.Common.{◌≡◌, ap, sym, refl, arith, ℕ, zero, suc, ◌+◌, ◌-◌, ◌/◌, ◌%◌, ◌<◌, ◌≤◌, List, [], ◌∷◌, length, take, drop, get_or, true, false, Option, Some, None, is_some, inl, inr, add-zero, min, rules}
+use Rattle.std.proofs.Common.{◌≡◌, ap, sym, refl, arith, ℕ, zero, suc, ◌+◌, ◌-◌, ◌/◌, ◌%◌, ◌<◌, ◌≤◌, List, [], ◌∷◌, length, take, drop, get_or, true, false, Some, None, inl, inr, add-zero, min, rules}
 use Rattle.std.proofs.lemmas.Bool.{cases_Bool, cases_lt}
 use Rattle.std.proofs.lemmas.List.{drop_all, drop_more, length-drop, take_min}
-use Rattle.std.specs.List.{position_from}
 use Rattle.avr_image.specs.Image.{first_from}
 use Rattle.avr_image.specs.Runs.{lead}
 use Rattle.avr_records_c.specs.Bitmap.{is_there, byte_if_there, image_from, image_of}
@@ -27,9 +26,6 @@ next-here : (k : ℕ) (present bytes : List ℕ) → k < length bytes
 next-here k present bytes inside = grind (arith, nat_tests, drop-image, drop_more)
 
 -- ---- the next byte that is there
-
-abbrev from : ℕ → List (Option ℕ) → Option ℕ
-from k image = position_from is_some k image
 
 pub first-there : (k : ℕ) (present bytes : List ℕ) → k < length bytes → is_there present k ≡ true
     → first_from (image_of present bytes) k ≡ Some k

@@ -1,6 +1,5 @@
 -- Each step of a host leads from its memories to those that it leaves, by page writes that are counted.
 pub mod EachMemory
-pub mod NetWrites
 pub mod Conditions
 pub mod Steps
 pub mod OutsideMode

@@ -64,12 +64,6 @@ printed_part has s a b c part n turns fault before given sent failed follows = r
 
 -- ---- an error whose text no clause knows
 
-pub reported : (has : Parts) (a b c d : DeskState) (count : ℕ)
-    → Passes (after_sent Messages (codes "avrstk: error: ")) a b → HasSameCounts a b
-    → PrintsText has Messages b c (Ok count) → Passes (after_sent Messages (10 ∷ [])) c d → HasSameCounts c d
-    → ReportsText has a d
-reported has a b c d count mark same prints end ends = search (rules, append_assoc)
-
 pub untold : (has : Parts) (a b c : DeskState) (fault : DeskFault)
     → Passes (after_sent Messages (codes "avrstk: error: ")) a b → HasSameCounts a b
     → PrintsText has Messages b c (Err fault) → ReportsText has a c

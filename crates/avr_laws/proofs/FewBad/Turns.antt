@@ -25,10 +25,11 @@ use Rattle.stk_emu.specs.Settled.{Ready, FitsPart}
 use Rattle.stk_emu.specs.PageWrites.{changed, changed_by, IsStep, AreSteps}
 use Rattle.stk_emu.specs.Given.{on_data, reply_to, joined_reply, given_by, all_given}
 use Rattle.avr_tool.proofs.Hosts.AnyTurn.{AfterStep, try_goes}
-use Rattle.avr_tool.proofs.Hosts.OneLink.{Spot, this_link, Runs, on_link, both, where_done}
+use Rattle.avr_tool.proofs.Hosts.OneLink.{Spot, this_link, Runs, on_link, both}
 use Rattle.stk_emu.proofs.Answers.Commands.{steady}
 use Rattle.avr_tool.proofs.PageWrites.OutsideMode.{gathered_steady}
-use Rattle.avr_tool.proofs.Sure.Good.{AreSteady, IsSteady, first_steady, on_steady}
+use Rattle.avr_tool.proofs.Sure.Good.{AreSteady, IsSteady, on_steady}
+use Rattle.avr_laws.proofs.Lines.Ends.{where_done, first_steady}
 use Rattle.avr_tool.proofs.Sure.Turns.{IsSure, brings_one, brings_play, step_short}
 
 -- ---- counting

@@ -33,14 +33,15 @@ use Rattle.avr_tool.specs.Items.{action_items, actions_items, items}
 use Rattle.avr_laws.specs.Told.{TellsTrue, count_line, kept_in, IsTrue, ChipErased, BytesWritten, BytesVerified, Differed, BytesSaved, BytesRead, EraseLeftOut, WriteLeftOut, StepFailed, SessionDone}
 use Rattle.avr_tool.proofs.AnyLine.EachAction.{Comes, Passes, ActionTrue, ActionsTrue, opening_comes}
 use Rattle.avr_tool.proofs.AnyLine.Sessions.{AtMoment, AtEnd, at_last, anyhow, session_prints}
-use Rattle.avr_tool.proofs.Given.Comparisons.{bytes_same}
+use Rattle.avr_laws.proofs.Memories.Bytes.{bytes_same, no_difference_if_fine}
 use Rattle.avr_tool.proofs.Hosts.OneLink.{Spot, on_link, this_link}
 use Rattle.avr_tool.proofs.Hosts.Outputs.{AllTrue, End, Moment, Prints, PrintsFrom}
 use Rattle.stk_host.proofs.Dialogs.Logic.{World}
-use Rattle.avr_tool.proofs.Memories.ExpectedAgrees.{no_difference_if_fine, expected_status, expected_memories}
+use Rattle.avr_tool.proofs.Memories.ExpectedAgrees.{expected_status, expected_memories}
 use Rattle.avr_tool.specs.Outcome.{IsTouched, IsDone, IsExpectedRun}
 use Rattle.avr_tool.proofs.Plans.Fits.{FitsAction, AllFitActions, work, work_fits}
-use Rattle.avr_tool.proofs.Plans.Items.{items_on, erase_first}
+use Rattle.avr_tool.proofs.Plans.Items.{items_on}
+use Rattle.avr_laws.proofs.Plans.Items.{erase_first}
 
 abbrev link : World Spot ⊤
 link = this_link device

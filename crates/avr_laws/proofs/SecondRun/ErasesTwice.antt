@@ -19,9 +19,10 @@ use Rattle.avr_tool.proofs.PageWrites.Pages.{page_writes_on}
 use Rattle.avr_laws.specs.Again.{is_keeping, AreKeeping}
 use Rattle.avr_tool.specs.Items.{items, has_erase}
 use Rattle.avr_tool.specs.Outcome.{page_writes}
-use Rattle.avr_tool.proofs.PageWrites.NetWrites.{first_again, first_writes_again}
+use Rattle.avr_laws.proofs.SecondRun.NetWrites.{first_again, first_writes_again}
 use Rattle.avr_tool.proofs.Each.{Each, each_on}
-use Rattle.avr_tool.proofs.Plans.Fits.{work, work_fits, items_fit}
+use Rattle.avr_tool.proofs.Plans.Fits.{work, work_fits}
+use Rattle.avr_laws.proofs.Plans.Items.{items_fit}
 use Rattle.avr_tool.proofs.Plans.Items.{writes, erase_if, tasks_write, items_are}
 use Rattle.avr_tool.proofs.AnyLine.FirstSteps.{effects_sizes}
 

@@ -17,7 +17,8 @@ use Rattle.avr_tool.proofs.PageWrites.EachMemory.{keeps_zeros, laid, spares, wri
 use Rattle.avr_laws.specs.Again.{chip_of, AgreesAnyway}
 use Rattle.avr_tool.specs.Agrees.{Agrees, ActionAgrees, ActionsAgree}
 use Rattle.avr_tool.specs.Items.{action_items, actions_items, items, has_erase}
-use Rattle.avr_tool.proofs.Plans.Items.{tasks_write, plan_agrees}
+use Rattle.avr_tool.proofs.Plans.Items.{tasks_write}
+use Rattle.avr_laws.proofs.Plans.Items.{plan_agrees}
 
 -- ---- bytes: if two agree, the third agrees with them
 

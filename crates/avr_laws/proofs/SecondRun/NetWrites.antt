@@ -1,6 +1,6 @@
 -- Writes, one after another, are one write to each memory. So writing twice is writing once, also after an erase.
 use Rattle.std.proofs.lemmas.Grind.{common_steps}
-use Rattle.std.proofs.Common.{◌≡◌, ℕ, zero, suc, refl, sym, ap, ap₂, ◌∙◌, List, [], ◌∷◌, length, Bool, true, false, Option, Some, None, bit_and, rules, arith}
+use Rattle.std.proofs.Common.{◌≡◌, ℕ, zero, suc, refl, sym, ap, ap₂, ◌∙◌, get_or, List, [], ◌∷◌, length, Bool, true, false, Option, Some, None, bit_and, rules, arith}
 use Rattle.std.proofs.lemmas.Bool.{true≢false}
 use Rattle.std.proofs.lemmas.List.{length-replicate}
 use Rattle.std.proofs.lemmas.Nat.{and_assoc}
@@ -11,11 +11,24 @@ use Rattle.avr_image.specs.Image.{either}
 use Rattle.avr_part.specs.Memory.{blank}
 use Rattle.avr_part.specs.Part.{Part}
 use Rattle.avr_part.specs.declared.part.Mem.{Mem}
-use Rattle.avr_part.specs.declared.part.Mem.TheVariants.{Flash, Eeprom, Lock}
+use Rattle.avr_part.specs.declared.part.Mem.TheVariants.{Flash, Eeprom, Lfuse, Hfuse, Efuse, Lock}
 use Rattle.stk_emu.specs.Effect.{Image, Memories, Item, Erase, Write, with_image, and_in, and_with, are_locked, erase_keeps_eeprom, write_effect, effect, effects, memory_in}
 use Rattle.stk_emu.proofs.Memories.LaidImages.{length-laid, laid_twice, and_in_twice, length-and_in}
-use Rattle.avr_tool.proofs.PageWrites.EachMemory.{same_memories, keeps_zeros, laid, is_barred, spares, write_is}
+use Rattle.avr_tool.proofs.PageWrites.EachMemory.{keeps_zeros, laid, is_barred, spares, write_is}
 use Rattle.avr_tool.specs.Items.{has_erase}
+
+-- memories are equal if each of them is
+same_memories : (part : Part) (m n : Memories) → ((mem : Mem) → memory_in part mem m ≡ memory_in part mem n)
+    → m ≡ n
+same_memories part m n each =
+    let byte : (mem : Mem) → get_or (memory_in part mem m) 0 0 ≡ get_or (memory_in part mem n) 0 0 =
+    λ mem. ap (λ (xs : List ℕ). get_or xs 0 0) (each mem) in
+    ap (λ xs. record m { flash = xs }) (each Flash)
+    ∙ (ap (λ xs. record m { flash = n.flash; eeprom = xs }) (each Eeprom)
+    ∙ (ap (λ (x : ℕ). record m { flash = n.flash; eeprom = n.eeprom; lfuse = x }) (byte Lfuse)
+    ∙ (ap (λ (x : ℕ). record n { lock = m.lock; efuse = m.efuse; hfuse = x }) (byte Hfuse)
+    ∙ (ap (λ (x : ℕ). record n { lock = m.lock; efuse = x }) (byte Efuse)
+    ∙ ap (λ (x : ℕ). record n { lock = x }) (byte Lock)))))
 
 -- ---- two images are one
 

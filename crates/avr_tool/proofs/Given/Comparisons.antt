@@ -1,15 +1,10 @@
 -- The output of a comparison without a difference, and which comparisons have none.
-use Rattle.std.proofs.Common.{◌≡◌, ℕ, zero, suc, ◌+◌, ◌<◌, List, [], ◌∷◌, refl, ◌∙◌, arith, Bool, true, Ok, Some, None, bit_and, rules}
+use Rattle.std.proofs.Common.{◌≡◌, ℕ, zero, suc, ◌+◌, List, [], ◌∷◌, refl, ◌∙◌, arith, Bool, Ok, Some, None, rules}
 use Rattle.std.proofs.lemmas.Bool.{eq-eqb, cond-true}
-use Rattle.std.proofs.Math.Nat.{mod-eq_of_lt}
-use Rattle.std.proofs.lemmas.Grind.{and_numeral}
-use Rattle.std.proofs.lemmas.Nat.{and_comm}
 use Rattle.std.specs.Prelude.{◌==◌}
-use Rattle.std.specs.Str.{bytes_eq}
 use Rattle.stk_host.specs.Operations.{difference_from, signature_judged}
-use Rattle.stk_emu.specs.Effect.{Image, with_image}
+use Rattle.stk_emu.specs.Effect.{Image}
 use Rattle.stk_emu.specs.Given.{HoldsImage}
-use Rattle.stk_emu.proofs.Memories.LaidImages.{get_laid, length-laid}
 
 -- one byte that is equal
 same_byte : (addr want found : ℕ) (image : Image) (bytes : List ℕ)
@@ -42,18 +37,7 @@ held_same addr (Some want ∷ image) (found ∷ bytes) holds =
     (eq-eqb found want (holds 0 want refl (omega arith)))
     ∙ held_same (addr + 1) image bytes (λ i b held l. holds (suc i) b held (omega (arith, l)))
 
--- an image that was laid over a memory is held
-pub laid_holds : (image : Image) (bytes : List ℕ) → HoldsImage image (with_image image bytes)
-laid_holds image bytes i b held l = search (rules, get_laid, length-laid)
-
-pub and_from_blank : (b : ℕ) → b < 256 → bit_and 255 b ≡ b
-and_from_blank b l = and_comm 255 b ∙ (and_numeral b 254 refl ∙ mod-eq_of_lt l)
-
 -- ---- the part's own signature
-
-pub bytes_same : (xs : List ℕ) → bytes_eq xs xs ≡ true
-bytes_same [] = refl
-bytes_same (x ∷ xs) = search rules
 
 -- it is taken, whether or not any is
 pub signature_taken : (signature : List ℕ) (force : Bool)

@@ -1,5 +1,5 @@
 -- Calls over one link, in the logic of dialogs.
-use Rattle.std.proofs.Common.{◌≡◌, ℕ, zero, suc, List, subst, rules}
+use Rattle.std.proofs.Common.{ℕ, List, rules}
 use Rattle.std.specs.Prelude.{⊤}
 use Rattle.stk_emu.specs.Along.{along}
 use Rattle.stk_emu.specs.Device.{Device}
@@ -7,7 +7,7 @@ use Rattle.stk_emu.specs.Programmer.{Programmer}
 use Rattle.stk_emu.specs.Turn.{Turn, after_turn, turn_reading, first_turn, other_turns}
 use Rattle.stk_host.proofs.Dialogs.Logic.{World, HoldsFrom, Upholds, NoSays}
 use Rattle.stk_host.specs.Dialog.{Dialog, Done, Say, Ask}
-use Rattle.avr_tool.proofs.Hosts.AnyTurn.{any_turn, Keeps, asks≢done, done_is}
+use Rattle.avr_tool.proofs.Hosts.AnyTurn.{any_turn, Keeps}
 
 -- the programmer, and the turns to come
 abbrev pub Spot : Type 0
@@ -51,15 +51,3 @@ module _ (m : Device Programmer) where
       on (Done r) z h g = (h, g)
       on (Say e d) z h g = absurd e
       on (Ask bytes go_on) z h g = (h.0, λ move. on (go_on _) (this_link.after bytes z tt) (h.1 tt) (g.1 tt))
-
-  -- when it is done
-  pub where_done : {R : Type 0} {During : Spot → Type 0} {After : R → Spot → Type 0} (d : Dialog ⊥ R) (z : Spot)
-      → Runs During After d z → (k : ℕ) (r : R) → (along m k d z.0 z.1).dialog ≡ Done r → After r (spot k d z)
-  where_done {R = R} {During = During} {After = After} d z l = on d z l.holds
-    where
-      on : (d : Dialog ⊥ R) (z : Spot) → HoldsFrom this_link (λ bytes y. During y) NoSays After d z → (k : ℕ) (r : R)
-          → (along m k d z.0 z.1).dialog ≡ Done r → After r (spot k d z)
-      on (Done a) z h k r e = subst (λ x. After x z) (done_is {E = ⊥} a r e) h
-      on (Say e d) z h k r is = absurd e
-      on (Ask bytes go_on) z h zero r e = absurd (asks≢done bytes go_on r e)
-      on (Ask bytes go_on) z h (suc k) r e = on (go_on _) (this_link.after bytes z tt) (h.1 tt) k r e

@@ -140,14 +140,6 @@ frames_prefix (Frame f ∷ events) bytes back whole e = elim (cases_lt (length b
       let inner = frames_prefix events (drop (length f) bytes) back whole.1 later in search (rules, frame_first)
 ]
 
--- a whole run sends all bytes of what it sends over what was received
-pub plays_prefix : {E R : Type 0} (d : Dialog E R) (n : ℕ) (transcript : Transcript) (events : List (Event E)) (r : R)
-    (after : Progress)
-    → Plays d (progress_at n []) transcript events r after
-    → IsPrefixOf (sent transcript) (bytes_sent (played d n (heard transcript)).events)
-plays_prefix d n transcript events r after plays =
-    search (rules, append-nil (sent transcript), append-nil (heard transcript))
-
 -- the events of a run that broke off send a prefix of the bytes
 begun_prefix : {E : Type 0} (SaidPart : E → E → Type 0) (begun later : List (Event E)) → IsBegun SaidPart begun later
     → IsPrefixOf (bytes_sent begun) (bytes_sent later)

@@ -1,14 +1,12 @@
 -- An expected run is fine exactly if its comparisons agree.
-use Rattle.std.proofs.Common.{◌≡◌, refl, sym, subst, List, [], ◌∷◌, Option, Some, None, rules}
+use Rattle.std.proofs.Common.{◌≡◌, refl, sym, subst, List, [], ◌∷◌, rules}
 use Rattle.std.specs.Prelude.{⊤, ◌↔◌}
 use Rattle.avr_cli.specs.declared.settings.Switches.{Switches}
 use Rattle.avr_part.specs.Part.{Part}
-use Rattle.avr_part.specs.declared.part.Mem.{Mem}
 use Rattle.avr_plan.specs.Plan.{Plan}
 use Rattle.avr_session.specs.Standing.{Fine}
 use Rattle.avr_session.specs.Actions.{Action, actions}
 use Rattle.avr_session.specs.Session.{standing}
-use Rattle.stk_host.specs.Operations.{Difference, differs}
 use Rattle.stk_emu.specs.Effect.{Memories, effects}
 use Rattle.avr_tool.proofs.Given.Comparisons.{no_difference, held_same}
 use Rattle.avr_tool.proofs.PageWrites.Pages.{effects_on}
@@ -29,10 +27,6 @@ turns_then : (first : Expected) (next : Memories → Expected) (A B : Type 0) (b
 turns_then first next A B between left turns more = search rules
 
 -- ---- an action
-
-pub no_difference_if_fine : (mem : Mem) (d : Option Difference) → standing (differs mem d) ≡ Fine → d ≡ None
-no_difference_if_fine mem None f = refl
-no_difference_if_fine mem (Some d) f = faulty_fine f
 
 turns_fine : (c : Expected) → c.standing ≡ Fine → Turns c ⊤ c.memories
 turns_fine c is = record { if_fine = λ f. tt; is_fine = λ agree. is; memories = λ f. refl }

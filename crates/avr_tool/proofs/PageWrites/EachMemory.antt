@@ -1,25 +1,12 @@
 -- Writes, memory by memory: what a write makes of a memory, by whether the memory can only lose bits.
-use Rattle.std.proofs.Common.{◌≡◌, ℕ, ap, ◌∙◌, List, length, get_or, Bool, true, false, rules}
+use Rattle.std.proofs.Common.{◌≡◌, ℕ, List, length, Bool, true, false, rules}
 use Rattle.std.specs.Prelude.{◌==◌, ◌||◌, not, if◌then◌else◌}
 use Rattle.avr_part.specs.Part.{Part}
 use Rattle.avr_part.specs.declared.part.Mem.{Mem}
-use Rattle.avr_part.specs.declared.part.Mem.TheVariants.{Flash, Eeprom, Lfuse, Hfuse, Efuse, Lock, Signature, Calibration}
+use Rattle.avr_part.specs.declared.part.Mem.TheVariants.{Eeprom, Lfuse, Hfuse, Efuse, Lock, Signature, Calibration}
 use Rattle.stk_emu.specs.Effect.{Image, Memories, with_image, and_in, are_locked, write_effect, memory_in}
 use Rattle.stk_emu.proofs.Memories.LaidImages.{length-laid, length-and_in}
 use Rattle.avr_tool.specs.Written.{memory_number}
-
--- memories are equal if each of them is
-pub same_memories : (part : Part) (m n : Memories) → ((mem : Mem) → memory_in part mem m ≡ memory_in part mem n)
-    → m ≡ n
-same_memories part m n each =
-    let byte : (mem : Mem) → get_or (memory_in part mem m) 0 0 ≡ get_or (memory_in part mem n) 0 0 =
-    λ mem. ap (λ (xs : List ℕ). get_or xs 0 0) (each mem) in
-    ap (λ xs. record m { flash = xs }) (each Flash)
-    ∙ (ap (λ xs. record m { flash = n.flash; eeprom = xs }) (each Eeprom)
-    ∙ (ap (λ (x : ℕ). record m { flash = n.flash; eeprom = n.eeprom; lfuse = x }) (byte Lfuse)
-    ∙ (ap (λ (x : ℕ). record n { lock = m.lock; efuse = m.efuse; hfuse = x }) (byte Hfuse)
-    ∙ (ap (λ (x : ℕ). record n { lock = m.lock; efuse = x }) (byte Efuse)
-    ∙ ap (λ (x : ℕ). record n { lock = x }) (byte Lock)))))
 
 pub same_memory : (other mem : Mem) → (memory_number other == memory_number mem) ≡ true → other ≡ mem
 same_memory other mem e = search rules

@@ -1,6 +1,7 @@
 -- Each step leads from its memories to those that it leaves, also if it is cut short and repeated.
 use Rattle.std.proofs.lemmas.Grind.{common_steps}
-use Rattle.std.proofs.Common.{◌≡◌, ℕ, ◌*◌, ◌<◌, ◌^◌, List, [], ◌∷◌, refl, sym, subst, arith, rules}
+use Rattle.std.proofs.Common.{◌≡◌, ℕ, ◌*◌, ◌<◌, ◌^◌, List, [], ◌∷◌, sym, subst, arith, rules}
+use Rattle.std.proofs.lemmas.List.{length-replicate}
 use Rattle.avr_part.specs.declared.part.Mem.TheVariants.{Flash, Eeprom}
 use Rattle.avr_part.specs.Part.{Part, IsPart}
 use Rattle.stk_frame.specs.declared.command.Command.{Command}
@@ -15,7 +16,7 @@ use Rattle.stk_emu.specs.Effect.{Memories, Item, Erase, Write, effect}
 use Rattle.stk_emu.specs.Settled.{Idle, Settled, Ready}
 use Rattle.stk_emu.specs.Fits.{Fits}
 use Rattle.stk_emu.specs.PageWrites.{changed, IsStep, Erases, ProgramsPage, ProgramsRun, ProgramsFuse, ProgramsLock, ReadsFlash, ReadsEeprom, ReadsFuse, ReadsLock, ReadsSignature, ReadsCalibration, IsPage, FitsEepromPage, IsBlock, AreWords}
-use Rattle.avr_tool.proofs.PageWrites.NetWrites.{written_again, erased_again}
+use Rattle.stk_emu.proofs.Memories.LaidImages.{laid_twice, and_in_twice, and_byte}
 use Rattle.stk_emu.proofs.Answers.Commands.{one_fits, steady, one_steady, two_steady, settled_idle, ready_settled, ready_idle, anew_idle, anew_settled, enter_does, leave_keeps, load_keeps, fuse_does, lock_does, erase_does, fuse_read_after, lock_read_after, calibration_read_after}
 use Rattle.stk_emu.proofs.Memories.Runs.{run_does}
 use Rattle.stk_emu.proofs.Memories.Pages.{page_does}
@@ -24,8 +25,8 @@ use Rattle.avr_tool.proofs.Given.ReadAnswers.{flash_read_keeps, eeprom_read_keep
 -- twice is once
 pub effect_twice : (part : Part) (item : Item) (m : Memories)
     → effect part item (effect part item m) ≡ effect part item m
-effect_twice part Erase m = erased_again part [] m refl (λ keeps. keeps)
-effect_twice part (Write mem image) m = written_again part (Write mem image ∷ []) m refl
+effect_twice part Erase m = search (rules, length-replicate)
+effect_twice part (Write mem image) m = search (rules, laid_twice, and_in_twice, and_byte)
 
 fuse_twice : (part : Part) (f : Fuse) (v : ℕ) (m : Memories)
     → changed part (program_fuse f v ∷ []) (changed part (program_fuse f v ∷ []) m)

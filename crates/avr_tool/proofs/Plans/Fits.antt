@@ -10,7 +10,7 @@ use Rattle.avr_plan.specs.declared.planned.Task.{Task}
 use Rattle.avr_plan.specs.declared.planned.Task.TheVariants.{Write, Verify}
 use Rattle.avr_session.specs.Actions.{Action, OpenSession, WriteImage, CompareImage, erase_actions, task_actions, tasks_actions}
 use Rattle.stk_emu.specs.PageWrites.{AllFitItems}
-use Rattle.avr_tool.specs.Items.{action_items, actions_items}
+use Rattle.avr_tool.specs.Items.{action_items}
 use Rattle.avr_tool.proofs.Each.{Each, each_on}
 
 -- what follows the opening of a session
@@ -42,10 +42,6 @@ module _ (part : Part) where
   -- so their items do
   pub action_items_fit : (action : Action) → FitsAction part action → AllFitItems part (action_items action)
   action_items_fit action fits = search rules
-
-  pub items_fit : (actions : List Action) → AllFitActions part actions → AllFitItems part (actions_items actions)
-  items_fit [] fits = tt
-  items_fit (action ∷ actions) fits = search (rules, items_fit actions fits.1)
 
 pub work_fits : (plan : Plan) → All (IsFitted plan.part) plan.tasks → AllFitActions plan.part (work plan)
 work_fits plan fitted =

@@ -1,5 +1,5 @@
 -- The items of a plan: an erase, if it has one, and then writes alone.
-use Rattle.std.proofs.Common.{◌≡◌, refl, sym, ◌∙◌, List, [], ◌∷◌, ◌++◌, Bool, true, false, rules}
+use Rattle.std.proofs.Common.{◌≡◌, refl, List, [], ◌∷◌, ◌++◌, Bool, true, false, rules}
 use Rattle.std.specs.Prelude.{filter_map, if◌then◌else◌}
 use Rattle.avr_cli.specs.declared.settings.Switches.{Switches}
 use Rattle.avr_part.specs.Part.{Part}
@@ -35,22 +35,6 @@ pub items_are : (plan : Plan) → items plan ≡ erase_if (has_erase (items plan
 items_are plan =
     search (rules, items_on, begins)
 
-erases_behind : (xs ys : List Item) → has_erase ys ≡ true → has_erase (xs ++ ys) ≡ true
-erases_behind [] ys has = has
-erases_behind (Erase ∷ xs) ys has = refl
-erases_behind (Write mem image ∷ xs) ys has = erases_behind xs ys has
-
-nothing_before : (due : Bool) (xs first later : List Item) → has_erase xs ≡ false
-    → erase_if due ++ xs ≡ first ++ Erase ∷ later → first ≡ []
-nothing_before due xs [] later none e = refl
-nothing_before due xs (x ∷ first) later none e = search (rules, erases_behind)
-
--- nothing comes before an erase
-pub erase_first : (plan : Plan) (first later : List Item) → items plan ≡ first ++ Erase ∷ later → first ≡ []
-erase_first plan first later e =
-    nothing_before (has_erase (items plan)) (writes plan) first later (tasks_write plan.switches plan.tasks)
-    (sym (items_are plan) ∙ e)
-
 -- ---- by the tasks
 
 writes_by_tasks : (s : Switches) (tasks : List Task)
@@ -77,8 +61,3 @@ pub tasks_agree : (plan : Plan) (m : Memories) → Agrees plan m
     (effects plan.part (erase_if (has_erase (items plan))) m)
 tasks_agree plan m agree =
     search (rules, begins, agree_behind)
-
-pub plan_agrees : (plan : Plan) (m : Memories)
-    → ActionsAgree plan.part (tasks_actions plan.switches plan.tasks)
-    (effects plan.part (actions_items (erase_actions plan.switches plan.tasks)) m) → Agrees plan m
-plan_agrees plan m agree = search rules

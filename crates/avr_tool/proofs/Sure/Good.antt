@@ -1,9 +1,8 @@
 -- Over good turns each step gives its data, in its first attempt.
-use Rattle.std.proofs.Common.{◌≡◌, ℕ, zero, suc, List, [], ◌∷◌, ◌++◌, length, refl, sym, ap, ◌∙◌, subst, inl, ◌⊎◌, Ok, rules}
+use Rattle.std.proofs.Common.{◌≡◌, ℕ, zero, suc, List, [], ◌∷◌, ◌++◌, sym, ap, ◌∙◌, subst, inl, ◌⊎◌, Ok, rules}
 use Rattle.std.specs.Prelude.{⊤}
 use Rattle.stk_frame.specs.declared.command.Command.{Command}
 use Rattle.stk_frame.specs.Commands.{body}
-use Rattle.stk_host.specs.declared.fault.StepFault.{StepFault}
 use Rattle.stk_host.specs.declared.fault.StepFault.TheVariants.{NoAnswer}
 use Rattle.stk_host.specs.Dialog.{Dialog, Done, Say, Ask}
 use Rattle.stk_host.specs.Steps.{Reply, Data, Again, Stop, StepOutcome, reading_reply, with_data, exchange, attempt, step}
@@ -18,7 +17,7 @@ use Rattle.avr_tool.proofs.Hosts.AnyTurn.{AfterStep, try_goes}
 use Rattle.avr_tool.proofs.Hosts.OneLink.{Spot, this_link, Runs, on_link, both}
 use Rattle.stk_emu.proofs.Answers.Commands.{steady}
 use Rattle.avr_tool.proofs.PageWrites.OutsideMode.{gathered_steady}
-use Rattle.avr_tool.proofs.Sure.Turns.{Brings, IsSure}
+use Rattle.avr_tool.proofs.Sure.Turns.{IsSure}
 
 -- ---- links that don't end, and over which the programmer never restarts
 
@@ -37,9 +36,6 @@ IsSteady (Wrong became instead) = Stands became × GoesOn instead
 abbrev pub AreSteady : List Turn → Type 0
 AreSteady [] = Unit {0}
 AreSteady (turn ∷ turns) = IsSteady turn × AreSteady turns
-
-pub first_steady : (turns : List Turn) → AreSteady turns → IsSteady (first_turn turns)
-first_steady turns s = search rules
 
 others_steady : (turns : List Turn) → AreSteady turns → AreSteady (other_turns turns)
 others_steady turns s = search rules

@@ -1,5 +1,6 @@
 use Rattle.std.proofs.Common.{rules}
-use Rattle.avr_tool.proofs.Lines.InTurn.{plays_prefix, stands_along, whole_said, whole_done}
+use Rattle.avr_laws.proofs.Lines.Ends.{plays_prefix}
+use Rattle.avr_tool.proofs.Lines.InTurn.{stands_along, whole_said, whole_done}
 use Rattle.avr_laws.proofs.conversations.over_a_wire_a_conversation_goes_along_turns.Goals as goal
 
 pub returns-clause-programmer : goal.returns-clause-programmer

@@ -1,0 +1,37 @@
+-- Nothing comes before the erase of a plan, its items fit the part, and what its comparisons say together.
+use Rattle.std.proofs.Common.{◌≡◌, refl, sym, ◌∙◌, List, [], ◌∷◌, ◌++◌, Bool, true, false, rules}
+use Rattle.avr_part.specs.Part.{Part}
+use Rattle.avr_plan.specs.Plan.{Plan}
+use Rattle.avr_session.specs.Actions.{Action, erase_actions, tasks_actions}
+use Rattle.stk_emu.specs.Effect.{Memories, Item, Erase, Write, effects}
+use Rattle.avr_tool.specs.Agrees.{ActionsAgree, Agrees}
+use Rattle.avr_tool.specs.Items.{actions_items, items, has_erase}
+use Rattle.stk_emu.specs.PageWrites.{AllFitItems}
+use Rattle.avr_tool.proofs.Plans.Items.{erase_if, items_are, tasks_write, writes}
+use Rattle.avr_tool.proofs.Plans.Fits.{AllFitActions}
+
+erases_behind : (xs ys : List Item) → has_erase ys ≡ true → has_erase (xs ++ ys) ≡ true
+erases_behind [] ys has = has
+erases_behind (Erase ∷ xs) ys has = refl
+erases_behind (Write mem image ∷ xs) ys has = erases_behind xs ys has
+
+nothing_before : (due : Bool) (xs first later : List Item) → has_erase xs ≡ false
+    → erase_if due ++ xs ≡ first ++ Erase ∷ later → first ≡ []
+nothing_before due xs [] later none e = refl
+nothing_before due xs (x ∷ first) later none e = search (rules, erases_behind)
+
+-- nothing comes before an erase
+pub erase_first : (plan : Plan) (first later : List Item) → items plan ≡ first ++ Erase ∷ later → first ≡ []
+erase_first plan first later e =
+    nothing_before (has_erase (items plan)) (writes plan) first later (tasks_write plan.switches plan.tasks)
+    (sym (items_are plan) ∙ e)
+
+pub plan_agrees : (plan : Plan) (m : Memories)
+    → ActionsAgree plan.part (tasks_actions plan.switches plan.tasks)
+    (effects plan.part (actions_items (erase_actions plan.switches plan.tasks)) m) → Agrees plan m
+plan_agrees plan m agree = search rules
+
+module _ (part : Part) where
+  pub items_fit : (actions : List Action) → AllFitActions part actions → AllFitItems part (actions_items actions)
+  items_fit [] fits = tt
+  items_fit (action ∷ actions) fits = search (rules, items_fit actions fits.1)
