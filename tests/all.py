@@ -38,7 +38,7 @@ PROGRAMS = {it.parent.parent.name: it.parent.parent / "out" for it in TOP.glob("
 # scripts of tools/, which only read
 CHECKED = ("measure --check", "reach --check", "site --check", "man_pages", "promises", "tests_page")
 # scripts that run no program of this project, or compile it themselves; the longest first
-SOURCES = ("rattle tests", "rattle programs", "rattle refused", "rattle names", "vendor", "build", "documents", *CHECKED)
+SOURCES = ("rattle tests", "rattle refused", "rattle examples", "rattle programs", "rattle names", "vendor", "build", "documents", *CHECKED)
 # scripts over the library for C, which takes minutes to prove and build, so that only --all runs them
 LIBRARY = ("from_c",)
 # scripts that take seconds

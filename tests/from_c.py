@@ -43,29 +43,6 @@ USAGE = "records FILE SIZE ihex|srec [ROOM]"
 CALLS = [f"avr_records_{it}" for it in ("detect", "fault_text", "length", "read", "version", "write")]
 FAULTS = [*range(9), 10, 11, 12]
 VERSION = (ROOT / "VERSION").read_text().strip()
-VERSIONS = """
-#include <stdio.h>
-#include "avr_records.h"
-#if AVR_RECORDS_VERSION_NUMBER < 900
-#error "older than the macro"
-#endif
-int main(void) {
-    printf("%s %d.%d.%d %lu %lu\\n", AVR_RECORDS_VERSION, AVR_RECORDS_VERSION_MAJOR, AVR_RECORDS_VERSION_MINOR,
-           AVR_RECORDS_VERSION_PATCH, (unsigned long)AVR_RECORDS_VERSION_NUMBER, (unsigned long)avr_records_version());
-    return 0;
-}
-"""
-OTHERS = """
-#include "avr_records.h"
-void *rattle_alloc(void) { return 0; }
-void *rattle_realloc(void) { return 0; }
-void rattle_dealloc(void) {}
-int main(void) {
-    const uint8_t file[] = ":0100000055AA";
-    uint8_t byte, present;
-    return avr_records_read(AVR_RECORDS_IHEX, file, sizeof file - 1, &byte, 1, &present, 1).fault;
-}
-"""
 
 
 def small_images():
@@ -266,11 +243,9 @@ def texts_are_put(library):
 
 def versions_agree(library):
     """The header, the library, pkg-config's file and the Python program have the version in VERSION."""
-    source = library.folder / "versions.c"
-    source.write_text(VERSIONS)
     major, minor, patch = map(int, VERSION.split("."))
     number = 10_000 * major + 100 * minor + patch
-    told = subprocess.run([library.compiled(source)], capture_output=True, check=True, text=True).stdout
+    told = subprocess.run([library.compiled(ROOT / "tests/versions.c")], capture_output=True, check=True, text=True).stdout
     same("the header and the archive", told, f"{VERSION} {VERSION} {number} {number}\n")
     records, loaded = library.in_python()
     same("Python and the shared library", (records.VERSION, loaded.avr_records_version()), (number, number))
@@ -287,9 +262,8 @@ def versions_agree(library):
 
 def other_names_are_free(library):
     """A program may have functions with the names of those inside the archive; another Rattle library has the same."""
-    source = library.folder / "others.c"
-    source.write_text(OTHERS)
-    same("the fault of a good file", subprocess.run([library.compiled(source)]).returncode, 0)
+    program = library.compiled(ROOT / "tests/own_names.c")
+    same("the fault of a good file", subprocess.run([program]).returncode, 0)
 
 
 def only_its_calls_are_seen(library):
