@@ -1,16 +1,16 @@
 -- A session over any link that forges no frame.
-use Rattle.std.proofs.Common.{◌≡◌, ◌≤◌, ℕ, List, [], ◌++◌, All, length, take, sym, ap, ◌∙◌, subst, arith, inl, inr, Some, length-append, rules}
+use Rattle.std.proofs.Common.{◌≡◌, ◌≤◌, ℕ, List, [], ◌++◌, All, length, take, sym, ap, ◌∙◌, subst, arith, Some, length-append, rules}
 use Rattle.std.proofs.lemmas.List.{append-nil, take-append-le, take_all}
-use Rattle.avr_desk.specs.Said.{OutputEvent, SaidPart}
+use Rattle.avr_desk.specs.Said.{OutputEvent}
 use Rattle.avr_part.specs.Sound.{IsSoundChip}
 use Rattle.avr_plan.specs.Plan.{Plan, IsFitted}
 use Rattle.avr_session.specs.Run.{RunsSession}
-use Rattle.avr_session.specs.Runs.{Devices, start}
+use Rattle.avr_session.specs.Runs.{Devices}
 use Rattle.avr_session.specs.Session.{session}
 use Rattle.stk_frame.specs.Cut.{frames}
 use Rattle.stk_host.specs.Dialog.{Event, Done, played, frames_in, bytes_sent, outputs}
-use Rattle.stk_host.specs.Play.{InTurn, IsPrefixOf}
-use Rattle.stk_host.specs.Transcript.{Transcript, Grows, sent, heard}
+use Rattle.stk_host.specs.Play.{IsPrefixOf}
+use Rattle.stk_host.specs.Transcript.{Transcript, sent, heard}
 use Rattle.stk_host.specs.Tape.{Tape}
 use Rattle.stk_emu.specs.Along.{along, said_along, AsksBodies}
 use Rattle.avr_laws.specs.AnyTape.{GoesAs, CameThrough, after_bytes, after_pieces, turns_heard}
@@ -20,7 +20,7 @@ use Rattle.avr_laws.proofs.Lines.NoFrame.{no_frame_honest}
 use Rattle.stk_emu.specs.Turn.{Turn, Became}
 use Rattle.stk_emu.specs.Device.{device}
 use Rattle.stk_emu.specs.Programmer.{Programmer}
-use Rattle.avr_tool.proofs.Lines.InTurn.{sends_whole, frames_prefix, frames_sent, shown_prefix}
+use Rattle.avr_tool.proofs.Lines.InTurn.{sends_whole, frames_prefix, frames_sent}
 use Rattle.avr_laws.proofs.Lines.AnyTape.{goes_as, through_after}
 use Rattle.avr_laws.specs.AnyLink.{ReportsOverTurns, WholeOverTurns}
 use Rattle.avr_tool.proofs.OverTurns.{asks}

@@ -18,7 +18,6 @@ use Rattle.stk_host.specs.Tape.{Tape}
 use Rattle.stk_host.specs.Transcript.{sent, heard}
 use Rattle.stk_emu.specs.Along.{AsksBodies}
 use Rattle.stk_emu.specs.Device.{device}
-use Rattle.stk_emu.specs.Effect.{Memories}
 use Rattle.stk_emu.specs.Programmer.{Programmer, fresh_programmer}
 use Rattle.stk_emu.specs.Turn.{Turn}
 use Rattle.stk_emu.specs.Wire.{AreLawful, turns_of, becames_of}

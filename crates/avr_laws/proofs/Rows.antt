@@ -2,4 +2,5 @@
 pub mod Planning
 pub mod Lines
 pub mod Runs
+pub mod Kept
 pub mod Served

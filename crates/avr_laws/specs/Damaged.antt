@@ -1,6 +1,5 @@
 -- A link that loses or delays whole frames, and damages at most one byte of a frame.
 use Rattle.std.specs.Prelude.{ℕ, zero, suc, Bool, true, false, List, [], ◌∷◌, ◌++◌, ◌≡◌, ◌≢◌, ◌⊎◌, ◌<◌, length, if◌then◌else◌, Option, Some, None}
-use Rattle.std.specs.List.{concat}
 use Rattle.stk_frame.specs.Frame.{frame}
 use Rattle.stk_frame.specs.Cut.{body_of}
 use Rattle.stk_host.specs.declared.link.Item.TheVariants.{Silence, End}

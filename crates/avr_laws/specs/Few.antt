@@ -1,5 +1,5 @@
 -- A link on which few frames go wrong.
-use Rattle.std.specs.Prelude.{◌≡◌, ℕ, zero, suc, ◌+◌, ◌≤◌, List, [], ◌∷◌}
+use Rattle.std.specs.Prelude.{ℕ, zero, suc, ◌+◌, ◌≤◌, List, [], ◌∷◌}
 use Rattle.stk_emu.specs.Turn.{Turn, Became, Kept, Obeyed, Anew, Instead, Refusal, Nothing, Babble, Ending, Right, Wrong, first_turn, other_turns}
 
 -- A question that goes wrong counts 1. A restart of the programmer or the end of the link counts 4, because no

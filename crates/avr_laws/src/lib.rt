@@ -1,7 +1,8 @@
 //! Laws of runs above the program: whatever the link loses, delays and spoils, and whatever becomes of a run.
 //!
-//! There is no code here, and no program depends on it. A law is a function with an empty body, and its contract is a
-//! theorem about definitions alone. What a call itself promises is in the contracts of avr_tool.
+//! No program depends on it. A law is a function with an empty body, and its contract is a theorem about definitions
+//! alone. What a call itself promises is in the contracts of avr_tool. The only code is one call of its `run`, in
+//! [`status_0_means_the_images`], which states what status 0 means.
 #![tactic(auto)]
 
 // what a plan asks of files

@@ -1,4 +1,4 @@
-//! Laws of runs: what status 0 means, what few bad frames and a further run do, and worked outcomes. No code.
+//! What status 0 means. Laws of runs: what few bad frames and a further run do, and worked outcomes.
 
 ghost use Rattle.std.specs.Prelude.{◌≡◌, ◌<◌, ◌*◌, ◌⊎◌, ℕ, true, false, List, [], All, Some, map};
 ghost use Rattle.avr_cli.specs.declared.settings.Settings.{Settings};

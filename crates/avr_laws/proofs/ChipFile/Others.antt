@@ -1,6 +1,6 @@
 -- What names mean after a run over the emulator: the files that memories were read into, and the chip file.
 use Rattle.std.proofs.Common.{◌≡◌, ◌∙◌, ◌⊎◌, ap, sym, refl, true, false, ℕ, List, [], ◌∷◌, ◌++◌, append-nil, inl, inr, Option, None, rules}
-use Rattle.std.proofs.lemmas.Bool.{cases_Bool, cond-true, cond-false}
+use Rattle.std.proofs.lemmas.Bool.{cases_Bool}
 use Rattle.avr_desk.proofs.FileUses.Names.{newest_append}
 use Rattle.avr_desk.proofs.FileUses.Uses.{files_replaced}
 use Rattle.avr_desk.specs.Memory.{Stock, stood_for}

@@ -12,7 +12,6 @@ use Rattle.avr_tool.specs.Emulated.{RunsOverEmulator}
 use Rattle.avr_tool.proofs.Plans.Items.{items_by_tasks}
 use Rattle.avr_tool.specs.AnyLine.{ComesOverTurns, events_over}
 use Rattle.avr_tool.specs.Outcome.{IsExpectedRun}
-use Rattle.avr_laws.proofs.AnyWire.{emulated_wire}
 use Rattle.avr_part.specs.ChipFile.{chip_file}
 use Rattle.avr_laws.proofs.Plans.Given.{seen_asked}
 use Rattle.avr_laws.specs.AskedPlan.{Holding, IsAsked}

@@ -1,6 +1,5 @@
 -- Over few bad turns each step gives its data.
-use Rattle.std.proofs.Common.{◌≡◌, ℕ, zero, suc, ◌+◌, ◌*◌, ◌≤◌, List, [], ◌∷◌, ◌++◌, length, refl, sym, ap, ◌∙◌, subst, arith, append_assoc, inl, inr, ◌⊎◌, Ok, Err, rules}
-use Rattle.std.proofs.lemmas.List.{append-nil}
+use Rattle.std.proofs.Common.{◌≡◌, ℕ, zero, suc, ◌+◌, ◌*◌, ◌≤◌, List, [], ◌∷◌, ◌++◌, length, refl, sym, ap, ◌∙◌, subst, arith, inl, inr, ◌⊎◌, Ok, Err, rules}
 use Rattle.std.specs.Prelude.{⊤}
 use Rattle.avr_part.specs.Part.{Part, IsPart}
 use Rattle.stk_frame.specs.declared.command.Command.{Command}
@@ -8,21 +7,21 @@ use Rattle.stk_frame.specs.declared.command.Command.TheVariants.{LoadAddress}
 use Rattle.stk_frame.specs.Commands.{body}
 use Rattle.stk_host.specs.declared.fault.StepFault.{StepFault}
 use Rattle.stk_host.specs.declared.fault.StepFault.TheVariants.{NoAnswer}
-use Rattle.stk_host.specs.Dialog.{Dialog, Done, Say, Ask, ◌>>=◌}
+use Rattle.stk_host.specs.Dialog.{Dialog, Done, Say, Ask}
 use Rattle.stk_host.specs.Bound.{AsksAtMost}
-use Rattle.stk_host.specs.Steps.{Reply, Data, Again, Stop, StepOutcome, reading_reply, with_data, exchange, attempt, tries, step, if_done, play}
-use Rattle.stk_host.proofs.Dialogs.Logic.{HoldsFrom, NoSays, OnReply, done, ask, bind, told, wider, attempts}
+use Rattle.stk_host.specs.Steps.{Reply, Data, Again, Stop, StepOutcome, reading_reply, with_data, exchange, attempt, tries, step, play}
+use Rattle.stk_host.proofs.Dialogs.Logic.{OnReply, done, ask, wider, attempts}
 use Rattle.stk_host.proofs.Dialogs.Questions.{step_most}
-use Rattle.stk_emu.specs.Turn.{Turn, Became, Anew, Instead, Ending, Right, Wrong, after_turn, turn_reading, first_turn, other_turns}
+use Rattle.stk_emu.specs.Turn.{Turn, after_turn, turn_reading, first_turn, other_turns}
 use Rattle.stk_emu.specs.Programmer.{Programmer}
 use Rattle.stk_emu.specs.Device.{device}
 use Rattle.stk_emu.specs.Along.{along}
 use Rattle.stk_emu.specs.Effect.{Memories}
-use Rattle.avr_laws.specs.Few.{bad, bad_became, bad_in, FewOf, AreFew, lost, each_second}
+use Rattle.avr_laws.specs.Few.{bad, bad_in, FewOf, AreFew, lost, each_second}
 use Rattle.avr_tool.specs.AnyLine.{AreGood}
 use Rattle.stk_emu.specs.Fits.{Fits}
 use Rattle.stk_emu.specs.Settled.{Ready, FitsPart}
-use Rattle.stk_emu.specs.PageWrites.{changed, changed_by, IsStep, AreSteps}
+use Rattle.stk_emu.specs.PageWrites.{IsStep, AreSteps}
 use Rattle.stk_emu.specs.Given.{on_data, reply_to, joined_reply, given_by, all_given}
 use Rattle.avr_tool.proofs.Hosts.AnyTurn.{AfterStep, try_goes}
 use Rattle.avr_tool.proofs.Hosts.OneLink.{Spot, this_link, Runs, on_link, both}

@@ -9,13 +9,12 @@ use Rattle.avr_desk.proofs.Desks.InMemory.{all_true, begins_true}
 use Rattle.avr_desk.proofs.FileUses.Uses.{absent_used, files_used, openings_used}
 use Rattle.avr_desk.specs.Memory.{MemDeskState, Stock, memory_state, stock_of}
 use Rattle.avr_desk.specs.Playing.{Went, WentRefused}
-use Rattle.avr_desk.specs.Record.{Bytes, DeskState, Record, all_files, all_openings, all_uses, file_of, files_among, nothing_kept, openings_among, written_on}
+use Rattle.avr_desk.specs.Record.{Bytes, DeskState, Record, all_files, all_openings, all_uses, file_of, files_among, nothing_kept, openings_among}
 use Rattle.avr_desk.specs.Said.{OutputEvent, Opens, Line, Creates, Writes, Outs, after, after_all}
 use Rattle.avr_desk.specs.Stage.{StageAnswer, Made, Refused, Unread, StageResult, all_told, told_in}
 use Rattle.avr_desk.specs.Truth.{AreTrue, HoldsTrue, IsTrueOpening}
 use Rattle.avr_desk.specs.declared.record.FileUse.{FileUse}
 use Rattle.avr_desk.specs.declared.record.FileUse.TheVariants.{Opened, Created}
-use Rattle.avr_desk.specs.declared.record.Open.{Open}
 use Rattle.avr_desk.specs.declared.record.Opening.{Opening}
 use Rattle.avr_desk.specs.declared.record.Writing.{Writing}
 use Rattle.avr_laws.proofs.Plans.FilesRead.{seen_first, seen_is_planned}

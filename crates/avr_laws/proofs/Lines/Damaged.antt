@@ -1,18 +1,17 @@
 -- A link that loses or delays whole frames, and damages at most one byte of each, forges no frame.
-use Rattle.std.proofs.Common.{◌≡◌, ◌≢◌, ℕ, zero, suc, ◌+◌, ◌-◌, ◌<◌, ◌≤◌, List, [], ◌∷◌, ◌++◌, length, take, drop, refl, sym, ap, subst, append_assoc, if◌then◌else◌, ◌∙◌, arith, inl, inr, ◌⊎◌, Bool, true, false, Option, Some, None, length-append, rules}
-use Rattle.std.proofs.lemmas.Bool.{cases_Bool, and_parts, eqb-true, false≢true, cond-true, cond-false, lt-leb}
+use Rattle.std.proofs.Common.{◌≡◌, ℕ, zero, suc, ◌+◌, ◌-◌, ◌<◌, ◌≤◌, List, [], ◌∷◌, ◌++◌, length, take, refl, sym, ap, subst, append_assoc, if◌then◌else◌, ◌∙◌, arith, inl, inr, ◌⊎◌, Bool, true, false, Option, Some, None, length-append}
+use Rattle.std.proofs.lemmas.Bool.{cases_Bool, and_parts, eqb-true, false≢true, cond-true, cond-false}
 use Rattle.std.proofs.Math.Seq.{take-append-add}
 use Rattle.std.proofs.lemmas.List.{append-nil}
 use Rattle.std.proofs.lemmas.List.Elements.{All-head, All-tail}
 use Rattle.std.proofs.lemmas.Nat.{xor_comm}
 use Rattle.std.specs.Int.Bits.{xor_self, xor_assoc, xor_zero_r}
 use Rattle.std.specs.List.{concat}
-use Rattle.std.specs.Prelude.{All, bit_xor, fold, filter, nat_le, ◌==◌, ◌&&◌}
+use Rattle.std.specs.Prelude.{All, bit_xor, fold, filter, ◌==◌}
 use Rattle.stk_frame.specs.Frame.{frame, xor_all}
 use Rattle.stk_frame.specs.Cut.{cut, frames, IsPiece, is_good, is_frame, body_of}
 use Rattle.stk_frame.proofs.Laws.{cut_first, frame_is_piece, frame_is_good, body_of_frame}
-use Rattle.stk_host.specs.declared.link.Item.TheVariants.{Byte, Silence, End}
-use Rattle.stk_host.specs.Tape.{Tape, on_tape, bytes_in, Reading, Answered, answer, read_to, silence_or_end, first_answer, is_answer, further, limit}
+use Rattle.stk_host.specs.Tape.{Tape, on_tape, bytes_in, Reading, Answered, answer, first_answer, is_answer, further, limit}
 use Rattle.stk_host.specs.Dialog.{Dialog, Done, Say, Ask, next}
 use Rattle.stk_host.proofs.Tapes.Answers.{answer_silent, answer_ended, answer_waits, answer_found, on_tape_append, further_zero}
 use Rattle.stk_emu.specs.Device.{Device, refusal}

@@ -1,30 +1,26 @@
 -- With status 0 each file that a memory was read into has the text of what the chip held then.
-use Rattle.std.proofs.Common.{◌≡◌, ◌∙◌, sym, ap, subst, ℕ, Bool, true, false, List, [], ◌∷◌, ◌++◌, append_assoc, append-nil, refl, inl, inr, Result, Ok, Err, if◌then◌else◌, rules}
-use Rattle.std.specs.Prelude.{codes, filter, not}
-use Rattle.std.proofs.lemmas.Bool.{cases_Bool, cond-true, cond-false}
-use Rattle.std.proofs.lemmas.Bool.Decides.{nat_tests}
+use Rattle.std.proofs.Common.{◌≡◌, ◌∙◌, sym, ap, subst, ℕ, Bool, true, false, List, [], ◌∷◌, ◌++◌, append_assoc, append-nil, refl, Result, Ok, Err, if◌then◌else◌, rules}
+use Rattle.std.specs.Prelude.{codes, not}
+use Rattle.std.proofs.lemmas.Bool.{cases_Bool}
 use Rattle.std.proofs.lemmas.List.Elements.{filter-append}
 use Rattle.avr_cli.specs.declared.settings.Switches.{Switches}
-use Rattle.avr_cli.specs.declared.update.Format.{Format}
 use Rattle.avr_desk.proofs.FileUses.Uses.{files_absent, files_opened, files_used}
 use Rattle.avr_desk.proofs.Stages.Outputs.{after_append}
 use Rattle.avr_desk.specs.Named.{is_dash}
 use Rattle.avr_desk.specs.Record.{Bytes, DeskState, Passes, Record, all_files}
-use Rattle.avr_desk.specs.Said.{OutputEvent, Opens, Line, Creates, Writes, Outs, after, after_all}
+use Rattle.avr_desk.specs.Said.{OutputEvent, Opens, Line, Creates, Writes, Outs, after_all}
 use Rattle.avr_desk.specs.declared.record.Open.TheVariants.{ToRead}
 use Rattle.avr_desk.specs.declared.record.Opening.{Opening}
 use Rattle.avr_desk.specs.declared.record.Opening.TheVariants.{Absent, Found}
 use Rattle.avr_desk.specs.declared.record.Writing.{Writing}
 use Rattle.avr_part.specs.Part.{Part}
-use Rattle.avr_part.specs.declared.part.Mem.{Mem}
 use Rattle.avr_plan.specs.Plan.{Plan}
-use Rattle.avr_session.specs.Actions.{TheErase, TheWrite, LeftOut, Action, OpenSession, EraseChip, WriteImage, CompareImage, SaveMemory, LeaveOut, actions}
-use Rattle.avr_session.specs.FileText.{file_text}
+use Rattle.avr_session.specs.Actions.{TheErase, TheWrite, Action, OpenSession, EraseChip, WriteImage, CompareImage, SaveMemory, LeaveOut, actions}
 use Rattle.avr_session.specs.Lines.{informs, warns}
-use Rattle.avr_session.specs.Session.{fault_or, saving_says, opening_says, verified_says, read_says, left_out_says, status_of, kept_of}
+use Rattle.avr_session.specs.Session.{fault_or, saving_says, status_of}
 use Rattle.avr_session.specs.Standing.{Standing, Fine, Faulty, Over}
 use Rattle.stk_host.specs.declared.fault.HostFault.{HostFault}
-use Rattle.stk_emu.specs.Effect.{Memories, effects, memory_in}
+use Rattle.stk_emu.specs.Effect.{Memories, effects}
 use Rattle.avr_tool.specs.ExpectedRun.{Expected, action_expected, actions_expected, ending_says, expected_run, then_from}
 use Rattle.avr_tool.specs.Items.{action_items}
 use Rattle.avr_laws.specs.Kept.{AreSaved, action_files, actions_files, named_files, put_out, saved_files}

@@ -21,10 +21,8 @@ use Rattle.stk_host.specs.Operations.{difference_from, comparison, host_fault}
 use Rattle.stk_host.specs.declared.fault.HostFault.{HostFault}
 use Rattle.stk_host.specs.declared.fault.StepFault.{StepFault}
 use Rattle.stk_emu.specs.Turn.{Turn}
-use Rattle.stk_emu.specs.Along.{along, said_along}
 use Rattle.stk_emu.specs.Device.{device}
 use Rattle.stk_emu.specs.Effect.{Memories, Image, Item, Erase, Write, effect, effects, memories_of, memory_in}
-use Rattle.avr_tool.proofs.Leads.{Leads}
 use Rattle.stk_emu.specs.Programmer.{Programmer}
 use Rattle.stk_emu.specs.Settled.{Idle, Settled, FitsPart}
 use Rattle.avr_tool.proofs.Given.Comparisons.{no_difference}
@@ -32,13 +30,11 @@ use Rattle.avr_tool.proofs.PageWrites.Pages.{effects_on}
 use Rattle.avr_tool.specs.Items.{action_items, actions_items, items}
 use Rattle.avr_laws.specs.Told.{TellsTrue, count_line, kept_in, IsTrue, ChipErased, BytesWritten, BytesVerified, Differed, BytesSaved, BytesRead, EraseLeftOut, WriteLeftOut, StepFailed, SessionDone}
 use Rattle.avr_tool.proofs.AnyLine.EachAction.{Comes, Passes, ActionTrue, ActionsTrue, opening_comes}
-use Rattle.avr_tool.proofs.AnyLine.Sessions.{AtMoment, AtEnd, at_last, anyhow, session_prints}
+use Rattle.avr_tool.proofs.AnyLine.Sessions.{AtMoment, AtEnd, anyhow, session_prints}
 use Rattle.avr_laws.proofs.Memories.Bytes.{bytes_same, no_difference_if_fine}
 use Rattle.avr_tool.proofs.Hosts.OneLink.{Spot, on_link, this_link}
 use Rattle.avr_tool.proofs.Hosts.Outputs.{AllTrue, End, Moment, Prints, PrintsFrom}
 use Rattle.stk_host.proofs.Dialogs.Logic.{World}
-use Rattle.avr_tool.proofs.Memories.ExpectedAgrees.{expected_status, expected_memories}
-use Rattle.avr_tool.specs.Outcome.{IsTouched, IsDone, IsExpectedRun}
 use Rattle.avr_tool.proofs.Plans.Fits.{FitsAction, AllFitActions, work, work_fits}
 use Rattle.avr_tool.proofs.Plans.Items.{items_on}
 use Rattle.avr_laws.proofs.Plans.Items.{erase_first}

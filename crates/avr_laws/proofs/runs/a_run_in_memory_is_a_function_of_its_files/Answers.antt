@@ -1,4 +1,3 @@
-use Rattle.std.proofs.Common.{rules}
 use Rattle.avr_laws.proofs.KnownFiles.RunsInMemory.{run_is_over_streams, run_is_over_tape}
 use Rattle.avr_laws.proofs.runs.a_run_in_memory_is_a_function_of_its_files.Goals as goal
 
