@@ -2,5 +2,6 @@
 pub mod Saved
 pub mod Promise
 pub mod Kept
+pub mod TwoRuns
 pub mod OverDamage
 pub mod Refused

@@ -59,7 +59,8 @@ pub use planning::{
 pub use runs::{
     a_further_run_heals, a_made_frame_voids_the_promise, a_run_in_memory_has_one_outcome,
     a_run_in_memory_is_a_function_of_its_files, a_sound_run_is_its_expected_run,
-    a_worked_run_has_one_outcome, a_wrong_outcome_is_refused, status_0_means_the_images,
+    a_worked_run_has_one_outcome, a_wrong_outcome_is_refused,
+    an_ended_run_and_one_with_status_0_are_as_one, status_0_means_the_images,
 };
 pub use two_processes::{
     a_prompt_line_brings_the_expected_run, a_server_sends_the_answers_to_what_it_heard,

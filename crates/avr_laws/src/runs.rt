@@ -16,7 +16,7 @@ ghost use Rattle.avr_session.specs.PlanSteps.{run_steps};
 ghost use Rattle.avr_tool.specs.ExpectedRun.{expected_run};
 ghost use Rattle.avr_tool.specs.Items.{items, asked_items, has_erase};
 ghost use Rattle.avr_tool.specs.Outcome.{IsExpectedRun, IsDone};
-ghost use Rattle.avr_tool.specs.Written.{IsWritten};
+ghost use Rattle.avr_tool.specs.Written.{IsWritten, written_to};
 ghost use Rattle.avr_desk.specs.Said.{OutputEvent, after_all};
 ghost use Rattle.avr_part.specs.Part.{IsPart};
 ghost use Rattle.avr_part.specs.Sound.{IsSoundChip};
@@ -33,14 +33,17 @@ ghost use Rattle.stk_emu.specs.Device.{device};
 ghost use Rattle.stk_emu.specs.Effect.{memories_of, erase_keeps_eeprom, effects};
 ghost use Rattle.avr_laws.specs.Few.{AreFew};
 ghost use Rattle.avr_laws.specs.AskedPlan.{Gave, IsAsked};
-ghost use Rattle.avr_laws.specs.Kept.{IsKept};
+ghost use Rattle.avr_laws.specs.Kept.{IsKept, NoneForged};
 ghost use Rattle.stk_emu.specs.Programmer.{Programmer, fresh_programmer};
+ghost use Rattle.stk_host.specs.Play.{IsPrefixOf};
+ghost use Rattle.avr_tool.specs.Agrees.{Shows};
+ghost use Rattle.avr_part.specs.declared.part.Mem.{Mem};
 ghost use Rattle.stk_emu.specs.Settled.{FitsPart};
 ghost use Rattle.stk_emu.specs.Wire.{turns_of};
 ghost use Rattle.stk_emu.specs.Wired.{WiredState};
 ghost use Rattle.stk_frame.specs.Cut.{body_of, frames};
 ghost use Rattle.stk_emu.specs.Turn.{Became, Turn};
-ghost use Rattle.avr_laws.specs.AnyTape.{CameThrough};
+ghost use Rattle.avr_laws.specs.AnyTape.{CameThrough, after_bytes};
 ghost use Rattle.avr_laws.specs.NoFrame.{MakesNoFrame};
 ghost use Rattle.stk_host.specs.Dialog.{Event, played, bytes_sent, outputs};
 ghost use Rattle.stk_host.specs.Transcript.{Transcript, heard, sent};
@@ -75,6 +78,31 @@ pub fn status_0_means_the_images<D: Desk, L: Link>(
 {
     run(alloc, settings, desk, link)
 }
+
+/// States that a run that ended anywhere, and then one with status 0, leave what one run leaves. The first sent any prefix
+/// of its bytes: it was killed, or its link failed. The programmer may then be in any state, as long as its chip holds what
+/// the first run left.
+///
+/// If the plan erases and the chip keeps EEPROM at an erase, each byte that the plan writes to the high fuse must keep it
+/// too. If the second run was verified, each memory holds its images.
+// Proof: `as_one` and `images_there` (Outcomes/TwoRuns), by `done_again` (SecondRun/Status).
+pub fn an_ended_run_and_one_with_status_0_are_as_one()
+    ensures { (plan : Plan) (first second : Transcript) (old now : DeskState) (p q : Programmer)
+        → All (IsFitted plan.part) plan.tasks → IsSoundChip p.chip → p.chip.part ≡ plan.part
+        → (has_erase (items plan) ≡ true → erase_keeps_eeprom plan.part (memories_of p.chip) ≡ true
+        → AreKeeping plan.part (items plan))
+        → (got : List ℕ) (later : List (List ℕ)) (becames : List Became)
+        → IsPrefixOf (sent first) (bytes_sent (played (session plan) 1 (heard first)).events)
+        → CameThrough got later (frames (sent first)) becames
+        → MakesNoFrame device (session plan) 1 (heard first) p becames []
+        → (over : List ℕ) (more : List (List ℕ)) (others : List Became) → IsSoundChip q.chip
+        → q.chip.part ≡ plan.part → memories_of q.chip ≡ memories_of (after_bytes device got later p).chip
+        → IsKept plan second old now → CameThrough over more (frames (sent second)) others
+        → NoneForged device (frames (sent second)) (heard second) q others []
+        → (memories_of (after_bytes device over more q).chip ≡ effects plan.part (items plan) (memories_of p.chip))
+        × (plan.switches.no_verify ≡ false → (mem : Mem) → Shows plan.part mem
+        (written_to plan.part mem (asked_items plan)) (memories_of (after_bytes device over more q).chip)) }
+{}
 
 /// States what the page refuses of a run over a wire. With status 0: memories that the plan's writes don't leave, or
 /// output other than over a perfect link. With any status: a chip that changed though no frame was sent, or more than

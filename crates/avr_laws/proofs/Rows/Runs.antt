@@ -1,12 +1,14 @@
 -- What the promise refuses: worked wrong outcomes of its two laws. docs/PROMISE.md lists them.
-use Rattle.std.proofs.Common.{◌≡◌, ◌∙◌, ap, refl, sym, arith, ℕ, Bool, true, false, ◌≤◌, List, [], ◌∷◌, ◌++◌, length, Some, None, Ok, subst, rules}
+use Rattle.std.proofs.Common.{◌≡◌, ◌∙◌, ap, refl, sym, arith, ℕ, suc, Bool, true, false, ◌≤◌, List, [], ◌∷◌, ◌++◌, length, Option, Some, None, Ok, subst, rules}
 use Rattle.std.specs.Prelude.{codes, if◌then◌else◌, unwrap_or}
 use Rattle.std.specs.Str.{bytes_eq}
 use Rattle.avr_cli.specs.declared.settings.Settings.{Settings}
 use Rattle.avr_cli.specs.declared.settings.Switches.{Switches}
 use Rattle.avr_cli.specs.declared.update.Format.TheVariants.{Raw}
 use Rattle.avr_cli.specs.declared.update.Op.TheVariants as op
+use Rattle.avr_desk.specs.Named.{newest}
 use Rattle.avr_desk.specs.Record.{Bytes}
+use Rattle.avr_desk.specs.declared.record.Writing.{Writing}
 use Rattle.avr_desk.specs.Stage.{Made}
 use Rattle.avr_desk.specs.declared.record.Opening.{Opening}
 use Rattle.avr_desk.specs.declared.record.Opening.TheVariants.{Found}
@@ -37,7 +39,7 @@ use Rattle.stk_host.specs.Transcript.{heard, sent}
 use Rattle.avr_laws.specs.Again.{chip_of}
 use Rattle.avr_laws.specs.AnyTape.{CameThrough, Got, after_bytes, getting, let_through}
 use Rattle.avr_tool.specs.Items.{items, asked_items}
-use Rattle.avr_laws.specs.Kept.{NoneForged}
+use Rattle.avr_laws.specs.Kept.{NoneForged, named_files, saved_files}
 use Rattle.avr_tool.specs.Written.{IsWritten}
 use Rattle.avr_laws.proofs.SecondRun.PlanRows.{tiny, erasing}
 use Rattle.avr_laws.proofs.Outcomes.Kept.{kept}
@@ -116,25 +118,26 @@ whole_page = refl
 abbrev sign_on : List ℕ
 sign_on = frame 1 (0x01 ∷ [])
 
--- after a restart it got more
-no_fewer : (became : Became) (piece : List ℕ) (g : Got) → length g.1 ≤ length (getting became piece g).1
-no_fewer Kept piece g = omega arith
-no_fewer Obeyed piece g = omega arith
-no_fewer (Anew became) piece g = let more = no_fewer became piece ([], g.0 ∷ g.1) in omega (arith, more)
+no_more : (became : Became) (piece : List ℕ) (g : Got) → length (getting became piece g).0 ≤ suc (length g.0)
+no_more Kept piece g = omega arith
+no_more Obeyed piece g = omega arith
+no_more (Anew became) piece g = let one = no_more became piece ([], g.0 ∷ g.1) in omega (arith, one)
 
-no_restart : (became : Became) {got : List (List ℕ)} → getting became sign_on ([], [] ∷ []) ≡ (got, []) → ⊥
-no_restart became is =
-    let more = no_fewer became sign_on ([], [] ∷ []) in
-    let none = ap (λ (g : Got). length g.1) is in omega (arith, more, none)
+none_sent : (becames : List Became) → length (let_through becames []).0 ≡ 0
+none_sent [] = refl
+none_sent (became ∷ more) = refl
+
+once : (becames : List Became) → length (let_through becames (sign_on ∷ [])).0 ≤ 1
+once [] = omega arith
+once (became ∷ more) =
+    let one = no_more became sign_on (let_through more []) in
+    let none = none_sent more in omega (arith, one, none)
 
 pub twice : (becames : List Became) → CameThrough (sign_on ++ sign_on) [] (sign_on ∷ []) becames → ⊥
-twice [] came = cc came.good
-twice (Kept ∷ []) came = cc came.good
-twice (Kept ∷ more ∷ becames) came = cc came.good
-twice (Obeyed ∷ []) came = cc came.good
-twice (Obeyed ∷ more ∷ becames) came = cc came.good
-twice (Anew became ∷ []) came = no_restart became came.good
-twice (Anew became ∷ more ∷ becames) came = no_restart became came.good
+twice becames came =
+    let few = once becames in
+    let two : length (let_through becames (sign_on ∷ [])).0 ≡ 2 = ap (λ (g : Got). length g.0) came.good in
+    omega (arith, few, two)
 
 -- 6. Status 0 with a wrong byte, or with a byte missing.
 pub a_wrong_byte : Holds (1 ∷ 3 ∷ 255 ∷ 255 ∷ []) → ⊥
@@ -226,8 +229,31 @@ module _ (off : Bool) (after : Files) (p : Promised (settings off) (codes "chip"
   pub no_image : after (codes "chip") ≡ Some (chip_file (fresh 0xFF)) → ⊥
   no_image = another_byte 0xFF (λ e. omega (arith, e))
 
+  abbrev first_of : Bytes → ℕ
+  first_of [] = 0
+  first_of (byte ∷ bytes) = byte
+
+  -- no task reads a memory
+  abbrev saved_by : Switches → List Task → List Writing
+  saved_by s these = saved_files (record { part = p.plan.part; tasks = these; switches = s }) (memories_of p.chip)
+
+  none_saved : saved_files p.plan (memories_of p.chip) ≡ []
+  none_saved = ap (λ (s : Switches). saved_by s p.plan.tasks) p.asked.switches
+      ∙ (ap (saved_by (switches off)) tasks_are ∙ by_switch off)
+    where
+      by_switch : (b : Bool) → saved_by (switches b) (tasks 0xE2) ≡ []
+      by_switch true = refl
+      by_switch false = refl
+
+  unchanged : (name : Bytes) → (name ≡ codes "chip" → ⊥) → after name ≡ files name
+  unchanged name differs = p.others name differs
+      ∙ ap (λ (saved : List Writing). newest name (files name) (named_files saved)) none_saved
+
   pub another_changed : after (codes "other") ≡ Some (0x63 ∷ []) → ⊥
-  another_changed is = search rules
+  another_changed is =
+      let byte : 0x63 ≡ 0x62 =
+      ap (λ (held : Option Bytes). first_of (unwrap_or held [])) (sym is ∙ unchanged (codes "other") (λ e. cc e)) in
+      omega (arith, byte)
 
   pub another_created : after (codes "new") ≡ Some [] → ⊥
-  another_created is = cc (sym is ∙ p.others (codes "new") (λ e. cc e) (search rules))
+  another_created is = cc (sym is ∙ unchanged (codes "new") (λ e. cc e))
