@@ -13,5 +13,6 @@ pub mod Plans
 pub mod KnownFiles
 pub mod Outcomes
 pub mod ChipFile
+pub mod KeptByPort
 pub mod TwoProcesses
 pub mod Rows

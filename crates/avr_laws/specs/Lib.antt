@@ -20,6 +20,8 @@ pub mod ChipFound
 pub mod Promise
 pub mod Worked
 pub mod Killed
+-- the program, port by port
+pub mod KeptByPort
 -- two processes
 pub mod TwoProcesses
 -- of the crates below, the definitions that public contracts cite

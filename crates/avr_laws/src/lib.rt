@@ -24,6 +24,8 @@ mod runs;
 // runs over the emulator and its chip file, and what a crash leaves of it
 mod chip_file;
 mod crashes;
+// the program, from its command line on
+mod program;
 // a session and a server in two processes
 mod two_processes;
 
@@ -57,6 +59,7 @@ pub use planning::{
     a_plan_fits_its_part, a_plan_is_of_whole_files, a_plan_is_the_one_asked_for,
     a_plan_only_reads_and_warns, a_sound_plan_is_refused_aloud,
 };
+pub use program::a_program_with_status_0_kept_its_plan;
 pub use runs::{
     a_further_run_heals, a_made_frame_voids_the_promise, a_run_in_memory_has_one_outcome,
     a_run_in_memory_is_a_function_of_its_files, a_sound_run_is_its_expected_run,

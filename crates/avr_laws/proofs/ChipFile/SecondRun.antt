@@ -75,7 +75,7 @@ first_frame : (plan : Plan) (tape : Tape)
 unfolding session opening handshake tries attempt exchange
 first_frame plan tape = (_, refl)
 
-no_silence : (plan : Plan) (chip : Chip) (after : WiredState) (d e : DeskState) (ran : ℕ)
+pub no_silence : (plan : Plan) (chip : Chip) (after : WiredState) (d e : DeskState) (ran : ℕ)
     → RunsSession plan (devices (wired_link (new_wire chip [])) d) (devices (wired_link after) e) ran
     → sent after.transcript ≡ [] → ran ≡ 0 → ⊥
 no_silence plan chip after d e ran (inl (place, whole)) none zero =

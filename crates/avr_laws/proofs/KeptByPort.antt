@@ -1,0 +1,3 @@
+-- the chip file of a run over the emulator; each port of the program
+pub mod InFile
+pub mod EachPort

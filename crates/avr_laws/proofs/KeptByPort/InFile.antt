@@ -1,0 +1,203 @@
+-- A run over the emulator with status 0: its plan was kept for the chip of its file.
+use Rattle.std.proofs.Common.{◌≡◌, ◌∙◌, inl, inr, ap, subst, sym, refl, ℕ, List, [], ◌∷◌, ◌++◌, append-nil, Option, None, Some, arith, rules}
+use Rattle.std.proofs.lemmas.Grind.{common_steps}
+use Rattle.std.proofs.lemmas.Bool.Decides.{nat_tests}
+use Rattle.avr_cli.specs.declared.settings.Settings.{Settings}
+use Rattle.avr_desk.proofs.FileUses.Uses.{openings_append}
+use Rattle.avr_desk.proofs.Stages.Breaks.{openings_in, openings_shown}
+use Rattle.avr_desk.specs.Record.{Bytes, DeskState, Passes, Record, all_files, all_openings, with_replaced}
+use Rattle.avr_desk.specs.Said.{OutputEvent, Opens, after_all}
+use Rattle.avr_desk.specs.Stage.{Made, StageResult, next_opening}
+use Rattle.avr_desk.specs.declared.record.Opening.{Opening}
+use Rattle.avr_desk.specs.declared.record.Opening.TheVariants.{Absent, Found}
+use Rattle.avr_desk.specs.declared.record.Writing.{Writing}
+use Rattle.avr_part.specs.ChipFile.{chip_file}
+use Rattle.avr_part.specs.Part.{Part}
+use Rattle.avr_part.specs.State.{ChipState as Chip}
+use Rattle.avr_plan.specs.Plan.{Plan}
+use Rattle.avr_tool.specs.AnyLine.{ComesOverTurns, events_over}
+use Rattle.avr_tool.specs.Emulated.{IsSaved, RunsOverEmulator, new_wire}
+use Rattle.avr_tool.specs.Loading.{chip_stage}
+use Rattle.avr_tool.specs.Outcome.{IsExpectedRun}
+use Rattle.stk_emu.specs.Device.{device}
+use Rattle.stk_emu.specs.Effect.{Memories, memories_of}
+use Rattle.stk_emu.specs.Programmer.{Programmer, fresh_programmer}
+use Rattle.stk_emu.specs.Turn.{Turn, other_turns}
+use Rattle.stk_emu.specs.Wire.{turns_of}
+use Rattle.stk_host.specs.Dialog.{Event, Frame, Said, outputs}
+use Rattle.stk_host.specs.Transcript.{sent}
+use Rattle.avr_laws.proofs.AnyWire.{came_to, emulated_wire}
+use Rattle.avr_laws.proofs.ChipFile.Found.{found, found_kept}
+use Rattle.avr_laws.proofs.ChipFile.SecondRun.{no_silence}
+use Rattle.avr_laws.proofs.Outcomes.Saved.{WritesFiles, expected_writes, reading_writes, these_saved}
+use Rattle.avr_laws.proofs.Plans.Given.{later_asked, went_asked}
+use Rattle.avr_laws.proofs.Plans.OnlyReading.{only_reads}
+use Rattle.avr_laws.specs.ChipFound.{IsChipOf}
+use Rattle.avr_laws.specs.FilesRead.{read_whole}
+use Rattle.avr_laws.specs.Kept.{AreSaved, named_files, put_out, saved_files}
+use Rattle.avr_laws.specs.KeptByPort.{IsKeptIn, KeepsPlan}
+use Rattle.avr_laws.specs.OnlyReading.{OnlyReads}
+use Rattle.avr_laws.specs.Told.{IsTrue, SaidTrue, SignatureRead, ChipErased, EraseLeftOut, BytesWritten, WriteLeftOut, BytesVerified, Differed, BytesSaved, BytesRead, StepFailed, SessionDone}
+
+pub no_one : ◌≡◌ {A = ℕ} 0 1 → ⊥
+no_one e = cc
+
+-- ---- the chip that an opening gives
+
+gave_chip : (part : Part) (file : Bytes) (openings : List Opening) (chip : Chip)
+    → (chip_stage part file openings).answer ≡ Made chip
+    → (found : Option Bytes) × ((next_opening file openings ≡ read_whole file found) × IsChipOf part found chip)
+gave_chip part file [] chip made = (None, (refl, (search rules)))
+gave_chip part file (Absent name ∷ openings) chip made = (None, (refl, (search rules)))
+gave_chip part file (Found reading ∷ openings) chip made =
+    (Some reading.bytes, ((grind (arith, common_steps, nat_tests)), (grind (arith, common_steps, nat_tests))))
+
+-- ---- reading changes no file
+
+quiet : (says : List OutputEvent) → OnlyReads says → (k : Record)
+    → (all_files (after_all says k) ≡ all_files k) × ((after_all says k).output ≡ k.output)
+quiet says reads k =
+    let writes : WritesFiles says [] = reading_writes says reads in
+    (writes.created k ∙ append-nil (all_files k), writes.output k ∙ append-nil k.output)
+
+-- ---- a session opens no file
+
+module _ (plan : Plan) (before : Memories) where
+  not_opened : (now : Memories) (output : OutputEvent) (later : List OutputEvent) → IsTrue plan before now output
+      → openings_in (output ∷ later) ≡ openings_in later
+  not_opened now output later (SignatureRead e) = ap (λ o. openings_in (o ∷ later)) e
+  not_opened now output later (ChipErased has e after) = ap (λ o. openings_in (o ∷ later)) e
+  not_opened now output later (EraseLeftOut has e) = ap (λ o. openings_in (o ∷ later)) e
+  not_opened now output later (BytesWritten mem image first rest e order after) = ap (λ o. openings_in (o ∷ later)) e
+  not_opened now output later (WriteLeftOut mem image has e) = ap (λ o. openings_in (o ∷ later)) e
+  not_opened now output later (BytesVerified mem image has e shows) = ap (λ o. openings_in (o ∷ later)) e
+  not_opened now output later (Differed mem image fault has e differs) = ap (λ o. openings_in (o ∷ later)) e
+  not_opened now output later (BytesSaved mem format file has (inl e)) = ap (λ o. openings_in (o ∷ later)) e
+  not_opened now output later (BytesSaved mem format file has (inr (inl e))) = ap (λ o. openings_in (o ∷ later)) e
+  not_opened now output later (BytesSaved mem format file has (inr (inr e))) = ap (λ o. openings_in (o ∷ later)) e
+  not_opened now output later (BytesRead mem format file has e) = ap (λ o. openings_in (o ∷ later)) e
+  not_opened now output later (StepFailed fault e) = ap (λ o. openings_in (o ∷ later)) e
+  not_opened now output later (SessionDone e) = ap (λ o. openings_in (o ∷ later)) e
+
+  none_opened : (events : List (Event OutputEvent)) (turns : List Turn) (p : Programmer)
+      → SaidTrue device (λ q output. IsTrue plan before (memories_of q.chip) output) events turns p
+      → openings_in (outputs events) ≡ []
+  none_opened [] turns p were = refl
+  none_opened (Frame bytes ∷ events) turns p were = none_opened events (other_turns turns) _ were
+  none_opened (Said output ∷ events) turns p were =
+      not_opened (memories_of p.chip) output (outputs events) were.0 ∙ none_opened events turns p were.1
+
+openings_replaced : (name bytes : Bytes) (r : Record) → all_openings (with_replaced name bytes r) ≡ all_openings r
+openings_replaced name bytes r = grind (arith, nat_tests, append-nil, openings_append)
+
+-- ---- with status 0 the chip is saved
+
+saved_so : (out : List ℕ) (old new : DeskState) (file bytes : Bytes) (ran : ℕ) → (out ≡ [] → ran ≡ 0 → ⊥)
+    → IsSaved out old new file bytes ran 0 → Passes (with_replaced file bytes) old new
+saved_so [] old new file bytes ran some saved = absurd (some refl (sym saved.1))
+saved_so (byte ∷ out) old new file bytes ran some (inl saved) = saved.0.0
+saved_so (byte ∷ out) old new file bytes ran some (inr failed) = absurd (no_one failed.2)
+
+module _ (settings : Settings) (file : Bytes) (old new : DeskState) (r : RunsOverEmulator settings file old new 0) where
+  abbrev left : Chip
+  left = r.after.wire.programmer.chip
+
+  abbrev before : Memories
+  before = memories_of r.chip
+
+  abbrev said : List OutputEvent
+  said = outputs (events_over r.plan r.after)
+
+  abbrev files : List Writing
+  files = saved_files r.plan before
+
+  zero : r.ran ≡ 0
+  zero = search rules
+
+  came : ComesOverTurns r.plan before (memories_of left) (turns_of []) said r.ran
+      × Passes (after_all said) r.loaded_desk r.played_desk
+  came = came_to r.plan (new_wire r.chip []) r.after r.loaded_desk r.played_desk r.ran r.line zero
+
+  expected : IsExpectedRun r.plan before (memories_of left) said r.ran
+  expected = came.0.success zero
+
+  replaced : Passes (with_replaced file (chip_file left)) r.played_desk new
+  replaced = saved_so (sent r.after.transcript) r.played_desk new file (chip_file left) r.ran
+      (no_silence r.plan r.chip r.after r.loaded_desk r.played_desk r.ran r.runs) r.saved
+
+  -- ---- the opening of the chip file
+
+  abbrev opening : Opening
+  opening = found r.plan.part file r.loaded.held_desk r.loaded_desk r.chip r.loaded.loaded
+
+  gave : (found : Option Bytes) × ((opening ≡ read_whole file found) × IsChipOf r.plan.part found r.chip)
+  gave = gave_chip r.plan.part file (r.loaded.loaded.passed ++ []) r.chip
+      (ap (λ (p : StageResult Chip). p.answer) (r.loaded.loaded.comes []))
+
+  loads : r.loaded_desk.kept ≡ after_all (Opens opening ∷ []) r.loaded.held_desk.kept
+  loads = found_kept r.plan.part file r.loaded.held_desk r.loaded_desk r.chip r.loaded.loaded
+
+  none : openings_in said ≡ []
+  none = none_opened r.plan before (events_over r.plan r.after) (turns_of []) (fresh_programmer r.chip)
+      (emulated_wire r).line.believable
+
+  opened : all_openings new.kept ≡ all_openings r.planned_desk.kept ++ read_whole file gave.0 ∷ []
+  opened =
+      ap all_openings replaced
+      ∙ (openings_replaced file (chip_file left) r.played_desk.kept
+      ∙ (ap all_openings came.1
+      ∙ (openings_shown said r.loaded_desk.kept
+      ∙ (ap (λ (os : List Opening). all_openings r.loaded_desk.kept ++ os) none
+      ∙ (append-nil (all_openings r.loaded_desk.kept)
+      ∙ (ap all_openings loads
+      ∙ (openings_shown (Opens opening ∷ []) r.loaded.held_desk.kept
+      ∙ (ap (λ (k : Record). all_openings k ++ opening ∷ []) r.loaded.held.0
+      ∙ ap (λ (o : Opening). all_openings r.planned_desk.kept ++ o ∷ []) gave.1.0))))))))
+
+  -- ---- the files that memories were read into
+
+  planned_read : OnlyReads r.made.says
+  planned_read = search (rules, only_reads settings (r.made.passed ++ []))
+
+  begun : (all_files r.loaded_desk.kept ≡ all_files old.kept) × (r.loaded_desk.kept.output ≡ old.kept.output)
+  begun =
+      let first = quiet r.made.says planned_read old.kept in
+      let second = quiet (Opens opening ∷ []) tt r.loaded.held_desk.kept in (
+        ap all_files loads ∙ (second.0 ∙ (ap all_files r.loaded.held.0 ∙ (ap all_files r.made.kept ∙ first.0))),
+        ap (λ (k : Record). k.output) loads
+            ∙ (second.1
+            ∙ (ap (λ (k : Record). k.output) r.loaded.held.0 ∙ (ap (λ (k : Record). k.output) r.made.kept ∙ first.1))),
+      )
+
+  session_saved : AreSaved files r.loaded_desk r.played_desk
+  session_saved = these_saved said files r.loaded_desk r.played_desk
+      (subst (λ (says : List OutputEvent). WritesFiles says files) (sym expected.said)
+      (expected_writes r.plan before (sym expected.status_is ∙ zero))) came.1
+
+  saved : AreSaved files old r.played_desk
+  saved = record {
+    created = session_saved.created ∙ ap (λ (first : List Writing). first ++ named_files files) begun.0;
+    output = session_saved.output ∙ ap (λ (bytes : Bytes). bytes ++ put_out files) begun.1;
+  }
+
+  -- ---- so the plan was kept
+
+  pub file_kept : KeepsPlan settings old new (λ plan. IsKeptIn file plan old new)
+  file_kept = (
+    r.plan,
+    (
+      later_asked settings r.plan old r.planned_desk new (read_whole file gave.0 ∷ []) opened
+          (went_asked settings r.plan old r.planned_desk r.made),
+      record {
+        before = all_openings r.planned_desk.kept;
+        found = gave.0;
+        chip = r.chip;
+        left = left;
+        ended = r.played_desk;
+        opened = opened;
+        was = gave.1.1;
+        keeps = record { done = came.0.done zero; images = came.0.images zero; saved = saved };
+        saved = replaced;
+      },
+    ),
+  )

@@ -1,0 +1,14 @@
+use Rattle.avr_desk.specs.Shown.{shown_state}
+use Rattle.avr_session.specs.Runs.{devices}
+use Rattle.avr_tool.specs.Sockets.{peers_of}
+use Rattle.stk_host.specs.Links.{stream_state}
+use Rattle.avr_laws.proofs.KeptByPort.EachPort.{words_kept}
+use Rattle.avr_laws.proofs.program.a_program_with_status_0_kept_its_plan.Goals as goal
+
+pub returns-clause-plan : goal.returns-clause-plan
+returns-clause-plan g c = λ zero silent.
+    words_kept g.C.CommandLine
+    (peers_of g.N.Network g.N.Listener.Callers g.N.Stream.Read g.N.Stream.Write g.N.Stream.Side.closed)
+    (devices (stream_state c.args.link.now) (shown_state c.args.desk.now))
+    (devices (stream_state c.run_command_line.new.link) (shown_state c.run_command_line.new.desk))
+    c.run_command_line.result c.run_command_line.ensures.starts zero silent

@@ -1,0 +1,59 @@
+-- THE PROMISE OF THE PROGRAM: what status 0 says, by the port that the command line names.
+use Rattle.std.specs.Prelude.{◌≡◌, true, List, [], ◌∷◌, ◌++◌, Option, Some, Ok}
+use Rattle.clap.specs.Words.{takes}
+use Rattle.avr_cli.specs.Command.{asked_by, avrstk}
+use Rattle.avr_cli.specs.declared.settings.Port.{Port}
+use Rattle.avr_cli.specs.declared.settings.Port.TheVariants.{Stdio, Emulated, Network, Served}
+use Rattle.avr_cli.specs.declared.settings.Settings.{Settings}
+use Rattle.avr_desk.specs.Record.{Bytes, DeskState, Passes, all_openings, with_replaced}
+use Rattle.avr_desk.specs.declared.record.Opening.{Opening}
+use Rattle.avr_laws.specs.AskedPlan.{Gave, IsAsked}
+use Rattle.avr_laws.specs.ChipFound.{IsChipOf}
+use Rattle.avr_laws.specs.FilesRead.{read_whole}
+use Rattle.avr_laws.specs.Kept.{IsKept, Keeps}
+use Rattle.avr_part.specs.ChipFile.{chip_file}
+use Rattle.avr_part.specs.State.{ChipState as Chip}
+use Rattle.avr_plan.specs.Plan.{Plan}
+use Rattle.avr_session.specs.Runs.{Devices}
+use Rattle.stk_emu.specs.Effect.{memories_of}
+use Rattle.stk_host.specs.Transcript.{LinkState}
+
+-- The last file that was opened is the chip file. It held a chip of the plan's part; without a file the chip is a fresh
+-- one. The plan was kept for this chip. Last of all the file was replaced with the chip that this left.
+pub record IsKeptIn (file : Bytes) (plan : Plan) (old new : DeskState) : Type 0 where
+  pub before : List Opening
+  pub found : Option Bytes
+  pub chip : Chip
+  pub left : Chip
+  pub ended : DeskState
+  pub opened : all_openings new.kept ≡ before ++ read_whole file found ∷ []
+  pub was : IsChipOf plan.part found chip
+  pub keeps : Keeps plan (memories_of chip) (memories_of left) old ended
+  pub saved : Passes (with_replaced file (chip_file left)) ended new
+
+-- The settings and the files that were opened ask for a plan, and this holds of it.
+abbrev pub KeepsPlan : Settings → DeskState → DeskState → (Plan → Type 0) → Type 0
+KeepsPlan settings old new IsSo = (plan : Plan) × (IsAsked settings (Gave old new) plan × IsSo plan)
+
+-- What happened to the one connection to this address: a link over it has this state, or there was none.
+abbrev pub Connected : Type 1
+Connected = Bytes → Option LinkState → Type 0
+
+-- Over standard streams and over a connection to the address, by what passed over the link; over the emulator, by its
+-- chip file. A service has no plan.
+abbrev pub KeepsAt : Connected → Port → Settings → Devices → Devices → Type 0
+KeepsAt At Stdio settings old new =
+    KeepsPlan settings old.desk new.desk (λ plan. IsKept plan new.link.transcript old.desk new.desk)
+KeepsAt At (Network address) settings old new =
+    (link : LinkState) × At address (Some link)
+    × KeepsPlan settings old.desk new.desk (λ plan. IsKept plan link.transcript old.desk new.desk)
+KeepsAt At (Emulated file) settings old new =
+    KeepsPlan settings old.desk new.desk (λ plan. IsKeptIn file plan old.desk new.desk)
+KeepsAt At (Served port file) settings old new = Unit {0}
+
+-- WHAT STATUS 0 SAYS. If these words of the process ask for a run, and not for help, its plan was kept.
+abbrev pub KeepsWords : (List Bytes → Type 0) → Connected → Devices → Devices → Type 0
+KeepsWords AreWords At old new =
+    (words : List Bytes) × AreWords words
+    × (takes avrstk words ≡ true
+    → (settings : Settings) × (Ok settings ≡ asked_by words) × KeepsAt At settings.port settings old new)

@@ -1,0 +1,48 @@
+//! The promise of the program: what its contract and the laws of runs say together.
+ghost use Rattle.std.specs.Prelude.{◌≡◌, []};
+ghost use Rattle.avr_desk.specs.Handles.{IsTrueRecord};
+ghost use Rattle.avr_desk.specs.Shown.{IsNewDesk, shown_state};
+ghost use Rattle.avr_laws.specs.KeptByPort.{KeepsWords};
+ghost use Rattle.avr_session.specs.Runs.{devices};
+ghost use Rattle.avr_tool.specs.Sockets.{IsOverAddress};
+ghost use Rattle.stk_host.specs.Links.{IsTrueSince, stream_state};
+
+use avr_desk::{FileSystem, SystemDesk};
+use avr_tool::{CommandLine, Network, run_command_line};
+use ghosts::Outlet;
+use std::alloc::Global;
+use std::io::{Read, Write};
+use stk_host::StreamLink;
+
+/// Runs a command line as [`avr_tool::run_command_line`] does, at a new desk and over a link on which nothing has
+/// passed. States what its status 0 means, over any files, any network and any streams: the plan that the words and the
+/// opened files ask for was kept.
+// Proof: `words_kept` (KeptByPort/EachPort), by `kept` (Outcomes/Kept) over a link, and `file_kept` (KeptByPort/InFile)
+// over the emulator.
+pub fn a_program_with_status_0_kept_its_plan<
+    C: CommandLine,
+    N: Network,
+    S: FileSystem + Drop,
+    O: Outlet + Drop,
+    M: Outlet + Drop,
+    R: Read + Drop,
+    W: Write + Drop,
+>(
+    line: &C,
+    network: N,
+    alloc: Global,
+    desk: &mut SystemDesk<S, O, M>,
+    link: &mut StreamLink<R, W>,
+) -> u8
+    ensures plan { result ≡ 0 → link.old.transcript ≡ []
+        → KeepsWords C.is_words (IsOverAddress N.Network N.Stream.Read N.Stream.Write N.Stream.closed)
+        (devices (stream_state link.old) (shown_state desk.old))
+        (devices (stream_state link.new) (shown_state desk.new)) }
+    // What the desk and the link show is what the files and streams gave and took.
+    ensures files { IsNewDesk S.FileSystem desk.old
+        → IsTrueRecord S.FileSystem S.File.Read S.File.Write S.Input.Read desk.new.system desk.new.opened
+        desk.new.hold desk.new.kept }
+    ensures streams { IsTrueSince R.remaining W.contents link.old link.new }
+{
+    run_command_line(line, network, alloc, desk, link)
+}
