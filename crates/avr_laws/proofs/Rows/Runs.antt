@@ -1,6 +1,6 @@
 -- What the promise refuses: worked wrong outcomes of its two laws. docs/PROMISE.md lists them.
 use Rattle.std.proofs.Common.{◌≡◌, ◌∙◌, ap, refl, sym, arith, ℕ, suc, Bool, true, false, ◌≤◌, List, [], ◌∷◌, ◌++◌, length, Option, Some, None, Ok, subst, rules}
-use Rattle.std.specs.Prelude.{codes, if◌then◌else◌, unwrap_or}
+use Rattle.std.specs.Prelude.{codes, get_or, if◌then◌else◌, unwrap_or}
 use Rattle.std.specs.Str.{bytes_eq}
 use Rattle.avr_cli.specs.declared.settings.Settings.{Settings}
 use Rattle.avr_cli.specs.declared.settings.Switches.{Switches}
@@ -24,7 +24,8 @@ use Rattle.avr_plan.specs.ImageFile.{Given}
 use Rattle.avr_plan.specs.Plan.{Plan}
 use Rattle.avr_plan.specs.Planning.{planned}
 use Rattle.avr_plan.specs.declared.planned.Task.{Task}
-use Rattle.avr_plan.specs.declared.planned.Task.TheVariants.{Write}
+use Rattle.avr_plan.specs.declared.planned.Task.TheVariants.{Read, Write}
+use Rattle.avr_session.specs.FileText.{file_text}
 use Rattle.avr_session.specs.Runs.{Devices}
 use Rattle.stk_emu.specs.Device.{device, after_frames}
 use Rattle.stk_emu.specs.Effect.{Memories, Image, effects, memories_of}
@@ -257,3 +258,52 @@ module _ (off : Bool) (after : Files) (p : Promised (settings off) (codes "chip"
 
   pub another_created : after (codes "new") ≡ Some [] → ⊥
   another_created is = cc (sym is ∙ unchanged (codes "new") (λ e. cc e))
+
+-- ---- over files, a memory that is read: `-p m328p -U lfuse:r:fuse:r`
+
+abbrev reading : Settings
+reading = record worked_settings {
+  updates = record { memory = Lfuse; op = op.Read; format = Raw; file = codes "fuse" } ∷ [];
+}
+
+abbrev read_tasks : List Task
+read_tasks = Read Lfuse Raw (codes "fuse") ∷ []
+
+abbrev saved_of : Part → Switches → List Task → Chip → List Writing
+saved_of part s these chip =
+    saved_files (record { part = part; tasks = these; switches = s }) (memories_of chip)
+
+two_names : codes "fuse" ≡ codes "chip" → ⊥
+two_names same =
+    let first : 102 ≡ 99 = ap (λ (name : Bytes). get_or name 0 0) same in omega (arith, first)
+
+-- a fresh chip's fuse is FF
+saved_there : saved_of m328p worked_settings.switches read_tasks (fresh_state m328p)
+    ≡ record { name = codes "fuse"; bytes = 0xFF ∷ [] } ∷ []
+unfolding file_text
+saved_there = refl
+
+module _ (after : Files) (p : Promised reading (codes "chip") files after) where
+  its_part : m328p ≡ p.plan.part
+  its_part = cc (subst (λ parts. part_of_id (codes "m328p") parts ≡ Ok p.plan.part) p.asked.are_parts p.asked.part)
+
+  its_tasks : p.plan.tasks ≡ read_tasks
+  its_tasks = search rules
+
+  saved : saved_files p.plan (memories_of p.chip) ≡ record { name = codes "fuse"; bytes = 0xFF ∷ [] } ∷ []
+  saved = ap (saved_of p.plan.part p.plan.switches p.plan.tasks) p.was
+      ∙ (ap (λ (s : Switches). saved_of p.plan.part s p.plan.tasks (fresh_state p.plan.part)) p.asked.switches
+      ∙ (ap (λ (these : List Task). saved_of p.plan.part worked_settings.switches these (fresh_state p.plan.part))
+      its_tasks
+      ∙ (ap (λ (part : Part). saved_of part worked_settings.switches read_tasks (fresh_state part)) (sym its_part)
+      ∙ saved_there)))
+
+  -- so the file has it, and no other text
+  pub the_file_read : after (codes "fuse") ≡ Some (0xFF ∷ [])
+  the_file_read = p.others (codes "fuse") two_names
+      ∙ ap (λ (written : List Writing). newest (codes "fuse") (files (codes "fuse")) (named_files written)) saved
+
+  pub another_text_read : after (codes "fuse") ≡ Some (0x62 ∷ []) → ⊥
+  another_text_read is =
+      let byte : 0x62 ≡ 0xFF =
+      ap (λ (held : Option Bytes). get_or (unwrap_or held []) 0 0) (sym is ∙ the_file_read) in omega (arith, byte)
