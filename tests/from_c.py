@@ -279,7 +279,7 @@ def only_its_calls_are_seen(library):
 
 def by_srec_cat(given, kind, to, made):
     names = {"ihex": "-intel", "srec": "-motorola"}
-    subprocess.run(["srec_cat", given, names[kind], "-o", made, names[to]], check=True)
+    subprocess.run(["srec_cat", given, names[kind], "-o", made, names[to]], check=True, capture_output=True)
 
 
 def by_objcopy(given, kind, to, made):
