@@ -34,7 +34,7 @@ def program():
 
 PROGRAM = program()
 # the program of avrstk-serve and of plans: beside it, or in a folder of its own
-FOLDERS = [PROGRAM.parent, PROGRAM.parents[2] / "avrstk_session/out"]
+FOLDERS = [PROGRAM.parent, PROGRAM.parent.parent.parent / "avrstk_session/out"]
 SESSION = next((it / "avrstk_session" for it in FOLDERS if (it / "avrstk_session").exists()), None)
 
 # the replies of a session that does nothing, and the number of bytes up to the end of each
