@@ -75,7 +75,7 @@ def the_conditions():
     """Each document that states the promise states all its conditions, in the same words."""
     for page in sorted([TOP / "README.md", *TOP.glob("docs/*.md"), *TOP.glob("crates/*/README.md")]):
         words = " ".join(page.read_text().split()).lower()
-        if CONDITIONS[0] in words or page.name == "PROOFS.md":
+        if CONDITIONS[0] in words or page.name in ("PROOFS.md", "TROUBLESHOOTING.md", "WHY.md") or page == TOP / "README.md":
             same(f"{page.name} has all conditions", [it for it in CONDITIONS if it.lower() not in words], [])
 
 
