@@ -206,6 +206,7 @@ def runs_over(name, kind):
         holds(label, plan, *outcome)
     good, forged = (sum(it) for it in zip(*((it[0] == 0, it[2]) for it in found)))
     SUCCEEDED[name] = good
+    see(f"{name}: the chips of most runs are judged", forged <= (kind.count // 4 if "losses" in name else 0), forged)
     print(f"{name}: {good} of {kind.count} runs succeeded; in {forged} runs changed bytes became a valid frame", flush=True)
 
 
@@ -214,7 +215,8 @@ def as_many_succeed():
     for name, kind in ((name, it) for name, it in KINDS.items() if it.good):
         if name not in SUCCEEDED:
             runs_over(name, kind)
-        see(f"{name}: from {kind.good[0]} to {kind.good[1]} runs", kind.good[0] <= SUCCEEDED[name] <= kind.good[1], SUCCEEDED)
+        least, most = kind.good
+        see(f"{name}: from {least} to {most} runs", least <= SUCCEEDED[name] <= most, SUCCEEDED)
 
 
 SUCCEEDED = {}

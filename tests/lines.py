@@ -86,6 +86,7 @@ def help_is_printed():
         same(f"{word}: status and messages", (status, messages), (0, b""))
         text = output.decode()
         see(f"{word}: begins with what it is for", text.startswith(texts[0] + "\n"), text)
+        same(f"{word}: its options", re.findall(r"^ +(--?\w+)", text, re.M), [option for option, _ in table("help")])
         for option, told in table("help"):
             see(f"{word}: {option}", re.search(rf"^ +{option}\b.*  {re.escape(told)}$", text, re.M), text)
         same(f"{word}: texts that are cut", [it for it in texts if it not in text], [])
