@@ -68,10 +68,11 @@ def wait_until(is_there):
 
 
 def table(name):
-    """Yields the rows of tests/tables/NAME.txt, each a list of cells."""
-    for row in (Path(__file__).parent / f"tables/{name}.txt").read_text().splitlines():
-        if not row.startswith("#"):
-            yield [it.strip() for it in f"{row} ".split(" | ")]
+    """Returns the rows of tests/tables/NAME.txt, each a list of as many cells."""
+    text = (Path(__file__).parent / f"tables/{name}.txt").read_text()
+    rows = [[it.strip() for it in f"{row} ".split(" | ")] for row in text.splitlines() if not row.startswith("#")]
+    assert len({len(it) for it in rows}) == 1, f"tables/{name}.txt is empty, or its rows differ in length"
+    return rows
 
 
 def named(*functions):
@@ -94,11 +95,13 @@ def run_cases(cases, doc, timed=()):
         return 2
     wrong = set()
     for name in chosen(cases):
-        before, failed_before = passed, failed
+        before, failed_before, left_before = passed, failed, left
         try:
             cases[name]()
         except (Exception, SystemExit):
             see(name, False, traceback.format_exc().strip())
+        if (passed, failed, left) == (before, failed_before, left_before):
+            see(name, False, "it has looked at nothing")
         print(f"{passed - before:6} seen: {name}", flush=True)
         wrong |= {name} if failed > failed_before else set()
     return ended() and (LATE if wrong and wrong <= set(timed) else 1)

@@ -6,8 +6,8 @@ Not proved: What the system's calls on files do, and what a crash of the system 
 
     tests/chips.py [CASE ..]        needs strace, or leaves out what it does at single calls
 
-strace records the calls of a run, and a model of a disk (disk.py) makes each state that a power cut, or the end of the run,
-may leave. Each call fails. Runs are started at once with one chip, and beside a run or a served session that holds it.
+strace records the calls of a run, and a model of a disk (disk.py) makes each state that a power cut may leave. Each call
+fails, and each ends a run. Runs are started at once with one chip, and beside a run or a served session that holds it.
 """
 
 import contextlib
@@ -116,9 +116,8 @@ def is_safe(what, old, status, calls):
 
 
 def each_power_cut():
-    """After each call of a run a power cut, or its end, leaves the old chip or the new one, and after status 0 the new one.
-    This holds too if a call fails, or finds no file or no descriptor. It wouldn't hold if one of both syncs were missing.
-    (what_stays has a run beside what an ended one left.)"""
+    """After each call of a run a power cut leaves the old chip or the new one, and after status 0 the new one. This holds
+    too if a call fails, or finds no file or no descriptor. It wouldn't hold if one of both syncs were missing."""
     for prepare, old in STARTS:
         new, what = with_fuse(old, 0x62), f"chip {bool(old)}"
         status, _, calls = traced(prepare, writes_fuse(0x62))
@@ -134,6 +133,20 @@ def each_power_cut():
                 stays = status == 1 and call.name in ["link", "rename"] and call.words.endswith('"chip.bin"')
                 see(f"{error} at {call.name}: the new file stays", room.read(NEW_FILE.name) == new) if stays else None
                 same(f"{error} at link: the run", status, 0) if error in ["EPERM", "EOPNOTSUPP", "EMLINK"] else None
+
+
+def ended_anywhere():
+    """Ends a run at each of its calls in turn. The chip is then the old one or the new one with its permissions, and the
+    next run works as usual."""
+    for prepare, old in STARTS:
+        left = set()
+        for call in traced(prepare, writes_fuse(0x62))[2]:
+            what = f"chip {bool(old)}: ended at {call.name} {call.number}"
+            same(what, traced(prepare, writes_fuse(0x62), f"{call.name}:signal=KILL:when={call.number}")[0], -signal.SIGKILL)
+            left.add(room.read("chip.bin"))
+            same(f"{what}: permissions", mode_of(CHIP), 0o640) if old else None
+            is_good(f"{what}: the next run", room.run(writes_fuse(0x63)), with_fuse(old, 0x63))
+        see(f"chip {bool(old)}: the old one and the new one are seen", left == {old, with_fuse(old, 0x62)}, len(left))
 
 
 def others_meanwhile():
@@ -417,7 +430,7 @@ def stormy():
     same("what runs shouldn't do", odd, set())
 
 
-TRACED = named(each_power_cut, others_meanwhile, reads_on_the_disk)
+TRACED = named(each_power_cut, ended_anywhere, others_meanwhile, reads_on_the_disk)
 if not shutil.which("strace"):
     TRACED = {name: lambda name=name: leave_out(name, "strace is not installed") for name in TRACED}
 

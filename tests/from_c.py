@@ -200,6 +200,17 @@ def time_is_linear(library):
         same(f"{kind} took {taken:.1f} of {SECONDS} s", taken < SECONDS, True)
 
 
+def cursors_are_judged(library):
+    """A cursor's fields are where the header has them: a number that no call leaves is refused, with the cursor unchanged."""
+    records, loaded = library.in_python()
+    for kind, size, ended, fault in [(1, 5, 0, 0), (1, 0, 2, 11), (2, 5, 0, 11), (2, 4, 1, 0), (2, 3, 2, 11)]:
+        lent = [it for held in (b"\x0a", b"\x01") for it in records.lent(bytearray(held))]
+        cursor, room = records.Cursor(0, 0, 0, size, ended), bytearray(80)
+        piece = loaded.avr_records_write(kind, *lent, cursor, *records.lent(room))
+        same(f"format {kind}, addresses of {size}, ended {ended}", piece.fault, fault)
+        same("and then", (cursor.address_size, cursor.ended), (size, ended)) if fault else None
+
+
 def faults_are_told(library):
     file = library.folder / "damaged"
     for text, size, told in (
@@ -317,7 +328,7 @@ def other_programs(library):
 
 LOOKS = named(
     *(typed_as_shown, files_come_back, images_come_back, pieces_join, lengths_are_told, time_is_linear),
-    *(faults_are_told, sizes_are_judged, texts_are_put, versions_agree, other_names_are_free, only_its_calls_are_seen),
+    *(cursors_are_judged, faults_are_told, sizes_are_judged, texts_are_put, versions_agree, other_names_are_free, only_its_calls_are_seen),
     other_programs,
 )
 

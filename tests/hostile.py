@@ -195,7 +195,8 @@ def callers_are_odd():
     ]:
         found, answered = served(lambda caller: exchanged(caller, sent))
         same(f"a caller with {name}", found, (0, b""))
-        see(f"the reply to {name}", wanted in (None, answered), answered)
+        if wanted is not None:
+            same(f"the reply to {name}", answered, wanted)
     (status, messages), _ = served(reset)
     faults = [lines(f"error: link cannot be {verb}") for verb in ("read", "written")]
     see("a caller that resets", status == 1 and messages in faults, f"{status}, {messages}")
@@ -366,8 +367,7 @@ def ended_from_outside():
     os.mkfifo(room.folder / "pipe")
     started = room.start([*EMULATED, "-U", "lfuse:w:0xE2:m", "-U", "lfuse:r:pipe:h"])
     # the run blocks at the second update, because no process reads the pipe
-    while b"verified" not in started.stderr.readline():
-        pass
+    see("the first update is done", any(b"verified" in it for it in started.stderr))
     started.send_signal(signal.SIGINT)
     started.communicate(timeout=PATIENCE)
     see("emu: that is ended saves nothing", (started.returncode, room.read("chip.bin")) == (-signal.SIGINT, None))

@@ -86,6 +86,7 @@ def help_is_printed():
         same(f"{word}: status and messages", (status, messages), (0, b""))
         text = output.decode()
         see(f"{word}: begins with what it is for", text.startswith(texts[0] + "\n"), text)
+        same(f"{word}: its options", re.findall(r"^ +(--?\w+)", text, re.M), [option for option, _ in table("help")])
         for option, told in table("help"):
             see(f"{word}: {option}", re.search(rf"^ +{option}\b.*  {re.escape(told)}$", text, re.M), text)
         same(f"{word}: texts that are cut", [it for it in texts if it not in text], [])
@@ -95,6 +96,7 @@ def words_are_refused():
     """If `clap` refuses an option, its message goes to standard error, with status 1."""
     for words, told in [
         (["-C", "x.conf"], "error: unexpected argument '-C' found"),
+        (["-t"], "error: unexpected argument '-t' found"),
         (["--version"], "error: unexpected argument '--version' found"),
         (["flash.hex"], "error: unexpected argument 'flash.hex' found"),
         (["-p"], "error: a value is required for '-p"),
@@ -310,6 +312,19 @@ def a_line_is_one_write():
         same(f"the lines of {words[4]}", len(messages), count)
 
 
+def runs_share_a_log():
+    """Fifty runs at once append to one log: no line is torn."""
+    room.clear()
+    with open(room.folder / "log", "ab") as log:
+        words = ["-U", "lfuse:w:0x62:m", "-U", "hfuse:v:0xFF:m"]
+        runs = [room.start([*PART, "-P", f"emu:chip{number}.bin", *words], stderr=log) for number in range(50)]
+        for started in runs:
+            started.communicate(timeout=PATIENCE)
+            same("a run", started.returncode, 0)
+    told = [SIGNATURE, "lfuse: 1 bytes written", "lfuse: 1 bytes verified", "hfuse: 1 bytes verified", DONE]
+    same("the log", sorted((room.read("log") or b"").splitlines()), sorted(lines(*told).splitlines() * 50))
+
+
 # ---- no line is left out
 
 
@@ -352,7 +367,7 @@ def pattern(line):
 CASES = named(
     *(settings_are_refused, help_is_printed, words_are_refused, images_are_refused, images_are_taken),
     *(part_files, chip_files, nothing_is_written, answers_are_bad, the_named_host_is_called, nobody_else_is_called),
-    *(ports_are_refused, long_lines, a_line_is_one_write, each_line_was_met),
+    *(ports_are_refused, long_lines, a_line_is_one_write, runs_share_a_log, each_line_was_met),
 )
 
 if __name__ == "__main__":

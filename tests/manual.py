@@ -82,6 +82,7 @@ def differences():
         "byte.hex": f"{byte}\n{end}\n",
         "noted.hex": f"# a note\n{byte}\n{end}\n",
         "cut.hex": f"{byte}\n",
+        "empty.hex": "",
         "a:b.hex": f"{byte}\n{end}\n",
     }
     glued = "--parts parts.toml -patmega328p -cstk500v2 -b115200 -Pemu:chip.bin -Uflash:w:byte.hex:i".split()
@@ -91,6 +92,8 @@ def differences():
         ([*emulated, "-U", "eeprom:v:byte.hex", "-U", "eeprom:r:read.bin:r"], 0, "eeprom: 1 bytes verified"),
         ([*emulated, "-q", "-U", "flash:w:cut.hex"], 0, "warning: cut.hex: no end record"),
         ([*emulated, "-qq", "-U", "flash:w:cut.hex"], 0, ""),
+        ([*emulated, "-U", "flash:w:empty.hex:i"], 0, "warning: empty.hex: no end record"),
+        ([*emulated, "-U", "lfuse:w:empty.hex"], 0, "lfuse: 0 bytes written"),
         ([*emulated, "-n", "-U", "flash:w:noted.hex"], 0, f"flash: {len(files['noted.hex'])} bytes not written"),
         ([*emulated, "-U", "flash:w:noted.hex:i"], 1, "error: noted.hex: line 1: no record mark"),
         ([*emulated, "-U", "a:b.hex"], 1, "error: update 1: no such memory"),

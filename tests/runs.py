@@ -299,6 +299,11 @@ MEMORIES = {
         ["-A", "-U", "flash:r:f.bin"], session("flash: 32768 bytes read"), written={"f.bin": b"\xff" * 32_768}
     ),
     "an erased flash is an empty file": Run(["-U", "flash:r:f.bin"], session("flash: 0 bytes read"), written={"f.bin": b""}),
+    "two reads into one file: the second overwrites the first": Run(
+        ["-U", "eeprom:r:f.bin:r", "-U", "lfuse:r:f.bin:h"],
+        session("eeprom: 1024 bytes read", "lfuse: 1 bytes read"),
+        written={"f.bin": b"0xff\n"},
+    ),
     "the end of an EEPROM is kept": Run(
         ["-U", "eeprom:r:f.bin"],
         session("eeprom: 1024 bytes read"),

@@ -1,8 +1,8 @@
 #!/usr/bin/env python3
 """Tests avrstk-serial over pseudo terminals with an emulated programmer behind them. Covers each AVRDUDE option that it
 takes, ignores or refuses, and each hint after a failed run. Covers boards that are deaf after a reset, disappear, don't
-reply or send other data, and signals. Runs the recipes of docs/USAGE for bridges as they are printed there (recipes.py has its
-own).
+reply or send other data, and signals. Runs the recipes of docs/USAGE for a serial link as they are printed there (recipes.py
+has those with a `$`).
 
 Not proved: avrstk-serial is Python over serial devices.
 
@@ -1316,6 +1316,14 @@ def ended(started):
     return started.returncode, told
 
 
+def recipe_of_the_script():
+    for begin, part, more in [("avrstk-serial -p m328p -P /dev/", "m328p", []), ("avrstk-serial -C/etc", "m2560", ["-D"])]:
+        firmware = emulated(*more, *FLASH[2:], part=part)
+        it = Board(part=part)
+        status, _ = ended(typed(recipe(begin), it.device))
+        same(begin, (status, it.end() == firmware), (0, True))
+
+
 def recipe_of_a_plain_bridge():
     """Tests socat alone. It opens the device when the tool calls: too late for a board that resets then."""
     if not shutil.which("socat"):
@@ -1365,7 +1373,7 @@ CASES = named(
     *(retries_that_are_refused, the_part_of_the_chip, hints, elf_files, hints_over_each_memory, hints_that_are_followed),
     *(progress, few_lines, backups, warnings, images_that_are_read_once, signals, cut_lines, closed_streams),
     *(messages_that_nobody_reads, one_run_at_a_time, settings_that_are_kept, devices_that_go, strangers),
-    *(names_and_interrupts, recipe_of_a_plain_bridge, recipe_of_ser2net),
+    *(names_and_interrupts, recipe_of_the_script, recipe_of_a_plain_bridge, recipe_of_ser2net),
 )
 
 # a board that replies for a time, or a signal at a moment

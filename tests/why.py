@@ -15,8 +15,8 @@ import sys
 import time
 
 from cases import PATIENCE, leave_out, named, run_cases, same, see
-from line import BadLine, frames_in
-from program import CHIP_FILE, PROGRAM, TOP, Room, Server, has_avrdude, lines
+from line import BadLine
+from program import CHIP_FILE, PROGRAM, TOP, Room, Server, frame, has_avrdude, lines
 
 COMMANDS = {"SIGN_ON": 0x01, "CHIP_ERASE": 0x12, "PROGRAM_FLASH": 0x13, "READ_FLASH": 0x14}
 # the other commands, which set an address or a mode: SET_PARAMETER, LOAD_ADDRESS, ENTER and LEAVE
@@ -137,8 +137,8 @@ def no_answer():
             leave_out("AVRDUDE's patience", "AVRDUDE 7.1 is not installed")
         # (one of the two that called)
         heard = [silent.accept()[0].recv(4096) for _ in range(1 + bool(other))]
-        see("four attempts to sign on, four to leave", any(frames_in(it) == 8 for it in heard), heard)
-
+        wanted = b"".join([*(frame(it, 0x01) for it in range(1, 5)), *(frame(it, 0x11, 1, 1) for it in range(5, 9))])
+        see("four attempts to sign on, four to leave", wanted in heard, heard)
 
 
 CASES = named(table_is_printed, frames_are_sent, bad_files, no_answer)
