@@ -59,7 +59,7 @@ IsOf (suc k) (first ∷ sent) piece = (piece ≡ first) ⊎ (IsDamaged first pie
 abbrev pub Refuses : List ℕ → Type 0
 Refuses piece = (n : ℕ) × ((piece ≡ frame n refusal) ⊎ IsDamaged (frame n refusal) piece)
 
--- Each frame up to the first that is taken for the reply to frame `n` is one of the last 256 replies or a refusal.
+-- Each frame up to the first that is taken for the reply to frame `n` is a refusal, or replies to one of the last 256.
 abbrev pub AreReplies : ℕ → List (List ℕ) → List (List ℕ) → Type 0
 AreReplies n sent [] = Unit {0}
 AreReplies n sent (piece ∷ pieces) =

@@ -26,7 +26,7 @@ use Rattle.stk_host.specs.Tape.{Tape, answer, bytes_in, limit}
 use Rattle.stk_host.specs.Transcript.{Transcript, heard, sent}
 
 -- THE LINK FORGES NO FRAME: these frames were sent, in order, and each waited for its reply on the tape. Each good frame
--- that was cut from the tape until then is a refusal, or one of the programmer's last 256 replies.
+-- that was cut from the tape until then is a refusal, or the reply to one of the last 256 frames sent.
 abbrev pub NoneForged : {P : Type 0} → Device P → List (List ℕ) → Tape → P → List Became → List (List ℕ) → Type 0
 NoneForged m [] tape p becames before = Unit {0}
 NoneForged m (piece ∷ pieces) tape p becames before =

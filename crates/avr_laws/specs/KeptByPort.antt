@@ -19,7 +19,7 @@ use Rattle.stk_emu.specs.Effect.{memories_of}
 use Rattle.stk_host.specs.Transcript.{LinkState}
 
 -- The last file that was opened is the chip file. It held a chip of the plan's part; without a file the chip is a fresh
--- one. The plan was kept for this chip. Last of all the file was replaced with the chip that this left.
+-- one. The plan was kept for this chip. The record's last use is this file, made with the chip that this left.
 pub record IsKeptIn (file : Bytes) (plan : Plan) (old new : DeskState) : Type 0 where
   pub before : List Opening
   pub found : Option Bytes

@@ -20,8 +20,8 @@ IsAmong zero sent piece = ⊥
 IsAmong (suc k) [] piece = ⊥
 IsAmong (suc k) (first ∷ sent) piece = (piece ≡ first) ⊎ IsAmong k sent piece
 
--- The programmer sent this piece, given the replies so far, the last one first. It is one of the last 256 replies, or
--- a refusal of a spoiled frame with any number, or no good frame.
+-- The programmer sent this piece, given the replies so far, the last one first. It replies to one of the last 256 frames
+-- sent, or is a refusal of a damaged frame with any number, or is no good frame.
 abbrev pub WasSent : List (List ℕ) → List ℕ → Type 0
 WasSent sent piece = is_good piece ≡ true → (body_of piece ≡ refusal) ⊎ IsAmong 256 sent piece
 
@@ -31,8 +31,8 @@ WereSent n sent [] = Unit {0}
 WereSent n sent (piece ∷ pieces) =
     WasSent sent piece × (is_answer n piece ≡ false → WereSent n sent pieces)
 
--- THE LINK FORGES NO FRAME: at a question, each good frame that the host cuts is one of the programmer's last 256
--- replies, or a refusal. The dialog is run over this tape. Anything else may be anywhere on the tape: parts of
+-- THE LINK FORGES NO FRAME: at a question, each good frame that the host cuts is the programmer's reply to one of the
+-- last 256 frames sent, or a refusal. The dialog is run over this tape. Anything else may be anywhere on the tape: parts of
 -- replies, noise, earlier replies, refusals, timeouts.
 abbrev pub MakesNoFrame : {E R P : Type 0} → Device P → Dialog E R → ℕ → Tape → P → List Became → List (List ℕ)
     → Type 0

@@ -66,15 +66,15 @@ pub fn over_any_tape_a_conversation_goes_along_turns<E, R>()
 {}
 
 /// States that everything read on a link that forges no frame is honest, from the first frame on. A reply that is
-/// taken has the number of its question, and of the last 256 replies only the one to that question has it.
+/// taken has the number of its question, and of the last 256 frames only that question has it.
 // Proof: `no_frame_honest` (Lines/NoFrame).
 pub fn a_line_that_makes_no_frame_is_honest<E, R>()
     ensures { (d : Dialog E R) (n : ℕ) (tape : Tape) (p : Programmer) (becames : List Became)
         → MakesNoFrame device d n tape p becames [] → AreHonest device d n tape p becames }
 {}
 
-/// States that a wire with fates is such a link. A programmer that got a prefix of the bytes sent, as over a link
-/// that keeps their order, got some of the frames.
+/// States that everything read over a wire with fates is honest. A programmer that got a prefix of the bytes sent, as
+/// over a link that keeps their order, got some of the frames.
 // Proof: avr_tool's `over_wire` (Lines/WireTapes) and `prefix_came` (Lines/NoFrame).
 pub fn a_wire_is_an_honest_line<E, R>()
     ensures wire { (d : Dialog E R) (n : ℕ) (w : Wire Programmer) (sent more : List (List ℕ)) → AsksBodies d

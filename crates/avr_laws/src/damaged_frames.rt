@@ -25,8 +25,8 @@ ghost use Rattle.avr_laws.specs.NoFrame.{MakesNoFrame};
 /// States that a link forges no frame if it loses or delays whole frames and changes at most one byte of each: any
 /// changed byte makes the XOR wrong. The changed byte isn't of the start, the size or the token.
 ///
-/// `programmer`: of such frames, those that arrived whole came through. `host`: at each question the replies that come
-/// are some of the last 256 and refusals, damaged or not. Up to the awaited reply they have fewer than 4,096 bytes.
+/// `programmer`: of such frames, those that arrived whole came through. `host`: at each question what comes are replies
+/// to the last 256 frames and refusals, damaged or not. Up to the awaited reply they have fewer than 4,096 bytes.
 // Proof: `arrived_came` and `brings_no_frame` (Lines/Damaged).
 pub fn a_link_that_damages_one_byte_forges_no_frame<E, R>()
     ensures programmer { (sent : List (List ℕ)) (through : List Bool) (got : List ℕ) → All IsPiece sent

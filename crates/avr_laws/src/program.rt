@@ -38,7 +38,7 @@ pub fn a_program_with_status_0_kept_its_plan<
         → KeepsWords C.is_words (IsOverAddress N.Network N.Stream.Read N.Stream.Write N.Stream.closed)
         (devices (stream_state link.old) (shown_state desk.old))
         (devices (stream_state link.new) (shown_state desk.new)) }
-    // What the desk and the link show is what the files and streams gave and took.
+    // What a new desk's record has of files, and the link's transcript, is what these gave and took.
     ensures files { IsNewDesk S.FileSystem desk.old
         → IsTrueRecord S.FileSystem S.File.Read S.File.Write S.Input.Read desk.new.system desk.new.opened
         desk.new.hold desk.new.kept }
