@@ -40,7 +40,7 @@ NoneForged m (piece ∷ pieces) tape p becames before =
 
 -- ---- what status 0 says
 
--- The files that an action reads a memory into: its text is of what the chip holds then. Trailing FF of flash are dropped.
+-- The files that an action reads a memory into: the text is of what the chip holds then, by `-A` with the trailing FF.
 abbrev pub action_files : Part → Switches → Action → Memories → List Writing
 action_files part s (SaveMemory mem format file) m =
     record { name = file; bytes = file_text format (kept_of mem s.all (memory_in part mem m)) } ∷ []
@@ -64,7 +64,7 @@ abbrev pub put_out : List Writing → Bytes
 put_out [] = []
 put_out (file ∷ files) = if is_dash file.name then file.bytes ++ put_out files else put_out files
 
--- Between these states of a desk these files were written, in order, and nothing else.
+-- Between these states of a desk these files were created, in order, and no others; the output is that of `-`.
 pub record AreSaved (files : List Writing) (old now : DeskState) : Type 0 where
   pub created : all_files now.kept ≡ all_files old.kept ++ named_files files
   pub output : now.kept.output ≡ old.kept.output ++ put_out files
