@@ -1,3 +1,2 @@
--- walks of ghost structs
 pub mod Rows
 pub mod Walks

@@ -36,7 +36,7 @@ nothing_stood_at_the_end stood = omega (arith, stood.1)
 pub nothing_stood_that_rose : HasStood 0 1 → ⊥
 nothing_stood_that_rose stood = let e : 1 ≡ 0 = stood.0 in omega (arith, e)
 
--- a device that no longer comes of its beginning
+-- a device that no longer relates to its initial state
 abbrev Is : ℕ → ℕ → Type 0
 Is start device = device ≡ start
 

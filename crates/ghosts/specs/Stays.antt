@@ -1,5 +1,5 @@
--- What a device comes of.
+-- How a device and its initial state are related.
 
--- whatever the device came of before, it still does
+-- If the device relates to some initial state before, it does after: what calls ensure of `comes_of`.
 abbrev pub Stays : {Start Device : Type 0} → (Start → Device → Type 0) → Device → Device → Type 0
 Stays {Start = S} ComesOf old new = (start : S) → ComesOf start old → ComesOf start new

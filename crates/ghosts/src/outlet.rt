@@ -1,4 +1,3 @@
-//! Writers that are flushed.
 ghost use Rattle.std.specs.Prelude.{⊤, OnOk};
 ghost use Rattle.std.specs.Io.KnownBytes.{Keeps};
 

@@ -1,4 +1,4 @@
-//! Calls that are retried if a signal interrupts them.
+//! Reads, writes and flushes that are retried if a signal interrupts them.
 ghost use Rattle.std.specs.Prelude.{◌≡◌, ◌≢◌, ◌<◌, ◌≤◌, [], length, take, IfOk, IfErr, OnErr, OnOk};
 ghost use Rattle.std.specs.Io.KnownBytes.{Keeps, Appends, Consumes, IsAtEnd};
 ghost use Rattle.std.specs.IoError.{error_kind};

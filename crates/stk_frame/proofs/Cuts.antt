@@ -32,7 +32,7 @@ size_stays x y whole = search (rules, start_only)
 drop_one : (n b : ℕ) (bs : List ℕ) → 1 ≤ n → drop (n - 1) bs ≡ drop n (b ∷ bs)
 drop_one n b bs positive = search rules
 
--- a whole piece in front
+-- bytes that begin with a whole piece
 pub cut_piece : (bytes : List ℕ) → has_piece bytes ≡ true
     → cut bytes ≡ take (piece_size bytes) bytes ∷ cut (drop (piece_size bytes) bytes)
 cut_piece bytes whole = search (rules, false≢true, cond-true, behind_is, drop_one, size_positive)
@@ -44,7 +44,7 @@ rest_piece (b ∷ bs) whole =
     ∙ ((behind_is (piece_size (b ∷ bs) - 1) bs).1
     ∙ ap rest (drop_one (piece_size (b ∷ bs)) b bs (size_positive (b ∷ bs))))
 
--- no piece in front
+-- bytes that begin no whole piece
 pub cut_none : (bytes : List ℕ) → has_piece bytes ≡ false → cut bytes ≡ []
 cut_none bytes part = search rules
 

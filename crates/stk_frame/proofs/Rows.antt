@@ -22,7 +22,7 @@ long_sign_on_unread = refl
 pub unknown_unread : command_of (0x04 ∷ []) ≡ None
 unknown_unread = refl
 
--- answers that are refused
+-- replies that are refused
 pub short_name_judged : judge SignOn (0x01 ∷ 0x00 ∷ 0x03 ∷ 0x41 ∷ 0x42 ∷ []) ≡ Err WrongLength
 short_name_judged = refl
 

@@ -13,6 +13,7 @@ use Rattle.stk_frame.specs.declared.answer.FrameFault.{FrameFault}
 use Rattle.stk_frame.specs.declared.answer.FrameFault.TheVariants.{WrongLength, WrongCommand, CheckSum, Status}
 use Rattle.stk_frame.specs.declared.protocol.TheConstants.{ANSWER_CKSUM_ERROR, CMD_CHIP_ERASE_ISP, CMD_ENTER_PROGMODE_ISP, CMD_GET_PARAMETER, CMD_LEAVE_PROGMODE_ISP, CMD_LOAD_ADDRESS, CMD_PROGRAM_EEPROM_ISP, CMD_PROGRAM_FLASH_ISP, CMD_PROGRAM_FUSE_ISP, CMD_PROGRAM_LOCK_ISP, CMD_READ_EEPROM_ISP, CMD_READ_FLASH_ISP, CMD_READ_FUSE_ISP, CMD_READ_LOCK_ISP, CMD_READ_OSCCAL_ISP, CMD_READ_SIGNATURE_ISP, CMD_SET_PARAMETER, CMD_SIGN_ON, CMD_SPI_MULTI, STATUS_CKSUM_ERROR, STATUS_CMD_OK}
 
+-- The first byte of a command, which is also that of its reply.
 abbrev pub code : Command → ℕ
 code SignOn = CMD_SIGN_ON
 code (SetParameter number value) = CMD_SET_PARAMETER
@@ -33,7 +34,6 @@ code (ReadSignature f) = CMD_READ_SIGNATURE_ISP
 code (ReadOsccal f) = CMD_READ_OSCCAL_ISP
 code (SpiMulti send_count receive_count receive_start bytes) = CMD_SPI_MULTI
 
--- the bytes of its fields, in their order, highest byte first
 abbrev pub enter_progmode_fields : EnterFields → List ℕ
 enter_progmode_fields f =
     f.timeout ∷ f.stab_delay ∷ f.command_delay ∷ f.synch_loops ∷ f.byte_delay ∷ f.poll_value ∷ f.poll_index
@@ -49,6 +49,7 @@ read_block_fields f = big_bytes 2 f.count ++ f.cmd1 ∷ []
 abbrev pub read_byte_fields : ReadByte → List ℕ
 read_byte_fields f = f.return_address ∷ f.instruction
 
+-- The bytes of a command's fields, in their order, each number with its highest byte first.
 abbrev pub fields : Command → List ℕ
 fields SignOn = []
 fields (SetParameter number value) = number ∷ value ∷ []
@@ -72,7 +73,7 @@ fields (SpiMulti send_count receive_count receive_start bytes) = send_count ∷ 
 abbrev pub body : Command → List ℕ
 body command = code command ∷ fields command
 
--- what follows the first status of a reply: a length and a name, n bytes, or n bytes and a last status
+-- What follows the first status of a reply: a length and a name, n bytes, or n bytes and a last status.
 abbrev pub shape : Command → Shape
 shape SignOn = Name
 shape (GetParameter number) = Bytes 1
@@ -87,7 +88,7 @@ shape (ReadOsccal f) = Closed 1
 shape (SpiMulti send_count receive_count receive_start bytes) = Closed receive_count
 shape _ = Bytes 0
 
--- the data of a reply, from what follows its first status
+-- The data of a reply, from what follows its first status.
 abbrev pub data_of : Shape → List ℕ → Result (List ℕ) FrameFault
 data_of Name [] = Err WrongLength
 data_of Name (size ∷ name) = if length name == size then Ok name else Err WrongLength
@@ -97,6 +98,7 @@ data_of (Closed n) more =
     then (if slice_index more n == STATUS_CMD_OK then Ok (take n more) else Err (Status (slice_index more n)))
     else Err WrongLength
 
+-- The data of a reply to this command, by the reply's body, or why it isn't a good one: what `Answer::read` returns.
 abbrev pub judge : Command → List ℕ → Result (List ℕ) FrameFault
 judge command [] = Err WrongCommand
 judge command (first ∷ []) = if first == code command then Err WrongLength else Err WrongCommand
@@ -106,6 +108,7 @@ judge command (first ∷ status ∷ more) =
     else if not (status == STATUS_CMD_OK) then Err (Status status)
     else data_of (shape command) more
 
+-- Data have the size that the shape fixes.
 abbrev pub SizedBy : Shape → List ℕ → Type 0
 SizedBy Name bytes = Unit {0}
 SizedBy (Bytes n) bytes = length bytes ≡ n

@@ -1,4 +1,4 @@
--- Which command a body is.
+-- The command of a body.
 use Rattle.std.specs.Prelude.{ℕ, List, [], ◌∷◌, ◌^◌, ◌<◌, ◌≡◌, length, ◌==◌, if◌then◌else◌, Option, Some, None, option_map}
 use Rattle.byteorder.specs.Endian.{big_number}
 use Rattle.stk_frame.specs.declared.command.Command.{Command}
@@ -104,6 +104,7 @@ with_fields code bytes =
     else if code == CMD_SPI_MULTI then spi_multi_of bytes
     else None
 
+-- What `Command::read` returns.
 abbrev pub command_of : List ℕ → Option Command
 command_of [] = None
 command_of (code ∷ bytes) = with_fields code bytes

@@ -26,7 +26,7 @@ leave = LeaveProgmode 0x01 0x01
 abbrev pub erase : Command
 erase = ChipErase 0x09 0x00 (0xAC ∷ 0x80 ∷ 0x00 ∷ 0x00 ∷ [])
 
--- a block in page mode that is written at its end and polls RDY/BSY
+-- A block in page mode: it is written at its end, and RDY/BSY is polled.
 abbrev pub programming : ℕ → ℕ → ℕ → List ℕ → ProgramBlock
 programming cmd1 cmd2 cmd3 bytes =
     record {
@@ -63,7 +63,7 @@ read_instruction Low = 0x50 ∷ 0x00 ∷ 0x00 ∷ 0x00 ∷ []
 read_instruction High = 0x58 ∷ 0x08 ∷ 0x00 ∷ 0x00 ∷ []
 read_instruction Extended = 0x50 ∷ 0x08 ∷ 0x00 ∷ 0x00 ∷ []
 
--- the result is the fourth byte out
+-- A command whose result is the fourth byte that the instruction shifts out.
 abbrev pub fourth : List ℕ → ReadByte
 fourth instruction = record { return_address = 4; instruction = instruction }
 

@@ -1,7 +1,6 @@
 -- AVR068's names of the first byte of a command and the status of a reply.
 use Rattle.std.specs.Prelude.{ℕ, List, [], ◌∷◌, ◌==◌, Option, find, option_map, codes}
 
--- the commands of serial programming
 abbrev pub command_names : List (ℕ × List ℕ)
 command_names =
     (0x01, codes "CMD_SIGN_ON")
@@ -24,7 +23,7 @@ command_names =
     ∷ (0x1D, codes "CMD_SPI_MULTI")
     ∷ []
 
--- the statuses: done, three warnings, three errors
+-- Done, three warnings, three errors.
 abbrev pub status_names : List (ℕ × List ℕ)
 status_names =
     (0x00, codes "STATUS_CMD_OK")

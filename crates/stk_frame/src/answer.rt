@@ -1,4 +1,3 @@
-//! Replies, and how they are checked.
 ghost use Rattle.std.specs.Prelude.{◌≡◌, ◌≤◌, length, MatchResult, IfOk, Ok, Err};
 ghost use Rattle.stk_frame.specs.Commands.{judge, shape, data_of, SizedBy};
 ghost use Rattle.stk_frame.specs.Faults.{frame_fault_number};

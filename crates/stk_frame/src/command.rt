@@ -1,4 +1,3 @@
-//! Commands of the programmer, and their data.
 ghost use Rattle.std.specs.Prelude.{◌≡◌};
 ghost use Rattle.stk_frame.specs.Commands.{code};
 
@@ -44,7 +43,7 @@ impl<'a> Data<'a> {
         Data { bytes }
     }
 
-    /// Returns the bytes.
+    /// Returns the borrowed bytes.
     ///
     /// ```text
     /// assert!(rt; Data::new(b"AVR").bytes() == b"AVR".as_slice());

@@ -1,4 +1,3 @@
-//! Frames, as they are sent.
 ghost use Rattle.std.specs.Prelude.{◌≡◌, ◌<◌, ◌≤◌, ◌∷◌, [], drop, length};
 ghost use Rattle.stk_frame.specs.Frame.{frame, xor_all};
 

@@ -1,4 +1,3 @@
-//! The commands that a host sends, with its constants.
 ghost use Rattle.std.specs.Prelude.{◌≡◌, ◌≤◌, ◌∷◌, [], ◌++◌, length};
 ghost use Rattle.byteorder.specs.Endian.{big_bytes};
 ghost use Rattle.stk_frame.specs.Commands.{body};
@@ -20,7 +19,6 @@ pub enum Fuse {
     Extended,
 }
 
-/// Returns a block in page mode that is written at its end and polls RDY/BSY.
 fn programming<'a>(cmd1: u8, cmd2: u8, cmd3: u8, bytes: &'a [u8]) -> ProgramBlock<'a>
     requires { length bytes.now ≤ LARGEST_BLOCK }
     ensures { result ≡ programming cmd1 cmd2 cmd3 bytes.now }

@@ -1,4 +1,3 @@
-//! A reader of frames from bytes in pieces.
 ghost use Rattle.std.specs.Prelude.{◌≡◌, [], ◌<◌, ◌≤◌, length, take, Some, None, if◌then◌else◌};
 ghost use Rattle.stk_frame.specs.Cut.{piece_size, is_header, body_size, seq_of, body_of};
 ghost use Rattle.stk_frame.specs.Reader.{Fed, HoldsFrame, frames_of_event, TellsEvent};
@@ -58,7 +57,6 @@ impl Model for FrameReader {
     ghost invariant = { λ reader. IsHeld reader.held.items };
 }
 
-/// Returns the body's size by its header, if a frame can have it.
 fn size_in(high: u8, low: u8, token: u8) -> Option<usize>
     ensures { result ≡ (if is_header high low token then Some (body_size high low) else None) }
 {
@@ -70,7 +68,6 @@ fn size_in(high: u8, low: u8, token: u8) -> Option<usize>
     }
 }
 
-/// Returns the size of the piece that these bytes begin, as far as they show it.
 fn size_of_piece(bytes: &[u8]) -> usize
     ensures size { result ≡ piece_size bytes.now }
     ensures bound { result ≤ LARGEST_FRAME }

@@ -1,3 +1,3 @@
--- Worked operations, and outcomes that are refused.
+-- Worked operations, and outcomes that contracts refuse.
 pub mod Operations
 pub mod Ends

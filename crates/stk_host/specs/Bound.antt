@@ -9,15 +9,15 @@ use Rattle.stk_host.specs.Dialog.{Dialog, Done, Say, Ask, Event, played, frames_
 use Rattle.stk_host.specs.Play.{Progress, Plays, Breaks, NoPart}
 use Rattle.stk_host.specs.ReadSteps.{signature_steps}
 
--- For every reading the dialog asks at most `n` times.
+-- The dialog asks at most `n` times, whatever is read.
 abbrev pub AsksAtMost : {E R : Type 0} → ℕ → Dialog E R → Type 0
 AsksAtMost n (Done r) = Unit {0}
 AsksAtMost n (Say e dialog) = AsksAtMost n dialog
 AsksAtMost zero (Ask body answered) = ⊥
 AsksAtMost (suc n) (Ask body answered) = (reading : Reading) → AsksAtMost n (answered reading)
 
--- At most `n` frames are sent: over every tape, in every transcript of the whole run, and in every one that broke
--- off.
+-- The dialog sends at most `n` frames: over every tape, in every run to its end, and in every run that broke off.
+-- `a_call_sends_at_most_four_times_its_commands` states it of each operation.
 pub record SendsAtMost {E R : Type 0} (SaidPart : E → E → Type 0) (n : ℕ) (dialog : Dialog E R) : Type 0 where
   pub over_tape : (seq : ℕ) (tape : Tape) → length (frames_in (played dialog seq tape).events) ≤ n
   pub whole : (before : Progress) (transcript : Transcript) (events : List (Event E)) (result : R) (after : Progress)
@@ -25,10 +25,12 @@ pub record SendsAtMost {E R : Type 0} (SaidPart : E → E → Type 0) (n : ℕ) 
   pub broken_off : (before : Progress) (transcript : Transcript) (shown : List (Event E))
       → Breaks SaidPart dialog before transcript shown → length (frames_in shown) ≤ n
 
+-- How many commands the steps have.
 abbrev pub commands_in : List (List Command) → ℕ
 commands_in [] = 0
 commands_in (commands ∷ steps) = length commands + commands_in steps
 
+-- The steps of `Host::open`; below, of `Host::erase` and `Host::close`.
 abbrev pub opening_steps : List (List Command)
 opening_steps = (SignOn ∷ []) ∷ (enter ∷ []) ∷ signature_steps
 

@@ -1,4 +1,4 @@
--- Terms for the contracts of calls.
+-- What calls over a link ensure: listening, conversations, and the calls of `Host`.
 use Rattle.std.specs.Prelude.{ℕ, Bool, true, List, [], ◌∷◌, ◌++◌, ◌≡◌, ◌<◌, ◌≤◌, length, Option, None, Some, Result, Ok, Err, IfOk, IfErr, IfSome, IsOkAnd, OnErr, ◌⊎◌}
 use Rattle.avr_part.specs.declared.part.Mem.{Mem}
 use Rattle.stk_frame.specs.declared.protocol.TheConstants.{LARGEST_BODY, LARGEST_FRAME}
@@ -33,11 +33,11 @@ use Rattle.stk_host.specs.Play.{Progress, PlaysOver, FailsOver}
 use Rattle.stk_host.specs.Reach.{Reaches, Hears, HearsNone}
 use Rattle.stk_host.specs.State.{ConversationState, HostState, data_held, lasting_fault}
 
--- At most one piece is unread.
+-- At most 281 bytes are unread: those of one piece.
 abbrev pub HasFewUnread : Progress → Type 0
 HasFewUnread progress = length progress.unread ≤ LARGEST_FRAME
 
--- What was received; bytes become unread.
+-- What was received, and is the end of the transcript. Bytes received are unread.
 abbrev pub HearsPiece : Heard → List ℕ → LinkState → LinkState → Type 0
 HearsPiece (heard.Bytes n) unread old new =
     (0 < length unread) × Grows old.transcript (Got (on_tape unread) ∷ []) new.transcript
@@ -45,7 +45,7 @@ HearsPiece heard.Silence unread old new =
     (unread ≡ []) × Grows old.transcript (Got (item.Silence ∷ []) ∷ []) new.transcript
 HearsPiece heard.End unread old new = (unread ≡ []) × Grows old.transcript (Got (item.End ∷ []) ∷ []) new.transcript
 
--- Receives the next piece, of at most `most` bytes, which alone is unread then.
+-- What `Unread::hear` ensures: it receives a piece of at most `most` bytes, and only that piece is unread then.
 pub record HearsNext {L : Type 0} (link : Ghosts L) (most : ℕ) (old new : L) (unread : List ℕ)
     (result : Result Heard LinkFault) : Type 0 where
   pub within : length unread ≤ most
@@ -66,7 +66,7 @@ abbrev pub HoldsAnswer : Reading → List ℕ → Type 0
 HoldsAnswer read.Answered held = HoldsFrame held
 HoldsAnswer _ held = Unit {0}
 
--- How listening for the reply to a frame ends, with what the reader holds and what is unread then.
+-- What `listen` ensures: how it ends, what the reader holds, and which bytes are unread then.
 pub record HearsAnswer {L : Type 0} (link : Ghosts L) (seq : ℕ) (old new : L) (before after held : List ℕ)
     (result : Result Reading LinkFault) : Type 0 where
   pub ok : IfOk result (λ reading. Hears seq before (link.view old) (link.view new) (reading_of reading held) after)
@@ -76,30 +76,30 @@ pub record HearsAnswer {L : Type 0} (link : Ghosts L) (seq : ℕ) (old new : L) 
   pub fits : length after ≤ LARGEST_FRAME
   pub comes : Stays link.comes_of old new
 
--- What follows from the reply, with its data.
+-- A reply of the code, with its data, as a reply of a dialog.
 abbrev pub reply_of : Reply → List ℕ → steps.Reply
 reply_of said.Data bytes = steps.Data bytes
 reply_of (said.Again fault) bytes = steps.Again fault
 reply_of (said.Stop fault) bytes = steps.Stop fault
 
--- Steps that stopped with this fault: their run broke off because of it, or ended with the step's fault of its name.
+-- These steps stopped with this fault: the link failed, or the dialog returned the step's fault of the same name.
 abbrev pub StopsSteps : Dialog ⊥ steps.StepOutcome → Progress → LinkState → LinkState → HostFault → Progress → Type 0
 StopsSteps dialog before old new fault after =
     FailsOver fault dialog before old new
     ⊎ ((of : StepFault) × (fault ≡ host_fault of) × PlaysOver dialog before old new (Err of) after)
 
--- Steps that ended: they returned these data, or they stopped.
+-- These steps ended: the dialog returned these data, or it stopped.
 abbrev pub EndsSteps : {A : Type 0} → Dialog ⊥ steps.StepOutcome → (A → List ℕ) → Progress → LinkState → LinkState
     → Result A HostFault → Progress → Type 0
 EndsSteps dialog bytes before old new (Ok a) after = PlaysOver dialog before old new (Ok (bytes a)) after
 EndsSteps dialog bytes before old new (Err fault) after = StopsSteps dialog before old new fault after
 
--- A run of these steps that ended: they brought these data, or they stopped.
+-- All of these steps were run and brought these data, or they stopped.
 abbrev pub Gets : List (List Command) → List ℕ → Progress → LinkState → LinkState → Result (Unit {0}) HostFault
     → Progress → Type 0
 Gets these brought = EndsSteps (play these []) (λ done. brought)
 
--- Steps that others follow: these remain, with all data so far, or all stop.
+-- These steps were run, and then any others may follow, with all data so far. If these stop, all stop.
 abbrev pub GoesOnWith : List (List Command) → List ℕ → List ℕ → Progress → LinkState → LinkState
     → Result (Unit {0}) HostFault → Progress → Type 0
 GoesOnWith these given brought before old new (Ok done) after =
@@ -107,7 +107,7 @@ GoesOnWith these given brought before old new (Ok done) after =
 GoesOnWith these given brought before old new (Err fault) after =
     (steps : List (List Command)) → StopsSteps (play (these ++ steps) given) before old new fault after
 
--- Steps that others follow, and that bring no data.
+-- The same of steps that bring no data.
 abbrev pub GoesOn : List (List Command) → Progress → LinkState → LinkState → Result (Unit {0}) HostFault → Progress
     → Type 0
 GoesOn these = GoesOnWith these [] []
@@ -123,7 +123,7 @@ IsSizedShape Name = ⊥
 IsSizedShape (Bytes n) = Unit {0}
 IsSizedShape (Closed n) = Unit {0}
 
--- A call of a conversation over a link. It ends like this, and at most one piece is unread if that was so before.
+-- What each call of a conversation ensures: it ends as `Ends` states, and at most one piece stays unread.
 pub record Asks {A L : Type 0} (link : Ghosts L)
     (Ends : Progress → LinkState → LinkState → Result A HostFault → Progress → Type 0)
     (before after : ConversationState) (old new : L) (result : Result A HostFault) : Type 0 where
@@ -132,8 +132,8 @@ pub record Asks {A L : Type 0} (link : Ghosts L)
   pub bound : HasFewUnread before.progress → HasFewUnread after.progress
   pub comes : Stays link.comes_of old new
 
--- How some commands are answered: their run returned this reply, or it broke off because the link failed. Data have
--- the size that the last command asks for.
+-- What `exchange` and `attempt` ensure: the dialog returned this reply, or it broke off because the link failed. The
+-- data have the size that the last command asks for.
 pub record GetsReply {L : Type 0} (link : Ghosts L) (dialog : Dialog ⊥ steps.Reply) (last : Command)
     (before after : ConversationState) (old new : L) (result : Result Reply HostFault) : Type 0 where
   pub ok : IfOk result (λ reply. PlaysOver dialog before.progress (link.view old) (link.view new)
@@ -144,9 +144,8 @@ pub record GetsReply {L : Type 0} (link : Ghosts L) (dialog : Dialog ⊥ steps.R
   pub bound : HasFewUnread after.progress
   pub comes : Stays link.comes_of old new
 
--- How a call of a host ends. Its dialog broke off if and only if the link has failed, at sending or at listening.
--- Only a call that allocates (`takes`) can fail at that; then nothing was sent or received. Otherwise the dialog was
--- run whole.
+-- How a call of a host ends. Its dialog broke off if and only if the link failed, while sending or while receiving.
+-- If `takes` is true, the call allocates. If that fails, nothing was sent or received. Else the dialog ran to its end.
 abbrev pub EndsCall : {A : Type 0} → Bool → Dialog ⊥ (Result A HostFault) → Progress → LinkState → LinkState
     → Result A HostFault → Progress → Type 0
 EndsCall takes dialog before old new (Err SendFailed) after = FailsOver SendFailed dialog before old new
@@ -154,6 +153,7 @@ EndsCall takes dialog before old new (Err RecvFailed) after = FailsOver RecvFail
 EndsCall takes dialog before old new (Err Memory) after = (takes ≡ true) × (new ≡ old) × (after ≡ before)
 EndsCall takes dialog before old new result after = PlaysOver dialog before old new result after
 
+-- This value if the call succeeded, else its fault. `Host::read` has its bytes in a vector, not in its result.
 abbrev pub given_or_fault : {A : Type 0} → A → Result (Unit {0}) HostFault → Result A HostFault
 given_or_fault a (Ok done) = Ok a
 given_or_fault a (Err fault) = Err fault
@@ -175,7 +175,7 @@ pub record IsSizedStep (first : Option Command) (last : Command) : Type 0 where
   pub fits : FitsFrame last
   pub counted : IsSizedShape (shape last)
 
--- A call of a host runs this dialog, or if the link fails a prefix of it.
+-- What each call of `Host` ensures: it runs this dialog, or a prefix of it if the link fails.
 pub record Calls {A : Type 0} (takes : Bool) (dialog : Dialog ⊥ (Result A HostFault)) (old new : HostState)
     (before after : LinkState) (result : Result A HostFault) : Type 0 where
   -- After a lasting fault each call returns that fault and changes nothing.

@@ -1,23 +1,23 @@
--- Dialogs, and their one meaning: the run over a tape of replies, `played` in names.
+-- Dialogs, and what they mean: `played`, the run over a tape of what is received.
 use Rattle.std.specs.Prelude.{ℕ, ◌+◌, ◌%◌, List, [], ◌∷◌, ◌++◌, Option, Some, None}
 use Rattle.stk_frame.specs.Frame.{frame}
 use Rattle.stk_host.specs.Tape.{Tape, Reading, answer}
 
 -- A dialog is done, or it outputs an event beside the link, such as a message, or it asks. To ask, it sends a
--- command's body, and goes on with the reading of its reply.
+-- command's body, and goes on with the reading of the reply.
 pub data Dialog (E R : Type 0) : Type 0 where
   Done : R → Dialog E R
   Say : E → Dialog E R → Dialog E R
   Ask : List ℕ → (Reading → Dialog E R) → Dialog E R
 
--- A dialog, and then the one that its result chooses.
+-- Runs a dialog, then the one that its result chooses.
 infixl 10 ◌>>=◌
 abbrev pub ◌>>=◌ : {E A B : Type 0} → Dialog E A → (A → Dialog E B) → Dialog E B
 (Done a) >>= go_on = go_on a
 (Say e dialog) >>= go_on = Say e (dialog >>= go_on)
 (Ask body answered) >>= go_on = Ask body (λ reading. answered reading >>= go_on)
 
--- A dialog without output events, as a part of one that has them.
+-- A dialog without output events, for use in one that has them.
 abbrev pub lifted : {E R : Type 0} → Dialog ⊥ R → Dialog E R
 lifted (Done r) = Done r
 lifted (Say e dialog) = absurd e
@@ -28,14 +28,17 @@ pub data Event (E : Type 0) : Type 0 where
   Frame : List ℕ → Event E
   Said : E → Event E
 
--- The events, and the result with the next sequence number and the tape that remains. None: it waits for more.
+-- The events of a run, and its result with the next sequence number and the tape that remains. None: the run waits
+-- for more.
 pub record Played (E R : Type 0) : Type 0 where
   pub events : List (Event E)
   pub outcome : Option (R × ℕ × Tape)
 
+-- A run after these events.
 abbrev pub behind : {E R : Type 0} → List (Event E) → Played E R → Played E R
 behind events p = record { events = events ++ p.events; outcome = p.outcome }
 
+-- The run that a reading chooses, or one that waits.
 abbrev pub by_answer : {E R : Type 0} → (Reading → Tape → Played E R) → Option (Reading × Tape) → Played E R
 by_answer go_on None = record { events = []; outcome = None }
 by_answer go_on (Some (reading, tape)) = go_on reading tape
@@ -55,7 +58,7 @@ frames_in [] = []
 frames_in (Frame bytes ∷ events) = bytes ∷ frames_in events
 frames_in (Said e ∷ events) = frames_in events
 
--- The bytes of the frames; below, the output events.
+-- The bytes of all frames; below, the output events alone.
 abbrev pub bytes_sent : {E : Type 0} → List (Event E) → List ℕ
 bytes_sent [] = []
 bytes_sent (Frame bytes ∷ events) = bytes ++ bytes_sent events

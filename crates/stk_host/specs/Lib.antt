@@ -14,7 +14,7 @@ pub mod Calls
 pub mod State
 pub mod Links
 pub mod Watching
--- inside: representations, and contracts of private functions
+-- representations
 pub mod Log
 -- of the crates below, the definitions that public contracts cite
 pub use Rattle.avr_part.specs.Part

@@ -26,7 +26,8 @@ pub record TapeState : Type 0 where
   pub transcript : Transcript
   pub failures : ℕ
 
--- The items received since `old` and then those left are the items that were left; after the last come only ends.
+-- The items received since `old`, followed by those left, are the items that were left. After the last come only ends.
+-- It is `comes_of` of a `TapeLink`.
 pub record IsOfTape (old new : TapeState) : Type 0 where
   pub during : Transcript
   pub grows : new.transcript ≡ old.transcript ++ during
@@ -59,8 +60,8 @@ pub record StreamState (R W : Type 0) : Type 0 where
 abbrev pub stream_state : {R W : Type 0} → StreamState R W → LinkState
 stream_state link = record { transcript = link.transcript; failures = link.failures }
 
--- The record since `old` is true. The bytes received are those that the reader gave, in order and none lost. The bytes
--- sent are those that the writer took, also if it failed then.
+-- The transcript since `old` is true: `comes_of` of a `StreamLink`. The bytes received are those that the reader gave,
+-- in order and none lost. The bytes sent are those that the writer took, also in a send that failed.
 pub record IsTrueSince {R W : Type 0} (remaining : R → Option (List ℕ)) (contents : W → Option (List ℕ))
     (old new : StreamState R W) : Type 0 where
   pub during : Transcript
@@ -69,7 +70,7 @@ pub record IsTrueSince {R W : Type 0} (remaining : R → Option (List ℕ)) (con
   pub took : Appends (contents old.writer) (contents new.writer) (sent during)
   pub counted : old.failures ≤ new.failures
 
--- An error kind that is a failure of listening: no timeout, and nothing that is retried.
+-- An error kind that makes `recv` fail: neither a timeout nor an interruption, which is retried.
 abbrev pub IsOfListening : Option ErrorKind → Type 0
 IsOfListening None = ⊥
 IsOfListening (Some kind) = (kind ≢ WouldBlock) × (kind ≢ TimedOut) × (kind ≢ Interrupted)
@@ -80,7 +81,7 @@ HearsKnown (hears.Bytes count) buffer old new = Consumes old new (take count buf
 HearsKnown hears.Silence buffer old new = Keeps old new
 HearsKnown hears.End buffer old new = Keeps old new × IsAtEnd new
 
--- A failed send took this part of the bytes, and a writer whose bytes are known took exactly this part.
+-- A failed send took a part of the bytes, and a writer whose bytes are known took exactly that part.
 pub record TakesKnown (bytes : List ℕ) (before now : Transcript) (old new : Option (List ℕ)) : Type 0 where
   pub takes : TakesPart bytes before now
   pub took : Appends old new (sent takes.last)
@@ -102,7 +103,7 @@ pub record CountsCall {L : Type 0} (old new : FailingState L) (is_due : Bool) : 
   pub sound : old.due ≢ 1 → new.failed ≡ old.failed
   pub counted : old.failed ≤ new.failed
 
--- The due call fails without calling the inner link. Any other fails only if the inner link does.
+-- The due call fails without calling the inner link. Any other call fails only if the inner link does.
 pub record FailsAsPlanned {A L : Type 0} (view : L → LinkState) (old new : FailingState L)
     (result : Result A LinkFault) : Type 0 where
   pub due : new.due ≡ old.due - 1

@@ -16,6 +16,7 @@ use Rattle.stk_host.specs.Steps.{StepOutcome, if_done, step, play}
 use Rattle.stk_host.specs.WriteSteps.{write_steps}
 use Rattle.stk_host.specs.ReadSteps.{signature_steps, read_steps}
 
+-- The fault of a host with the name of the step's fault.
 abbrev pub host_fault : StepFault → HostFault
 host_fault of_step.NoAnswer = NoAnswer
 host_fault of_step.LinkEnded = LinkEnded
@@ -23,6 +24,7 @@ host_fault of_step.Babble = Babble
 host_fault (of_step.Refused command status) = Refused command status
 host_fault (of_step.BadAnswer command) = BadAnswer command
 
+-- Signs on, enters programming mode and reads the signature.
 unfoldable pub handshake : Dialog ⊥ StepOutcome
 handshake =
     step (SignOn ∷ []) >>= if_done (λ name. step (enter ∷ []) >>= if_done (λ nothing. play signature_steps []))
@@ -46,6 +48,7 @@ abbrev pub judged_by : {A : Type 0} → (List ℕ → Result A HostFault) → St
 judged_by judge (Ok bytes) = judge bytes
 judged_by judge (Err fault) = Err (host_fault fault)
 
+-- Runs the steps, and makes the result from their data.
 unfoldable pub operation : {A : Type 0} → List (List Command) → (List ℕ → Result A HostFault)
     → Dialog ⊥ (Result A HostFault)
 operation steps judge = play steps [] >>= λ outcome. Done (judged_by judge outcome)
@@ -69,8 +72,8 @@ pub record Difference : Type 0 where
   pub want : ℕ
   pub found : ℕ
 
--- The lowest address, from `addr` on, at which the image holds a byte and the memory another. Both lists begin at
--- `addr`.
+-- The first difference: the lowest address at which the image holds a byte and the memory another. Both lists begin
+-- at `addr`.
 abbrev pub difference_from : ℕ → List (Option ℕ) → List ℕ → Option Difference
 difference_from addr [] bytes = None
 difference_from addr (byte ∷ image) [] = None
@@ -83,6 +86,7 @@ abbrev pub differs : Mem → Option Difference → Result ⊤ HostFault
 differs mem None = Ok tt
 differs mem (Some d) = Err (Differs mem d.addr d.want d.found)
 
+-- What comparing a memory with an image returns.
 abbrev pub comparison : Mem → List (Option ℕ) → List ℕ → Result ⊤ HostFault
 comparison mem image bytes = differs mem (difference_from 0 image bytes)
 

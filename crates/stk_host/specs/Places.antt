@@ -1,4 +1,4 @@
--- Places of a memory taken in turn, and the addresses that are loaded for them.
+-- Steps at each place of a memory, and the addresses that are loaded for them.
 use Rattle.std.specs.Prelude.{ℕ, zero, suc, ◌+◌, ◌/◌, List, [], ◌++◌, nat_lt, if◌then◌else◌}
 use Rattle.avr_part.specs.Part.{Part}
 use Rattle.stk_frame.specs.declared.protocol.TheConstants.{EXTENDED_ADDRESS}

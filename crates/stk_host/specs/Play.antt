@@ -1,4 +1,4 @@
--- A transcript of a link as the run of a dialog: whole, or broken off.
+-- A transcript of a link as the run of a dialog: to its end, or broken off.
 use Rattle.std.specs.Prelude.{ℕ, List, [], ◌∷◌, ◌++◌, ◌≡◌, ◌<◌, length, Some, None}
 use Rattle.stk_host.specs.declared.fault.HostFault.{HostFault}
 use Rattle.stk_host.specs.declared.fault.HostFault.TheVariants.{SendFailed, RecvFailed}
@@ -14,13 +14,13 @@ pub record Progress : Type 0 where
 abbrev pub progress_at : ℕ → List ℕ → Progress
 progress_at next unread = record { next = next; unread = unread }
 
--- The dialog waits, and its frames are exactly these bytes: it is time to listen.
+-- The run waits for a reply, and the bytes sent are exactly its frames: it is time to listen.
 pub record IsDue {E R : Type 0} (dialog : Dialog E R) (seq : ℕ) (tape : Tape) (bytes : List ℕ) : Type 0 where
   pub waits : (played dialog seq tape).outcome ≡ None
   pub all_sent : bytes_sent (played dialog seq tape).events ≡ bytes
 
--- Before each piece received it was time to listen: the dialog's run over all received so far waits. After a send
--- that failed nothing passes.
+-- Before each piece received it was time to listen: the dialog's run over all received so far waits. Nothing passes
+-- after a send that failed.
 abbrev pub TurnsFrom : {E R : Type 0} → Dialog E R → ℕ → Tape → List ℕ → Transcript → Type 0
 TurnsFrom dialog seq tape bytes [] = Unit {0}
 TurnsFrom dialog seq tape bytes (Sent more ∷ transcript) = TurnsFrom dialog seq tape (bytes ++ more) transcript
@@ -28,7 +28,7 @@ TurnsFrom dialog seq tape bytes (Taken more ∷ transcript) = transcript ≡ []
 TurnsFrom dialog seq tape bytes (Got items ∷ transcript) =
     IsDue dialog seq tape bytes × TurnsFrom dialog seq (tape ++ items) bytes transcript
 
--- The dialog sends and listens in turn, from a state on.
+-- The dialog sends and listens in turn: each piece is received only when it is due.
 abbrev pub InTurn : {E R : Type 0} → Dialog E R → Progress → Transcript → Type 0
 InTurn dialog before transcript = TurnsFrom dialog before.next (on_tape before.unread) [] transcript
 
@@ -36,7 +36,7 @@ InTurn dialog before transcript = TurnsFrom dialog before.next (on_tape before.u
 abbrev pub played_over : {E R : Type 0} → Dialog E R → Progress → Transcript → Played E R
 played_over dialog before transcript = played dialog before.next (on_tape before.unread ++ heard transcript)
 
--- The transcript is the dialog's whole run over the unread bytes and the items received. Exactly these events
+-- The transcript is the dialog's run to its end, over the unread bytes and the items received. Exactly these events
 -- happened, with this result and this state after them, whatever follows on the tape.
 pub record Plays {E R : Type 0} (dialog : Dialog E R) (before : Progress) (transcript : Transcript)
     (events : List (Event E))
@@ -50,7 +50,7 @@ pub record Plays {E R : Type 0} (dialog : Dialog E R) (before : Progress) (trans
 abbrev pub IsPrefixOf : List ℕ → List ℕ → Type 0
 IsPrefixOf prefix bytes = (back : List ℕ) × (prefix ++ back ≡ bytes)
 
--- A part of an event: a prefix of its frame, or a part of its output.
+-- The first event is a part of the second: a prefix of its frame, or a part of its output.
 abbrev pub IsPartOf : {E : Type 0} → (E → E → Type 0) → Event E → Event E → Type 0
 IsPartOf SaidPart (Frame part) (Frame whole) = IsPrefixOf part whole
 IsPartOf SaidPart (Said part) (Said whole) = SaidPart part whole
@@ -79,8 +79,8 @@ pub record Breaks {E R : Type 0} (SaidPart : E → E → Type 0) (dialog : Dialo
   pub all_sent : bytes_sent shown ≡ sent transcript
   pub in_turn : InTurn dialog before transcript
 
--- The run broke off at sending. What happened is a prefix of its events, up to a frame that was sent in part, or not
--- at all. The frame was sent whole only if the send that failed had taken its end.
+-- The run broke off while sending a frame. What happened is a prefix of its events, up to a part of that frame or
+-- nothing of it. All of the frame was sent only if the send that failed took its end.
 pub record BreaksSending {E R : Type 0} (dialog : Dialog E R) (before : Progress) (transcript : Transcript)
     (shown : List (Event E)) : Type 0 where
   pub whole : List (Event E)
@@ -93,7 +93,7 @@ pub record BreaksSending {E R : Type 0} (dialog : Dialog E R) (before : Progress
   pub all_sent : bytes_sent shown ≡ sent transcript
   pub in_turn : InTurn dialog before transcript
 
--- The run broke off at listening: it waits, and all its events happened.
+-- The run broke off while receiving: it waits, and all its events happened.
 pub record BreaksListening {E R : Type 0} (dialog : Dialog E R) (before : Progress) (transcript : Transcript)
     (shown : List (Event E)) : Type 0 where
   pub waits : (played_over dialog before transcript).outcome ≡ None
@@ -112,7 +112,7 @@ BreaksBy fault dialog before transcript shown = ⊥
 abbrev pub NoPart : ⊥ → ⊥ → Type 0
 NoPart part whole = ⊥
 
--- A call that ran a dialog whole, between these states of the link, which has not failed.
+-- A call ran a dialog to its end, between these states of the link, which has not failed.
 pub record PlaysOver {R : Type 0} (dialog : Dialog ⊥ R) (before : Progress) (old new : LinkState) (result : R)
     (after : Progress) : Type 0 where
   pub during : Transcript
@@ -121,7 +121,7 @@ pub record PlaysOver {R : Type 0} (dialog : Dialog ⊥ R) (before : Progress) (o
   pub plays : Plays dialog before during events result after
   pub sound : new.failures ≡ old.failures
 
--- A call that broke off because the link has failed with this fault.
+-- A call broke off because the link failed, with this fault.
 pub record FailsOver {R : Type 0} (fault : HostFault) (dialog : Dialog ⊥ R) (before : Progress)
     (old new : LinkState) : Type 0 where
   pub during : Transcript

@@ -1,13 +1,13 @@
--- How far a call has come in a dialog: for contracts of inner calls, and of code that sends and listens without a
--- host.
+-- How far a call has come in a dialog: for contracts of private functions, and of code that sends and listens
+-- without a host.
 use Rattle.std.specs.Prelude.{ℕ, List, [], ◌∷◌, ◌++◌, ◌+◌, ◌≡◌, ◌<◌, ◌≤◌, length, Some, None, Result, OnOk, OnErr}
 use Rattle.stk_host.specs.Tape.{Tape, Reading, on_tape, answer, limit}
 use Rattle.stk_host.specs.Transcript.{Transcript, LinkState, Sent, Taken, Got, NoneTaken, sent, heard, Grows, LinkCounts}
 use Rattle.stk_host.specs.Dialog.{Dialog, Event, played, behind, bytes_sent}
 use Rattle.stk_host.specs.Play.{InTurn, Progress}
 
--- A transcript leads from a dialog to its rest: the dialog's run is these events and then the run of the rest,
--- whatever follows on the tape.
+-- A transcript leads from a dialog to its rest: the dialog's run is these events, then the run of the rest, whatever
+-- follows on the tape.
 pub record TranscriptLeads {E R : Type 0} (dialog : Dialog E R) (before : Progress) (transcript : Transcript)
     (events : List (Event E)) (rest : Dialog E R) (after : Progress) : Type 0 where
   pub goes_on : (more : Tape) → played dialog before.next (on_tape before.unread ++ (heard transcript ++ more))
@@ -25,7 +25,7 @@ pub record Reaches {R : Type 0} (dialog : Dialog ⊥ R) (before : Progress) (old
   pub leads : TranscriptLeads dialog before during events rest after
   pub sound : new.failures ≡ old.failures
 
--- Nothing was received. After a send that failed nothing passed.
+-- Nothing was received, and nothing passed after a send that failed.
 abbrev pub IsQuiet : Transcript → Type 0
 IsQuiet [] = Unit {0}
 IsQuiet (Sent bytes ∷ transcript) = IsQuiet transcript
@@ -40,8 +40,8 @@ pub record Says (bytes : List ℕ) (old new : Transcript) : Type 0 where
   pub none_taken : NoneTaken during
   pub bytes_sent : sent during ≡ bytes
 
--- Only a part of these bytes was sent, perhaps nothing, and nothing was received. All were sent only if the send that
--- failed had taken the last of them.
+-- A part of these bytes was sent, perhaps nothing, and nothing was received. All were sent only if the send that
+-- failed took the last of them.
 pub record SaysPart (bytes : List ℕ) (old new : Transcript) : Type 0 where
   pub part : List ℕ
   pub unsent : List ℕ
@@ -53,7 +53,7 @@ pub record SaysPart (bytes : List ℕ) (old new : Transcript) : Type 0 where
   pub bytes_sent : sent during ≡ part
   pub not_whole : NoneTaken during → 0 < length unsent
 
--- Sends all of these bytes, or a part if the link fails.
+-- What `send_all` ensures: it sends all of these bytes, or a part if the link fails.
 pub record SendsAll {E : Type 0} (bytes : List ℕ) (old new : LinkState) (result : Result (Unit {0}) E) : Type 0 where
   pub ok : OnOk result (Says bytes old.transcript new.transcript)
   pub err : OnErr result (SaysPart bytes old.transcript new.transcript)
@@ -65,7 +65,7 @@ WaitsFrom seq tape [] = Unit {0}
 WaitsFrom seq tape (Got items ∷ transcript) = (answer seq tape ≡ None) × WaitsFrom seq (tape ++ items) transcript
 WaitsFrom seq tape (other ∷ transcript) = ⊥
 
--- The reply was waited for, within the limit of bytes.
+-- The reply was waited for within the limit of bytes, and `left` is unread after it.
 pub record Hears (seq : ℕ) (unread : List ℕ) (old new : LinkState) (reading : Reading) (left : List ℕ) : Type 0 where
   pub during : Transcript
   pub grows : Grows old.transcript during new.transcript

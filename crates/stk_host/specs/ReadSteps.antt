@@ -1,4 +1,4 @@
--- The steps that read a whole memory.
+-- The steps of `Host::read` and `Host::verify`.
 use Rattle.std.specs.Prelude.{ℕ, ◌-◌, ◌*◌, min, List, [], ◌∷◌, Option, Some, None}
 use Rattle.std.specs.Int.{div_ceil}
 use Rattle.avr_part.specs.declared.part.Mem.{Mem}

@@ -24,7 +24,7 @@ abbrev pub data_in : Result (List ℕ) FrameFault → List ℕ
 data_in (Ok bytes) = bytes
 data_in (Err fault) = []
 
--- The data of the reply to this command, if this is held.
+-- The data of the reply that is held, if it is a good reply to this command.
 abbrev pub data_held : Command → List ℕ → List ℕ
 data_held command held = data_in (judge command (body_of held))
 

@@ -24,12 +24,14 @@ answer_reply command (Err (Status status)) = Stop (Refused (code command) status
 answer_reply command (Err WrongCommand) = Stop (BadAnswer (code command))
 answer_reply command (Err WrongLength) = Stop (BadAnswer (code command))
 
+-- What follows from how listening for the reply to this command ended.
 abbrev pub reading_reply : Command → Reading → Reply
 reading_reply command (Answered bytes) = answer_reply command (judge command bytes)
 reading_reply command Silent = Again NoAnswer
 reading_reply command Babbled = Again Babble
 reading_reply command Ended = Stop LinkEnded
 
+-- Sends a command once and reads its reply.
 unfoldable pub exchange : Command → Dialog ⊥ Reply
 exchange command = Ask (body command) (λ reading. Done (reading_reply command reading))
 
@@ -38,8 +40,8 @@ with_data go_on (Data bytes) = go_on bytes
 with_data go_on (Again fault) = Done (Again fault)
 with_data go_on (Stop fault) = Done (Stop fault)
 
--- Sends the commands in order, up to the first whose reply brings no data. The result is all data joined, or what
--- that reply led to.
+-- Sends the commands in order, up to the first whose reply isn't good. The result is all data joined, or what that
+-- reply led to.
 unfoldable pub attempt : List Command → List ℕ → Dialog ⊥ Reply
 attempt [] data_before = Done (Data data_before)
 attempt (command ∷ commands) data_before =
@@ -53,7 +55,7 @@ end_or_again again (Data bytes) = Done (Ok bytes)
 end_or_again again (Again fault) = again fault
 end_or_again again (Stop fault) = Done (Err fault)
 
--- This many attempts, after one that ended with `fault`.
+-- At most this many attempts; if all fail, the last fault. `fault` is that of the attempt before.
 unfoldable pub tries : ℕ → List Command → StepFault → Dialog ⊥ StepOutcome
 tries zero commands fault = Done (Err fault)
 tries (suc more) commands fault = attempt commands [] >>= end_or_again (tries more commands)
@@ -62,14 +64,16 @@ abbrev pub commands_by : Option Command → Command → List Command
 commands_by None last = last ∷ []
 commands_by (Some first) last = first ∷ last ∷ []
 
+-- A transaction: at most four attempts at these commands.
 abbrev pub step : List Command → Dialog ⊥ StepOutcome
 step commands = tries 4 commands NoAnswer
 
+-- Goes on with a step's data, or ends with its fault.
 abbrev pub if_done : (List ℕ → Dialog ⊥ StepOutcome) → StepOutcome → Dialog ⊥ StepOutcome
 if_done go_on (Ok bytes) = go_on bytes
 if_done go_on (Err fault) = Done (Err fault)
 
--- The steps in order up to the first fault. The result is all data joined, or the fault.
+-- Runs the steps in order, up to the first fault. The result is all data joined, or the fault.
 unfoldable pub play : List (List Command) → List ℕ → Dialog ⊥ StepOutcome
 play [] data_before = Done (Ok data_before)
 play (commands ∷ steps) data_before = step commands >>= if_done (λ bytes. play steps (data_before ++ bytes))

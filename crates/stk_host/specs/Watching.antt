@@ -1,4 +1,3 @@
--- What a watcher of a link sees.
 use Rattle.std.specs.Prelude.{ℕ, List, Result}
 use Rattle.stk_host.specs.declared.link.Heard.{Heard}
 use Rattle.stk_host.specs.declared.link.LinkFault.{LinkFault}

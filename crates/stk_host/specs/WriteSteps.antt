@@ -9,7 +9,7 @@ use Rattle.stk_frame.specs.declared.host_command.Fuse.TheVariants.{Low, High, Ex
 use Rattle.stk_frame.specs.HostCommands.{program_page, program_eeprom_block, program_fuse, program_lock}
 use Rattle.stk_host.specs.Places.{each_from, load_flash, load_eeprom}
 
--- Programs the whole page of flash that begins here, with FF in gaps.
+-- Programs the page of flash that begins here, with FF in gaps.
 abbrev pub page_step : Part → List (Option ℕ) → ℕ → List Command
 page_step part image start = load_flash part start ∷ program_page (filled_bytes image start part.flash_page) ∷ []
 
@@ -38,7 +38,7 @@ run_step part image addr =
 abbrev pub run_steps_at : Part → List (Option ℕ) → ℕ → List (List Command)
 run_steps_at part image addr = if begins_run part.eeprom_page image addr then run_step part image addr ∷ [] else []
 
--- The places of flash are its pages, and those of EEPROM its bytes.
+-- The number of places: the pages of flash, or the bytes of EEPROM.
 abbrev pub place_count : Part → Mem → ℕ
 place_count part Flash = part.flash_size / part.flash_page
 place_count part mem = part.eeprom_size
@@ -51,7 +51,7 @@ abbrev pub byte_steps : (ℕ → Command) → Option ℕ → List (List Command)
 byte_steps program None = []
 byte_steps program (Some byte) = (program byte ∷ []) ∷ []
 
--- Pages of flash and runs of EEPROM are in rising order.
+-- The steps of `Host::write`. Pages of flash and runs of EEPROM are in rising order.
 abbrev pub write_steps : Part → Mem → List (Option ℕ) → List (List Command)
 write_steps part Flash image = each_from (page_steps part image) 0 (part.flash_size / part.flash_page)
 write_steps part Eeprom image = each_from (run_steps_at part image) 0 part.eeprom_size

@@ -1,4 +1,3 @@
-//! The comparison of a memory with an image.
 ghost use Rattle.std.specs.Prelude.{◌≡◌, ◌+◌, ◌≤◌, ◌^◌, length, map, Some};
 ghost use Rattle.stk_host.specs.Operations.{comparison, differs, difference_from};
 
@@ -12,7 +11,7 @@ fn compare_run(mem: Mem, addr: u32, run: &[u8], bytes: &[u8]) -> Result<(), Host
     requires short { addr + length run.now ≤ 2 ^ 32 }
     ensures { result ≡ differs mem (difference_from addr (map (λ byte. Some byte) run.now) bytes.now) }
 {
-    // Whole slices are compared many bytes at a time. The place is looked for only if they differ.
+    // Comparing slices is fast. The loop looks for the address only if they differ.
     if run == &bytes[..run.len()] {
         return Ok(());
     }

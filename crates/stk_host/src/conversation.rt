@@ -25,7 +25,6 @@ pub(crate) enum Reply {
     Stop(StepFault),
 }
 
-/// The host's side of a conversation with a programmer.
 #[derive(Drop)]
 pub(crate) struct Conversation {
     reader: FrameReader,
@@ -49,7 +48,6 @@ impl Model for Conversation {
     ghost invariant = { λ conversation. length conversation.unread ≤ LARGEST_FRAME };
 }
 
-/// Returns what follows from the way listening ended.
 fn reply_to(reader: &FrameReader, reading: Reading, command: &Command<'_>) -> Reply
     ensures reply { reply_of result (data_held command.now reader.now)
         ≡ reading_reply command.now (reading_of reading reader.now) }
@@ -85,7 +83,7 @@ impl Conversation {
         }
     }
 
-    /// Returns the data of the last reply, and nothing if it isn't a good one to `command`.
+    /// Returns the data of the last reply, or no bytes if it isn't a good reply to `command`.
     pub(crate) fn data_read(&self, command: &Command<'_>) -> &[u8]
         ensures { result.now ≡ data_held command.now self.now.held }
     {
@@ -112,7 +110,7 @@ impl Conversation {
         Ok(reply_to(&self.reader, reading, command))
     }
 
-    /// Sends the commands in order, up to the first whose reply brings no data.
+    /// Sends the commands in order, up to the first whose reply isn't good.
     fn attempt<L: Link>(
         &mut self,
         link: &mut L,
@@ -148,7 +146,7 @@ impl Conversation {
             self.old self.new link.old link.new result }
         ensures sized { OnOk result (SizedBy (shape last.now) (data_held last.now self.new.held)) }
     {
-        // Every attempt that doesn't return replaces it.
+        // Each attempt that doesn't return replaces this fault.
         let mut fault = StepFault::NoAnswer;
         for _tried in 0..ATTEMPTS {
             match self.attempt(link, first, last)? {

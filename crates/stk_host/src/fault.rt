@@ -1,4 +1,3 @@
-//! Why a call of a host failed.
 ghost use Rattle.std.specs.Prelude.{◌≡◌, option_map};
 ghost use Rattle.stk_host.specs.Calls.{command_named, host_fault_number, status_named};
 ghost use Rattle.stk_host.specs.Operations.{host_fault};
@@ -56,8 +55,8 @@ pub enum HostFault {
     /// The link has ended.
     #[error("link ended")]
     LinkEnded,
-    /// The link failed at sending. The frames before were sent whole, and of this one a part, perhaps nothing. It may
-    /// have been sent whole if the send that failed took its end.
+    /// The link failed while sending a frame. All earlier frames were sent, and of this one a part or nothing. All of
+    /// it was sent only if the send that failed took its end.
     #[error("link cannot be written")]
     SendFailed,
     /// The last of four attempts got 4,096 bytes without a reply.
@@ -81,7 +80,7 @@ pub enum HostFault {
     /// Allocation failed.
     #[error("out of memory")]
     Memory,
-    /// The link failed at listening, after a frame was sent whole.
+    /// The link failed while receiving, after a frame was sent to its end.
     #[error("link cannot be read")]
     RecvFailed,
 }
@@ -110,7 +109,7 @@ impl HostFault {
         }
     }
 
-    /// Returns AVR068's name of the command that was refused or had a bad answer. Returns `None` for any other fault,
+    /// Returns AVR068's name of the command that was refused or got a bad reply. Returns `None` for any other fault,
     /// and if the command byte has no name.
     ///
     /// ```text

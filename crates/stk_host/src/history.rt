@@ -37,7 +37,7 @@ impl History {
         History {}
     }
 
-    /// Adds this piece.
+    /// Returns the transcript with this piece added.
     #[inline(always)]
     pub fn then(&self, piece: &Piece<'_>) -> History
         ensures { result.items ≡ self.now.items ++ passed piece.now ∷ [] }

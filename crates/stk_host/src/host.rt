@@ -69,7 +69,6 @@ impl Model for Host {
     ghost invariant = { λ host. length host.conversation.progress.unread ≤ LARGEST_FRAME };
 }
 
-/// Returns the signature that was read, if it is `wanted` or `force` is set.
 fn judge_signature(
     wanted: [u8; 3],
     force: bool,
@@ -106,7 +105,6 @@ fn judge_comparison(
     compare(mem, image, found)
 }
 
-/// Returns the fault that all later calls return, if this outcome leaves one.
 fn lasting<T>(outcome: &Result<T, HostFault>) -> Option<HostFault>
     ensures { result ≡ lasting_fault outcome.now }
 {
@@ -215,8 +213,8 @@ impl Host {
     /// `ReadOnly` if the memory can't be written; nothing is sent. `NoAnswer`, `Babble`, `Refused` or `BadAnswer` if
     /// a command fails. `SendFailed`, `RecvFailed` or `LinkEnded` if the link fails or ends, and in every later call.
     ///
-    /// After a fault the programmer has confirmed the pages before the failed one, which may be written, too. (Of
-    /// EEPROM these are runs of bytes in a page.)
+    /// After a fault, the programmer has confirmed all pages before the failed one, which may be written, too. In
+    /// EEPROM these are runs of bytes within a page.
     ///
     /// ```text
     /// let part = Parts::none().find("m328p")?;

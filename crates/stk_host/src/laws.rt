@@ -1,4 +1,4 @@
-//! Laws of the operations, and no code.
+//! Laws of operations and links, without code.
 ghost use Rattle.std.specs.Prelude.{ℕ, Bool, List, Option};
 ghost use Rattle.avr_part.specs.declared.part.Mem.{Mem};
 ghost use Rattle.avr_part.specs.Part.{Part};
@@ -16,7 +16,7 @@ use crate::tape_link::TapeLink;
 use std::io::{Read, Write};
 
 /// States that a call of a [`crate::Host`] sends at most four frames for each command of its steps. This holds for
-/// every programmer, for every way its replies arrive, and if the link fails.
+/// every programmer, however its replies arrive, and also if the link fails.
 pub fn a_call_sends_at_most_four_times_its_commands()
     ensures plays { (steps : List (List Command)) (before : List ℕ) → IsBoundedBy steps (play steps before) }
     ensures opens { (signature : List ℕ) (force : Bool) → IsBoundedBy opening_steps (opening signature force) }
@@ -41,8 +41,8 @@ pub fn a_record_of_streams_is_true<R: Read, W: Write>(
     ensures { IsTrueSince R.remaining W.contents before.now after.now }
 {}
 
-/// States that a tape link gives its own items, whatever was done with it. The items received and then those left are
-/// the items it had; after the last come only ends.
+/// States that a tape link gives its own items, whatever was done with it. The items received, followed by those left,
+/// are the items it had. After the last item come only ends.
 ///
 /// Each call over a [`crate::Link`] ensures the required fact, and so does all code made of such calls.
 pub fn a_tape_gives_its_own_items(before: &TapeLink, after: &TapeLink)

@@ -24,9 +24,8 @@ mod log;
 mod stream_link;
 mod tape_link;
 mod watched_link;
-// waiting for a reply
+// replies, attempts and steps
 mod listen;
-// commands, attempts and steps
 mod conversation;
 mod fault;
 mod places;
@@ -36,7 +35,6 @@ mod host;
 mod opening;
 mod reading;
 mod writing;
-// laws
 mod laws;
 
 pub use failing_link::FailingLink;

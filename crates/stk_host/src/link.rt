@@ -1,4 +1,3 @@
-//! The link between the host and a programmer.
 ghost use Rattle.std.specs.Prelude.{◌≡◌, ◌<◌, length};
 ghost use Rattle.ghosts.specs.Stays.{Stays};
 ghost use Rattle.stk_host.specs.Transcript.{LinkState, Sends, Receives};
@@ -82,9 +81,9 @@ pub enum Item {
 ///
 /// Contracts see two things: the transcript, which lists the pieces sent and received in order, and the count of
 /// failures, which stops at 2^64 - 1. A piece that a failed send took is marked as such. A call returns a fault only if
-/// the link has failed. A call that succeeds leaves the count, unless `send` took none of some bytes.
+/// the link has failed. A call that succeeds doesn't count a failure, unless `send` took none of at least one byte.
 ///
-/// To connect your own device, write an `impl Link`: `examples/library/a_link_of_ones_own.rs` is a whole one.
+/// To connect your own device, write an `impl Link`: `examples/library/a_link_of_ones_own.rs` is a complete one.
 pub trait Link {
     /// The transcript and the count of failures. A link may keep the transcript for proofs alone.
     ghost view: { Self → LinkState };
@@ -93,13 +92,13 @@ pub trait Link {
     /// and its fates.
     ghost Start: { Type 0 };
 
-    /// This link came from this start. Every call keeps this true.
+    /// This link started from this state. Every call keeps this true.
     ghost comes_of: { Start → Self → Type 0 };
 
     /// Sends a prefix of the bytes, and returns how many.
     ///
-    /// It returns 0 for a nonempty slice only if the link has failed. After a fault the transcript has what the link
-    /// took nevertheless, as its last piece: nothing, or a prefix of the bytes, perhaps all.
+    /// It returns 0 for a nonempty slice only if the link has failed. After a fault, the last piece of the transcript
+    /// is what the link took before it failed: nothing, or a prefix of the bytes, perhaps all.
     ///
     /// # Errors
     ///

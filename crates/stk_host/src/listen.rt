@@ -29,7 +29,6 @@ impl Model for Unread {
 }
 
 impl Unread {
-    /// Creates an empty buffer.
     pub(crate) fn new() -> Self
         ensures { result ≡ [] }
     {
@@ -103,8 +102,8 @@ fn is_answer(reader: &FrameReader, event: Event, seq: u8) -> bool
     }
 }
 
-/// Waits for the reply to the frame numbered `seq`, and drops any part of a frame the reader holds. It reads at most
-/// 4,096 bytes, the unread ones included.
+/// Waits for the reply to the frame numbered `seq`. First it drops any part of a frame that the reader holds. It reads
+/// at most 4,096 bytes, the unread ones included.
 pub(crate) fn listen<L: Link>(
     reader: &mut FrameReader,
     unread: &mut Unread,

@@ -1,4 +1,3 @@
-//! A transcript that is kept.
 ghost use Rattle.std.specs.Prelude.{◌≡◌, ◌<◌, ◌≤◌, ◌++◌, ◌∷◌, [], length, take, OnOk, OnErr};
 ghost use Rattle.stk_host.specs.Tape.{bytes_of};
 ghost use Rattle.stk_host.specs.Log.{byte_count};
@@ -61,21 +60,21 @@ impl Log {
         }
     }
 
-    /// Returns the bytes sent.
+    /// Returns all bytes sent, in order.
     pub fn sent(&self) -> &[u8]
         ensures { result.now ≡ piece.sent self.now.transcript }
     {
         self.out.as_slice()
     }
 
-    /// Returns the bytes received.
+    /// Returns all bytes received, in order.
     pub fn heard(&self) -> &[u8]
         ensures { result.now ≡ bytes_of (piece.heard self.now.transcript) }
     {
         self.back.as_slice()
     }
 
-    /// Makes room for one more piece of at most `count` bytes sent. The transcript stays, also if allocation fails.
+    /// Makes room for one more piece of at most `count` bytes sent. The transcript stays the same.
     pub fn reserve(&mut self, count: usize) -> Result<(), AllocError>
         ensures transcript { self.new.transcript ≡ self.old.transcript }
         ensures piece { OnOk result (0 < self.new.piece_room) }
@@ -86,7 +85,7 @@ impl Log {
         Ok(())
     }
 
-    /// Adds these bytes as sent. There is room for them.
+    /// Adds these bytes as sent. [`Log::reserve`] must have made room for them.
     pub fn say(&mut self, bytes: &[u8])
         requires piece { 0 < self.old.piece_room }
         requires bytes { length bytes.now ≤ self.old.byte_room }
@@ -96,7 +95,7 @@ impl Log {
         self.marks.push_reserved(Mark::Sent(bytes.len()));
     }
 
-    /// Adds what was received; its bytes are at the start of the buffer. If allocation fails, the transcript stays.
+    /// Adds what was received; its bytes are at the start of the buffer. If allocation fails, nothing is added.
     pub fn hear(&mut self, heard: Heard, buffer: &[u8]) -> Result<(), AllocError>
         requires { FitsBuffer heard (length buffer.now) }
         ensures ok { OnOk result (self.new.transcript ≡ self.old.transcript ++ piece.Got

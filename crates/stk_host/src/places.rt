@@ -1,4 +1,3 @@
-//! Places of a memory, and the commands that load their addresses.
 ghost use Rattle.std.specs.Prelude.{◌≡◌, ◌<◌, ◌^◌};
 ghost use Rattle.stk_host.specs.Places.{load_flash};
 

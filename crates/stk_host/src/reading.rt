@@ -1,4 +1,3 @@
-//! The steps that read a whole memory.
 ghost use Rattle.std.specs.Prelude.{◌≡◌, ◌<◌, ◌≤◌, [], length, OnOk, vec_capacity};
 ghost use Rattle.stk_host.specs.ReadSteps.{read_count, load_at, read_at, read_steps};
 ghost use Rattle.stk_host.specs.Calls.{Asks, Gets};
@@ -11,7 +10,7 @@ use crate::places::load_flash;
 use avr_part::{Mem, Part};
 use stk_frame::{Command, Fuse};
 
-/// The bytes that one command reads.
+/// The most bytes that one command reads.
 const BLOCK: u32 = 256;
 
 /// Returns how many steps read a memory.

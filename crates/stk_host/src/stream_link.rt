@@ -1,4 +1,3 @@
-//! A link over a reader and a writer.
 ghost use Rattle.std.specs.Prelude.{◌≡◌, ◌<◌, ◌≤◌, ◌∷◌, ◌++◌, [], length, take, None, Some, IsSome, IfOk, IfErr, OnErr, OnOk};
 ghost use Rattle.std.specs.IoError.{error_kind};
 ghost use Rattle.std.specs.Io.KnownBytes.{Keeps, Appends};
@@ -19,8 +18,8 @@ use std::{fmt, io};
 ///
 /// A read that times out or would block is a timeout, and a read of 0 bytes is the end. An interrupted call is
 /// retried. Any other error of a read, write or flush is a failure, and so is a write of 0 bytes. Each piece sent is
-/// flushed. The transcript is kept for proofs alone, and takes no memory. It has also what the writer took before a
-/// flush failed.
+/// flushed. The transcript is kept for proofs alone, and takes no memory. If a flush fails, the bytes that the writer
+/// took before are in it, too.
 ///
 /// ```text
 /// let mut link = StreamLink::new(b"".as_slice(), Vec::new(alloc));
@@ -53,8 +52,8 @@ impl<R, W> Model for StreamLink<R, W> {
     } };
 }
 
-/// Writes a prefix of the bytes, at least one unless they are empty, and flushes. Also what was taken before a flush
-/// failed is kept.
+/// Writes a prefix of the bytes, at least one unless they are empty, and flushes. If the flush fails, the history has
+/// the bytes that were taken.
 #[tactic(auto, using(crate::proofs::Transcripts::Streams::takes_known, crate::proofs::Transcripts::Streams::takes_nothing))]
 fn put_bytes<W: Outlet>(writer: &mut W, bytes: &[u8], history: &mut History) -> io::Result<usize>
     ensures within { IfOk result (λ n. n ≤ length bytes.now) }
@@ -204,7 +203,7 @@ impl<R: Inlet + Drop, W: Outlet + Drop> Link for StreamLink<R, W> {
         requires { 0 < length buffer.old }
         ensures receives { Receives buffer.new (stream_state self.old) (stream_state self.new) result }
         ensures comes { Stays (IsTrueSince R.remaining W.contents) self.old self.new }
-        // The bytes received are the reader's next ones, none is lost, and an end comes only after the last.
+        // The bytes received are the reader's next ones. None is lost, and the end comes only after the last.
         ensures read { IfOk result (λ heard. HearsKnown heard buffer.new (R.remaining self.old.reader)
             (R.remaining self.new.reader)) }
         // A timeout comes only if a read timed out or would block.

@@ -1,4 +1,3 @@
-//! A link over a tape.
 ghost use Rattle.std.specs.Prelude.{◌≡◌, ◌<◌, ◌≤◌, [], ℕ, List, length, take, drop, min, slice_get, Some, IfOk, OnOk, OnErr};
 ghost use Rattle.stk_host.specs.Tape.{bytes_in};
 ghost use Rattle.stk_host.specs.Transcript.{Sends, Receives, FitsBuffer, items_of};
@@ -49,7 +48,6 @@ impl Model for TapeLink {
     ghost invariant = { λ link. (0 < link.cut) × (link.at ≤ length link.items.items) };
 }
 
-/// Returns the byte at a place of a tape, if that item is a byte.
 fn byte_at(tape: &[Item], place: usize) -> Option<u8>
     ensures { result ≡ byte_of (slice_get tape.now place) }
 {
@@ -75,7 +73,7 @@ fn copy_bytes(tape: &[Item], buffer: &mut [u8]) -> usize
     count
 }
 
-/// Gives the next piece of a tape; its bytes are at the start of the buffer.
+/// Receives the next piece of a tape. Its bytes are put at the start of the buffer.
 fn give_piece(tape: &[Item], buffer: &mut [u8]) -> Heard
     requires { 0 < length buffer.old }
     ensures within { FitsBuffer result (length buffer.new) }
@@ -121,7 +119,7 @@ impl TapeLink {
         }
     }
 
-    /// Returns the bytes sent.
+    /// Returns all bytes sent, in order.
     ///
     /// ```text
     /// let mut link = TapeLink::new(alloc, Vec::new(alloc), 281);
@@ -146,7 +144,6 @@ impl Link for TapeLink {
     fn send(&mut self, bytes: &[u8]) -> Result<usize, LinkFault>
         ensures sends { Sends bytes.now (tape_state self.old) (tape_state self.new) result }
         ensures sound { OnOk result (self.new.failures ≡ self.old.failures) }
-        // It takes as many bytes as a piece may have.
         ensures count { IfOk result (λ n. n ≡ min self.old.cut (length bytes.now)) }
         ensures left { self.new.left ≡ self.old.left }
         ensures cut { self.new.cut ≡ self.old.cut }
@@ -165,7 +162,6 @@ impl Link for TapeLink {
     fn recv(&mut self, buffer: &mut [u8]) -> Result<Heard, LinkFault>
         requires { 0 < length buffer.old }
         ensures receives { Receives buffer.new (tape_state self.old) (tape_state self.new) result }
-        // It takes the next piece off the tape.
         ensures piece { IfOk result (λ heard. items_of heard buffer.new
             ≡ next_piece (min self.old.cut (length buffer.new)) self.old.left) }
         ensures left { IfOk result (λ heard. self.new.left ≡ drop (length (items_of heard buffer.new)) self.old.left) }

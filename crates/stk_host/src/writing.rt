@@ -1,4 +1,3 @@
-//! The steps that write an image to a memory.
 ghost use Rattle.std.specs.Prelude.{◌≡◌, ◌≤◌, ◌∷◌, [], ◌<◌, ◌-◌, ◌^◌};
 ghost use Rattle.stk_frame.specs.HostCommands.{program_eeprom_block, program_fuse};
 ghost use Rattle.stk_host.specs.Calls.{Asks, GoesOn, Gets};
@@ -15,7 +14,7 @@ use avr_image::Image;
 use avr_part::{Mem, Part};
 use stk_frame::{Command, Fuse};
 
-/// Returns how many places are written in turn: the pages of flash, or the bytes of EEPROM.
+/// Returns how many places a memory has: the pages of flash, or the bytes of EEPROM.
 fn place_count(part: &Part, mem: Mem) -> u32
     ensures { result ≡ place_count part.now mem }
 {
@@ -25,7 +24,6 @@ fn place_count(part: &Part, mem: Mem) -> u32
     }
 }
 
-/// The most bytes of a page.
 const LARGEST_PAGE: usize = 256;
 
 fn flash_page(part: &Part) -> usize
@@ -76,7 +74,6 @@ fn program_run<L: Link>(
     play_step(talk, link, &Some(load), &program)
 }
 
-/// Returns whether a run of the image's bytes begins at this address of EEPROM.
 fn begins_run(page: u32, image: &Image, addr: u32) -> bool
     requires { 0 < page }
     ensures { result ≡ begins_run page image.now addr }

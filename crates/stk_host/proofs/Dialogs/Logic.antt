@@ -80,7 +80,7 @@ module _ {E S M : Type 0} {w : World S M} {Asks : List ℕ → S → Type 0} {Sa
       → Upholds w Asks Says After (d >>= next) s
   bind {Between = Between} {After = After} {d = d} {next = next} {s = s} l more = search (rules, on_bind)
 
-  -- a result that is only reported in another form
+  -- a result that is only returned in another form
   pub told : {A B : Type 0} {Between : A → S → Type 0} {After : B → S → Type 0} {d : Dialog E A} {s : S} (tell : A → B)
       → Upholds w Asks Says Between d s → ((a : A) (t : S) → Between a t → After (tell a) t)
       → Upholds w Asks Says After (d >>= (λ a. Done (tell a))) s

@@ -121,12 +121,12 @@ pub bounded : {R : Type 0} (steps : List (List Command)) (d : Dialog ⊥ R) → 
     → IsBoundedBy steps d
 bounded steps d f = record { asks = f; sends = sends_asked NoPart (4 * commands_in steps) d f }
 
--- a dialog whose result is judged
+-- a dialog whose result is checked
 pub judged_most : {A B : Type 0} (n : ℕ) (d : Dialog ⊥ A) (judge : A → B) → AsksAtMost n d
     → AsksAtMost n (d >>= λ outcome. Done (judge outcome))
 judged_most n d judge f = asks_bind n 0 n d (λ outcome. Done (judge outcome)) (omega arith) f (λ outcome. tt)
 
--- the operations
+-- the operations of a host
 
 pub operation_most : {A : Type 0} (steps : List (List Command)) (judge : List ℕ → Result A HostFault)
     → AsksAtMost (4 * commands_in steps) (operation steps judge)

@@ -24,7 +24,6 @@ pub next_place : (steps_at : ℕ → List (List Command)) (place end : ℕ) → 
     → each_from steps_at place (end - place) ≡ steps_at place ++ each_from steps_at (place + 1) (end - (place + 1))
 next_place steps_at place end before = search rules
 
--- a page of 256 bytes at most
 pub page_most : (page : ℕ) → 0 < page → 256 % page ≡ 0 → page ≤ 256
 page_most page some fits = search rules
 

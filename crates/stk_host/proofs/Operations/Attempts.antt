@@ -22,7 +22,7 @@ use Rattle.stk_host.proofs.Transcripts.Laws.{grows_on}
 use Rattle.stk_host.proofs.Transcripts.InDialogs.{leads_ask, plays_from, breaks_asking, breaks_listening}
 use Rattle.stk_host.proofs.Transcripts.Reached.{reaches_on, reaches_from, played_from, broken_on, broken_bind, then_reaches}
 
--- one command
+-- one command and its reply
 
 pub exchange_done : (seq then : ℕ) (command : Command) {u v : List ℕ} {o p q : LinkState} {reading : Reading}
     → Says (frame seq (body command)) o.transcript p.transcript → Hears seq u p q reading v → then ≡ next seq
@@ -63,7 +63,7 @@ exchange_unheard seq command {u = u} {o = o} {p = p} {q = q} says hears failed =
   failed = failed;
 }
 
--- an attempt whose next command was sent and answered
+-- an attempt whose next command was sent and got its reply
 
 attempt_on : (command : Command) (commands : List Command) (before : List ℕ) {seq n : Progress} {o q : LinkState}
     (reply : Reply) → PlaysOver (exchange command) seq o q reply n → Reaches (attempt (command ∷ commands) before) seq o
@@ -91,7 +91,7 @@ pub gets_one : {L : Type 0} {link : Ghosts L} (last : Command) (m n : Conversati
 gets_one last m n o q (Ok reply) f = search (rules, by_reply)
 gets_one last m n o q (Err fault) f = search (rules, attempt_off)
 
--- an attempt of two commands, whose first was answered and brought nothing
+-- an attempt of two commands, whose first got a reply without data
 pub gets_last : {L : Type 0} {link : Ghosts L} (first last : Command) (m n after : ConversationState) (o p q : L)
     (was : said.Reply) (none : List ℕ) (result : Result said.Reply HostFault)
     → PlaysOver (exchange first) m.progress (link.view o) (link.view p) (reply_of was none) n.progress
@@ -130,7 +130,7 @@ pub gets_short : (first last : Command) (was : said.Reply) (none bytes : List �
 gets_short first last replies.Data none bytes f short = absurd (short refl)
 gets_short first last was none bytes f short = search (rules, played_from, attempt_on, was, none, f)
 
--- a turn of the loop over the attempts
+-- one round of the loop over the attempts
 
 tries_on : (more : ℕ) (commands : List Command) (last : StepFault) {seq n : Progress} {o q : LinkState} (reply : Reply)
     → PlaysOver (attempt commands []) seq o q reply n

@@ -50,7 +50,7 @@ pub play_done : (bytes : List ℕ) {a : Dialog ⊥ StepOutcome} {m n : Progress}
 unfolding play
 play_done bytes f = played_from f
 
--- how the outcome of steps is judged
+-- the result of an operation from the outcome of its steps
 
 pub stop_ends : {A : Type 0} (takes : Bool) (first : Dialog ⊥ StepOutcome) (judge : StepOutcome → Result A HostFault)
     → ((fault : StepFault) → judge (Err fault) ≡ Err (host_fault fault)) → (fault : HostFault) (m n : Progress)
@@ -62,7 +62,7 @@ stop_ends takes first judge told SendFailed m n o p (inl e) = broken_bind (λ ou
 stop_ends takes first judge told RecvFailed m n o p (inl e) = broken_bind (λ outcome. Done (judge outcome)) e
 stop_ends takes first judge told _ m n o p (inl e) = absurd e.breaks
 
--- a signature is judged right or wrong; neither is a fault of the link
+-- the checked signature is right or wrong; neither is a fault of the link
 judged_ends : {dialog : Dialog ⊥ (Result (List ℕ) HostFault)} {m n : Progress} {o p : LinkState} (wanted found : List ℕ)
     (force same : Bool)
     → PlaysOver dialog m o p (if force then Ok found else if same then Ok found else Err (WrongSignature found)) n

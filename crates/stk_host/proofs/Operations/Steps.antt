@@ -50,7 +50,6 @@ pub alone : (commands : List Command) (result : Result (Unit {0}) HostFault) (m 
     → GoesOn (commands ∷ []) m o p result n → EndsSteps (play (commands ∷ []) []) (λ done. []) m o p result n
 alone commands result m n o p e = search (rules, play_done)
 
--- no step at all
 pub none_played : (m : Progress) (o : LinkState) → PlaysOver (play [] []) m o o (Ok []) m
 none_played m o = play_done [] (reaches_here (play [] []) m o)
 
@@ -103,7 +102,6 @@ pub done_ends : (steps : List (List Command)) (result : Result (Unit {0}) HostFa
 done_ends steps (Ok done) m n o p e = judged_from steps (λ bytes. Ok tt) [] e
 done_ends steps (Err fault) m n o p e = told_ends false steps (λ bytes. Ok tt) fault m n o p e
 
--- a write
 pub writing_ends : (part : Part) (mem : Mem) (image : List (Option ℕ)) (result : Result (Unit {0}) HostFault)
     (m n : Progress) (o p : LinkState) → is_writable mem ≡ true
     → EndsSteps (play (write_steps part mem image) []) (λ done. []) m o p result n
@@ -114,14 +112,12 @@ pub writes_nothing : (part : Part) (mem : Mem) (image : List (Option ℕ)) (m : 
     → is_writable mem ≡ false → EndsCall false (writing part mem image) m o o (Err (ReadOnly mem)) m
 writes_nothing part mem image m o cannot = search (rules, played_from, reaches_here)
 
--- a read
 pub reading_ends : (steps : List (List Command)) (bytes : List ℕ) (result : Result (Unit {0}) HostFault)
     (m n : Progress) (o p : LinkState) → EndsSteps (play steps []) (λ done. bytes) m o p result n
     → EndsCall true (operation steps Ok) m o p (given_or_fault (vector_after result bytes) result) n
 reading_ends steps bytes (Ok done) m n o p e = judged_from steps Ok bytes e
 reading_ends steps bytes (Err fault) m n o p e = told_ends true steps Ok fault m n o p e
 
--- a comparison
 differs_ends : (dialog : Dialog ⊥ (Result (Unit {0}) HostFault)) (mem : Mem) (found : Option Difference)
     {m n : Progress} {o p : LinkState}
     → PlaysOver dialog m o p (differs mem found) n → EndsCall true dialog m o p (differs mem found) n

@@ -47,7 +47,7 @@ sixth = progress_at 6 []
 abbrev leaving : List ℕ
 leaving = 0x1B ∷ 0x06 ∷ 0x00 ∷ 0x03 ∷ 0x0E ∷ 0x11 ∷ 0x01 ∷ 0x01 ∷ 0x01 ∷ []
 
--- the frame was sent, and its answer not received
+-- the frame was sent, and its reply not received
 pub unheard : EndsCall false closing sixth fresh (showing (Sent leaving ∷ [])) (Err RecvFailed) sixth
 unfolding exchange attempt tries answer closing
 unheard = search rules
@@ -78,12 +78,12 @@ unsent = record {
   failed = refl;
 }
 
--- that is not a failure to receive its answer
+-- that is not a failure to receive its reply
 pub not_unheard : (after : Progress) → EndsCall false closing sixth fresh (showing (Sent (0x1B ∷ 0x06 ∷ []) ∷ []))
     (Err RecvFailed) after → ⊥
 not_unheard after f = never_either closing sixth (Sent (0x1B ∷ 0x06 ∷ []) ∷ []) unsent f
 
--- that is not a failure to receive its answer either
+-- that is not a failure to receive its reply either
 pub not_unheard_whole : (after : Progress) → EndsCall false closing sixth fresh (showing (Taken leaving ∷ []))
     (Err RecvFailed) after → ⊥
 not_unheard_whole after f = search rules

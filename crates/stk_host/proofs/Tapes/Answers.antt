@@ -1,4 +1,4 @@
--- Laws of the answer on a tape.
+-- Laws of the reply on a tape.
 use Rattle.std.proofs.Common.{◌≡◌, ℕ, ◌+◌, ◌-◌, ◌<◌, ◌≤◌, List, [], ◌∷◌, ◌++◌, length, take, drop, refl, sym, ap, ◌∙◌, arith, true, length-append, inl, inr, Option, Some, None}
 use Rattle.std.proofs.lemmas.Bool.{le-leb, lt-leb, cases_Bool}
 use Rattle.std.proofs.lemmas.List.Folds.{concat-append}
@@ -22,7 +22,6 @@ pub bytes_of_on_tape : (bytes : List ℕ) → bytes_of (on_tape bytes) ≡ bytes
 bytes_of_on_tape [] = refl
 bytes_of_on_tape (byte ∷ bytes) = ap (λ bs. byte ∷ bs) (bytes_of_on_tape bytes)
 
--- bytes on a tape
 pub on_tape_append : (x y : List ℕ) → on_tape (x ++ y) ≡ on_tape x ++ on_tape y
 on_tape_append [] y = refl
 on_tape_append (b ∷ x) y = ap (λ t. Byte b ∷ t) (on_tape_append x y)
@@ -38,13 +37,13 @@ drop_tape (b ∷ x) tape = drop_tape x tape
 take_over : (n : ℕ) (x y : List ℕ) → length x ≤ n → take n (x ++ y) ≡ x ++ take (n - length x) y
 take_over n x y le = ap (λ m. take m (x ++ y)) (omega arith) ∙ take-append-add x y (n - length x)
 
--- the answer, by the bytes looked at
+-- the reply, by the bytes looked at
 pub answer_by : (seq : ℕ) (tape : Tape) (bytes : List ℕ) → take limit (bytes_in tape) ≡ bytes
     → answer seq tape ≡ read_to (first_answer seq (cut bytes)) bytes tape
 unfolding answer
 answer_by seq tape bytes is = ap (λ bs. read_to (first_answer seq (cut bs)) bs tape) is
 
--- no answer yet, and more may come
+-- no reply yet, and more may come
 stopped_at : (seq : ℕ) (x : List ℕ) (tape : Tape) → first_answer seq (cut x) ≡ None → length x < limit
     → bytes_in tape ≡ [] → answer seq (on_tape x ++ tape) ≡ silence_or_end tape
 stopped_at seq x tape none few no_bytes =
@@ -86,7 +85,7 @@ further_none : (a : ℕ) (o : Option (List ℕ × ℕ)) → further a o ≡ None
 further_none a None e = refl
 further_none a (Some (body, used)) e = cc
 
--- after pieces without an answer
+-- after pieces without a reply
 pub first_answer_behind : (seq : ℕ) (xs ys : List (List ℕ)) → first_answer seq xs ≡ None
     → first_answer seq (xs ++ ys) ≡ further (length (concat xs)) (first_answer seq ys)
 first_answer_behind seq [] ys none = further_zero (first_answer seq ys)
@@ -104,7 +103,7 @@ some_inside : (a : ℕ) (o : Option (List ℕ × ℕ)) (v : List ℕ × ℕ) →
 some_inside a None v e = absurd (none-some v e)
 some_inside a (Some w) v e = (w, refl)
 
--- what follows an answer doesn't matter
+-- what follows a reply doesn't matter
 pub first_answer_stays : (seq : ℕ) (xs ys : List (List ℕ)) (found : List ℕ × ℕ) → first_answer seq xs ≡ Some found
     → first_answer seq (xs ++ ys) ≡ Some found
 first_answer_stays seq [] ys found some = absurd (none-some found some)
@@ -116,7 +115,7 @@ first_answer_stays seq (x ∷ xs) ys found some = elim (cases_Bool (is_answer se
       rw is_not (ap (further (length x)) (first_answer_stays seq xs ys at.0 at.1 ∙ sym at.1) ∙ inner)
 ]
 
--- pieces that aren't frames contain no answer
+-- pieces that aren't frames contain no reply
 pub first_answer_skipped : (seq : ℕ) (xs : List (List ℕ)) → filter is_frame xs ≡ [] → first_answer seq xs ≡ None
 first_answer_skipped seq [] none = refl
 first_answer_skipped seq (x ∷ xs) none = elim (cases_Bool (is_frame x)) [
@@ -124,7 +123,7 @@ first_answer_skipped seq (x ∷ xs) none = elim (cases_Bool (is_frame x)) [
   | inr is_not ↦ rw is_not (ap (further (length x)) (first_answer_skipped seq xs (rw is_not at none)))
 ]
 
--- more bytes that bring no frame, or one that isn't the answer
+-- more bytes that bring no frame, or one that isn't the reply
 pub still_none : (seq : ℕ) (x y : List ℕ) (skipped found : List (List ℕ)) → first_answer seq (cut x) ≡ None
     → filter is_frame skipped ≡ [] → cut (x ++ y) ≡ cut x ++ (skipped ++ found) → first_answer seq found ≡ None
     → first_answer seq (cut (x ++ y)) ≡ None
@@ -132,7 +131,7 @@ still_none seq x y skipped found none no_frames pieces other =
     rw (pieces, first_answer_behind seq (cut x) (skipped ++ found) none)
     (rw (first_answer_behind seq skipped found (first_answer_skipped seq skipped no_frames), other) refl)
 
--- more bytes that bring the answer, and end with it
+-- more bytes that bring the reply, and end with it
 pub now_found : (seq : ℕ) (x y : List ℕ) (skipped : List (List ℕ)) (frame : List ℕ) → first_answer seq (cut x) ≡ None
     → filter is_frame skipped ≡ [] → cut (x ++ y) ≡ cut x ++ (skipped ++ frame ∷ []) → is_answer seq frame ≡ true
     → rest (x ++ y) ≡ [] → first_answer seq (cut (x ++ y)) ≡ Some (body_of frame, length (x ++ y))
@@ -143,7 +142,7 @@ now_found seq x y skipped frame none no_frames pieces is_it whole =
     (rw (first_answer_behind seq skipped (frame ∷ []) (first_answer_skipped seq skipped no_frames), is_it)
     (ap (λ n. Some (body_of frame, n)) (omega (arith, total))))
 
--- the answer, if the bytes end with it
+-- the reply, if the bytes end with it
 pub answer_found : (seq : ℕ) (x : List ℕ) (more : Tape) (body : List ℕ)
     → first_answer seq (cut x) ≡ Some (body, length x) → length x ≤ limit
     → answer seq (on_tape x ++ more) ≡ Some (Answered body, more)

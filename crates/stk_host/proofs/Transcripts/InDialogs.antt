@@ -38,7 +38,7 @@ bytes_append [] y = refl
 bytes_append (Frame bytes ∷ x) y = search (rules, append_assoc, bytes_append x y)
 bytes_append (Said e ∷ x) y = bytes_append x y
 
--- turns
+-- sending and listening in turn
 
 turns_quiet : {E R : Type 0} (dialog : Dialog E R) (seq : ℕ) (tape : Tape) (bytes : List ℕ) (transcript : Transcript)
     → IsQuiet transcript → TurnsFrom dialog seq tape bytes transcript
@@ -100,7 +100,7 @@ turns_waiting body answered seq tape (Taken bytes ∷ transcript) waits = absurd
 turns_waiting body answered seq tape (Got items ∷ transcript) waits =
     ((search rules), turns_waiting body answered seq (tape ++ items) transcript waits.1)
 
--- a frame was sent whole, and its answer awaited
+-- a frame was sent, and its reply is due
 turns_asking : {E R : Type 0} (body : List ℕ) (answered : Reading → Dialog E R) (seq : ℕ) (u : List ℕ)
     (x y : Transcript) → IsQuiet x → NoneTaken x → sent x ≡ frame seq body → WaitsFrom seq (on_tape u) y
     → InTurn (Ask body answered) (progress_at seq u) (x ++ y)
@@ -109,7 +109,7 @@ turns_asking body answered seq u x y quiet none is waits =
 
 -- prefixes of events
 
--- and a prefix after events that happened whole
+-- and a prefix after events that all happened
 pub prefix_behind : {E : Type 0} (SaidPart : E → E → Type 0) {shown events : List (Event E)} (before : List (Event E))
     → IsPrefixOfEvents SaidPart shown events → IsPrefixOfEvents SaidPart (before ++ shown) (before ++ events)
 prefix_behind SaidPart before f =
@@ -210,7 +210,7 @@ by_bind by a m transcript shown go_on f = search (rules, played_bind, turns_bind
 -- a question
 
 module _ {E R : Type 0} (body : List ℕ) (answered : Reading → Dialog E R) (seq : ℕ) (u : List ℕ) where
-  -- its frame was sent and its answer read
+  -- its frame was sent and its reply read
   pub leads_ask : (v : List ℕ) (x y : Transcript) (reading : Reading) → IsQuiet x → NoneTaken x → sent x ≡ frame seq body
       → WaitsFrom seq (on_tape u) y
       → ((more : Tape) → answer seq (on_tape u ++ (heard y ++ more)) ≡ Some (reading, on_tape v ++ more))

@@ -41,7 +41,7 @@ quiet_append x y none f g = search rules
 pub taken_quiet : (last : Transcript) → IsTaken last → IsQuiet last
 taken_quiet last taken = search rules
 
--- nothing is sent during the wait for an answer
+-- nothing is sent during the wait for a reply
 pub sent_waiting : (seq : ℕ) (tape : Tape) (transcript : Transcript) → WaitsFrom seq tape transcript
     → sent transcript ≡ []
 sent_waiting seq tape [] waits = refl

@@ -1,4 +1,4 @@
--- Listening for an answer, as the code does it round by round.
+-- Listening for a reply, as the code does it round by round.
 use Rattle.std.proofs.lemmas.Grind.{common_steps}
 use Rattle.std.proofs.Common.{take, drop, ◌≡◌, ℕ, ◌+◌, ◌<◌, ◌≤◌, List, [], ◌∷◌, ◌++◌, length, refl, sym, ap, ◌∙◌, subst, append_assoc, arith, length-append, Some, None, true, rules}
 use Rattle.std.proofs.lemmas.List.{append-nil, length-map, nil_from_length}
@@ -18,7 +18,7 @@ use Rattle.stk_host.specs.Calls.{HearsPiece}
 use Rattle.stk_host.proofs.Tapes.Answers.{on_tape_append, answer_silent, answer_ended, answer_waits, answer_babbled, answer_found, still_none, now_found}
 use Rattle.stk_host.proofs.Transcripts.Laws.{heard_append, heard_both, grows_none, grows_on, waits_append}
 
--- Listening for an answer. The first `count` bytes of a text were read and contain no answer. A reader holds the rest
+-- Listening for a reply. The first `count` bytes of a text were read and contain no reply. A reader holds the rest
 -- of them, and after them come the bytes that are still unread.
 pub record Listening (seq : ℕ) (unread : List ℕ) (old : LinkState) (held : List ℕ) (count : ℕ) (left : List ℕ)
     (new : LinkState) : Type 0 where
@@ -74,7 +74,7 @@ module _ {seq : ℕ} {u : List ℕ} {o : LinkState} where
     text_heard : on_tape u ++ heard_in l.during ≡ on_tape l.text
     text_heard = l.all_heard ∙ ap on_tape (append-nil l.text)
 
-    -- the answer isn't there yet, and one more piece may come
+    -- the reply isn't there yet, and one more piece may come
     not_yet : answer seq (on_tape u ++ heard_in l.during) ≡ None
     not_yet = ap (answer seq) text_heard ∙ answer_waits seq l.text l.no_answer (omega (arith, l.counted))
 
