@@ -34,7 +34,7 @@ pub record DeskState : Type 0 where
 abbrev pub showing : Record → ℕ → ℕ → DeskState
 showing kept failures unsaid = record { kept = kept; failures = failures; unsaid = unsaid }
 
--- the record of the desk changed like this; most contracts over a desk say it
+-- The record of the desk changed like this. Most contracts over a desk cite it.
 abbrev pub Passes : (Record → Record) → DeskState → DeskState → Type 0
 Passes change old new = new.kept ≡ change old.kept
 
