@@ -18,7 +18,7 @@ const LARGEST_PART_FILE: usize = 65_536;
 ///
 /// # Errors
 ///
-/// If the file can't be read, has more than 65,536 bytes or isn't a part file, or if allocation fails. The fault's line
+/// A fault if the file can't be read, has more than 65,536 bytes or isn't a part file, or if allocation fails. Its line
 /// was printed, as far as the desk takes it.
 pub fn given_parts<D: Desk>(
     alloc: Global,
