@@ -22,8 +22,8 @@ pub(crate) struct Target<'a> {
     pub(crate) format: Format,
 }
 
-/// Writes these bytes as text in a format, and waits until a file is on the disk. After a fault a prefix of the text was
-/// written, maybe all of it.
+/// Writes these bytes as text in a format, and waits until a file is on the disk. After a fault a prefix of the text
+/// was written, perhaps all of it.
 fn write_whole<D: Desk>(
     desk: &mut D,
     stream: Stream,
