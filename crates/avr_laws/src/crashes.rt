@@ -1,4 +1,4 @@
-//! Laws of runs and services that are killed. No code.
+//! Laws of runs and services that are killed.
 
 ghost use Rattle.avr_cli.specs.Port.{port_number};
 ghost use Rattle.avr_cli.specs.declared.settings.Settings.{Settings};

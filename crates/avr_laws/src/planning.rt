@@ -21,7 +21,7 @@ pub fn a_plan_only_reads_and_warns()
     ensures { (s : Settings) (openings : List Opening) → OnlyReads (told_in (planned s openings)) }
 {}
 
-/// States that planning that fails while no device does reports its refusal, or that memory ran out. The refusal is
+/// States that planning reports why it fails, if no device failed: its refusal, or that memory ran out. The refusal is
 /// that of `planned`, with its line. In the other case the messages end with the out-of-memory line.
 pub fn a_sound_plan_is_refused_aloud()
     ensures { (s : Settings) (before after : Record) (k l m n status : ℕ) → HasStood k l
