@@ -9,7 +9,6 @@ use Rattle.avr_cli.specs.declared.settings.Port.{Port}
 use Rattle.avr_cli.specs.declared.settings.Settings.{Settings}
 use Rattle.avr_cli.specs.declared.settings.SettingsFault.{SettingsFault}
 
--- one result after another
 then_keeps : {A B : Type 0} (r : Result A SettingsFault) (f : A → Result B SettingsFault) → is_told_anyway r ≡ false
     → ((x : A) → is_told_anyway (f x) ≡ false) → is_told_anyway (r >>= f) ≡ false
 then_keeps r f e h = search rules

@@ -27,7 +27,6 @@ pub rows_given : (a b : App) (words : List Text) → a ≡ b → is_simple b ≡
     → rows_of (found_of m) ≡ matches_of b words
 rows_given a b words is simple m h = (h (ap is_simple is ∙ simple)).0 ∙ ap (λ (c : App). matches_of c words) is
 
--- one more option
 pub arg_added : {a b : Command} {x : Arg} {r : Rule} → AddsArg a x b → IsOption x r
     → app_of b ≡ with_rule (app_of a) r
 arg_added {a} adds is = adds.shape is.local ∙ ap (with_rule (app_of a)) is.shape

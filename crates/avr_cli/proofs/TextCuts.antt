@@ -1,4 +1,4 @@
--- The cuts of std are those of the definitions.
+-- std splits texts as the definitions do.
 use Rattle.std.proofs.Common.{◌≡◌, ◌≢◌, ◌∙◌, ap, ap₂, sym, refl, arith, ℕ, suc, ◌<◌, false, ◌==◌, List, [], ◌∷◌, ◌++◌, length, rules}
 use Rattle.std.proofs.Common.{get_or, take, drop, Option, Some, None, option_map, Bor, ⊎_elim}
 use Rattle.std.proofs.lemmas.Bool.{cases_Bool}
@@ -9,7 +9,6 @@ use Rattle.std.specs.Str.Pattern.{FindsTextPrefix, StripsPrefix, SplitsAroundMat
 use Rattle.std.proofs.lemmas.Str.Pattern.{split_parts, IsSplitOnceResult, NoCharPasses-char, drop_at_char}
 use Rattle.avr_cli.specs.Split.{after_prefix, split_first, split_last, colon}
 
--- the text has no colon
 abbrev pub HasNoColon : List ℕ → Type 0
 HasNoColon text = (i : ℕ) → i < length text → get_or text i 0 ≢ colon
 

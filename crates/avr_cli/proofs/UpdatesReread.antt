@@ -1,4 +1,4 @@
--- An update that is written reads back.
+-- The text of an update reads back as the update.
 use Rattle.std.proofs.lemmas.Grind.{common_steps}
 use Rattle.std.proofs.Common.{◌≡◌, ◌≢◌, arith, ℕ, false, ◌==◌, [], ◌∷◌, ◌++◌, length, rules}
 use Rattle.std.proofs.Common.{Some, Ok}

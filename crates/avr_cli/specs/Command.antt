@@ -12,7 +12,7 @@ use Rattle.avr_cli.specs.declared.settings.Switches.{Switches}
 use Rattle.avr_cli.specs.declared.settings.Settings.{Settings}
 use Rattle.avr_cli.specs.declared.settings.SettingsFault.{SettingsFault}
 
--- an option of one letter, with a value; given again, it has its last value
+-- an option of one letter with a value; if given again, its last value counts
 abbrev pub value_rule : Bytes → ℕ → Rule
 value_rule id short = record (new_rule id) { short = Some short; value_names = 1 }
 
@@ -34,7 +34,7 @@ count_rule id short = record (new_rule id) { short = Some short; action = Some C
 abbrev pub long_rule : Bytes → Rule
 long_rule id = record (new_rule id) { long = Some id; value_names = 1 }
 
--- -p, -c, -P and -U: what is programmed, and over what
+-- -p, -c, -P and -U: the part, the programmer, its port and the updates
 unfoldable pub target_rules : List Rule
 target_rules =
     value_rule (codes "part") 112
@@ -106,7 +106,7 @@ switches_of rows = record {
   quiet = count_of (codes "quiet") rows;
 }
 
--- what was found, as `clap` keeps it
+-- the options that `clap` found in the arguments
 abbrev pub entries_of : List Row → Entries
 entries_of rows = record {
   part = first_of (codes "part") rows;
@@ -119,6 +119,6 @@ entries_of rows = record {
   chip = first_of (codes "chip") rows;
 }
 
--- what the arguments of a command line ask for, the program's name first
+-- the settings of a command line's arguments, the program's name first, or why there are none
 abbrev pub asked_by : List Bytes → Result Settings SettingsFault
 asked_by words = settings_of (entries_of (matches_of avrstk words))

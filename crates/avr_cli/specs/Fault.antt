@@ -1,4 +1,4 @@
--- The numbers of faults.
+-- The numbers of faults, which never change.
 use Rattle.std.specs.Prelude.{ℕ}
 use Rattle.avr_cli.specs.declared.update.UpdateFault.{UpdateFault}
 use Rattle.avr_cli.specs.declared.update.UpdateFault.TheVariants as update

@@ -1,4 +1,4 @@
--- What the frames go over, from the text of `-P` or of `--serve`.
+-- The port that the text of `-P` or of `--serve` names.
 use Rattle.std.specs.Prelude.{◌==◌, ◌&&◌, ℕ, Bool, false, not, is_some, nat_le, nat_lt, length, Option, Some, None, Result, Ok}
 use Rattle.std.specs.Prelude.{Err, codes, if◌then◌else◌}
 use Rattle.std.specs.List.{list_all}

@@ -1,4 +1,4 @@
--- What a run was asked to do, as a function of what the command line gave.
+-- The settings of a run, as a function of the options given.
 use Rattle.std.specs.Prelude.{◌≡◌, ◌⊎◌, ◌+◌, ℕ, Bool, true, false, nat_lt, List, [], ◌∷◌, length, Option, Some, None, Result, Ok, Err, codes}
 use Rattle.std.specs.Prelude.{if◌then◌else◌, ⊤}
 use Rattle.std.specs.Str.{bytes_eq}
@@ -27,11 +27,11 @@ pub record Entries : Type 0 where
   pub serve : Option Bytes
   pub chip : Option Bytes
 
--- the wanted result, or allocation failed
+-- the contract of calls that make settings: the wanted result, or allocation failed
 abbrev pub GivesOrMemory : {T : Type 0} → Result T SettingsFault → Result T SettingsFault → Type 0
 GivesOrMemory want got = (got ≡ want) ⊎ (got ≡ Err Memory)
 
--- the fault keeps no text, and comes before any text is kept
+-- the fault holds no text and comes before any text is copied
 abbrev pub keeps_nothing : SettingsFault → Bool
 keeps_nothing NoPart = true
 keeps_nothing (BadPort None) = true
@@ -42,7 +42,7 @@ abbrev pub is_told_anyway : {T : Type 0} → Result T SettingsFault → Bool
 is_told_anyway (Ok value) = false
 is_told_anyway (Err fault) = keeps_nothing fault
 
--- such a fault is reported even if allocation fails
+-- such a fault is returned even if allocation fails
 abbrev pub TellsAnyway : {T : Type 0} → Result T SettingsFault → Result T SettingsFault → Type 0
 TellsAnyway want got = is_told_anyway want ≡ true → got ≡ want
 
@@ -96,8 +96,7 @@ no_switches = record {
   quiet = 0;
 }
 
--- the settings of a run over a caller's own link: a session with this part that does nothing yet; the port is not
--- used
+-- the settings of a run over a caller's own link: a session with this part and no updates; its port is not used
 abbrev pub link_settings : Bytes → Settings
 link_settings part = record { part = part; port = Stdio; parts = None; updates = []; switches = no_switches }
 

@@ -1,4 +1,4 @@
--- The standard streams that the command line asks for.
+-- Which standard streams the command line asks for, and whether one is asked for twice.
 use Rattle.std.specs.Prelude.{◌&&◌, ◌||◌, Bool, true, false, not, nat_le, List, count_by, Option, codes}
 use Rattle.std.specs.List.{list_any}
 use Rattle.std.specs.Option.{option_map_or}
@@ -33,7 +33,7 @@ uses_input u = uses_standard u && not (is_read u.op)
 abbrev pub is_given_standard : Option Bytes → Bool
 is_given_standard file = option_map_or is_standard file false
 
--- the frames take the standard streams that the updates want, or the chip file is one
+-- the frames and the updates both use the standard streams, or the chip file is one
 abbrev pub is_port_taken : Port → List Update → Bool
 is_port_taken Stdio updates = list_any uses_standard updates
 is_port_taken (Emulated file) updates = is_standard file

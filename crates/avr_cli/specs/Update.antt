@@ -1,4 +1,4 @@
--- What is done with one memory, from the text of `-U`: MEMORY:OP:FILE[:FORMAT], or a file for flash alone.
+-- The update that the text of `-U` means: MEMORY:OP:FILE[:FORMAT], or a file alone for flash.
 use Rattle.std.specs.Prelude.{◌≡◌, ◌⊎◌, ◌==◌, ◌-◌, ◌&&◌, ℕ, nat_le, List, [], ◌∷◌, ◌++◌, Option, Some, None, Result, Ok, Err, IsOk}
 use Rattle.std.specs.Prelude.{codes, length, take, slice_index, find, if◌then◌else◌}
 use Rattle.std.specs.Str.{bytes_eq}
@@ -15,7 +15,7 @@ use Rattle.avr_cli.specs.declared.update.Update.{Update}
 use Rattle.avr_cli.specs.declared.update.UpdateFault.{UpdateFault}
 use Rattle.avr_cli.specs.declared.update.UpdateFault.TheVariants.{BadMemory, BadOp, BadFormat, NoFile, Memory}
 
--- the wanted result, or allocation failed for an update
+-- the wanted result, or allocation failed for what is an update
 abbrev pub GivesUpdate : Result Update UpdateFault → Result Update UpdateFault → Type 0
 GivesUpdate want got = (got ≡ want) ⊎ (IsOk want × (got ≡ Err Memory))
 

@@ -1,4 +1,4 @@
-//! The command line, as `clap` reads it.
+//! The options of the command line, and how `clap` reads them.
 ghost use Rattle.std.specs.Prelude.{◌≡◌, IfOk, IfErr, true, codes, map, string_bytes};
 ghost use Rattle.clap.specs.Words.{App, Rule, with_rule, app_of, rows_of, found_of, matches_of, takes, kind_of, fault_of, FailsBy};
 ghost use Rattle.avr_cli.specs.Command.{Builds, IsOption, avrstk, with_rules, target_rules, write_rules, run_rules, telling_rules, file_rules};
@@ -41,7 +41,6 @@ fn value<'a>(alloc: Global, id: &'a str, short: char, value_name: &'a str, help:
         .help(help)
 }
 
-/// An option named by its id.
 fn long_value<'a>(alloc: Global, id: &'a str, value_name: &'a str, help: &'a str) -> Arg<'a>
     ensures { IsOption result (long_rule id.entry.now) }
 {
@@ -97,7 +96,6 @@ fn baud<'a>(alloc: Global) -> Arg<'a>
     .value_parser(value_parser!(u32))
 }
 
-/// `-A`.
 fn all<'a>(alloc: Global) -> Arg<'a>
     ensures { IsOption result (flag_rule (codes "all") 65) }
 {
@@ -267,7 +265,7 @@ fn with_options<'a>(alloc: Global) -> Result<Command<'a>, AllocError>
     with_files(alloc, command)
 }
 
-/// Creates the command with all its options, for its help. An option that is given again has its last value.
+/// Creates the command with all its options, for its help. If an option is given again, its last value counts.
 ///
 /// # Errors
 ///
@@ -290,7 +288,7 @@ pub fn make_command<'a>(alloc: Global) -> Result<Command<'a>, Error>
 ///
 /// # Errors
 ///
-/// `clap`'s own error if the arguments are refused or ask for help. Its `print` chooses the stream.
+/// `clap`'s own error if the arguments are refused or ask for help. Its `print` chooses standard output or error.
 ///
 /// ```text
 /// let mut words = Vec::new(alloc);

@@ -1,4 +1,4 @@
-//! The settings, from the options that the command line gave.
+//! Makes settings from the options of the command line.
 ghost use Rattle.std.specs.Prelude.{◌≡◌, Ok, option_map, map, IsOk, [], unwrap_or};
 ghost use Rattle.clap.specs.Words.{found_of, rows_of, first_of, all_of};
 ghost use Rattle.avr_cli.specs.Command.{is_on, switches_of, entries_of};
@@ -14,7 +14,7 @@ use crate::update_text::parse_update;
 use clap::ArgMatches;
 use std::alloc::Global;
 
-/// The last value given.
+/// Returns the last value given.
 pub(crate) fn text_of<'a>(matches: &ArgMatches<'a>, id: &str) -> Option<&'a str>
     ensures { option_map (λ s. s.now) result ≡ first_of id.now (rows_of (found_of matches.now)) }
 {
@@ -137,12 +137,12 @@ fn serve_settings(
     })
 }
 
-/// Reads the settings that the command line gives. With `--serve`, only `-p`, `--parts` and `--chip` count.
+/// Reads the settings that the command line asks for. With `--serve`, only `-p`, `--parts` and `--chip` count.
 ///
 /// # Errors
 ///
-/// The first fault in the order of [`SettingsFault`]. `Memory` if allocation fails, unless the first fault keeps no
-/// text: no part, no port or no chip file.
+/// The first fault in the order of [`SettingsFault`]. `Memory` if allocation fails, unless the first fault is that no
+/// part, port or chip file is given.
 ///
 /// ```text
 /// let mut words = Vec::new(alloc);

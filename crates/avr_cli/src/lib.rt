@@ -6,24 +6,19 @@
 //! `let matches = read_words(alloc, &words)?;` and then `read_settings(alloc, &matches)` makes settings.
 #![tactic(auto)]
 
-// the arguments, as `clap` splits them
 mod command;
 
-// what they may ask for
 mod settings;
 mod update;
 
-// texts that are owned, and split
 mod owned;
 mod text;
 
-// what they ask for
 mod from_options;
 mod ports;
 mod standard;
 mod update_text;
 
-// laws of updates and addresses
 mod laws;
 
 pub use command::{make_command, read_words};

@@ -1,4 +1,4 @@
-//! Texts that settings own.
+//! Copies the texts that settings own.
 ghost use Rattle.std.specs.Prelude.{Ok, option_map};
 ghost use Rattle.avr_cli.specs.Settings.{GivesOrMemory};
 

@@ -1,4 +1,4 @@
-//! What the frames go over, from the text of `-P` or of `--serve`.
+//! Reads the port of `-P` or of `--serve`: what the frames go over.
 ghost use Rattle.std.specs.Prelude.{◌≡◌, ◌⊎◌, Some, None, option_map};
 ghost use Rattle.std.specs.List.{list_all};
 ghost use Rattle.std.specs.Char.{is_ascii_digit};

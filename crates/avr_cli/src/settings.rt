@@ -1,4 +1,4 @@
-//! What a run was asked to do.
+//! The settings of a run, and why a command line has none.
 ghost use Rattle.std.specs.Prelude.{◌≡◌, IfOk};
 ghost use Rattle.avr_cli.specs.Fault.{settings_fault_number};
 ghost use Rattle.avr_cli.specs.Settings.{link_settings, no_switches};
@@ -71,7 +71,7 @@ pub struct Settings {
     pub parts: Option<Text>,
     /// Each `-U` in the order given, at most 16; with `--serve` none.
     pub updates: Updates,
-    /// The switches.
+    /// The switches, and how often `-q` was given.
     pub switches: Switches,
 }
 
@@ -105,8 +105,8 @@ impl Settings {
     }
 }
 
-/// Why a command line is refused. The first fault in this order is reported. `Memory` may come in place of one that
-/// keeps a text or follows a kept text.
+/// Why a command line is refused: the first fault in this order. If allocation fails, it may be `Memory` in place of a
+/// fault that holds a text, or that comes after a text was copied.
 #[derive(Drop, Error)]
 pub enum SettingsFault {
     /// No `-p`.
@@ -159,7 +159,6 @@ impl SettingsFault {
     }
 }
 
-/// Shows the message.
 impl fmt::Debug for SettingsFault {
     fn fmt<W: fmt::Write>(&self, f: &mut fmt::Formatter<W>) -> fmt::Result {
         fmt::Display::fmt(self, f)

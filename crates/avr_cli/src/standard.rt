@@ -1,4 +1,4 @@
-//! The standard streams that the command line asks for.
+//! Checks that no standard stream is asked for twice.
 ghost use Rattle.std.specs.Prelude.{◌≡◌, count_by, option_map};
 ghost use Rattle.std.specs.List.{list_any};
 ghost use Rattle.avr_cli.specs.Settings.{checked_streams};
@@ -47,7 +47,7 @@ fn inputs(updates: &[Update]) -> usize
     updates.iter().filter(|update| uses_input(update)).count()
 }
 
-/// Returns whether the frames and the updates want the same standard streams, or the chip file is one.
+/// Returns whether both the frames and the updates use the standard streams, or the chip file is one.
 fn is_port_taken(port: &Port, updates: &[Update]) -> bool
     ensures { result ≡ is_port_taken port.now updates.now }
 {
@@ -59,8 +59,8 @@ fn is_port_taken(port: &Port, updates: &[Update]) -> bool
     }
 }
 
-/// Refuses a standard stream that is asked for twice, or in place of a file. The files of `--parts` and `--chip`
-/// count even if they are not used.
+/// Returns `StandardTaken` if a standard stream is asked for twice, or in place of the file of `--parts` or `--chip`,
+/// even if that file is not used.
 pub(crate) fn check_streams(
     port: &Port,
     updates: &[Update],

@@ -1,4 +1,4 @@
-//! What is done with the memories.
+//! Updates: what is done with each memory.
 ghost use Rattle.std.specs.Prelude.{◌≡◌, ◌∷◌, ◌++◌, [], is_ok, if◌then◌else◌};
 ghost use Rattle.avr_cli.specs.Fault.{update_fault_number};
 ghost use Rattle.avr_cli.specs.Update.{letter_of, formats_of, default_format};
@@ -43,7 +43,7 @@ pub enum Format {
     Binary,
 }
 
-/// The formats of output files.
+/// The formats of output files, which a memory is read into.
 static MADE: [Format; 7] = [
     Format::Ihex,
     Format::Srec,
@@ -54,7 +54,7 @@ static MADE: [Format; 7] = [
     Format::Binary,
 ];
 
-/// The formats of input files.
+/// The formats of input files, which are written or compared.
 static READ: [Format; 5] = [
     Format::Ihex,
     Format::Srec,
@@ -101,12 +101,12 @@ impl Format {
     }
 }
 
-/// What is done with one memory: one `-U` of the command line.
+/// One `-U` of the command line: what is done with one memory.
 #[derive(Debug, Drop)]
 pub struct Update {
-    /// The memory.
+    /// The memory that is read, written or compared.
     pub memory: Mem,
-    /// The operation.
+    /// Whether it is read, written or compared.
     pub op: Op,
     /// The format of the file, one of the operation's own.
     pub format: Format,
@@ -153,7 +153,7 @@ impl UpdateFault {
     }
 }
 
-/// The updates, in the order given. Contracts see it as their list.
+/// The updates, in the order given. In contracts its value is their list.
 ///
 /// ```text
 /// let mut updates = Updates::new(alloc);
@@ -196,7 +196,7 @@ impl Updates {
         Ok(())
     }
 
-    /// Returns the updates in their order.
+    /// Returns the updates, in the order given.
     pub fn as_slice(&self) -> &[Update]
         ensures { result.now ≡ self.now }
     {

@@ -1,4 +1,4 @@
-//! The text of `-U`.
+//! Reads the text of `-U`.
 ghost use Rattle.std.specs.Prelude.{◌≡◌};
 ghost use Rattle.avr_cli.specs.Update.{op_named, format_named, format_of, file_and_letter, GivesUpdate, update_of, update_by};
 

@@ -1,4 +1,4 @@
--- What the desks keep, call after call.
+-- The records of the desks, call after call.
 pub mod Writers
 pub mod InMemory
 pub mod TwoWriters

@@ -21,7 +21,7 @@ use Rattle.avr_desk.specs.declared.record.Opening.TheVariants.{Absent, Found}
 use Rattle.avr_desk.specs.declared.record.Writing.{Writing}
 use Rattle.avr_desk.specs.declared.stream.Stream.TheVariants.{File, Output, Messages}
 
--- a desk without requests that has failed this often, never at the messages
+-- a desk with an empty record that has failed this often, never at the messages
 abbrev silent : ℕ → DeskState
 silent failures = showing nothing_kept failures 0
 
@@ -70,7 +70,7 @@ no_output_is_unsaid counts = let e : 1 ≡ 0 = counts.1.1 in omega (arith, e)
 pub nothing_is_unsaid_behind_success : Counts Messages (silent 0) (showing nothing_kept 0 1) done → ⊥
 nothing_is_unsaid_behind_success counts = let e : 1 ≡ 0 = counts.1.1 in omega (arith, e)
 
--- a prefix of the bytes may have gone out before a fault, but not their end
+-- before a fault a prefix of the bytes may have been written, but not their end
 abbrev end : List ℕ
 end = 2 ∷ []
 

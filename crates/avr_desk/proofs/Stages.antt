@@ -1,4 +1,4 @@
--- Stages that open and judge files, one after another, and where one broke off.
+-- Stages that open and check files, one after another, and where one broke off.
 pub mod Outputs
 pub mod Played
 pub mod Openings

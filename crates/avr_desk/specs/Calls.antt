@@ -1,4 +1,3 @@
--- The record of a desk after one call.
 use Rattle.std.specs.Prelude.{false, [], take, Ok}
 use Rattle.avr_desk.specs.declared.journal.Call.{Call}
 use Rattle.avr_desk.specs.declared.journal.Call.TheVariants as call

@@ -1,4 +1,4 @@
--- A desk one of whose calls fails by plan.
+-- A desk of which one call fails by plan.
 use Rattle.std.specs.Prelude.{◌≡◌, ◌≢◌, ◌==◌, ◌+◌, ◌-◌, ℕ, Result, Err, if◌then◌else◌}
 use Rattle.ghosts.specs.Failures.{counted}
 use Rattle.avr_desk.specs.Record.{DeskState}
@@ -7,15 +7,15 @@ use Rattle.avr_desk.specs.declared.desk.DeskFault.TheVariants.{Failed}
 use Rattle.avr_desk.specs.declared.stream.Stream.{Stream}
 use Rattle.avr_desk.specs.declared.stream.Stream.TheVariants.{Messages}
 
--- the inner desk; the number of the call that fails, counted from the next one, 0 for none; the planned failures, all
--- and at the messages
+-- `due` numbers the call that fails: 1 is the next one, 0 none. `planned` counts the planned failures, and `unsaid`
+-- those at the messages.
 pub record Failing (D : Type 0) : Type 0 where
   pub inner : D
   pub due : ℕ
   pub planned : ℕ
   pub unsaid : ℕ
 
--- what it shows: the inner desk's record, and its counts with the planned ones, each up to its end
+-- the state: the inner desk's record, and the sum of its counts and the planned ones, at most 2^64 - 1
 abbrev pub failing : {D : Type 0} → (D → DeskState) → Failing D → DeskState
 failing view d = record {
   kept = (view d.inner).kept;
@@ -23,21 +23,18 @@ failing view d = record {
   unsaid = counted ((view d.inner).unsaid + d.unsaid);
 }
 
--- it comes of what its inner desk comes of
 abbrev pub inner_comes_of : {D Start : Type 0} → (Start → D → Type 0) → Start → Failing D → Type 0
 inner_comes_of comes_of start d = comes_of start d.inner
 
--- a count of planned failures after the next call
 abbrev pub count_after : {D : Type 0} → Failing D → ℕ → ℕ
 count_after d count = if d.due == 1 then counted (count + 1) else count
 
--- the planned failures at the messages, after a call for this stream
 abbrev pub unsaid_after : {D : Type 0} → Stream → Failing D → ℕ
 unsaid_after Messages d = count_after d d.unsaid
 unsaid_after stream d = d.unsaid
 
--- The due call for this stream fails, reaches nothing and is counted as planned. The inner desk takes any other call,
--- and its counts hold.
+-- The due call returns `Failed`, doesn't reach the inner desk, and is counted as planned. Any other call goes to the
+-- inner desk.
 pub record FailsWhenDue {D T : Type 0} (stream : Stream) (view : D → DeskState) (old new : Failing D)
     (PassedOn : DeskState → DeskState → Result T DeskFault → Type 0) (r : Result T DeskFault) : Type 0 where
   pub due : old.due ≡ 1 → (r ≡ Err Failed) × (new.inner ≡ old.inner)

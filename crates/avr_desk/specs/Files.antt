@@ -1,4 +1,4 @@
--- What passes when a whole file is read over a desk, to its end or past a limit.
+-- What a desk records when a whole file is read, to its end or past a limit.
 use Rattle.std.specs.Prelude.{◌≡◌, ◌≤◌, ◌<◌, ◌+◌, ℕ, length, Bool, Result, Ok, Err, false, MatchBool}
 use Rattle.avr_desk.specs.Record.{DeskState, Record, Bytes, Passes, noted, with_open, with_absent}
 use Rattle.avr_desk.specs.Fault.{Follows, HasFailedAt, HasSameCounts}
@@ -14,41 +14,38 @@ file_fault_number NotOpened = 2
 file_fault_number NotRead = 3
 file_fault_number Memory = 4
 
--- the open file gave these bytes, and its end was seen or not
 abbrev pub after_reading : Bytes → Bool → Record → Record
 after_reading bytes ended r = record r { current = noted bytes ended r.current }
 
--- the file was opened, and gave these bytes
 abbrev pub with_read : Bytes → Bytes → Bool → Record → Record
 with_read name bytes ended r = with_open (ToRead (record { name = name; bytes = bytes; ended = ended })) r
 
--- The file was opened and gave what was returned. If it doesn't exist, that is noted; if it couldn't be opened,
--- nothing passed; if reading broke off, it gave some bytes.
+-- The file was opened and gave the returned bytes. The record notes that a file doesn't exist, and doesn't change if
+-- the file couldn't be opened. If reading broke off, the file gave some bytes.
 abbrev pub ReadsFile : Bytes → DeskState → DeskState → Result Contents FileFault → Type 0
 ReadsFile name old new (Ok c) = Passes (with_read name c.bytes c.ended) old new
 ReadsFile name old new (Err Absent) = Passes (with_absent name) old new
 ReadsFile name old new (Err NotOpened) = new.kept ≡ old.kept
 ReadsFile name old new (Err fault) = (bytes : Bytes) × Passes (with_read name bytes false) old new
 
--- How reading a file breaks off: the same faults; if allocation failed, it perhaps gave all bytes.
+-- The same for the faults alone. If allocation failed, the file may have given all its bytes.
 abbrev pub FileBreaks : Bytes → DeskState → DeskState → FileFault → Type 0
 FileBreaks name old new Absent = Passes (with_absent name) old new
 FileBreaks name old new NotOpened = new.kept ≡ old.kept
 FileBreaks name old new NotRead = (bytes : Bytes) × Passes (with_read name bytes false) old new
 FileBreaks name old new Memory = (bytes : Bytes) × (ended : Bool) × Passes (with_read name bytes ended) old new
 
--- the counts of failures after such a fault
 abbrev pub IsCounted : DeskState → DeskState → FileFault → Type 0
 IsCounted old new NotOpened = HasFailedAt File old new
 IsCounted old new NotRead = HasFailedAt File old new
 IsCounted old new fault = HasSameCounts old new
 
--- the end was seen within the limit, or more bytes came, by one piece at most
+-- The end was seen within the limit; or more bytes came, at most 4,096 of them past the limit.
 abbrev pub IsWhole : ℕ → Contents → Type 0
 IsWhole limit c =
     MatchBool c.ended (length c.bytes ≤ limit) ((limit < length c.bytes) × (length c.bytes ≤ limit + 4096))
 
--- the counts never fall, and show whether the desk failed; a failed allocation is no failure of the desk
+-- The counts never fall, and show whether the desk failed. A failed allocation is no failure of the desk.
 abbrev pub FaultCounts : DeskState → DeskState → Result Contents FileFault → Type 0
 FaultCounts old new (Ok c) = Follows old new × HasSameCounts old new
 FaultCounts old new (Err fault) = Follows old new × IsCounted old new fault

@@ -1,5 +1,5 @@
--- What a program's desk records of files and standard input, by the system's handles. The record is true by
--- parametricity: the contracts know of a system's files only what their own calls ensure.
+-- What a program's desk records of files and standard input is what the system's handles gave. The record is true by
+-- parametricity: contracts know of a system's files only what the system's calls ensure.
 use Rattle.std.specs.Prelude.{◌≡◌, ◌≤◌, ◌⊎◌, true, length, Option, List, Some, None, IfSome}
 use Rattle.std.specs.Io.KnownBytes.{Appends, Consumes}
 use Rattle.std.specs.List.{All, Contains}
@@ -19,12 +19,12 @@ use Rattle.avr_desk.specs.declared.record.Writing.{Writing}
 use Rattle.avr_desk.specs.declared.system.OpenFile.{OpenFile}
 use Rattle.avr_desk.specs.declared.system.OpenFile.TheVariants.{Nothing, Input, ToRead, ToWrite, Output}
 
--- what a handle gave between `first` and `now`: its next bytes, and none are left if its end was seen
+-- Between `first` and `now` the handle gave these bytes. None are left if its end was seen.
 pub record HasGiven {H : Type 0} (reads : Reads H) (first now : H) (reading : Reading) : Type 0 where
   pub gave : Consumes (reads.remaining first) (reads.remaining now) reading.bytes
   pub ends : reading.ended ≡ true → IfSome (reads.remaining first) (λ bytes. length bytes ≤ length reading.bytes)
 
--- `-` is standard input from where the system gave it, and any other name a file that was opened by it
+-- `-` is standard input as the system gave it; any other name is a file that was opened by this name
 abbrev pub GaveInput : {S F I H : Type 0} → Ghosts S F I H → Reads I → I → Reading → Type 0
 GaveInput {I = I} system input now reading =
     (is_dash reading.name ≡ true) × (first : I) × system.is_input first × HasGiven input first now reading
@@ -33,13 +33,13 @@ abbrev pub GaveFile : {S F I H : Type 0} → Ghosts S F I H → Reads F → F �
 GaveFile {F = F} system reads now reading =
     (first : F) × system.is_of first reading.name × HasGiven reads first now reading
 
--- what was written to a file is what it took since it was created by this name; `-` is the output
+-- the file was created by this name, and has taken these bytes since
 abbrev pub TookFile : {S F I H : Type 0} → Ghosts S F I H → Writes F → F → Writing → Type 0
 TookFile {F = F} system writes now writing =
     (first : F) × system.is_of first writing.name
     × Appends (writes.contents first) (writes.contents now) writing.bytes
 
--- what is open is what the record says
+-- The open handle gave or took what the record says.
 abbrev pub IsTrueOpen : {S F I H : Type 0} → Ghosts S F I H → Reads F → Writes F → Reads I → OpenFile F I → Open → Type 0
 IsTrueOpen system reads writes input Nothing current = current ≡ is.Closed
 IsTrueOpen system reads writes input (Input now) current =
@@ -51,7 +51,7 @@ IsTrueOpen system reads writes input (ToWrite now) current =
 IsTrueOpen system reads writes input Output current =
     (writing : Writing) × (current ≡ is.ToWrite writing) × (is_dash writing.name ≡ true)
 
--- a use that is over: a file that was written was closed as it was then
+-- The same for a finished use. A written file was closed as it was then, and `-` is the output.
 abbrev pub IsTrueUse : {S F I H : Type 0} → Ghosts S F I H → Reads F → Writes F → Reads I → FileUse → Type 0
 IsTrueUse system reads writes input (Opened (Absent name)) = system.lacks name
 IsTrueUse {F = F} {I = I} system reads writes input (Opened (Found reading)) =
@@ -65,15 +65,15 @@ IsHeldBy system None None = Unit {0}
 IsHeldBy system (Some hold) (Some name) = system.holds hold name
 IsHeldBy system hold name = ⊥
 
--- what a crash may leave of a held file: what was there when it was locked, or bytes that were to replace it
+-- A crash leaves of a held file what was there when it was locked, or bytes that were to replace it.
 abbrev pub CrashLeaves : {S F I H : Type 0} → Ghosts S F I H → S → List Writing → Type 0
 CrashLeaves system now tried = (name : Bytes) (found : Option Bytes) → system.left now name found
     → system.began name found
     ⊎ ((bytes : Bytes) × (found ≡ Some bytes) × Contains tried (record { name = name; bytes = bytes }))
 
--- All that the record says of files and standard input is what the system returned for the names asked, and the
--- system did nothing else: its calls are those of the uses, in their order, and it holds what the record says. A crash
--- leaves no bytes of a held file but those that the record says.
+-- The record of files and standard input is what the system returned for the names asked. The system did nothing else:
+-- its calls are those of the uses in order, and it holds what the record says. A crash leaves only bytes of a held
+-- file that the record has.
 pub record IsTrueRecord {S F I H : Type 0} (system : Ghosts S F I H) (reads : Reads F) (writes : Writes F)
     (input : Reads I) (now : S) (opened : OpenFile F I) (hold : Option H) (kept : Record) : Type 0 where
   pub uses : All (IsTrueUse system reads writes input) kept.uses

@@ -1,4 +1,4 @@
--- the meaning: what contracts of public calls cite
+-- what contracts of public calls cite
 pub mod Fault
 pub mod Record
 pub mod Stream

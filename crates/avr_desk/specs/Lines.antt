@@ -1,4 +1,4 @@
--- The lines of messages: each begins with the program's name and ends with LF.
+-- The lines of messages. Each begins with `avrstk: ` and ends with LF.
 use Rattle.std.specs.Prelude.{ℕ, List, [], ◌∷◌, ◌++◌, map, codes, decimal}
 use Rattle.std.specs.List.{concat}
 use Rattle.std.specs.Char.{to_ascii_uppercase}
@@ -14,7 +14,7 @@ use Rattle.avr_desk.specs.declared.line.Piece.TheVariants.{Text, Byte, Signature
 unfoldable pub digits : Bytes → Bytes
 digits bytes = map to_ascii_uppercase (encode_lower bytes)
 
--- the same with a blank between two pairs
+-- the same, with blanks between the pairs
 abbrev pub spaced_digits : Bytes → Bytes
 spaced_digits [] = []
 spaced_digits (b ∷ []) = digits (b ∷ [])
@@ -27,7 +27,6 @@ text_of (Signature bytes) = spaced_digits bytes
 text_of (Address address) = digits (big_bytes 4 address)
 text_of (Number number) = decimal number
 
--- a line with this mark: the pieces, one after the other
 abbrev pub line : Bytes → List Bytes → Bytes
 line mark pieces = mark ++ (concat pieces ++ 10 ∷ [])
 
@@ -60,7 +59,6 @@ not_created_pieces file = file ∷ codes ": cannot be created" ∷ []
 abbrev pub not_written_pieces : Bytes → List Bytes
 not_written_pieces file = file ∷ codes ": cannot be written" ∷ []
 
--- their lines
 abbrev pub memory_line : Bytes
 memory_line = error memory_pieces
 

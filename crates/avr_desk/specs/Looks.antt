@@ -1,4 +1,4 @@
--- What follows from what calls of a system gave.
+-- What follows from the results of single system calls.
 use Rattle.std.specs.Prelude.{◌==◌, ◌&&◌, ◌||◌, Bool, true, false, Option, Some, None, Result, Ok, Err}
 use Rattle.std.specs.Option.{is_none}
 use Rattle.std.specs.declared.io.Error.{Error}
@@ -6,19 +6,19 @@ use Rattle.std.specs.declared.fs.TryLockError.{TryLockError}
 use Rattle.std.specs.declared.fs.TryLockError.TheVariants as lock
 use Rattle.avr_desk.specs.declared.looks.Identity.{Identity}
 
--- both found one file, or none
+-- both looks found the same file, or both found none
 abbrev pub is_same : Option Identity → Option Identity → Bool
 is_same (Some one) (Some other) = (one.device == other.device) && (one.number == other.number)
 is_same None None = true
 is_same one other = false
 
--- only a lock that was given is held
+-- the locked file; none if another process has the lock
 abbrev pub locked : {T : Type 0} → T → Result (Unit {0}) TryLockError → Result (Option T) Error
 locked file (Ok done) = Ok (Some file)
 locked file (Err lock.WouldBlock) = Ok None
 locked file (Err (lock.Error error)) = Err error
 
--- what is created by a name may be the held file
+-- a file created by this name may be the held one
 abbrev pub leads : Option Identity → Option Identity → Bool → Bool → Bool
 leads seen (Some there) is_link is_place = is_place || is_same seen (Some there)
 leads seen None is_link is_place = is_place || (is_link && is_none seen)

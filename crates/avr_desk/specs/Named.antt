@@ -1,4 +1,4 @@
--- Files by their names, and the position of the open one.
+-- Files by their names.
 use Rattle.std.specs.Prelude.{Bool, false, List, [], ◌∷◌, codes, Option, Some, if◌then◌else◌}
 use Rattle.std.specs.Option.{option_map, unwrap_or}
 use Rattle.std.specs.Str.{bytes_eq}
@@ -7,7 +7,6 @@ use Rattle.avr_desk.specs.declared.record.Open.{Open}
 use Rattle.avr_desk.specs.declared.record.Open.TheVariants.{ToRead}
 use Rattle.avr_desk.specs.declared.record.Writing.{Writing}
 
--- the name of the standard streams
 abbrev pub is_dash : Bytes → Bool
 is_dash name = bytes_eq name (codes "-")
 

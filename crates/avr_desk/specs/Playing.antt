@@ -1,4 +1,4 @@
--- The run of a stage over a desk: complete, or broken off by a fault of the desk or a failed allocation.
+-- The run of a stage over a desk: complete, or broken off because the desk or an allocation failed.
 use Rattle.std.specs.Prelude.{◌≡◌, ◌⊎◌, ℕ, Bool, List, [], ◌∷◌, ◌++◌, true, false, Result, Ok, Err}
 use Rattle.avr_desk.specs.Fault.{Follows, HasFailedToSay, HasSameCounts}
 use Rattle.avr_desk.specs.Record.{DeskState, Passes, Bytes}
@@ -9,8 +9,8 @@ use Rattle.avr_desk.specs.Lines.{memory_line, not_opened_line, not_read_line}
 use Rattle.avr_desk.specs.Said.{OutputEvent, Opens, Line, IsPrefixOf, TellsLine, TellsFailure, after_all}
 use Rattle.avr_desk.specs.Stage.{Stage, StageAnswer, Made, Refused, StageResult, all_told, next_opening}
 
--- These openings passed, and the desk got what the stage says of them, whatever later ones would give. If the stage
--- refuses, the line of the refusal came last. No call of the desk failed.
+-- The stage ran to its end and no call of the desk failed. For the openings that passed, the desk has the stage's
+-- events, whatever later openings would give. The line of a refusal came last.
 pub record Went {A : Type 0} (stage : Stage A) (old new : DeskState) (answer : StageAnswer A) : Type 0 where
   pub passed : List Opening
   pub says : List OutputEvent
@@ -18,8 +18,8 @@ pub record Went {A : Type 0} (stage : Stage A) (old new : DeskState) (answer : S
   pub kept : Passes (after_all (all_told says answer)) old new
   pub sound : HasSameCounts old new
 
--- Why it broke off: the next line couldn't be printed; the next file couldn't be opened; reading it failed after
--- these bytes; or allocation failed, with no file open or after this much of the next file.
+-- Why a stage broke off. The next line couldn't be printed, the next file couldn't be opened, or reading it failed
+-- after these bytes. Or allocation failed, with no file open or after this much of the next file.
 pub data Break : Type 0 where
   InLine : Bytes → Break
   NotOpened : Bytes → Break
@@ -30,17 +30,16 @@ pub data Break : Type 0 where
 abbrev pub part_read : Bytes → Bytes → OutputEvent
 part_read name bytes = Opens (Found (record { name = name; bytes = bytes; ended = false }))
 
--- what was done last, of which this was reported
+-- the last events of a stage that broke off; `told` was reported about the break
 abbrev pub last_done : Break → Bytes → List OutputEvent
 last_done (NotRead name bytes) told = part_read name bytes ∷ Line told ∷ []
 last_done (NoMemoryFor reading) told = Opens (Found reading) ∷ Line told ∷ []
 last_done break told = Line told ∷ []
 
--- this is the next event
 abbrev pub IsNextOutput : OutputEvent → List OutputEvent → Type 0
 IsNextOutput output later = (behind : List OutputEvent) × (later ≡ output ∷ behind)
 
--- it fits the next event, and the openings that would have passed
+-- the break fits the next event, and the openings that would have passed
 abbrev pub IsBreak : Break → List Opening → List OutputEvent → Type 0
 IsBreak (InLine line) more later = IsNextOutput (Line line) later
 IsBreak (NotOpened name) more later = IsNextOutput (Opens (next_opening name more)) later
@@ -48,11 +47,12 @@ IsBreak (NotRead name bytes) more later = IsNextOutput (Opens (next_opening name
 IsBreak NoMemory more later = Unit {0}
 IsBreak (NoMemoryFor reading) more later = IsNextOutput (Opens (next_opening reading.name more)) later
 
--- when a stage may fail to allocate while no file is open: after these openings and these events
+-- When a stage may fail to allocate while no file is open: after these openings and events. Contracts give the
+-- points.
 abbrev pub Taking : Type 1
 Taking = List Opening → List OutputEvent → Type 0
 
--- before any event, if at all
+-- only before any event, and only if `takes`
 abbrev pub AtStart : Bool → Taking
 AtStart takes passed said = (takes ≡ true) × (passed ≡ []) × (said ≡ [])
 
@@ -60,8 +60,8 @@ abbrev pub TakesThere : Taking → Break → List Opening → List OutputEvent �
 TakesThere taking NoMemory passed said = taking passed said
 TakesThere taking break passed said = Unit {0}
 
--- The desk failed at the file or allocation failed, and the line about that was then reported. Or a line couldn't be
--- printed: a prefix of it was, a write to the messages failed, and nothing else is reported.
+-- The desk failed at a file or allocation failed, and the line about that was reported. Or a line couldn't be
+-- printed: a prefix of it was printed, a write to the messages failed, and nothing else is reported.
 abbrev pub TellsBreak : Break → Bytes → DeskState → DeskState → Type 0
 TellsBreak (InLine line) told old new = IsPrefixOf told line × HasFailedToSay old new
 TellsBreak (NotOpened name) told old new = TellsFailure (not_opened_line name) told old new
@@ -69,15 +69,15 @@ TellsBreak (NotRead name bytes) told old new = TellsFailure (not_read_line name)
 TellsBreak NoMemory told old new = TellsLine memory_line told old new
 TellsBreak (NoMemoryFor reading) told old new = TellsLine memory_line told old new
 
--- The rest of a stage's events for some openings. The line of a refusal comes after them all, so no break follows it.
+-- The events that a break left out, for some openings. No break follows the line of a refusal, because it is last.
 pub record Rest {A : Type 0} (played : StageResult A) (whole : List OutputEvent) (break : Break)
     (more : List Opening) : Type 0 where
   pub later : List OutputEvent
   pub says_are : played.says ≡ whole ++ later
   pub broken : IsBreak break more (all_told later played.answer)
 
--- These openings passed, and a prefix of the stage's events for them was done, whatever later ones would give. Then
--- it broke off, and the reason was reported. It breaks off by a failed allocation only if it allocates there.
+-- The stage broke off. For the openings that passed, a prefix of its events was done, whatever later openings would
+-- give. Then the reason was reported. An allocation failed only where the stage allocates.
 pub record StageBrokeOff {A : Type 0} (taking : Taking) (stage : Stage A) (old new : DeskState) : Type 0 where
   pub passed : List Opening
   pub whole : List OutputEvent
@@ -89,11 +89,12 @@ pub record StageBrokeOff {A : Type 0} (taking : Taking) (stage : Stage A) (old n
   pub kept : Passes (after_all (whole ++ last_done break told)) old new
   pub follows : Follows old new
 
--- it is refused, and that was reported last
+-- the stage ran to its refusal, which was reported last
 abbrev pub WentRefused : {A : Type 0} → Stage A → DeskState → DeskState → Type 0
 WentRefused stage old new = (line : Bytes) × Went stage old new (Refused line)
 
--- The result was made by the stage; or the status is 1, for a reported refusal or a break.
+-- The clause `goes` of calls that run a stage. `Ok` has the stage's result. The status of `Err` is 1; the stage was
+-- refused or broke off, and that was reported.
 abbrev pub Goes : {A : Type 0} → Taking → Stage A → DeskState → DeskState → Result A ℕ → Type 0
 Goes taking stage old new (Ok a) = Went stage old new (Made a)
 Goes taking stage old new (Err status) =

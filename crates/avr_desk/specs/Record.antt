@@ -1,4 +1,4 @@
--- What a desk was asked, and what it gave.
+-- The record of a desk: what it was asked, and what it gave.
 use Rattle.std.specs.Prelude.{◌≡◌, ◌⊎◌, ◌==◌, ◌&&◌, ◌||◌, ◌+◌, ℕ, Bool, true, false, not, List, [], ◌∷◌, ◌++◌, take, length, Option, Some, None, Result, Ok, Err, OnOk, ⊤}
 use Rattle.avr_desk.specs.declared.desk.DeskFault.{DeskFault}
 use Rattle.avr_desk.specs.declared.desk.DeskFault.TheVariants.{NotFound, Failed}
@@ -13,9 +13,8 @@ use Rattle.avr_desk.specs.declared.record.Open.TheVariants.{Closed, ToRead, ToWr
 abbrev pub Bytes : Type 0
 Bytes = List ℕ
 
--- What a desk keeps: the finished openings and files in their order; the open file; the held file; those held
--- already; the replacements that were tried, also those that failed; how often it was to release what it
--- held; output and messages.
+-- In order: the finished uses of files; the open file; the held file; the files that were held already (`denied`);
+-- all replacements, also failed ones (`tried`); how many releases were asked for; output and messages.
 pub record Record : Type 0 where
   pub uses : List FileUse
   pub current : Open
@@ -26,7 +25,7 @@ pub record Record : Type 0 where
   pub output : Bytes
   pub messages : Bytes
 
--- what a desk shows: its record, its failed calls, and how many of these wrote to the messages
+-- What contracts see of any desk: its record, the count of failed calls, and of failed writes to the messages.
 pub record DeskState : Type 0 where
   pub kept : Record
   pub failures : ℕ
@@ -35,7 +34,7 @@ pub record DeskState : Type 0 where
 abbrev pub showing : Record → ℕ → ℕ → DeskState
 showing kept failures unsaid = record { kept = kept; failures = failures; unsaid = unsaid }
 
--- what a desk keeps has changed like this
+-- The record of the desk changed like this. Most contracts over a desk cite it.
 abbrev pub Passes : (Record → Record) → DeskState → DeskState → Type 0
 Passes change old new = new.kept ≡ change old.kept
 
@@ -52,7 +51,6 @@ use_of Closed = []
 use_of (ToRead x) = Opened (Found x) ∷ []
 use_of (ToWrite x) = Created x ∷ []
 
--- the openings among these uses, and the created files
 abbrev pub openings_among : List FileUse → List Opening
 openings_among [] = []
 openings_among (Opened opening ∷ uses) = opening ∷ openings_among uses
@@ -63,7 +61,7 @@ files_among [] = []
 files_among (Opened opening ∷ uses) = files_among uses
 files_among (Created file ∷ uses) = file ∷ files_among uses
 
--- all uses of files, all openings and all created files, with the open file last
+-- all uses, openings and created files, with the open file last
 abbrev pub all_uses : Record → List FileUse
 all_uses r = r.uses ++ use_of r.current
 
@@ -89,7 +87,6 @@ abbrev pub after_create : Bytes → Result ⊤ DeskFault → Record → Record
 after_create name (Ok done) r = with_open (ToWrite (record { name = name; bytes = [] })) r
 after_create name (Err fault) r = r
 
--- a file is held, or is held already
 abbrev pub with_held : Bytes → Record → Record
 with_held name r = record r { held = Some name }
 
@@ -104,15 +101,14 @@ after_hold name (Err fault) r = r
 abbrev pub with_none_held : Record → Record
 with_none_held r = record r { held = None; releases = r.releases + 1 }
 
--- what a desk shows once it holds nothing
+-- the state after a release
 abbrev pub released : DeskState → DeskState
 released view = record view { kept = with_none_held view.kept }
 
--- a file was to be replaced with these bytes
 abbrev pub with_tried : Bytes → Bytes → Record → Record
 with_tried name bytes r = record r { tried = r.tried ++ record { name = name; bytes = bytes } ∷ [] }
 
--- the open file is closed, a file of this name was replaced with these bytes, and nothing is held
+-- the file was replaced; the open file is closed and nothing is held
 abbrev pub with_replaced : Bytes → Bytes → Record → Record
 with_replaced name bytes r = record (with_tried name bytes r) {
   uses = all_uses r ++ Created (record { name = name; bytes = bytes }) ∷ [];
@@ -120,12 +116,12 @@ with_replaced name bytes r = record (with_tried name bytes r) {
   held = None;
 }
 
--- A file was replaced. A failed replacement may have been tried.
+-- The file was replaced. A failed call may be in the record as tried.
 abbrev pub Replaces : Bytes → Bytes → Result ⊤ DeskFault → DeskState → DeskState → Type 0
 Replaces name bytes (Ok done) old new = Passes (with_replaced name bytes) old new
 Replaces name bytes (Err fault) old new = (new.kept ≡ old.kept) ⊎ Passes (with_tried name bytes) old new
 
--- bytes were read, or the end was seen
+-- these bytes were read; `ends` if the end was seen
 abbrev pub noted : Bytes → Bool → Open → Open
 noted bytes ends (ToRead x) = ToRead (record x { bytes = x.bytes ++ bytes; ended = x.ended || ends })
 noted bytes ends o = o
@@ -162,7 +158,7 @@ abbrev pub is_to_write : Open → Bool
 is_to_write (ToWrite x) = true
 is_to_write o = false
 
--- a successful call has its file
+-- a call succeeds only if the open file passes the test
 abbrev pub HasOpen : {T : Type 0} → (Open → Bool) → DeskState → Result T DeskFault → Type 0
 HasOpen test old r = OnOk r (test old.kept.current ≡ true)
 

@@ -1,4 +1,4 @@
--- What a program's desk shows: its two writers, and what they take.
+-- The state of a program's desk, and what its record says of writers and files.
 use Rattle.std.specs.Prelude.{◌≡◌, ◌++◌, ℕ, Bool, false, ◌≤◌, length, List, Option, None, IsSome, Result, Ok, Err, take}
 use Rattle.std.specs.Io.KnownBytes.{Appends}
 use Rattle.std.specs.List.{list_any}
@@ -19,8 +19,7 @@ use Rattle.avr_desk.specs.declared.desk.DeskFault.TheVariants.{Failed, NotFound}
 use Rattle.avr_desk.specs.declared.system.OpenFile.{OpenFile}
 use Rattle.avr_desk.specs.declared.system.OpenFile.TheVariants.{Nothing}
 
--- The system; the writers; the failures, those at the messages, and the last error; the handles of what is open and
--- held; the record, which is kept for proofs alone.
+-- The state in contracts. `opened` and `hold` are the handles of the open and the held file; the record is ghost.
 pub record Shown (S F H I O E : Type 0) : Type 0 where
   pub system : S
   pub output : O
@@ -35,36 +34,36 @@ pub record Shown (S F H I O E : Type 0) : Type 0 where
 abbrev pub shown_state : {S F H I O E : Type 0} → Shown S F H I O E → DeskState
 shown_state d = showing d.kept d.failures d.unsaid
 
--- the first desk with the failures, the last error and the record of the second; and with what that has open
+-- `old` with the failures, the last error and the record of `new`; `moved` also with its open file
 abbrev pub logged : {S F H I O E : Type 0} → Shown S F H I O E → Shown S F H I O E → Shown S F H I O E
 logged old new = record old { failures = new.failures; last_error = new.last_error; kept = new.kept }
 
 abbrev pub moved : {S F H I O E : Type 0} → Shown S F H I O E → Shown S F H I O E → Shown S F H I O E
 moved old new = record (logged old new) { opened = new.opened }
 
--- whether writes to the file go to the output
+-- whether the created file is the output
 abbrev pub to_output : {S F H I O E : Type 0} → Shown S F H I O E → Bool
 to_output d = is_output d.opened
 
--- the error after a call: a failure sets it, and any other result keeps it
+-- A failure sets the last error. Any other result keeps it.
 abbrev pub KeepsError : {A : Type 0} → Option ErrorKind → Option ErrorKind → Result A DeskFault → Type 0
 KeepsError old new (Err Failed) = IsSome new
 KeepsError old new (Err NotFound) = new ≡ old
 KeepsError old new (Ok done) = new ≡ old
 
--- A writer whose bytes are known took this many of these, and the record of the write is that.
+-- A writer with known bytes took n bytes, and the record has the same n.
 abbrev pub RecordsTaken : Stream → Bytes → Option Bytes → Option Bytes → Record → Record → ℕ → Type 0
 RecordsTaken stream bytes old new before now n =
     (now ≡ after_sent stream (take n bytes) before) × Appends old new (take n bytes)
 
--- it took the returned number of them; after a fault perhaps a prefix
+-- The record has the bytes that the writer took: the returned count, or after a fault a prefix.
 abbrev pub TakesTruly : {F : Type 0} → Stream → Bytes → Option Bytes → Option Bytes → Record → Record → Result ℕ F
     → Type 0
 TakesTruly stream bytes old new before now (Ok n) = RecordsTaken stream bytes old new before now n
 TakesTruly stream bytes old new before now (Err fault) =
     (n : ℕ) × (n ≤ length bytes) × RecordsTaken stream bytes old new before now n
 
--- whether writes go to the output after opening a file; a failed call changes nothing
+-- the same after opening a file; a failed call changes nothing
 abbrev pub to_output_opened : Result (Unit {0}) DeskFault → Bool → Bool
 to_output_opened (Err Failed) before = before
 to_output_opened result before = false
@@ -72,9 +71,9 @@ to_output_opened result before = false
 abbrev pub has_dash : List Writing → Bool
 has_dash = list_any (λ file. is_dash file.name)
 
--- What a desk has kept since `old` is true. The known bytes of its writers grew by what was sent to them, for the
--- output while no file is the output too. The record of files and standard input is what the system returned, if it
--- was so in `old`, and the system did nothing else. A file that was the output stays among the files.
+-- What the record gained since `old` is true. The known bytes of the writers grew by what was sent to them; for the
+-- output, while no file is the output too. If the record of files was true in `old`, it is true now. A file that was
+-- the output stays among the files.
 pub record IsTrueSince {S F I H O E : Type 0} (system : Ghosts S F I H) (reads : Reads F) (writes : Writes F)
     (input : Reads I) (output_of : Writes O) (messages_of : Writes E) (old new : Shown S F H I O E) : Type 0 where
   pub said : Bytes
@@ -88,7 +87,7 @@ pub record IsTrueSince {S F I H O E : Type 0} (system : Ghosts S F I H) (reads :
   pub files : IsTrueRecord system reads writes input old.system old.opened old.hold old.kept
       → IsTrueRecord system reads writes input new.system new.opened new.hold new.kept
 
--- a desk with nothing open, held or kept, over a system that did nothing and held no file yet
+-- A desk with an empty record and nothing open or held, over a system that has done nothing.
 pub record IsNewDesk {S F I H O E : Type 0} (system : Ghosts S F I H) (d : Shown S F H I O E) : Type 0 where
   pub fresh : system.did none_done d.system
   pub unheld : (name : Bytes) (found : Option Bytes) → system.left d.system name found → ⊥
@@ -96,7 +95,7 @@ pub record IsNewDesk {S F I H O E : Type 0} (system : Ghosts S F I H) (d : Shown
   pub hold : d.hold ≡ None
   pub kept : d.kept ≡ nothing_kept
 
--- what a new desk has come to: its record is true, and has all that the system did
+-- If the desk was new, its record is true and has all that the system did.
 abbrev pub TellsAll : {S F I H O E : Type 0} → Ghosts S F I H → Reads F → Writes F → Reads I → Shown S F H I O E
     → Shown S F H I O E
     → Type 0

@@ -1,4 +1,4 @@
--- A stage: what is done at the desk and its result, as a function of what the openings of files give.
+-- A stage: output events and a result, as a function of what the openings of files give.
 use Rattle.std.specs.Prelude.{ℕ, ◌||◌, nat_lt, List, [], ◌∷◌, ◌++◌, drop, length, Result, Ok, Err, if◌then◌else◌, ⊤}
 use Rattle.avr_desk.specs.Record.{Bytes}
 use Rattle.avr_desk.specs.declared.record.Opening.{Opening}
@@ -6,20 +6,20 @@ use Rattle.avr_desk.specs.declared.record.Opening.TheVariants.{Absent, Found}
 use Rattle.avr_desk.specs.Lines.{not_opened_line}
 use Rattle.avr_desk.specs.Said.{OutputEvent, Opens, Line}
 
--- It made something; it is refused, by this line; or a file was not read to its end or past its limit, so it has no
--- result.
+-- How a stage ends: with a result; with a refusal, whose line this is; or without a result, because a file was not
+-- read to its end or past its limit.
 pub data StageAnswer (A : Type 0) : Type 0 where
   Made : A → StageAnswer A
   Refused : Bytes → StageAnswer A
   Unread : StageAnswer A
 
--- the events before the result, the result, and what the later openings give
+-- the events before the end, the end, and the openings that the stage didn't use
 pub record StageResult (A : Type 0) : Type 0 where
   pub says : List OutputEvent
   pub answer : StageAnswer A
   pub left : List Opening
 
--- the events, and last the line of a refusal
+-- all events, the line of a refusal last
 abbrev pub all_told : {A : Type 0} → List OutputEvent → StageAnswer A → List OutputEvent
 all_told says (Made a) = says
 all_told says (Refused line) = says ++ Line line ∷ []
@@ -39,7 +39,7 @@ going_on says left go_on (Made a) = behind_outputs says (go_on a left)
 going_on says left go_on (Refused line) = record { says = says; answer = Refused line; left = left }
 going_on says left go_on Unread = record { says = says; answer = Unread; left = left }
 
--- one stage, and then the one that its result chooses
+-- one stage, then the one that its result chooses
 infixl 10 ◌>>=◌
 abbrev pub ◌>>=◌ : {A B : Type 0} → Stage A → (A → Stage B) → Stage B
 ◌>>=◌ stage go_on openings =
@@ -49,17 +49,17 @@ abbrev pub ◌>>=◌ : {A B : Type 0} → Stage A → (A → Stage B) → Stage 
 abbrev pub output_stage : List OutputEvent → Stage ⊤
 output_stage says openings = record { says = says; answer = Made tt; left = openings }
 
--- a result, or the line of its refusal
+-- a stage without events: a result, or the line of its refusal
 abbrev pub verdict_stage : {A : Type 0} → Result A Bytes → Stage A
 verdict_stage (Ok a) openings = record { says = []; answer = Made a; left = openings }
 verdict_stage (Err line) openings = record { says = []; answer = Refused line; left = openings }
 
--- the opening of the file of this name that gives what this one gives
+-- the same opening under another name
 abbrev pub under_name : Bytes → Opening → Opening
 under_name name (Absent other) = Absent name
 under_name name (Found reading) = Found (record reading { name = name })
 
--- the file of this name gives what the next opening gives; after the last opening it is absent
+-- The file of this name gives what the next opening gives. If no opening is left, the file is absent.
 abbrev pub next_opening : Bytes → List Opening → Opening
 next_opening name [] = Absent name
 next_opening name (opening ∷ openings) = under_name name opening
@@ -77,6 +77,6 @@ content_stage name limit judge (Found reading) =
     if reading.ended || nat_lt limit (length reading.bytes) then verdict_stage (judge reading.bytes)
     else (λ openings. record { says = []; answer = Unread; left = openings })
 
--- the result of a file, once it was read to its end or past its limit
+-- the stage that opens a file, reads it to its end or past `limit`, and checks its bytes
 abbrev pub file_stage : {A : Type 0} → Bytes → ℕ → (Bytes → Result A Bytes) → Stage A
 file_stage name limit judge = open_stage name >>= content_stage name limit judge

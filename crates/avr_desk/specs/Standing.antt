@@ -1,4 +1,4 @@
--- What is open at a program's desk.
+-- The open file of a program's desk.
 use Rattle.std.specs.Prelude.{◌≡◌, ◌<◌, ℕ, Bool, true, false, length, take}
 use Rattle.std.specs.Io.KnownBytes.{Consumes, IsAtEnd, Keeps}
 use Rattle.std.specs.declared.io.Read.{Ghosts as Reads}
@@ -21,12 +21,11 @@ takes (ToWrite f) = true
 takes Output = true
 takes opened = false
 
--- what is open is what the record says
 pub record Stands {F I : Type 0} (opened : OpenFile F I) (current : Open) : Type 0 where
   pub reads : is_to_read current ≡ gives opened
   pub writes : is_to_write current ≡ takes opened
 
--- a handle gave n bytes into the start of the buffer, and none only at its end or without room
+-- The handle gave n bytes into the start of the buffer. n is 0 only at the end, or if the buffer is empty.
 pub record GivesBytes {H : Type 0} (reads : Reads H) (old new : H) (buf : Bytes) (n : ℕ) : Type 0 where
   pub gave : Consumes (reads.remaining old) (reads.remaining new) (take n buf)
   pub ends : n ≡ 0 → 0 < length buf → IsAtEnd (reads.remaining new)
@@ -36,7 +35,7 @@ FileGives {I = I} reads input (Input old) new buf n = (now : I) × (new ≡ Inpu
 FileGives {F = F} reads input (ToRead old) new buf n = (now : F) × (new ≡ ToRead now) × GivesBytes reads old now buf n
 FileGives reads input old new buf n = ⊥
 
--- it gave none, and is still open
+-- the open file gave nothing, and stays open
 abbrev pub FileGivesNone : {F I : Type 0} → Reads F → Reads I → OpenFile F I → OpenFile F I → Type 0
 FileGivesNone {I = I} reads input (Input old) new =
     (now : I) × (new ≡ Input now) × Keeps (input.remaining old) (input.remaining now)
@@ -44,7 +43,6 @@ FileGivesNone {F = F} reads input (ToRead old) new =
     (now : F) × (new ≡ ToRead now) × Keeps (reads.remaining old) (reads.remaining now)
 FileGivesNone reads input old new = new ≡ old
 
--- a file that was written was closed as it is
 abbrev pub IsClosed : {F I : Type 0} → (F → Type 0) → OpenFile F I → Type 0
 IsClosed closed (ToWrite f) = closed f
 IsClosed closed opened = Unit {0}

@@ -1,4 +1,4 @@
--- Where bytes go, and a call that sends all or only a prefix of them.
+-- Writes of bytes to a stream of a desk, whole or in part.
 use Rattle.std.specs.Prelude.{◌≤◌, ℕ, take, length, Result, Ok, Err, IfOk}
 use Rattle.avr_desk.specs.declared.desk.DeskFault.{DeskFault}
 use Rattle.avr_desk.specs.Fault.{IsCall, WriteCounts}
@@ -11,16 +11,16 @@ after_sent File bytes r = after_write bytes r
 after_sent Output bytes r = after_out bytes r
 after_sent Messages bytes r = after_err bytes r
 
--- a prefix of these bytes went there, and nothing else happened
+-- A prefix of these bytes was sent to the stream, and nothing else happened.
 abbrev pub SendsPart : Stream → DeskState → DeskState → Bytes → Type 0
 SendsPart stream old new bytes = (n : ℕ) × (n ≤ length bytes) × Passes (after_sent stream (take n bytes)) old new
 
--- the returned number of these bytes went there; after a fault perhaps a prefix
+-- The returned count of bytes was sent to the stream; after a fault perhaps a prefix.
 abbrev pub SendsTaken : Stream → Bytes → DeskState → DeskState → Result ℕ DeskFault → Type 0
 SendsTaken stream bytes old new (Ok n) = Passes (after_sent stream (take n bytes)) old new
 SendsTaken stream bytes old new (Err fault) = SendsPart stream old new bytes
 
--- A write to this stream is a call of a desk: the returned number of these bytes went there, or perhaps a prefix.
+-- What every write of a desk promises: the count is at most the length, and that many bytes were sent.
 pub record IsWrite {Desk Start : Type 0} (view : Desk → DeskState) (comes_of : Start → Desk → Type 0) (stream : Stream)
     (bytes : Bytes) (old new : Desk) (r : Result ℕ DeskFault) : Type 0 where
   pub bound : IfOk r (λ n. n ≤ length bytes)

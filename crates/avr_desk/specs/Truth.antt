@@ -1,4 +1,4 @@
--- What a desk in memory began with, and what its record says of that.
+-- The record of a desk in memory is true of the files that it began with.
 use Rattle.std.specs.Prelude.{◌≡◌, Bool, true, List, [], ◌∷◌, ◌++◌, Option, Some, None}
 use Rattle.avr_desk.specs.declared.record.FileUse.{FileUse}
 use Rattle.avr_desk.specs.declared.record.FileUse.TheVariants.{Opened, Created}
@@ -10,31 +10,30 @@ use Rattle.avr_desk.specs.declared.record.Opening.{Opening}
 use Rattle.avr_desk.specs.declared.record.Opening.TheVariants.{Absent, Found}
 use Rattle.avr_desk.specs.declared.record.Writing.{Writing}
 
--- what was read of the bytes of a name: a prefix, all of them if their end was seen
+-- `bytes` is a prefix of the file, and all of it if the end was seen
 pub record IsRead (stood : Option Bytes) (bytes : Bytes) (ended : Bool) : Type 0 where
   pub unread : Bytes
   pub whole : stood ≡ Some (bytes ++ unread)
   pub ends : ended ≡ true → unread ≡ []
 
--- an opening that was true after these files were made: the name meant nothing, or this was read of it
+-- after these files were made, the opening gave what its name meant
 abbrev pub IsTrueOpening : Stock → List Writing → Opening → Type 0
 IsTrueOpening stock made (Absent name) = stood_for stock made name ≡ None
 IsTrueOpening stock made (Found reading) = IsRead (stood_for stock made reading.name) reading.bytes reading.ended
 
--- Each opening was true when it was made, by the files made before it: these, and those among the uses.
+-- Each opening gave what its name meant then, by the files made before it: `made`, and those among the uses.
 abbrev pub AreTrue : Stock → List Writing → List FileUse → Type 0
 AreTrue stock made [] = Unit {0}
 AreTrue stock made (Opened opening ∷ uses) = IsTrueOpening stock made opening × AreTrue stock made uses
 AreTrue stock made (Created file ∷ uses) = AreTrue stock (made ++ file ∷ []) uses
 
--- the desk holds what the name of the open file means
 abbrev pub IsOpenTrue : Stock → MemDeskState → Open → Type 0
 IsOpenTrue stock m (ToRead reading) =
     (stood_for stock (files_among m.kept.uses) reading.name ≡ Some m.opened)
     × IsRead (Some m.opened) reading.bytes reading.ended
 IsOpenTrue stock m current = Unit {0}
 
--- the desk began with this, and all that it keeps is true of it
+-- The desk began with `stock`, and its record is true of it. Every call of a desk in memory preserves this.
 pub record HoldsTrue (stock : Stock) (m : MemDeskState) : Type 0 where
   pub began : stock_of m ≡ stock
   pub uses : AreTrue stock [] m.kept.uses

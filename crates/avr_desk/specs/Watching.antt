@@ -6,7 +6,7 @@ use Rattle.avr_desk.specs.declared.stream.Stream.{Stream}
 use Rattle.avr_desk.specs.declared.watched.DeskCall.{DeskCall}
 use Rattle.avr_desk.specs.declared.watched.DeskCall.TheVariants as call
 
--- a finished call of a desk: its arguments and its result
+-- a finished call with its arguments and result
 pub data ToldOfDesk : Type 0 where
   Opened : Bytes → Result ⊤ DeskFault → ToldOfDesk
   Created : Bytes → Result ⊤ DeskFault → ToldOfDesk

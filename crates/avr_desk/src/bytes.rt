@@ -1,4 +1,3 @@
-//! An owned list of bytes.
 ghost use Rattle.std.specs.Prelude.{◌≡◌, ◌++◌, ℕ, List, [], IfOk, length, is_ok, if◌then◌else◌};
 
 use std::alloc::{AllocError, Global};
@@ -17,7 +16,7 @@ impl Model for Bytes {
 }
 
 impl Bytes {
-    /// Creates an empty list. It allocates nothing.
+    /// Creates an empty list. Nothing is allocated.
     pub fn new(alloc: Global) -> Bytes
         ensures { result ≡ [] }
     {
@@ -26,7 +25,7 @@ impl Bytes {
         }
     }
 
-    /// Copies these bytes.
+    /// Copies `bytes` into a new list.
     ///
     /// # Errors
     ///
@@ -45,21 +44,21 @@ impl Bytes {
         Ok(Bytes { items })
     }
 
-    /// Returns the bytes, borrowed.
+    /// Borrows the bytes.
     pub fn as_slice(&self) -> &[u8]
         ensures { result.now ≡ self.now }
     {
         self.items.as_slice()
     }
 
-    /// Returns how many bytes there are.
+    /// Returns the number of bytes.
     pub fn len(&self) -> usize
         ensures { result ≡ length self.now }
     {
         self.items.len()
     }
 
-    /// Appends these bytes.
+    /// Appends `bytes`.
     ///
     /// # Errors
     ///

@@ -1,4 +1,3 @@
-//! A desk that fails by plan, for tests of its callers.
 ghost use Rattle.std.specs.Prelude.{◌≡◌, ◌≤◌, ◌-◌, ◌==◌, length, IfOk};
 ghost use Rattle.avr_desk.specs.Failing.{FailsWhenDue, count_after, failing, inner_comes_of};
 ghost use Rattle.avr_desk.specs.Record.{Passes, after_open, after_create, after_hold, after_read, Replaces, released, HasOpen, is_to_read, is_to_write};
@@ -10,7 +9,7 @@ ghost use Rattle.ghosts.specs.Stays.{Stays};
 use crate::desk::{ChipDesk, Desk, DeskFault};
 use std::marker::Model;
 
-/// A desk whose nth call fails: it returns the fault and raises the count. All other calls go to the inner desk.
+/// For tests: a desk whose nth call fails and is counted. All other calls go to the inner desk.
 #[derive(Debug, Drop)]
 pub struct FailingDesk<D> {
     inner: D,
@@ -40,14 +39,14 @@ impl<D> FailingDesk<D> {
         }
     }
 
-    /// Returns the inner desk.
+    /// Borrows the desk that gets all other calls.
     pub fn inner(&self) -> &D
         ensures { result.now ≡ self.now.inner }
     {
         &self.inner
     }
 
-    /// Counts a call, and returns whether it is the one that fails.
+    /// Counts a call. Returns whether it is the one that fails.
     fn is_due(&mut self) -> bool
         ensures due { result ≡ (self.old.due == 1) }
         ensures same { self.new ≡ record self.old { due = self.old.due - 1; planned = self.new.planned } }

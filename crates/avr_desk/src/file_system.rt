@@ -9,63 +9,62 @@ ghost use Rattle.ghosts.specs.Stays.{Stays};
 use std::io;
 use std::io::{ErrorKind, Read, Write};
 
-/// Opens, creates and replaces a system's files by their names, and gives standard input. Only a call here yields what
-/// the ghost members state. So a desk can record of a name only what the system returned for it, and its record has
-/// every call that the system did.
+/// Opens, creates and replaces a system's files by their names, and gives standard input. Only these calls ensure what
+/// the ghost members state. So a desk records of a name only what the system returned for it, and its record has every
+/// call that the system did.
 ///
-/// A [`crate::Folder`] is a `FileSystem`, and so is a reference to a runtime with the system's files and input.
-/// That the single calls of that do as asked is only tested.
+/// Each [`crate::Folder`] is a `FileSystem`, and so is a reference to a runtime with the system's files and input.
+/// Only tests show that a runtime's single calls do as asked.
 pub trait FileSystem {
-    /// A file that was opened or created.
+    /// An opened or created file.
     type File: Read + Write + Drop;
 
-    /// Standard input.
+    /// A reader of standard input.
     type Input: Read + Drop;
 
-    /// Holds a file that is to be replaced.
+    /// The lock on a file that is to be replaced.
     type Hold: Drop;
 
-    /// These are all calls that succeeded since it was new.
+    /// All calls that succeeded since the system was new.
     ghost did: { Done → Self → Type 0 };
 
-    /// The reader is as the system gives it for standard input.
+    /// The reader is standard input as the system gives it.
     ghost is_input: { Self.Input → Type 0 };
 
     /// The file was created by this name, or opened by it. If this run held the file of the name, that is the one that
     /// was there when it was locked.
     ghost is_of: { Self.File → Bytes → Type 0 };
 
-    /// The file was closed as it is.
+    /// The file was closed in this state.
     ghost closed: { Self.File → Type 0 };
 
     /// No file had this name. If this run held the file of the name, there was none when it was locked either.
     ghost lacks: { Bytes → Type 0 };
 
-    /// It holds the file of this name.
+    /// The lock is on the file of this name.
     ghost holds: { Self.Hold → Bytes → Type 0 };
 
     /// Another process held the file of this name.
     ghost denies: { Bytes → Type 0 };
 
-    /// The file of this name was replaced with these bytes. Each crash leaves them, from some moment on until the run
-    /// replaces them again.
+    /// The file of this name was replaced with these bytes. From some moment on each crash leaves them, until the run
+    /// replaces the file again.
     ghost replaced: { Bytes → Bytes → Type 0 };
 
-    /// While this run held the file of this name, a crash until now might have left this: a file of these bytes, or
-    /// none. What is written in place doesn't count: where another file is mounted, or through a file that was created
-    /// before it was held.
+    /// While this run held the file of this name, a crash until now might have left a file of these bytes, or none.
+    /// Writes in place don't count: where another file is mounted, or through a file created before it was held.
     ghost left: { Self → Bytes → Option Bytes → Type 0 };
 
-    /// This was there when the run locked the file of this name: a file of these bytes, or none.
+    /// When the run locked the file of this name, it had these bytes, or there was none.
     ghost began: { Bytes → Option Bytes → Type 0 };
 
-    /// Gives standard input.
+    /// Returns a reader of standard input.
     fn input(&mut self) -> Self::Input
         ensures begins { is_input result }
         ensures keeps { LeavesNoMore left self.old self.new }
         ensures gives { Does did (calling (Gives ∷ [])) self.old self.new };
 
-    /// Opens a file to read. `hold` is what this run holds.
+    /// Opens a file for reading. `hold` is what this run holds.
     ///
     /// # Errors
     ///
@@ -97,7 +96,7 @@ pub trait FileSystem {
         ensures closes { closed file }
         ensures stays { Still did left self.old self.new };
 
-    /// Locks the file of this name, which is to be replaced. Returns `None` if another process has locked it.
+    /// Locks the file of this name, to replace it later. Returns `None` if another process has locked it.
     ///
     /// # Errors
     ///
@@ -109,15 +108,15 @@ pub trait FileSystem {
         ensures fails { OnErr result (Stays did self.old self.new) }
         ensures leaves { LeavesAlso left name.now (began name.now) self.old self.new };
 
-    /// Returns whether `hold` is of the file of this name.
+    /// Returns whether `hold` is the lock on the file of this name.
     fn is_held(&self, hold: &Self::Hold, name: &str) -> bool
         ensures held { result ≡ true → holds hold.now name.now };
 
-    /// Replaces the held file with these bytes, whole or not at all.
+    /// Replaces the held file with `bytes`, all of them or none.
     ///
     /// # Errors
     ///
-    /// The system's error. The file may have been replaced even so.
+    /// The system's error. The file may still have been replaced.
     fn put_held(&mut self, hold: &mut Self::Hold, bytes: &[u8]) -> io::Result<()>
         ensures put { OnOk result ((name : Bytes) → holds hold.old name → replaced name bytes.now) }
         ensures makes { OnOk result ((name : Bytes) → holds hold.old name
@@ -127,7 +126,7 @@ pub trait FileSystem {
         ensures leaves { (name : Bytes) → holds hold.old name
             → LeavesAlso left name (λ found. found ≡ Some bytes.now) self.old self.new };
 
-    /// Unlocks the file.
+    /// Unlocks a held file.
     fn leave_held(&mut self, hold: Self::Hold)
         ensures leaves { (done : Done) → did (holding done) self.old → did done self.new }
         ensures keeps { LeavesNoMore left self.old self.new };

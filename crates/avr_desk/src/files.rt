@@ -1,4 +1,3 @@
-//! Reads a whole file over a desk.
 ghost use Rattle.std.specs.Prelude.{◌≡◌, IfOk};
 ghost use Rattle.avr_desk.specs.Files.{file_fault_number, FaultCounts, IsWhole, ReadsFile};
 ghost use Rattle.ghosts.specs.Stays.{Stays};
@@ -41,11 +40,11 @@ impl FileFault {
     }
 }
 
-/// What was read of a file.
+/// The bytes read of a file.
 #[derive(Debug, Drop)]
 pub struct Contents {
     pub bytes: Bytes,
-    /// Whether the end was seen; else there are more bytes than the limit.
+    /// Whether the end was seen; if not, there are more bytes than the limit.
     pub ended: bool,
 }
 
@@ -53,8 +52,8 @@ pub struct Contents {
 ///
 /// # Errors
 ///
-/// `Absent` if there is no such file; `NotOpened` or `NotRead` if the desk fails; `Memory` if allocation fails. What
-/// was read before the fault is lost.
+/// `Absent` if there is no such file; `NotOpened` or `NotRead` if the desk fails; `Memory` if allocation fails. Bytes
+/// read before the fault are dropped.
 ///
 /// ```text
 /// let mut desk = MemDesk::empty(alloc);

@@ -1,4 +1,3 @@
-//! The calls of a system by which a run uses files, one at a time.
 ghost use Rattle.std.specs.Prelude.{◌≡◌, ◌⊎◌, ◌++◌, ◌∷◌, [], true, false, IfErr, IfOk, MatchOption, None, OnErr, OnOk, Option, Some};
 ghost use Rattle.std.specs.IoError.{error_kind};
 ghost use Rattle.avr_desk.specs.Journal.{Counts, Does, Done, Gives, LeavesAlso, LeavesNoMore, Opens, Still, calling, holding, made};
@@ -8,58 +7,57 @@ ghost use Rattle.ghosts.specs.Stays.{Stays};
 use std::io;
 use std::io::{ErrorKind, Read, Write};
 
-/// The calls of a system. What they do together is proved of [`crate::FileSystem`]'s implementation over any `Folder`;
-/// that those of a real system do as asked is only tested.
+/// The single calls of a system for files. [`crate::FileSystem`]'s implementation over any `Folder` is proved. Only
+/// tests show that the calls of a real system do as asked.
 ///
-/// A clause says what a call does together with what other processes did since the last one. They are assumed to leave
-/// a file alone whose lock file another run has locked, and the new file beside it.
+/// A clause covers the call and what other processes did since the last one. It assumes that they leave a locked file
+/// alone, and the new file beside it.
 pub trait Folder {
-    /// A file that was opened to read or created.
+    /// An opened or created file.
     type File: Read + Write + Drop;
 
-    /// Standard input.
+    /// A reader of standard input.
     type Input: Read + Drop;
 
-    /// The place that a name leads to: the path of a file, of its lock file and of a new one.
+    /// Where a name leads: the paths of the file, of its lock file and of a new file.
     type Place: Drop;
 
-    /// The folder of a place, opened to synchronize its names.
+    /// The folder of a place, opened to sync its names.
     type Parent: Drop;
 
-    /// A lock file that this run has opened.
+    /// An opened lock file.
     type LockFile: Drop;
 
-    /// A lock file that this run has opened and locked. Others can lock it once this is dropped.
+    /// A locked lock file. Others can lock it once this is dropped.
     type Lock: Drop;
 
-    /// A place whose lock file this run has locked, and which had its name after that. So others find this one.
+    /// A place with its locked lock file, which still had its name after the lock, so that other runs find it.
     type Held: Drop;
 
-    /// Which file was at a place. It keeps no file open: some systems hide an open file when another one gets its name.
+    /// Which file was at a place. No file is kept open: some systems hide an open file when another one gets its name.
     type Seen: Drop;
 
     /// A new file beside a place.
     type New: Drop;
 
-    /// These are all calls that succeeded since it was new. A file counts as held from [`Folder::confirm`] on until it
-    /// is unlocked.
+    /// All calls that succeeded since the system was new. A file counts as held from [`Folder::confirm`] to
+    /// [`Folder::unlock`].
     ghost did: { Done → Self → Type 0 };
 
-    /// While this run held the file of this name, a crash until now might have left this: a file of these bytes, or
-    /// none. A place at which another file is mounted doesn't count.
+    /// While this run held the file of this name, a crash until now might have left a file of these bytes, or none. A
+    /// place where another file is mounted doesn't count.
     ghost left: { Self → Bytes → Option Bytes → Type 0 };
 
-    /// This was there when the run locked the file of this name: a file of these bytes, or none.
+    /// When the run locked the file of this name, it had these bytes, or there was none.
     ghost began: { Bytes → Option Bytes → Type 0 };
 
-    /// Each crash leaves these bytes under this name, from some moment on until the run replaces them again.
+    /// From some moment on each crash leaves these bytes under this name, until the run replaces them again.
     ghost lasts: { Bytes → Bytes → Type 0 };
 
-    /// A look finds a file of these bytes under this name.
+    /// There is a file of these bytes under this name.
     ghost finds: { Self → Bytes → Bytes → Type 0 };
 
-    /// A look finds at its place what was seen there, a file or none, and the new file under the name that it was made
-    /// with.
+    /// What was seen at the place is still there, a file or none, and the new file still has its first name.
     ghost finds_both: { Self → Option Self.Seen → Self.New → Type 0 };
 
     /// The name doesn't lead to a file that this run holds.
@@ -68,13 +66,13 @@ pub trait Folder {
     /// This run holds no file by this name.
     ghost is_free: { Self → Bytes → Type 0 };
 
-    /// The name that leads to this place.
+    /// The name by which the place was found.
     ghost name_of: { Self.Place → Bytes };
 
     /// The name of the held file.
     ghost held_name: { Self.Held → Bytes };
 
-    /// Another file is mounted there.
+    /// Another file is mounted at the place of this name.
     ghost is_mounted: { Bytes → Type 0 };
 
     /// Another process held the file of this name.
@@ -86,26 +84,26 @@ pub trait Folder {
     /// The new file has these bytes after each crash.
     ghost keeps: { Self.New → Bytes → Type 0 };
 
-    /// The reader is as the system gives it for standard input.
+    /// The reader is standard input as the system gives it.
     ghost is_input: { Self.Input → Type 0 };
 
     /// The file was created by this name, or opened by it. If this run held the file of the name, that is the one that
     /// was there when it was locked.
     ghost is_of: { Self.File → Bytes → Type 0 };
 
-    /// The file was closed as it is.
+    /// The file was closed in this state.
     ghost closed: { Self.File → Type 0 };
 
     /// No file had this name. If this run held the file of the name, there was none when it was locked either.
     ghost lacks: { Bytes → Type 0 };
 
-    /// Gives standard input.
+    /// Returns a reader of standard input.
     fn input(&mut self) -> Self::Input
         ensures begins { is_input result }
         ensures keeps { LeavesNoMore left self.old self.new }
         ensures gives { Does did (calling (Gives ∷ [])) self.old self.new };
 
-    /// Opens a file to read.
+    /// Opens a file for reading.
     fn open(&mut self, name: &str) -> io::Result<Self::File>
         ensures named { Counts did 0 self.old ⊎ is_free self.old name.now → IfOk result (λ file. is_of file name.now) }
         ensures absent { Counts did 0 self.old ⊎ is_free self.old name.now
@@ -127,7 +125,7 @@ pub trait Folder {
         ensures closes { closed file }
         ensures stays { Still did left self.old self.new };
 
-    /// Looks where a name leads.
+    /// Finds where a name leads.
     fn find(&mut self, name: &str) -> io::Result<Self::Place>
         ensures named { IfOk result (λ place. name_of place ≡ name.now) }
         ensures stays { Still did left self.old self.new };
@@ -136,18 +134,18 @@ pub trait Folder {
     fn open_parent(&mut self, place: &Self::Place) -> io::Result<Self::Parent>
         ensures stays { Still did left self.old self.new };
 
-    /// Opens the lock file of a place, which is made if it is absent. Returns `None` if another run just removed it.
+    /// Opens the lock file of a place, or creates it. Returns `None` if another run just removed it.
     fn open_lock(&mut self, place: &Self::Place) -> io::Result<Option<Self::LockFile>>
         ensures denied { IfOk result (λ file. MatchOption file (denies (name_of place.now)) (λ file. Unit {0})) }
         ensures stays { Still did left self.old self.new };
 
-    /// Locks the lock file. Returns `None` if another process has.
+    /// Locks the lock file. Returns `None` if another process has locked it.
     fn lock(&mut self, place: &Self::Place, file: Self::LockFile) -> io::Result<Option<Self::Lock>>
         ensures denied { IfOk result (λ lock. MatchOption lock (denies (name_of place.now)) (λ lock. Unit {0})) }
         ensures stays { Still did left self.old self.new };
 
-    /// Looks whether the lock file has its name still, and then holds the place. Returns `None` if another run removed
-    /// the lock file since it was opened.
+    /// Holds the place if the lock file still has its name. Returns `None` if another run removed it since it was
+    /// opened.
     fn confirm(&mut self, place: Self::Place, lock: Self::Lock) -> io::Result<Option<Self::Held>>
         ensures named { IfOk result (λ held. MatchOption held (denies (name_of place))
             (λ held. held_name held ≡ name_of place)) }
@@ -161,12 +159,12 @@ pub trait Folder {
         ensures same { result ≡ true → held_name held.now ≡ name.now }
         ensures other { result ≡ false → Counts did 1 self.now → is_free self.now name.now };
 
-    /// Looks which file is at a place, if there is one. Fails if it may not be written.
+    /// Returns which file is at a place, if any. Fails if the file may not be written.
     fn see(&mut self, held: &Self::Held) -> io::Result<Option<Self::Seen>>
         ensures stays { Still did left self.old self.new };
 
-    /// Opens the file at a place to read. Fails if it isn't the one that was seen; `NotFound` means that none was seen
-    /// there and none is there.
+    /// Opens the file at a place for reading. Fails if it isn't the one that was seen. `NotFound` means that none was
+    /// seen and none is there.
     fn open_seen(&mut self, held: &Self::Held, seen: &Option<Self::Seen>) -> io::Result<Self::File>
         ensures named { IfOk result (λ file. is_of file (held_name held.now)) }
         ensures absent { IfErr result (λ error. error_kind error ≡ ErrorKind.NotFound → lacks (held_name held.now)) }
@@ -174,7 +172,7 @@ pub trait Folder {
         ensures fails { OnErr result (Stays did self.old self.new) }
         ensures keeps { LeavesNoMore left self.old self.new };
 
-    /// Fails with `ResourceBusy` if a name leads to the place, or to the file that was seen there.
+    /// Fails with `ResourceBusy` if a name leads to the held place, or to the file that was seen there.
     fn keep_apart(
         &mut self,
         name: &str,
@@ -184,12 +182,12 @@ pub trait Folder {
         ensures apart { OnOk result (Counts did 1 self.new → is_apart self.new name.now) }
         ensures stays { Still did left self.old self.new };
 
-    /// Makes an empty new file, which has the owner and the permissions of the one that was seen.
+    /// Creates an empty new file with the owner and the permissions of the file that was seen.
     fn make(&mut self, held: &Self::Held, seen: &Option<Self::Seen>) -> io::Result<Self::New>
         ensures empty { IfOk result (λ file. has file []) }
         ensures stays { Still did left self.old self.new };
 
-    /// Writes at the end of the new file.
+    /// Appends to the new file.
     fn write(&mut self, file: &mut Self::New, bytes: &[u8]) -> io::Result<()>
         ensures written { OnOk result ((before : Bytes) → has file.old before → has file.new (before ++ bytes.now)) }
         ensures stays { Still did left self.old self.new };
@@ -199,7 +197,7 @@ pub trait Folder {
         ensures synced { OnOk result ((bytes : Bytes) → has file.old bytes → keeps file.new bytes) }
         ensures stays { Still did left self.old self.new };
 
-    /// Fails with `AlreadyExists` unless what was seen is at the place still, and the new file has its name still.
+    /// Fails with `AlreadyExists` unless what was seen is still at the place, and the new file still has its name.
     fn look_again(
         &mut self,
         held: &Self::Held,
@@ -209,7 +207,7 @@ pub trait Folder {
         ensures found { OnOk result (finds_both self.new seen.now file.now) }
         ensures stays { Still did left self.old self.new };
 
-    /// Gives the place to the new file, only if nothing is there. The file may have its own name still.
+    /// Gives the place to the new file, only if nothing is there. The new file may keep its first name too.
     fn place_new(&mut self, held: &Self::Held, file: Self::New) -> io::Result<()>
         requires { finds_both self.old None file }
         ensures only { OnOk result (lacks (held_name held.now)) }
@@ -218,7 +216,7 @@ pub trait Folder {
         ensures placed { OnOk result ((bytes : Bytes) → keeps file bytes → finds self.new (held_name held.now) bytes) }
         ensures stays { Stays did self.old self.new };
 
-    /// Gives the place of the file that was seen to the new file.
+    /// Renames the new file over the one that was seen.
     fn rename(&mut self, held: &Self::Held, seen: &Self::Seen, file: Self::New) -> io::Result<()>
         requires { finds_both self.old (Some seen.now) file }
         ensures whole { (bytes : Bytes) → keeps file bytes
@@ -228,8 +226,7 @@ pub trait Folder {
             → is_mounted (held_name held.now)) }
         ensures stays { Stays did self.old self.new };
 
-    /// Waits until the names beside the place are on the disk. A folder that may not be read, or whose file system
-    /// synchronizes none, counts as synchronized.
+    /// Waits until the names in the folder are on the disk. A folder that can't be read or synced counts as synced.
     fn sync_name(&mut self, held: &Self::Held, parent: &Self::Parent) -> io::Result<()>
         ensures lasts { OnOk result ((bytes : Bytes) → finds self.old (held_name held.now) bytes
             → lasts (held_name held.now) bytes) }
@@ -238,7 +235,7 @@ pub trait Folder {
         ensures fails { OnErr result (Stays did self.old self.new) }
         ensures keeps { LeavesNoMore left self.old self.new };
 
-    /// Writes the file in place and waits until it is on the disk. A crash before that may leave any part.
+    /// Overwrites the file in place and waits until it is on the disk. A crash before that may leave any part.
     fn write_over(&mut self, held: &Self::Held, bytes: &[u8]) -> io::Result<()>
         requires { is_mounted (held_name held.now) }
         ensures lasts { OnOk result (lasts (held_name held.now) bytes.now) }
@@ -250,7 +247,7 @@ pub trait Folder {
     fn remove_new(&mut self, held: &Self::Held)
         ensures stays { Still did left self.old self.new };
 
-    /// Removes the lock file, and unlocks it.
+    /// Removes the lock file and unlocks it.
     fn unlock(&mut self, held: Self::Held)
         ensures leaves { (done : Done) → did (holding done) self.old → did done self.new }
         ensures keeps { LeavesNoMore left self.old self.new };

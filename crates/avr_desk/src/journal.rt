@@ -1,4 +1,4 @@
-//! What a desk keeps for proofs alone. It takes no memory, and its methods do nothing at run time.
+//! A desk's record for proofs alone. It takes no memory, and its methods do nothing at run time.
 ghost use Rattle.std.specs.Prelude.{◌≡◌};
 ghost use Rattle.std.specs.Borrow.{ftrue};
 ghost use Rattle.avr_desk.specs.Record.{Record, nothing_kept};
@@ -20,13 +20,12 @@ pub(crate) enum Call<'a> {
     Replaced(&'a [u8], &'a [u8]),
     /// Replacing the file with these bytes failed.
     Tried(&'a [u8], &'a [u8]),
-    /// This many bytes were read into the buffer's start.
+    /// The number of bytes read into the start of the buffer.
     Read(&'a [u8], usize),
-    /// This many of the bytes were written there.
+    /// The number of bytes written to the stream.
     Sent(Stream, &'a [u8], usize),
 }
 
-/// The record of a desk. Only clauses read it, as `kept`.
 #[derive(Debug, Drop)]
 pub(crate) struct Journal {
     pub ghost kept: { Record },
@@ -45,7 +44,6 @@ impl Journal {
         Journal {}
     }
 
-    /// Adds this call to the record.
     #[inline(always)]
     pub(crate) fn then(&self, call: &Call<'_>) -> Journal
         ensures { result.kept ≡ after_call call.now self.now.kept }

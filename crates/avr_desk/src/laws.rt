@@ -1,4 +1,4 @@
-//! Laws of what desks keep, over their definitions alone.
+//! Laws of desks: their records are true.
 ghost use Rattle.std.specs.Prelude.{◌≡◌, [], Option, None};
 ghost use Rattle.ghosts.specs.Stays.{Stays};
 ghost use Rattle.avr_desk.specs.Handles.{IsTrueRecord};
@@ -14,9 +14,8 @@ use crate::mem_desk::MemDesk;
 use crate::system::SystemDesk;
 use std::io::Write;
 
-/// Whatever was done with a desk in memory, each opening that it shows gave what its name meant then, by the files
-/// made before. That is a prefix of the newest file's bytes, all of them if the end was seen, or nothing if there was
-/// no file.
+/// Whatever was done with a desk in memory, each recorded opening gave a prefix of the newest file of its name. It gave
+/// all if the end was seen, and nothing if there was no file. Only files made before the opening count.
 ///
 /// Every call over a [`crate::Desk`] promises the precondition, and so does all code made of such calls.
 pub fn what_a_desk_in_memory_gives_is_true(before: &MemDesk, after: &MemDesk)
@@ -26,7 +25,7 @@ pub fn what_a_desk_in_memory_gives_is_true(before: &MemDesk, after: &MemDesk)
 {}
 
 /// Whatever was done with a program's desk, its record is true. A writer's known bytes grew by what was sent to the
-/// messages, or to the output while no file is the output too. For files and standard input the record is what the
+/// messages, or to the output while no file is the output too. The record of files and standard input is what the
 /// system returned for the names asked, and the system did nothing else.
 pub fn what_a_desk_of_a_program_keeps_is_true<
     R: FileSystem + Drop,

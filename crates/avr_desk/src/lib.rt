@@ -1,27 +1,25 @@
 //! What a run reads and writes besides its link: files, standard input and output, messages.
 //!
-//! What was asked of a desk and what it gave is one record. So a caller's contract can state what was opened,
-//! created, printed and reported, over any desk that shows it.
+//! A desk's record has what it was asked and what it gave. So a caller's contract can state what was opened, created,
+//! printed and reported, over any desk.
 //!
 //! `read_file(alloc, &mut desk, "a.hex", 65_536)?` reads a file whole. `write_all(&mut desk, Stream::Messages,
 //! b"done\n")?` writes bytes to a stream. `print_error(&mut desk, &[Piece::Text("command "), Piece::Byte(0x10),
 //! Piece::Text(": bad answer")])?` prints the line `avrstk: error: command 10: bad answer`.
 #![tactic(auto)]
 
-// What a desk is, and what it keeps of a run.
 mod bytes;
 mod desk;
 mod record;
 
-// What callers do over any desk.
+// calls over any desk
 mod files;
 mod stream;
 
-// The lines of messages.
 mod line;
 mod message;
 
-// The desks.
+// the desks, and the files of a system
 mod failing;
 mod file_system;
 mod folder;
@@ -35,7 +33,6 @@ mod synced;
 mod system;
 mod watched;
 
-// What they keep.
 mod laws;
 
 pub use bytes::Bytes;

@@ -1,4 +1,3 @@
-//! The lines of messages, piece by piece.
 ghost use Rattle.std.specs.Prelude.{◌≡◌, ◌<◌, ◌+◌, ◌∷◌, ◌++◌, [], length, OnOk, OnErr, IfOk, map};
 ghost use Rattle.byteorder.specs.Endian.{big_bytes};
 ghost use Rattle.avr_desk.specs.Fault.{Counts, IsCall};
@@ -10,12 +9,12 @@ use crate::stream::{Stream, write_all};
 use arrayvec::{ArrayVec, CapacityError};
 use byteorder::{BigEndian, ByteOrder};
 
-/// The longest line that is written at once, with its LF: a pipe takes that many bytes whole.
+/// The longest line, with its LF, that is written in one call: a pipe takes that many bytes as one piece.
 const AT_ONCE: usize = 4096;
 
 type Gathered = ArrayVec<u8, AT_ONCE>;
 
-/// A piece of a line.
+/// A piece of a message line.
 #[derive(Clone, Copy, Debug)]
 pub enum Piece<'a> {
     /// A text as it is; nothing is escaped.
@@ -63,7 +62,6 @@ fn spaced(signature: [u8; 3]) -> [u8; 8]
     [a, b, b' ', c, d, b' ', e, f]
 }
 
-/// Writes a piece to the messages.
 fn write_piece<D: Desk>(desk: &mut D, piece: &Piece<'_>) -> Result<(), DeskFault>
     ensures printed { IsPrinted (D.view desk.old) (D.view desk.new) (text_of piece.now) result }
     ensures call { IsCall D.view D.comes_of (Counts Stream.Messages) desk.old desk.new result }
@@ -80,7 +78,6 @@ fn write_piece<D: Desk>(desk: &mut D, piece: &Piece<'_>) -> Result<(), DeskFault
     }
 }
 
-/// Appends the text of a piece, unless there is no room for it.
 fn add_piece(line: &mut Gathered, piece: &Piece<'_>) -> Result<(), CapacityError>
     ensures added { OnOk result (line.new.items ≡ line.old.items ++ text_of piece.now) }
     ensures full { OnErr result (AT_ONCE < length line.old.items + length (text_of piece.now)) }
@@ -96,7 +93,6 @@ fn add_piece(line: &mut Gathered, piece: &Piece<'_>) -> Result<(), CapacityError
     }
 }
 
-/// Gathers a line, unless it is longer than what is written at once.
 fn gathered(mark: &str, pieces: &[Piece<'_>]) -> Result<Gathered, CapacityError>
     ensures whole { IfOk result (λ it. it.items ≡ line mark.now (map text_of pieces.now)) }
     ensures long { OnErr result (AT_ONCE < length (line mark.now (map text_of pieces.now))) }
@@ -110,7 +106,7 @@ fn gathered(mark: &str, pieces: &[Piece<'_>]) -> Result<Gathered, CapacityError>
     Ok(line)
 }
 
-/// Prints a line in one write, so that other programs' lines don't come in between. A longer one goes by pieces.
+/// Prints a line in one write, so that other programs' lines don't come in between. A longer line is written in pieces.
 fn print_line<D: Desk>(desk: &mut D, mark: &str, pieces: &[Piece<'_>]) -> Result<(), DeskFault>
     ensures printed { IsPrinted (D.view desk.old) (D.view desk.new) (line mark.now (map text_of pieces.now)) result }
     ensures call { IsCall D.view D.comes_of (Counts Stream.Messages) desk.old desk.new result }

@@ -1,4 +1,4 @@
-//! What follows from what calls of a system gave. Nothing here calls one.
+//! What follows from the results of system calls. Nothing here makes a call.
 ghost use Rattle.std.specs.Prelude.{◌≡◌, ◌⊎◌, ◌==◌, ◌&&◌, ◌%◌, ◌*◌, bit_and, bit_or, if◌then◌else◌, IfOk, IfErr, OnOk, MatchOption, None, Ok, Err, Option, Some, true, false};
 ghost use Rattle.std.specs.IoError.{error_kind};
 ghost use Rattle.std.specs.Option.{is_none};
@@ -8,14 +8,14 @@ use std::fs::TryLockError;
 use std::io;
 use std::io::ErrorKind;
 
-/// Which file it is, as long as that is there.
+/// Which file it is, as long as the file exists.
 #[derive(Clone, Copy)]
 pub(crate) struct Identity {
     pub(crate) device: u64,
     pub(crate) number: u64,
 }
 
-/// Returns whether two looks found the same: one file, or none.
+/// Returns whether two looks found the same file, or none.
 pub(crate) fn is_same(one: Option<Identity>, other: Option<Identity>) -> bool
     ensures { result ≡ is_same one other }
 {
@@ -55,8 +55,8 @@ pub(crate) fn locked<T: Drop>(file: T, tried: Result<(), TryLockError>) -> io::R
     }
 }
 
-/// Returns the file that was opened, if it is the one that was seen. Only a look that found none, twice, is `NotFound`:
-/// an error about an open file says of none that it is absent.
+/// Returns the opened file if it is the one that was seen. The error is `NotFound` only if two looks found none,
+/// because an error about an open file doesn't mean that the file is absent.
 pub(crate) fn opened<T: Drop>(
     seen: Option<Identity>,
     file: Option<T>,
@@ -72,7 +72,7 @@ pub(crate) fn opened<T: Drop>(
     }
 }
 
-/// Returns whether a file system that gives this error for a hard link makes none. A name that is taken is no such error.
+/// Returns whether this error of a hard link means that the file system has none. A name in use is no such error.
 pub(crate) fn links_none(kind: ErrorKind) -> bool
     ensures { kind ≡ ErrorKind.AlreadyExists → result ≡ false }
 {
@@ -82,7 +82,7 @@ pub(crate) fn links_none(kind: ErrorKind) -> bool
     )
 }
 
-/// Returns what waiting for the disk gave. It counts as done if the file system synchronizes nothing of that kind.
+/// Returns the result of a sync. It counts as done if the file system can't sync a file of that kind.
 pub(crate) fn synced(waited: io::Result<()>) -> io::Result<()>
     ensures done { OnOk waited (result ≡ waited) }
     ensures passed { IfErr waited (λ error. (error_kind error ≡ ErrorKind.InvalidInput)
@@ -100,8 +100,8 @@ pub(crate) fn synced(waited: io::Result<()>) -> io::Result<()>
     }
 }
 
-/// Returns whether a file that is created by a name may be the held one: the name is that of its place, or leads to the
-/// file that was seen there, or is a link that leads nowhere, as the place may.
+/// Returns whether a file created by a name may be the held one: the name is that of the held place, leads to the file
+/// seen there, or is a link that leads nowhere while the place is empty.
 pub(crate) fn leads(
     seen: Option<Identity>,
     there: Option<Identity>,
@@ -116,23 +116,23 @@ pub(crate) fn leads(
     }
 }
 
-/// Returns the mode that a new file is made with. If it replaces another one, it is its owner's alone until it has
-/// that one's permissions; else the system restricts it as any file.
+/// Returns the mode that a new file is created with. If it replaces a file, only its owner may open it until it has the
+/// old permissions. Otherwise the umask restricts it as usual.
 pub(crate) fn first_mode(is_replacing: bool) -> u32
     ensures { result ≡ (if is_replacing then 0o600 else 0o666) }
 {
     if is_replacing { 0o600 } else { 0o666 }
 }
 
-/// Returns the owner or the group that a new file is given in place of its own: the old one's, if that is another.
+/// Returns the owner or group to set on a new file: the old file's, if it differs.
 pub(crate) fn given(own: u32, old: u32) -> Option<u32>
     ensures { result ≡ (if own == old then None else Some old) }
 {
     if own == old { None } else { Some(old) }
 }
 
-/// Returns the permissions of a new file from the old one's mode, without setuid and setgid. If it has another group,
-/// that gets only those of the old group's rights that everyone had.
+/// Returns the permissions of a new file from the old file's mode, without setuid and setgid. If the group differs, it
+/// gets only those of the old group's rights that everyone had.
 pub(crate) fn permissions_after(mode: u32, is_of_group: bool) -> u32
     ensures { result ≡ (if is_of_group then bit_and mode 0o777
         else bit_or (bit_and mode 0o707) (bit_and mode (mode % 8 * 8))) }

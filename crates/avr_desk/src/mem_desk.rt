@@ -1,4 +1,3 @@
-//! A desk in memory.
 ghost use Rattle.std.specs.Prelude.{◌≡◌, ◌≤◌, ◌++◌, ◌∷◌, ◌==◌, ◌&&◌, [], min, take, drop, length, Some, None, IfOk, OnOk, OnErr, is_ok, not, true, if◌then◌else◌};
 ghost use Rattle.std.specs.Option.{option_copied, option_to_list};
 
@@ -10,10 +9,10 @@ use std::alloc::{AllocError, Global};
 use std::marker::Model;
 use std::mem;
 
-/// A desk that holds files, input, output and messages in memory, and shows all that passed.
+/// A desk that holds files, input, output and messages in memory. Its methods show all that was done over it.
 ///
-/// If allocation fails within a call, the call fails and is counted; nothing else changes. The journal has what proofs
-/// alone use: the replacements and how often a file was released.
+/// If allocation fails within a call, the call fails and is counted; nothing else changes. The journal has what only
+/// proofs use: all replacements, and how many releases were asked for.
 #[derive(Debug, Drop)]
 pub struct MemDesk {
     alloc: Global,
@@ -81,7 +80,7 @@ impl MemDesk {
     ghost use Rattle.avr_desk.specs.Named.{holds, newest};
     ghost use Rattle.avr_desk.specs.Record.{all_files, all_uses};
 
-    /// Creates a desk without files. Its standard input has these bytes, from the start each time `-` is opened.
+    /// Creates a desk without files. Each opening of `-` reads `input` from its start.
     pub fn new(alloc: Global, input: Bytes) -> MemDesk
         ensures { result ≡ fresh_desk input }
     {
@@ -115,11 +114,11 @@ impl MemDesk {
         MemDesk::new(alloc, Bytes::new(alloc))
     }
 
-    /// Puts a file there. A later one of its name, put or created, replaces it.
+    /// Puts a file on the desk. A later file of the same name, put or created, replaces it.
     ///
     /// # Errors
     ///
-    /// `AllocError` if allocation fails; nothing is then put.
+    /// `AllocError` if allocation fails; the desk is then unchanged.
     pub fn put(&mut self, name: &str, bytes: &[u8]) -> Result<(), AllocError>
         ensures { self.new ≡ (if is_ok result then record self.old
             { stored = self.old.stored ++ record { name = name.now; bytes = bytes.now } ∷ [] } else self.old) }
@@ -130,7 +129,7 @@ impl MemDesk {
         Ok(())
     }
 
-    /// Returns the bytes of a file: what was written since it was last created, else what was last put there.
+    /// Returns the bytes of a file: those written since it was last created, else those last put.
     #[tactic(auto, using(crate::proofs::FileUses::Names::newest_append))]
     pub fn file(&self, name: &str) -> Option<&[u8]>
         ensures { option_copied result ≡ newest name.now None (self.now.stored ++ all_files self.now.kept) }
@@ -144,28 +143,27 @@ impl MemDesk {
         }
     }
 
-    /// Returns the standard output.
+    /// Returns all bytes written to standard output.
     pub fn output(&self) -> &[u8]
         ensures { result.now ≡ self.now.kept.output }
     {
         self.output.as_slice()
     }
 
-    /// Returns the messages.
+    /// Returns all bytes written to the messages.
     pub fn messages(&self) -> &[u8]
         ensures { result.now ≡ self.now.kept.messages }
     {
         self.messages.as_slice()
     }
 
-    /// Returns the openings that are over and the files that are done, in their order.
+    /// Returns the finished openings and created files in order, without the open file.
     pub fn uses(&self) -> &[FileUse]
         ensures { result.now ≡ self.now.kept.uses }
     {
         self.uses.as_slice()
     }
 
-    /// Returns the bytes that a name means when it is opened.
     fn contents(&self, name: &str) -> Option<&[u8]>
         ensures { option_copied result ≡ contents name.now self.now }
     {
@@ -176,7 +174,7 @@ impl MemDesk {
         }
     }
 
-    /// Closes the open file, adds `last` to the uses, and opens `next`.
+    /// Moves the open file and `last` to the uses, and opens `next`.
     fn close_current(&mut self, last: Option<FileUse>, next: Open) -> Result<(), AllocError>
         ensures { self.new ≡ (if is_ok result then record self.old {
           kept = record self.old.kept

@@ -1,4 +1,3 @@
-//! Messages: the lines of faults, as values.
 ghost use Rattle.std.specs.Prelude.{◌≡◌, ◌≤◌, ◌∷◌, [], length, map};
 ghost use Rattle.avr_desk.specs.Lines.{text_of, error, file_pieces, memory_pieces, not_created_pieces, not_written_pieces, too_long_pieces};
 ghost use Rattle.avr_desk.specs.Said.{Tells};
@@ -10,10 +9,9 @@ use crate::files::FileFault;
 use crate::line::{Piece, print_error};
 use std::marker::Model;
 
-/// The most pieces of a message.
 const MOST_PIECES: usize = 8;
 
-/// The text of a line, in at most eight pieces. Contracts see it as the list of their texts.
+/// The text of an error line, in at most eight pieces. In contracts it is the list of their texts.
 #[derive(Debug, Drop)]
 pub struct Message<'a> {
     pieces: [Piece<'a>; MOST_PIECES],
@@ -67,7 +65,7 @@ impl<'a> Message<'a> {
         Message::new(&[Piece::Text(name), Piece::Text(text)])
     }
 
-    /// Returns its pieces.
+    /// Returns the pieces, at most eight.
     pub fn pieces(&self) -> &[Piece<'a>]
         ensures { map text_of result.now ≡ self.now }
     {
@@ -75,7 +73,7 @@ impl<'a> Message<'a> {
     }
 }
 
-/// Prints an error with this message, as far as the desk takes it. Returns the status of a refusal, 1.
+/// Prints the message as an error line, as far as the desk takes it. Returns the status of a refusal, 1.
 pub fn refuse<D: Desk>(desk: &mut D, message: &Message<'_>) -> u8
     ensures status { result ≡ 1 }
     ensures told { Tells (D.view desk.old) (D.view desk.new) (error message.now) }
@@ -92,8 +90,8 @@ pub fn memory_message<'a>() -> Message<'a>
     Message::text("out of memory")
 }
 
-/// Returns why a file was not read: `FILE: cannot be opened`, also if it doesn't exist; `FILE: cannot be read`; or
-/// `out of memory`.
+/// Returns the message why a file was not read: `FILE: cannot be opened`, also if it doesn't exist; `FILE: cannot be
+/// read`; or `out of memory`.
 pub fn file_message<'a>(file: &'a str, fault: FileFault) -> Message<'a>
     ensures { result ≡ file_pieces file.now fault }
 {

@@ -1,4 +1,3 @@
-//! What a desk was asked, and what it gave.
 ghost use Rattle.std.specs.Prelude.{◌≡◌, is_ok, if◌then◌else◌};
 ghost use Rattle.std.specs.Option.{option_copied};
 ghost use Rattle.avr_desk.specs.Named.{newest};
@@ -7,7 +6,7 @@ ghost use Rattle.avr_desk.specs.Record.{files_among};
 use crate::bytes::Bytes;
 use std::alloc::AllocError;
 
-/// A file that is read, with the bytes that it gave so far.
+/// A file opened for reading, and the bytes read so far.
 #[derive(Debug, Drop)]
 pub struct Reading {
     pub name: Bytes,
@@ -16,14 +15,14 @@ pub struct Reading {
     pub ended: bool,
 }
 
-/// A created file, with the bytes written so far.
+/// A created file, and the bytes written so far.
 #[derive(Debug, Drop)]
 pub struct Writing {
     pub name: Bytes,
     pub bytes: Bytes,
 }
 
-/// What one opening gave.
+/// The result of opening a file.
 #[derive(Debug, Drop)]
 pub enum Opening {
     /// No file has this name.
@@ -31,12 +30,12 @@ pub enum Opening {
     Found(Reading),
 }
 
-/// A use of a file that is over.
+/// A finished use of a file.
 #[derive(Debug, Drop)]
 pub enum FileUse {
-    /// It was opened to read.
+    /// The file was opened for reading.
     Opened(Opening),
-    /// It was created, or replaced.
+    /// The file was created or replaced.
     Created(Writing),
 }
 
@@ -52,7 +51,6 @@ impl Open {
     ghost use Rattle.avr_desk.specs.Named.{bytes_given};
     ghost use Rattle.avr_desk.specs.Record.{noted, written_on};
 
-    /// Returns the bytes that the open file gave.
     pub(crate) fn given(&self) -> &[u8]
         ensures { result.now ≡ bytes_given self.now }
     {
@@ -62,7 +60,6 @@ impl Open {
         }
     }
 
-    /// Adds the bytes read, or notes that the end was seen.
     pub(crate) fn read_on(&mut self, bytes: &[u8], ends: bool) -> Result<(), AllocError>
         ensures { self.new ≡ (if is_ok result then noted bytes.now ends self.old else self.old) }
     {
@@ -86,7 +83,6 @@ impl Open {
 impl Writing {
     ghost use Rattle.avr_desk.specs.Named.{or_older};
 
-    /// Returns the file's bytes if it has this name, else `older`.
     pub(crate) fn or_older<'a>(&'a self, older: Option<&'a [u8]>, name: &[u8]) -> Option<&'a [u8]>
         ensures { option_copied result ≡ or_older name.now (option_copied older.entry) self.now }
     {

@@ -1,10 +1,9 @@
-//! Files by their names, over the single calls of a system. A file is replaced whole or not at all, by one run at a
-//! time.
+//! Files by their names, over the single calls of a system. One run at a time replaces a file, as a whole or not at
+//! all.
 //!
-//! A run locks a file beside the one that is to be replaced, under its name with `.avrstk-lock`. If a run is ended, the
-//! system unlocks that. The bytes are written to a new file, under the name with `.avrstk-new`. Once it is on the disk,
-//! it is renamed; or, if there was no file to replace, it gets that name as a second one, which never takes the place of
-//! another file. Only the run that has the lock touches that file.
+//! The run locks NAME.avrstk-lock; the system unlocks it if the run is killed. The new bytes go to NAME.avrstk-new,
+//! which only the lock holder touches. Once they are on the disk, that file is renamed to NAME. If there was no file to
+//! replace, it gets NAME as a second name, which never takes the place of another file.
 ghost use Rattle.std.specs.Prelude.{◌≡◌, IfOk, MatchOption, OnErr};
 ghost use Rattle.avr_desk.specs.Journal.{Does, LeavesAlso, Still, holding};
 ghost use Rattle.ghosts.specs.Stays.{Stays};
@@ -14,7 +13,7 @@ use crate::folder::Folder;
 use std::io;
 use std::io::ErrorKind;
 
-/// Holds the file of a name that is to be replaced.
+/// The lock on a file that is to be replaced, and what was at its place.
 #[derive(Drop)]
 pub struct Replacement<F: Folder> {
     held: F::Held,
@@ -22,7 +21,7 @@ pub struct Replacement<F: Folder> {
     parent: F::Parent,
 }
 
-/// Locks the lock file of a place, and holds the place. Returns `None` if another process does.
+/// Locks a place. Returns `None` if another process has locked it.
 fn hold_place<F: Folder>(folder: &mut F, place: F::Place) -> io::Result<Option<F::Held>>
     ensures named { IfOk result (λ held. MatchOption held (F.denies (F.name_of place))
         (λ held. F.held_name held ≡ F.name_of place)) }
@@ -41,7 +40,7 @@ fn hold_place<F: Folder>(folder: &mut F, place: F::Place) -> io::Result<Option<F
 }
 
 impl<F: Folder> Replacement<F> {
-    /// Makes a new file of these bytes, which is on the disk. Fails if what was seen at the place isn't there any more.
+    /// Makes a new file with `bytes`, on the disk. Fails if the place has changed since it was locked.
     fn make_ready(&self, folder: &mut F, bytes: &[u8]) -> io::Result<F::New>
         ensures keeps { IfOk result (λ file. F.keeps file bytes.now) }
         ensures found { IfOk result (λ file. F.finds_both folder.new self.now.seen file) }
@@ -127,7 +126,7 @@ impl<F: Folder> FileSystem for F {
     }
 
     fn put_held(&mut self, hold: &mut Replacement<F>, bytes: &[u8]) -> io::Result<()> {
-        // A run that was ended may have left a new file.
+        // A killed run may have left a new file.
         self.remove_new(&hold.held);
         let file = match hold.make_ready(self, bytes) {
             Ok(file) => file,
@@ -144,13 +143,13 @@ impl<F: Folder> FileSystem for F {
         };
         match self.rename(&hold.held, seen, file) {
             Ok(()) => self.sync_name(&hold.held, &hold.parent),
-            // Another file is mounted there. That one is written in place.
+            // A mounted file can't be renamed over, so it is written in place.
             Err(error) if error.kind() == ErrorKind::ResourceBusy => {
                 self.write_over(&hold.held, bytes)?;
                 self.remove_new(&hold.held);
                 Ok(())
             }
-            // The new file stays, so that one of both is always there.
+            // The new file stays, so that one of the two is always there.
             Err(error) => Err(error),
         }
     }

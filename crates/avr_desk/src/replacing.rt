@@ -1,4 +1,3 @@
-//! Replaces the file of a name, whether it is held or not.
 ghost use Rattle.std.specs.Prelude.{◌≡◌, ◌⊎◌, Option, Some, OnErr, OnOk};
 ghost use Rattle.avr_desk.specs.Handles.{IsHeldBy};
 ghost use Rattle.avr_desk.specs.Journal.{Does, LeavesAlso, calling, made};
@@ -9,7 +8,7 @@ use crate::file_system::FileSystem;
 use std::io;
 use std::io::ErrorKind;
 
-/// Replaces the file of this name with these bytes, through `held` if that holds it.
+/// Replaces the file of this name with `bytes`. If `held` isn't its lock, the file is locked meanwhile.
 pub(crate) fn replace_named<R: FileSystem>(
     system: &mut R,
     held: &mut Option<R::Hold>,

@@ -1,4 +1,3 @@
-//! A runtime's files, each call as the system gives it.
 ghost use Rattle.std.specs.Prelude.{⊤, string_bytes};
 
 use crate::folder::Folder;
@@ -24,7 +23,6 @@ pub struct Place {
     new: String,
 }
 
-/// A place, and its locked lock file.
 #[derive(Drop)]
 pub struct Held {
     place: Place,
@@ -46,13 +44,12 @@ fn identity_of(found: &Option<Metadata>) -> Option<Identity> {
     found.as_ref().map(identity)
 }
 
-/// Returns which file is at this path, which may be a link.
+/// Returns which file is at `path`. Links are not followed.
 fn look<R: Files<File = File>>(rt: &R, path: &str) -> io::Result<Option<Identity>> {
     let found = unless(ErrorKind::NotFound, fs::symlink_metadata(rt, path))?;
     Ok(identity_of(&found))
 }
 
-/// Returns this path with an ending.
 fn with_ending(alloc: Global, path: &str, ending: &str) -> io::Result<String> {
     let mut text = String::from_str(alloc, path)?;
     text.push_str(ending)?;
@@ -68,7 +65,6 @@ fn target<R: Files<File = File> + Alloc<A = Global>>(rt: &R, name: &str) -> io::
     }
 }
 
-/// Returns the folder of a path.
 fn folder_of(path: &str) -> &str {
     match Path::new(path).parent() {
         Some(folder) if !folder.as_str().is_empty() => folder.as_str(),
@@ -86,7 +82,7 @@ fn is_one_place<R: Files<File = File>>(rt: &R, one: &str, other: &str) -> io::Re
     Ok(is_same(Some(identity(&folder)), Some(identity(&other))))
 }
 
-/// Returns what a look found, if anything. Fails if that is no regular file.
+/// Returns what was found, if anything. Fails if it is no regular file.
 fn regular(found: io::Result<Metadata>) -> io::Result<Option<Metadata>> {
     match unless(ErrorKind::NotFound, found) {
         Ok(Some(there)) if !there.is_file() => Err(io::Error::from(ErrorKind::InvalidInput)),
@@ -94,8 +90,7 @@ fn regular(found: io::Result<Metadata>) -> io::Result<Option<Metadata>> {
     }
 }
 
-/// Opens the file at this path, if there is one. A link is not followed, and no pipe is opened, which could wait for
-/// ever.
+/// Opens the file at `path`, if there is one. Links are not followed. Pipes are not opened, since that could block.
 fn open_regular<R: Files<File = File>>(rt: &R, path: &str) -> io::Result<Option<File>> {
     match regular(fs::symlink_metadata(rt, path))? {
         Some(_) => unless(ErrorKind::NotFound, fs::open(rt, path)),
@@ -108,7 +103,7 @@ fn is_link<R: Files<File = File>>(rt: &R, path: &str) -> io::Result<bool> {
     Ok(matches!(found, Some(there) if there.is_symlink()))
 }
 
-/// Returns whether this open file has the path.
+/// Returns whether the file at `path` is this open file. Links are not followed.
 fn is_at<R: Files<File = File>>(rt: &R, file: &File, path: &str) -> io::Result<bool> {
     let own = own_identity(file)?;
     Ok(is_same(Some(own), look(rt, path)?))
@@ -288,8 +283,8 @@ impl<'a, R: Files<File = File> + Input + Alloc<A = Global>> Folder for &'a R {
         file.sync_all()
     }
 
-    // The old file is looked at last, right before the new one gets its name. To rename a file to its own name changes
-    // nothing, but waits for what others have begun in the folder. So the look after it sees what these did.
+    // Renaming a file to its own name changes nothing, but waits for what others have begun in the folder. So the last
+    // look, right before the new file gets the name, sees what they did.
     fn look_again(&mut self, held: &Held, seen: &Option<Metadata>, file: &File) -> io::Result<()> {
         let (new, path) = (held.place.new.as_str(), held.place.path.as_str());
         let is_own = is_at(*self, file, new)?;
@@ -300,7 +295,7 @@ impl<'a, R: Files<File = File> + Input + Alloc<A = Global>> Folder for &'a R {
         Err(io::Error::from(ErrorKind::AlreadyExists))
     }
 
-    // A file system without hard links has only the look before.
+    // Without hard links only the look before guards against another file.
     fn place_new(&mut self, held: &Held, _file: File) -> io::Result<()> {
         let (new, path) = (held.place.new.as_str(), held.place.path.as_str());
         match fs::hard_link(*self, new, path) {

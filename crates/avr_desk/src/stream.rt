@@ -1,4 +1,3 @@
-//! Writes all bytes to one of the three streams of a desk.
 ghost use Rattle.std.specs.Prelude.{OnOk, OnErr};
 ghost use Rattle.avr_desk.specs.Fault.{Counts, IsCall};
 ghost use Rattle.avr_desk.specs.Record.{Passes};
@@ -6,7 +5,7 @@ ghost use Rattle.avr_desk.specs.Stream.{IsWrite, SendsPart, after_sent};
 
 use crate::desk::{Desk, DeskFault};
 
-/// Where bytes go.
+/// Where bytes are written.
 #[derive(Clone, Copy, Debug, PartialEq, Eq)]
 pub enum Stream {
     /// The created file that is open.

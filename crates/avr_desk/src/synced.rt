@@ -1,11 +1,10 @@
-//! A file that can be synchronized through a writer, and is closed once it was read.
 use crate::looks::synced;
 use std::fs::File;
 use std::io;
 use std::io::{ErrorKind, Read, Write};
 
-/// A file. An empty write waits until it is on the disk, if its file system syncs it. A read that finds the end closes
-/// it, so that no file that was read whole is open when another one gets its name.
+/// A file. An empty write waits until it is on the disk, if the file system can sync it. A read that finds the end
+/// closes it, so that it isn't open when another file gets its name.
 #[derive(Drop)]
 pub struct Synced {
     file: Option<File>,

@@ -1,4 +1,3 @@
-//! The desk of a program: files and standard streams.
 ghost use Rattle.std.specs.Prelude.{◌≡◌, ◌≤◌, length, IfOk, OnOk, OnErr, true, false, [], None, Some, is_ok, if◌then◌else◌};
 ghost use Rattle.std.specs.IoError.{error_kind};
 ghost use Rattle.ghosts.specs.Failures.{HasRisen};
@@ -25,7 +24,6 @@ use std::io::{ErrorKind, Read, Write};
 use std::marker::Model;
 use std::{fmt, io, mem};
 
-/// What a desk has open.
 #[derive(Drop)]
 enum OpenFile<F, I> {
     Nothing,
@@ -35,15 +33,15 @@ enum OpenFile<F, I> {
     Output,
 }
 
-/// The desk of a program: a system's files, its standard input, and two writers, for output and messages. Its record
-/// is kept for proofs alone and takes no memory.
+/// The desk of a program: a system's files and standard input, and two writers for output and messages. Its record is
+/// for proofs alone and takes no memory.
 ///
-/// `-` is standard input to `open`, and the output to `create`. Files are written without a buffer, and each call
-/// flushes the writers, so nothing is left unwritten at the end. A failed flush is a failure. A call that a signal
-/// interrupted is retried.
+/// `-` is standard input to `open`, and the output to `create`. Files are written unbuffered, and each call flushes the
+/// writers, so nothing is left unwritten at the end. A failed flush is a failure. A call that a signal interrupted is
+/// retried.
 ///
-/// A file is replaced by a new one beside it, its name with `.avrstk-new`, which is renamed once it is on the disk. A lock
-/// file beside it, its name with `.avrstk-lock`, holds it.
+/// To replace a file, the desk locks NAME.avrstk-lock and writes NAME.avrstk-new, which is renamed once it is on the
+/// disk.
 #[derive(Drop)]
 pub struct SystemDesk<R: FileSystem + Drop, O: Write + Drop, E: Write + Drop> {
     system: R,
@@ -90,7 +88,7 @@ fn read_opened<F: Read, I: Read>(opened: &mut OpenFile<F, I>, buf: &mut [u8]) ->
     }
 }
 
-/// Opens the next file, and closes the last one if it was written.
+/// Replaces the open file by `next`. A written file is closed.
 fn open_next<R: FileSystem>(
     system: &mut R,
     opened: &mut OpenFile<R::File, R::Input>,
@@ -105,7 +103,7 @@ fn open_next<R: FileSystem>(
     }
 }
 
-/// Writes once and flushes. A flush may fail after bytes that were taken; these are recorded too.
+/// Writes once and flushes. The record has the bytes written even if the flush fails.
 fn write_through<W: Outlet>(
     to: &mut W,
     stream: Stream,
@@ -124,7 +122,6 @@ fn write_through<W: Outlet>(
     Ok(count)
 }
 
-/// Counts a failure, and keeps the kind of its error.
 fn fail(failures: &mut u64, last: &mut Option<ErrorKind>, error: &io::Error) -> DeskFault
     ensures fault { result ≡ Failed }
     ensures rises { failures.old ≤ failures.new }
@@ -164,9 +161,9 @@ impl<R: FileSystem + Drop, O: Write + Drop, E: Write + Drop> SystemDesk<R, O, E>
         }
     }
 
-    /// Returns the error kind of the last failed call, or `None` if no call has failed. It is the system's or a
-    /// writer's, such as `StorageFull`. It is `WriteZero` if a writer took no byte, and `NotFound` if no file was
-    /// open to read or write. A success keeps it, and so does opening a file that doesn't exist, which is no failure.
+    /// Returns the error kind of the last failed call, such as `StorageFull`, or `None` if no call has failed. It is
+    /// `WriteZero` if a writer took no byte, and `NotFound` if no file was open to read or write. Later successes don't
+    /// change it, nor does opening a file that doesn't exist, which is no failure.
     pub fn last_error(&self) -> Option<ErrorKind>
         ensures { result ≡ self.now.last_error }
     {
@@ -396,7 +393,7 @@ impl<R: FileSystem + Drop, O: Outlet + Drop, E: Outlet + Drop> ChipDesk for Syst
     }
 }
 
-/// Shows the failures, those at the messages and the last error, but neither the writers nor what is open.
+/// Shows the counts of failures and the last error, but neither the writers nor the open file.
 impl<R: FileSystem + Drop, O: Write + Drop, E: Write + Drop> fmt::Debug for SystemDesk<R, O, E> {
     fn fmt<F: fmt::Write>(&self, f: &mut fmt::Formatter<F>) -> fmt::Result {
         f.debug_struct("SystemDesk")

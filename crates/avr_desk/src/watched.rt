@@ -1,4 +1,3 @@
-//! A desk with a watcher of its calls, such as a window that shows a run's progress.
 ghost use Rattle.std.specs.Prelude.{◌≡◌, ◌≤◌, length, IfOk};
 ghost use Rattle.avr_desk.specs.Record.{Passes, after_open, after_create, after_hold, after_read, Replaces, released, HasOpen, is_to_read, is_to_write};
 ghost use Rattle.avr_desk.specs.Fault.{Counts, IsCall};
@@ -13,27 +12,27 @@ use crate::stream::Stream;
 /// A finished call of a desk: its arguments and its result.
 #[derive(Clone, Copy, Debug)]
 pub enum DeskCall<'a> {
-    /// The file of this name was opened to read.
+    /// The file of this name was opened for reading.
     Opened(&'a str, Result<(), DeskFault>),
     /// The file of this name was created.
     Created(&'a str, Result<(), DeskFault>),
-    /// The file of this name was held; `false` if it is held already.
+    /// The file of this name was locked; `false` if it was locked already.
     Held(&'a str, Result<bool, DeskFault>),
-    /// What was held was released.
+    /// The held file was released, if there was one.
     Released,
     /// The file of this name was replaced with these bytes.
     Replaced(&'a str, &'a [u8], Result<(), DeskFault>),
-    /// This many bytes of the open file were read into the start of this buffer.
+    /// The returned number of bytes of the open file was read into the start of this buffer.
     Read(&'a [u8], Result<usize, DeskFault>),
-    /// This many of these bytes were written.
+    /// The returned number of these bytes was written to the stream.
     Wrote(Stream, &'a [u8], Result<usize, DeskFault>),
 }
 
-/// Receives the calls of a desk. A watcher can't touch the desk or a call's result.
+/// Receives the calls of a desk, for example to show a run's progress. A watcher can't change the desk or a result.
 ///
-/// Proofs about what a watcher becomes state it by `after`; others set it to `λ call old new. Unit {0}`.
+/// Proofs about a watcher's state use `after`; without proofs set it to `λ call old new. Unit {0}`.
 pub trait WatchDesk {
-    /// The watcher became `new` when it received this call.
+    /// A watcher in the state `old` that receives this call gets the state `new`.
     ghost after: { ToldOfDesk → Self → Self → Type 0 };
 
     /// Receives a finished call.
@@ -41,8 +40,8 @@ pub trait WatchDesk {
         ensures { after (desk_told call.now) self.old self.new };
 }
 
-/// A desk and its watcher, which receives each call once, after the desk has returned. It shows, returns and comes of
-/// the same as the inner desk.
+/// A desk and its watcher, which receives each call once, after the desk has returned. The results and the state in
+/// contracts are those of the inner desk.
 ///
 /// ```text
 /// #[derive(Drop)]
@@ -61,9 +60,7 @@ pub trait WatchDesk {
 /// ```
 #[derive(Debug, Drop)]
 pub struct WatchedDesk<D, W> {
-    /// The inner desk.
     pub desk: D,
-    /// The watcher.
     pub watcher: W,
 }
 

@@ -1,5 +1,5 @@
--- What the proofs of other crates may use: a lemma for each clause of the laws in src/laws.rt, in the words of specs/.
--- All else in proofs/ is the crate's own.
+-- The lemmas that proofs of other crates may cite: one for each clause of the laws in src/laws.rt. The others are the
+-- crate's own.
 use Rattle.std.proofs.Common.{◌≡◌, ◌≢◌, refl, ℕ, ◌+◌, ◌-◌, ◌<◌, ◌≤◌, ◌⊎◌, ◌↔◌, List, [], ◌∷◌, ◌++◌, length, take, drop, min, All, true, Option, Some, None, Ok, Err, is_some}
 use Rattle.std.specs.Prelude.{slice_index_or, IsTrue}
 use Rattle.std.specs.List.{enumerate_from, flat_map, slice_range}
@@ -25,22 +25,22 @@ use Rattle.avr_image.proofs.Walks.Runs as walks
 pub held_within : (image : List (Option ℕ)) (addr : ℕ) → is_some (byte_at image addr) ≡ true → addr < length image
 held_within = shown.held_within
 
--- past its size an image holds nothing
+-- past its size an image holds no byte
 pub none_past : (image : List (Option ℕ)) (addr : ℕ) → length image ≤ addr → byte_at image addr ≡ None
 none_past = shown.byte_at-past
 
--- images of one size, the same at each address, are one
+-- images of one size with the same byte or gap at each address are one image
 pub same_by_address : (first second : List (Option ℕ)) → length first ≡ length second
     → ((addr : ℕ) → addr < length second → byte_at first addr ≡ byte_at second addr) → first ≡ second
 same_by_address = shown.same_items
 
--- `==` is true of images exactly if they are one
+-- `==` is true exactly if the images are one
 pub equal_are_one : (first second : List (Option ℕ)) → IsTrue (is_same first second) ↔ (first ≡ second)
 equal_are_one = equality.same_decides
 
--- ---- bytes laid down
+-- ---- bytes put at addresses
 
--- a byte is at its address
+-- a byte that was put is at its address
 pub byte_here : (image : List (Option ℕ)) (addr byte : ℕ) → addr < length image
     → byte_at (with_byte image addr byte) addr ≡ Some byte
 byte_here = laid.byte_here
@@ -50,41 +50,41 @@ pub byte_beside : (image : List (Option ℕ)) (addr byte other : ℕ) → other 
     → byte_at (with_byte image addr byte) other ≡ byte_at image other
 byte_beside = laid.byte_beside
 
--- a span is at its addresses
+-- a span that was put is at its addresses
 pub span_inside : (image : List (Option ℕ)) (addr : ℕ) (bytes : List ℕ) (place : ℕ)
     → addr + length bytes ≤ length image → place < length bytes
     → byte_at (laid_over image (enumerate_from addr bytes)) (addr + place) ≡ Some (slice_index_or bytes place 0)
 span_inside image addr bytes place room l = laid.span_in image addr bytes place l room
 
--- below it each address keeps its byte or gap
+-- each address below the span keeps its byte or gap
 pub span_below : (image : List (Option ℕ)) (addr : ℕ) (bytes : List ℕ) (other : ℕ) → other < addr
     → byte_at (laid_over image (enumerate_from addr bytes)) other ≡ byte_at image other
 span_below = laid.span_low
 
--- and above it
+-- each address above the span keeps its byte or gap
 pub span_above : (image : List (Option ℕ)) (addr : ℕ) (bytes : List ℕ) (other : ℕ) → addr + length bytes ≤ other
     → byte_at (laid_over image (enumerate_from addr bytes)) other ≡ byte_at image other
 span_above = laid.span_high
 
--- laying bytes down keeps the size
+-- the size is unchanged
 pub laid_size : (image : List (Option ℕ)) (places : List (ℕ × ℕ)) → length (laid_over image places) ≡ length image
 laid_size = laid.length-laid_over
 
--- bytes from address 0 on are a span laid down there
+-- bytes from address 0 on are a span put there into an empty image
 pub from_zero_is_a_span : (bytes : List ℕ) (size : ℕ) → length bytes ≤ size
     → from_zero bytes size ≡ image_of_pairs size (enumerate_from 0 bytes)
 from_zero_is_a_span = laid.from_zero-span
 
--- bytes that fit are none, or end inside
+-- bytes that fit are none, or end inside the memory
 pub fits_inside : (addr : ℕ) (bytes : List ℕ) (size : ℕ) → fits addr bytes size ≡ true
     → (bytes ≡ []) ⊎ (addr + length bytes ≤ size)
 fits_inside = laid.fits_some
 
--- bytes that end inside fit
+-- bytes that end inside the memory fit
 pub inside_fits : (addr : ℕ) (bytes : List ℕ) (size : ℕ) → addr + length bytes ≤ size → fits addr bytes size ≡ true
 inside_fits = laid.fits_yes
 
--- no bytes fit anywhere
+-- an empty list fits at each address
 pub none_fit : (addr size : ℕ) → fits addr [] size ≡ true
 none_fit addr size = refl
 
@@ -95,29 +95,29 @@ pub over_at : (first second : List (Option ℕ)) (addr : ℕ) → length first �
     → byte_at (over first second) addr ≡ either (byte_at second addr) (byte_at first addr)
 over_at = by_address.over-at
 
--- each address has the last byte laid down there, else what it had
+-- each address has the last byte put there, else what it had
 pub laid_at : (image : List (Option ℕ)) (places : List (ℕ × ℕ)) (addr : ℕ) → addr < length image
     → byte_at (laid_over image places) addr ≡ either (last_at addr places) (byte_at image addr)
 laid_at = by_address.laid-at
 
--- laying bytes onto an image is laying an image of them over it
+-- putting bytes into an image gives the same as laying an image of them over it
 pub laid_is_over : (image : List (Option ℕ)) (places : List (ℕ × ℕ))
     → laid_over image places ≡ over image (image_of_pairs (length image) places)
 laid_is_over = laid.laid_over_laid
 
--- bytes in two parts are the second laid over the first
+-- an image of bytes in two parts is that of the second part over that of the first
 pub parts_are_over : (size : ℕ) (first second : List (ℕ × ℕ))
     → image_of_pairs size (first ++ second) ≡ over (image_of_pairs size first) (image_of_pairs size second)
 parts_are_over = laid.laid_append
 
--- in any grouping
+-- images may be laid over each other in any grouping
 pub over_groups : (first second third : List (Option ℕ)) → length second ≡ length third
     → over (over first second) third ≡ over first (over second third)
 over_groups = laid.over_over
 
 -- ---- walks, address by address
 
--- the next byte
+-- the walk finds the next byte
 pub next_held : (image : List (Option ℕ)) (addr place : ℕ) → first_from image addr ≡ Some place
     → IsNextHeld image addr place
 next_held = places.next_held
@@ -127,31 +127,30 @@ pub none_held : (image : List (Option ℕ)) (addr : ℕ) → first_from image ad
     → byte_at image k ≡ None
 none_held = places.none_held
 
--- a run is the longest
+-- a run ends where the longest one does
 pub run_is_longest : (image : List (Option ℕ)) (addr end : ℕ) → addr ≤ end
     → IsByteRun image addr end (run_end image addr end)
 run_is_longest = places.run_ends
 
--- a page has each address's byte, and FF in gaps
+-- a filled page has each address's byte, and FF in gaps
 pub filled_is : (image : List (Option ℕ)) (start n : ℕ) → IsFilled image start n (filled_bytes image start n)
 filled_is = places.is_filled
 
--- a part of all bytes is that of its addresses
+-- a part of the bytes of all addresses is the page filled from these addresses
 pub filled_part : (image : List (Option ℕ)) (place end : ℕ) → place ≤ end → end ≤ length image
     → slice_range (filled_bytes image 0 (length image)) place end ≡ filled_bytes image place (end - place)
 filled_part = walks.range-filled
 
 -- ---- the runs of an image
 
--- each is a longest one
 pub runs_are_longest : (image : List (Option ℕ)) → All (IsLongestRun image) (runs 0 image)
 runs_are_longest = walks.runs-longest
 
--- each ends inside
+-- each run ends inside the image
 pub runs_inside : (image : List (Option ℕ)) → All (λ run. run.0 + length run.1 ≤ length image) (runs 0 image)
 runs_inside = walks.runs-inside
 
--- together they are the image
+-- the runs together are the image
 pub runs_are_whole : (image : List (Option ℕ))
     → image_of_pairs (length image) (flat_map places_of (runs 0 image)) ≡ image
 runs_are_whole = walks.runs_image
@@ -160,7 +159,7 @@ runs_are_whole = walks.runs_image
 pub runs_none : (image : List (Option ℕ)) (addr : ℕ) → first_from image addr ≡ None → runs addr (drop addr image) ≡ []
 runs_none = walks.runs-none
 
--- otherwise they are those from the next byte on
+-- with one, the runs are those from the next byte on
 pub runs_next : (image : List (Option ℕ)) (addr place : ℕ) → first_from image addr ≡ Some place
     → runs addr (drop addr image) ≡ runs place (drop place image)
 runs_next = walks.runs-next
@@ -172,32 +171,31 @@ runs_first = walks.runs-first
 
 -- ---- the bytes before the next gap
 
--- not empty at the next byte
+-- they are not empty at the next byte
 pub lead_some : (image : List (Option ℕ)) (addr place : ℕ) → first_from image addr ≡ Some place
     → 0 < length (lead (drop place image))
 lead_some = walks.lead-some
 
--- as many as in the run from there on
+-- they are as many as in the run from there on
 pub lead_is_run : (image : List (Option ℕ)) (addr end : ℕ)
     → run_end image addr end ≡ addr + min (end - addr) (length (lead (drop addr image)))
 lead_is_run = walks.lead-run
 
--- the same as in a page
+-- they are the first bytes of a filled page
 pub lead_is_filled : (image : List (Option ℕ)) (addr n : ℕ) → n ≤ length (lead (drop addr image))
     → filled_bytes image addr n ≡ take n (lead (drop addr image))
 lead_is_filled image addr n = walks.filled-lead image (drop addr image) n addr refl
 
--- no more than the image has addresses
+-- they are no more than the image has addresses
 pub lead_within : (image : List (Option ℕ)) → length (lead image) ≤ length image
 lead_within = walks.lead-short
 
 -- ---- lists
 
--- a list reads back
 pub list_reads_back : (base : Base) (bytes : List ℕ) (size : ℕ) → 0 < length bytes → length bytes ≤ size
     → All (λ byte. byte < 256) bytes → values (list_line base bytes) size ≡ Ok (from_zero bytes size)
 list_reads_back = lists.list-reads-back
 
--- one of no bytes is a bad first value
+-- an empty list is a bad first value
 pub empty_list_is_bad : (base : Base) (size : ℕ) → values (list_line base []) size ≡ Err (BadNumber 1)
 empty_list_is_bad = lists.none-reads-back

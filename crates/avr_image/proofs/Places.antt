@@ -1,4 +1,4 @@
--- Bytes laid down and taken away, address by address.
+-- Bytes put and removed, address by address.
 pub mod Laid
 pub mod ByAddress
 pub mod Removed

@@ -1,4 +1,4 @@
--- What the definition of a longest run refuses.
+-- Runs that are no longest ones, by the definition.
 use Rattle.std.proofs.Common.{[], ◌∷◌, refl, arith}
 use Rattle.std.specs.Prelude.{Some, None}
 use Rattle.avr_image.specs.Walk.{IsLongestRun}

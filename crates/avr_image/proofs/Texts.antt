@@ -1,4 +1,4 @@
--- Values and raw bytes, from texts.
+-- How texts are read as values and raw bytes, and written as lists.
 pub mod Pieces
 pub mod Digits
 pub mod RawBytes

@@ -1,4 +1,4 @@
--- How an image is stored: a byte for each address, FF in gaps, and presence bits.
+-- How `Image` stores its bytes: one for each address, FF in gaps, and presence bits.
 use Rattle.std.specs.Prelude.{◌≡◌, ℕ, suc, ◌*◌, ◌^◌, ◌<◌, ◌≤◌, false, List, [], ◌∷◌, ◌++◌, ◌+◌, length, take, drop, slice_index, Option, Some, None, if◌then◌else◌}
 use Rattle.avr_image.specs.Present.{is_present}
 
@@ -12,7 +12,7 @@ shown_from addr words (byte ∷ bytes) = shown_byte words addr byte ∷ shown_fr
 abbrev pub dense_image : List ℕ → List ℕ → List (Option ℕ)
 dense_image words bytes = shown_from 0 words bytes
 
--- a bit for each byte; fewer than 2 to the power 32 bytes, each below 256; FF in each gap
+-- There is a presence bit for each byte. The bytes are fewer than 2 to the power 32, each below 256, and FF in gaps.
 pub record IsKept (words bytes : List ℕ) : Type 0 where
   pub enough : length bytes ≤ length words * 64
   pub below : length bytes < 2 ^ 32

@@ -1,4 +1,4 @@
--- Faults: their numbers, and the one that may come in place of any result.
+-- The numbers of image faults, and results that a failed allocation may replace.
 use Rattle.std.specs.Prelude.{◌≡◌, ◌⊎◌, ℕ, Result, Err}
 use Rattle.avr_image.specs.declared.fault.ImageFault.{ImageFault}
 use Rattle.avr_image.specs.declared.fault.ImageFault.TheVariants.{OutOfRange, BadNumber, TooLarge, Failed, Memory, OtherSize}
@@ -11,6 +11,6 @@ number_of Failed = 4
 number_of Memory = 5
 number_of OtherSize = 6
 
--- this result, or allocation failed
+-- The call returns this result, or `Memory` because allocation failed.
 abbrev pub OrMemory : {T : Type 0} → Result T ImageFault → Result T ImageFault → Type 0
 OrMemory {T} result wanted = (result ≡ wanted) ⊎ (result ≡ Err Memory)

@@ -8,6 +8,6 @@ pub mod Lists
 pub mod ByAddress
 pub mod Runs
 pub mod Overlap
--- inside: how images are stored, and contracts of private functions
+-- the inside: how images are stored, and what contracts of private functions cite
 pub mod Present
 pub mod Dense

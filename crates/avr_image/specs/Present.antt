@@ -16,14 +16,14 @@ without_mark words addr = slice_set words (addr / 64)
 abbrev pub is_within : ℕ → ℕ → ℕ → Bool
 is_within from end addr = nat_le from addr && nat_lt addr end
 
--- the place of a word's lowest 1 from `from` on, or 64
+-- `place` is that of the word's lowest 1 from `from` on, or 64 if there is none.
 pub record NextOne (word from place : ℕ) : Type 0 where
   pub after : from ≤ place
   pub bound : place ≤ 64
   pub zeros : (i : ℕ) → from ≤ i → i < place → bit_at word i ≡ 0
   pub one : place < 64 → bit_at word place ≡ 1
 
--- the first place from `from` on and below `end` whose presence is `wanted`, or `end`
+-- `place` is the first from `from` on and below `end` whose presence is `wanted`, or `end` if there is none.
 pub record FirstPlace (words : List ℕ) (wanted : Bool) (from end place : ℕ) : Type 0 where
   pub after : from ≤ place
   pub bound : place ≤ end

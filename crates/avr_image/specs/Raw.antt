@@ -1,4 +1,4 @@
--- Raw files: their bytes as they are, from address 0 on; and the state of their reader.
+-- Raw files, whose bytes go to the addresses from 0 on, and the state of their reader.
 use Rattle.std.specs.Prelude.{◌≡◌, ℕ, ◌≤◌, nat_le, Bool, false, List, length, Option, Result, Ok, Err, if◌then◌else◌}
 use Rattle.avr_image.specs.Image.{from_zero}
 use Rattle.avr_image.specs.declared.fault.ImageFault.{ImageFault}
@@ -11,13 +11,13 @@ abbrev pub without_image : Result (List (Option ℕ)) ImageFault → Result (Uni
 without_image (Ok image) = Ok tt
 without_image (Err fault) = Err fault
 
--- what a reader holds: the image so far, how many bytes came, and whether it has failed
+-- The state of a `RawReader`: the image so far, how many bytes it was fed, and whether it has failed.
 pub record Holding : Type 0 where
   pub image : List (Option ℕ)
   pub fed : ℕ
   pub failed : Bool
 
--- the reader holds exactly this text
+-- The reader was fed exactly this text and has not failed. Contracts of `RawReader` speak of such texts.
 pub record HoldsText (reader : Holding) (text : List ℕ) : Type 0 where
   pub sound : reader.failed ≡ false
   pub counted : reader.fed ≡ length text

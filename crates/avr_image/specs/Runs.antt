@@ -1,20 +1,20 @@
--- The runs of an image: its bytes that follow each other without a gap.
+-- The runs of an image: bytes that follow each other without a gap. `Image::runs` yields them.
 use Rattle.std.specs.Prelude.{ℕ, ◌+◌, ◌==◌, List, [], ◌∷◌, Option, Some, None, if◌then◌else◌}
 use Rattle.std.specs.List.{enumerate_from}
 
--- a byte before some runs: it joins the first run if that begins right after it
+-- Puts a byte before some runs. It joins the first run if that begins right after it.
 abbrev pub onto_runs : ℕ → ℕ → List (ℕ × List ℕ) → List (ℕ × List ℕ)
 onto_runs addr b [] = (addr, b ∷ []) ∷ []
 onto_runs addr b ((next, bytes) ∷ more) =
     if next == addr + 1 then (addr, b ∷ bytes) ∷ more else (addr, b ∷ []) ∷ (next, bytes) ∷ more
 
--- the longest runs without a gap, each with its first address; the image begins at `addr`
+-- The longest runs without a gap, each with its first address. The image begins at `addr`.
 abbrev pub runs : ℕ → List (Option ℕ) → List (ℕ × List ℕ)
 runs addr [] = []
 runs addr (None ∷ image) = runs (addr + 1) image
 runs addr (Some b ∷ image) = onto_runs addr b (runs (addr + 1) image)
 
--- the bytes before the first gap
+-- The bytes before the first gap. `Sparse::row_at` of avr_records returns its first ones.
 abbrev pub lead : List (Option ℕ) → List ℕ
 lead [] = []
 lead (None ∷ image) = []

@@ -1,4 +1,4 @@
--- Values given on the command line.
+-- Values given on the command line, AVRDUDE's format `m`: what `parse_immediate` reads.
 use Rattle.std.specs.Prelude.{ℕ, Bool, ◌+◌, ◌-◌, ◌^◌, min, ◌==◌, ◌&&◌, ◌||◌, not, nat_lt, nat_le, List, [], ◌∷◌, length, map, filter, Option, Some, None, Result, Ok, Err, if◌then◌else◌}
 use Rattle.std.specs.List.{list_all, slice_split, enumerate_from}
 use Rattle.std.specs.Char.{digit_value}
@@ -7,42 +7,40 @@ use Rattle.avr_image.specs.Image.{from_zero}
 use Rattle.avr_image.specs.declared.fault.ImageFault.{ImageFault}
 use Rattle.avr_image.specs.declared.fault.ImageFault.TheVariants.{OutOfRange, BadNumber, TooLarge}
 
--- a comma, a space or a tab
 abbrev pub is_separator : ℕ → Bool
 is_separator c = c == 44 || c == 32 || c == 9
 
--- what is between separators, without empty pieces
+-- The parts between commas, spaces and tabs, without empty ones.
 abbrev pub pieces : List ℕ → List (List ℕ)
 pieces text = filter (λ piece. nat_lt 0 (length piece)) (slice_split is_separator text)
 
 abbrev pub is_digit_of : ℕ → ℕ → Bool
 is_digit_of base c = nat_lt (digit_value c) base
 
--- the number that one or more digits of a base write
+-- The number of one or more digits of this base, or none if another character is among them.
 abbrev pub number_in_base : ℕ → List ℕ → Option ℕ
 number_in_base base digits =
     if nat_lt 0 (length digits) && list_all (is_digit_of base) digits
     then Some (digits_value base digits) else None
 
--- the number after a zero, by the next letter
+-- The number after a leading zero. The character after the zero decides its base.
 abbrev pub prefixed_number : ℕ → List ℕ → Option ℕ
 prefixed_number letter digits =
     if letter == 120 || letter == 88 then number_in_base 16 digits
     else if letter == 98 || letter == 66 then number_in_base 2 digits
     else number_in_base 8 (letter ∷ digits)
 
--- the number that a piece writes: `0x` with hexadecimal digits, `0b` with binary ones, `0` with octal ones, or
--- decimal digits
+-- The number of one value: `0x` and hexadecimal digits, `0b` and binary ones, `0` and octal ones, or decimal digits.
 abbrev pub value_of : List ℕ → Option ℕ
 value_of (first ∷ second ∷ more) =
     if first == 48 then prefixed_number second more else number_in_base 10 (first ∷ second ∷ more)
 value_of digits = number_in_base 10 digits
 
--- the 1-based place of the value for an address, at most 2^32 - 1
+-- The 1-based number of the value for an address, at most 2^32 - 1, as faults report it.
 abbrev pub place : ℕ → ℕ
 place addr = min (addr + 1) (2 ^ 32 - 1)
 
--- the byte of the value for an address, in a memory of this size
+-- Checks the value for `addr` and returns its byte, or the fault of a value that is no byte of this memory.
 abbrev pub fitting : ℕ → ℕ → Option ℕ → Result ℕ ImageFault
 fitting size addr None = Err (BadNumber (place addr))
 fitting size addr (Some value) =
@@ -66,7 +64,7 @@ abbrev pub image_of_bytes : ℕ → Result (List ℕ) ImageFault → Result (Lis
 image_of_bytes size (Ok bytes) = Ok (from_zero bytes size)
 image_of_bytes size (Err fault) = Err fault
 
--- The values at the addresses from 0 on. Without any, the first one is bad.
+-- The image of the values, from address 0 on, or the first value's fault. A text without values is `BadNumber 1`.
 abbrev pub values : List ℕ → ℕ → Result (List (Option ℕ)) ImageFault
 values text size =
     if length (pieces text) == 0 then Err (BadNumber 1)

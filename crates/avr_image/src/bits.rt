@@ -25,7 +25,6 @@ pub(crate) fn unmark(words: &mut Vec<u64>, addr: usize)
     words[addr / 64] &= !(1 << (addr % 64));
 }
 
-/// Returns the place of the lowest 1 from `from` on, or 64.
 fn next_one(word: u64, from: u32) -> u32
     requires { from < 64 }
     ensures { NextOne word from result }
@@ -33,7 +32,6 @@ fn next_one(word: u64, from: u32) -> u32
     (word & (u64::MAX << from)).trailing_zeros()
 }
 
-/// Returns a word whose 1 bits are the bits that are `wanted`.
 fn matching(word: u64, wanted: bool) -> u64
     ensures { (i : ℕ) → i < 64 → (bit_at result i == 1) ≡ (if wanted then bit_at word i == 1
         else not (bit_at word i == 1)) }
@@ -41,7 +39,7 @@ fn matching(word: u64, wanted: bool) -> u64
     if wanted { word } else { !word }
 }
 
-/// Returns the least address from `from` on, below `end`, whose presence is `wanted`; or `end`.
+/// Returns the least address from `from` on, below `end`, whose presence is `wanted`. Without one it returns `end`.
 pub(crate) fn first_place(words: &[u64], wanted: bool, from: usize, end: usize) -> usize
     requires within { (from ≤ end) × (end ≤ length words.now * 64) }
     requires below { end < 2 ^ 32 }

@@ -1,4 +1,3 @@
-//! Bytes written as numbers.
 ghost use Rattle.std.specs.Prelude.{◌≡◌, ◌+◌, ◌<◌, ◌≤◌, ◌++◌, drop, false};
 ghost use Rattle.std.specs.Fmt.{digits};
 ghost use Rattle.arrayvec.specs.ArrayVec.{array_vec_len};
@@ -7,7 +6,7 @@ ghost use Rattle.avr_image.specs.Lists.{number_text, prefix, radix};
 use crate::list::Base;
 use arrayvec::ArrayVec;
 
-/// Writes the digits at the end of `buffer` and returns where they begin.
+/// Writes the digits to the end of `buffer` and returns where they begin.
 fn write_digits(radix: u8, byte: u8, buffer: &mut [u8; 8]) -> usize
     requires { (2 ≤ radix) × (radix ≤ 16) }
     ensures start { result ≤ 8 }

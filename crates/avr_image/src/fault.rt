@@ -1,4 +1,4 @@
-//! Faults of images.
+//! The faults of images, with numbers that never change.
 
 ghost use Rattle.std.specs.Prelude.{◌≡◌};
 ghost use Rattle.avr_image.specs.Fault.{number_of};
@@ -6,7 +6,7 @@ ghost use Rattle.avr_image.specs.Fault.{number_of};
 use std::fmt;
 use thiserror::Error;
 
-/// Why an image wasn't made or changed.
+/// Why a call didn't make or change an image.
 ///
 /// ```text
 /// let fault = parse_immediate(alloc, "1,256", 4).err();
@@ -14,7 +14,7 @@ use thiserror::Error;
 /// ```
 #[derive(Clone, Copy, Drop, PartialEq, Eq, Error)]
 pub enum ImageFault {
-    /// This byte address is outside the memory. For a raw file it is the memory's size.
+    /// This byte address is outside the memory. Of a raw file that is too long it is the memory's size.
     #[error("address {0:08X} out of range")]
     OutOfRange(u32),
     /// The value at this 1-based place is no number.
@@ -23,7 +23,7 @@ pub enum ImageFault {
     /// The value at this 1-based place is above 255.
     #[error("value {0}: above 255")]
     TooLarge(u32),
-    /// The reader has failed before.
+    /// An earlier call of this reader failed.
     #[error("the reader has failed before")]
     Failed,
     /// Allocation failed.
@@ -54,7 +54,6 @@ impl ImageFault {
     }
 }
 
-/// Shows the message.
 impl fmt::Debug for ImageFault {
     fn fmt<W: fmt::Write>(&self, f: &mut fmt::Formatter<W>) -> fmt::Result {
         fmt::Display::fmt(self, f)

@@ -1,4 +1,4 @@
-//! Images.
+//! Images of memories: for each byte address a byte or a gap.
 
 ghost use Rattle.std.specs.Prelude.{◌≡◌, ◌==◌, ◌+◌, ◌^◌, ◌<◌, ◌≤◌, ℕ, List, length, max, nat_lt, Ok, Err, OnOk, OnErr, MatchOption, MatchResult, slice_index, slice_index_or, if◌then◌else◌};
 ghost use Rattle.std.specs.Cmp.{nat_eq_equiv, partial_equiv_from_equiv};
@@ -42,7 +42,7 @@ impl Model for Image {
     ghost invariant = { λ i. IsKept i.words.items i.bytes.items };
 }
 
-/// Copies the bytes from `start` on; FF after their end.
+/// Copies the bytes from `start` on. After their end `out` gets FF.
 fn copy_padded(bytes: &[u8], start: usize, out: &mut [u8])
     ensures len { length out.new ≡ length out.old }
     ensures copied { (i : ℕ) → i < length out.old → slice_index out.new i ≡ slice_index_or bytes.now (start + i) 255 }
@@ -63,7 +63,7 @@ fn paste(bytes: &mut Vec<u8>, start: usize, span: &[u8])
 }
 
 impl Image {
-    /// Creates an image without bytes for a memory of `size` bytes. It allocates all that the image will ever need.
+    /// Creates an empty image of a memory of `size` bytes. No other call on it allocates, except `try_clone`.
     ///
     /// # Errors
     ///
@@ -86,7 +86,7 @@ impl Image {
         Ok(Image { bytes, words })
     }
 
-    /// Copies the image.
+    /// Copies the image into memory of its own.
     ///
     /// # Errors
     ///
@@ -165,8 +165,7 @@ impl Image {
         self.bytes.as_slice()
     }
 
-    /// States what the list alone doesn't show: its values are bytes, and fewer than 2 to the power 32. It is a law, and
-    /// no code.
+    /// A law, and no code: the values are bytes, and fewer than 2 to the power 32. The list alone doesn't show that.
     pub fn is_sound(&self)
         ensures { IsImage self.now }
     {
@@ -210,7 +209,7 @@ impl Image {
         }
     }
 
-    /// Puts a byte at a byte address, in place of one that it may hold.
+    /// Puts a byte at a byte address. It replaces one that is there.
     ///
     /// # Errors
     ///
@@ -261,8 +260,8 @@ impl Image {
         byte
     }
 
-    /// Puts bytes at the byte addresses from `addr` on and returns the address after them. An empty slice changes
-    /// nothing and is accepted at every address, also outside the memory.
+    /// Puts bytes at the byte addresses from `addr` on and returns the address after them. An empty slice is accepted
+    /// at every address, also outside the memory.
     ///
     /// # Errors
     ///
@@ -326,8 +325,7 @@ impl Image {
         Ok(())
     }
 
-    /// Returns the least byte address at which both images, of any size, hold a byte. Laid over each other, one would
-    /// hide the other's there.
+    /// Returns the least byte address at which both images hold a byte. Their sizes may differ.
     ///
     /// ```text
     /// let mut image = Image::new(alloc, 64)?;
@@ -369,7 +367,7 @@ impl Image {
         }
     }
 
-    /// Returns whether one of `count` byte addresses from `start` on holds a byte. They may be outside the memory.
+    /// Returns whether one of `count` byte addresses from `start` on holds a byte. Some may be outside the memory.
     ///
     /// ```text
     /// let mut image = Image::new(alloc, 64)?;
@@ -407,8 +405,8 @@ impl Image {
         None
     }
 
-    /// Returns the address after the run of held bytes that begins at `addr`, at most `end`; `addr` if it holds no
-    /// byte. `addr` must be at most `end`. Both may be outside the memory.
+    /// Returns the address after the run of bytes that begins at `addr`, at most `end`. Without a byte at `addr` it
+    /// returns `addr`. `addr` must be at most `end`. Both may be outside the memory.
     ///
     /// ```text
     /// let mut image = Image::new(alloc, 64)?;
@@ -481,7 +479,6 @@ impl Eq for Image {
     ghost laws = { lists_equiv (options_equiv nat_eq_equiv) };
 }
 
-/// Shows the size and how many addresses hold a byte.
 impl fmt::Debug for Image {
     fn fmt<W: fmt::Write>(&self, f: &mut fmt::Formatter<W>) -> fmt::Result {
         f.debug_struct("Image")

@@ -1,4 +1,4 @@
-//! Laws of the definitions in contracts, whatever the code does.
+//! Laws of the definitions that contracts cite. They hold whatever the code does.
 
 ghost use Rattle.std.specs.Prelude.{◌≡◌, ◌≢◌, ◌<◌, ◌≤◌, ◌↔◌, ◌+◌, ◌-◌, ◌++◌, ◌⊎◌, ℕ, true, List, [], ◌∷◌, All, length, take, drop, min, flat_map, slice_index_or, is_some, IsTrue, Ok, Err, Option, None, Some};
 ghost use Rattle.std.specs.List.{enumerate_from, slice_range};
@@ -19,14 +19,14 @@ pub fn bytes_are_held_below_the_size()
     ensures past { (image : List (Option ℕ)) (addr : ℕ) → length image ≤ addr → byte_at image addr ≡ None }
 {}
 
-/// Bytes laid in two parts are the second part laid over the first.
+/// An image of bytes in two parts is that of the second part over that of the first.
 #[tactic(auto, using(crate::proofs::Lemmas::parts_are_over))]
 pub fn parts_are_laid_over()
     ensures { (size : ℕ) (first second : List (ℕ × ℕ)) → image_of_pairs size (first ++ second)
         ≡ over (image_of_pairs size first) (image_of_pairs size second) }
 {}
 
-/// Laying bytes onto an image is laying an image of them over it.
+/// Putting bytes into an image gives the same as laying an image of them over it.
 #[tactic(auto, using(crate::proofs::Lemmas::laid_is_over))]
 pub fn laying_is_laying_over()
     ensures { (image : List (Option ℕ)) (places : List (ℕ × ℕ))
@@ -40,8 +40,8 @@ pub fn laying_over_groups()
         → over (over first second) third ≡ over first (over second third) }
 {}
 
-/// An address of two overlaid images of one size has the second's byte, else the first's. After bytes were laid onto
-/// an image, an address has the last one laid there, else the image's.
+/// With an image laid over one of its size, an address has the second's byte, else the first's. With bytes put into
+/// an image, an address has the last one put there, else the image's.
 pub fn over_is_by_address()
     ensures over { (first second : List (Option ℕ)) (addr : ℕ) → length first ≡ length second
         → byte_at (over first second) addr ≡ either (byte_at second addr) (byte_at first addr) }
@@ -92,7 +92,7 @@ pub fn equal_images_are_one()
     ensures { (first second : List (Option ℕ)) → IsTrue (is_same first second) ↔ (first ≡ second) }
 {}
 
-/// A walk from byte to byte finds the next one, and stops only if none is left.
+/// `first_from` gives the next address that holds a byte, and `None` only if there is none.
 pub fn first_from_is_the_next_held()
     ensures next { (image : List (Option ℕ)) (addr place : ℕ) → first_from image addr ≡ Some place
         → IsNextHeld image addr place }
@@ -100,25 +100,25 @@ pub fn first_from_is_the_next_held()
         → byte_at image k ≡ None }
 {}
 
-/// A run is the longest.
+/// `run_end` gives the end of the longest run.
 #[tactic(auto, using(crate::proofs::Lemmas::run_is_longest))]
 pub fn run_end_is_the_longest_run()
     ensures { (image : List (Option ℕ)) (addr end : ℕ) → addr ≤ end
         → IsByteRun image addr end (run_end image addr end) }
 {}
 
-/// A page has the byte of each address, and FF in gaps.
+/// A filled page has the byte of each address, and FF in gaps.
 pub fn filled_is_by_address()
     ensures { (image : List (Option ℕ)) (start n : ℕ) → IsFilled image start n (filled_bytes image start n) }
 {}
 
-/// A part of all bytes is the page of its addresses.
+/// A part of the bytes of all addresses is the page filled from these addresses.
 pub fn a_part_of_all_bytes_is_filled()
     ensures { (image : List (Option ℕ)) (place end : ℕ) → place ≤ end → end ≤ length image
         → slice_range (filled_bytes image 0 (length image)) place end ≡ filled_bytes image place (end - place) }
 {}
 
-/// An image is made of its runs. Each run is longest and ends inside.
+/// An image is made of its runs. Each run is a longest one and ends inside the image.
 pub fn an_image_is_its_runs()
     ensures longest { (image : List (Option ℕ)) → All (IsLongestRun image) (runs 0 image) }
     ensures inside { (image : List (Option ℕ)) → All (λ run. run.0 + length run.1 ≤ length image) (runs 0 image) }
@@ -126,8 +126,8 @@ pub fn an_image_is_its_runs()
         ≡ image }
 {}
 
-/// The runs from an address on are those from the next byte on. From a byte on, the first run is the bytes before the
-/// next gap, and the others come after it.
+/// The runs from an address on are those from the next byte on. At a byte, the first run is the bytes before the next
+/// gap, and the others come after it.
 pub fn runs_begin_at_the_next_byte()
     ensures none { (image : List (Option ℕ)) (addr : ℕ) → first_from image addr ≡ None
         → runs addr (drop addr image) ≡ [] }
@@ -137,8 +137,8 @@ pub fn runs_begin_at_the_next_byte()
         ≡ (addr, lead image) ∷ runs (addr + length (lead image)) (drop (length (lead image)) image) }
 {}
 
-/// If a byte is next, the bytes before the next gap are not empty. The run from there and a page have the same bytes.
-/// They are no more than the image has addresses.
+/// The bytes before the next gap are not empty if there is a next byte. `run_end` and a filled page have these same
+/// bytes. The image has at least as many addresses.
 pub fn a_run_is_the_bytes_before_a_gap()
     ensures some { (image : List (Option ℕ)) (addr place : ℕ) → first_from image addr ≡ Some place
         → 0 < length (lead (drop place image)) }

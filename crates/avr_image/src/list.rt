@@ -1,4 +1,3 @@
-//! Lists of numbers.
 ghost use Rattle.std.specs.Prelude.{◌≡◌, ◌+◌, ◌<◌, ◌↔◌, ◌++◌, ℕ, List, [], length, IsTrue};
 ghost use Rattle.avr_image.specs.Lists.{list_text};
 
@@ -27,11 +26,11 @@ pub enum Base {
     Bin,
 }
 
-/// The longest number with its comma or line end.
+/// The most characters of a number with its comma or line end.
 const LONGEST: usize = 11;
 
-/// Writes bytes as numbers on one line, joined by commas, in pieces of at most 80 bytes. Contracts see the text still
-/// to come.
+/// Writes bytes as numbers on one line, joined by commas, in pieces of at most 80 bytes. Contracts see the text that is
+/// not written yet.
 ///
 /// ```text
 /// let mut text = Vec::new(alloc);
@@ -118,7 +117,6 @@ impl Pieces for ListWriter<'_> {
     }
 }
 
-/// Shows the base, how many bytes are left, and whether the line has ended.
 impl fmt::Debug for ListWriter<'_> {
     fn fmt<W: fmt::Write>(&self, f: &mut fmt::Formatter<W>) -> fmt::Result {
         f.debug_struct("ListWriter")

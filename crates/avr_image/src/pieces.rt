@@ -1,4 +1,4 @@
-//! Texts written in pieces.
+//! Writers that hand out their text piece by piece.
 
 ghost use Rattle.std.specs.Prelude.{◌≡◌, ◌<◌, ◌↔◌, ◌++◌, ℕ, List, [], length, IfOk, IsTrue, OnOk};
 ghost use Rattle.std.specs.Io.KnownBytes.{Appends};
@@ -17,10 +17,10 @@ use std::io::{self, Write};
 /// assert!(rt; !writer.next_piece(&mut piece));
 /// ```
 pub trait Pieces {
-    // The text still to come.
+    // The text that is not written yet.
     ghost rest: { Self → List ℕ };
 
-    // What a piece is, besides a part of the text.
+    // What else holds of each piece, such as that it is one line.
     ghost IsPiece: { List ℕ → Type 0 };
 
     /// Puts the next piece into `out` and returns true, or empties `out` and returns false if no text is left.
@@ -30,7 +30,7 @@ pub trait Pieces {
         ensures ends { IsTrue result ↔ (0 < length (rest self.old)) }
         ensures piece { IsTrue result → IsPiece out.new.items };
 
-    /// Collects the text still to come.
+    /// Collects the text that is not written yet.
     ///
     /// # Errors
     ///
@@ -53,7 +53,7 @@ pub trait Pieces {
         Ok(text)
     }
 
-    /// Writes the text still to come, without allocating.
+    /// Writes the text that is not written yet, without allocating.
     ///
     /// # Errors
     ///

@@ -8,8 +8,7 @@ use std::alloc::Global;
 use std::fmt;
 use std::marker::Model;
 
-/// Reads a raw file in pieces of any size. It keeps only the image. A reader has failed once a piece went past the
-/// memory.
+/// Reads a raw file in pieces of any size, into an image. A reader has failed once a piece went past the memory.
 ///
 /// ```text
 /// let mut reader = RawReader::new(alloc, 32_768)?;
@@ -37,7 +36,7 @@ impl Model for RawReader {
 impl RawReader {
     ghost use Rattle.avr_image.specs.Raw.{raw, without_image, HoldsText};
 
-    /// Creates a reader for a memory of `size` bytes. It allocates all that the reader will ever need.
+    /// Creates a reader for a memory of `size` bytes. No later call allocates.
     ///
     /// # Errors
     ///
@@ -59,7 +58,7 @@ impl RawReader {
         })
     }
 
-    /// Takes the next bytes of the file.
+    /// Reads the next bytes of the file.
     ///
     /// # Errors
     ///
@@ -129,7 +128,6 @@ impl RawReader {
     }
 }
 
-/// Shows how many bytes came and whether the reader has failed.
 impl fmt::Debug for RawReader {
     fn fmt<W: fmt::Write>(&self, f: &mut fmt::Formatter<W>) -> fmt::Result {
         f.debug_struct("RawReader")

@@ -1,4 +1,4 @@
-//! The runs of an image.
+//! An iterator over the runs of an image.
 
 ghost use Rattle.std.specs.Iterator.{YieldsFirstBy, item_count};
 
@@ -53,7 +53,6 @@ impl<'a> Iterator for Runs<'a> {
     }
 }
 
-/// Shows the address below which all runs were returned.
 impl fmt::Debug for Runs<'_> {
     fn fmt<W: fmt::Write>(&self, f: &mut fmt::Formatter<W>) -> fmt::Result {
         f.debug_struct("Runs")

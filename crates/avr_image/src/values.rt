@@ -72,13 +72,13 @@ fn judge(size: u32, addr: u32, piece: &[u8]) -> Result<u8, ImageFault>
 }
 
 /// Reads the values of AVRDUDE's format `m` from a command line option. A value is `0x` with hexadecimal digits, `0b`
-/// with binary ones, `0` with octal ones, or decimal digits. Commas, spaces and tabs separate values. They are put at
-/// the byte addresses 0, 1 and so on of a memory of `size` bytes.
+/// with binary ones, `0` with octal ones, or decimal digits. Commas, spaces and tabs separate values. The first one
+/// goes to address 0 of a memory of `size` bytes, the next to address 1, and so on.
 ///
 /// # Errors
 ///
 /// The fault of the first bad value: `BadNumber` or `TooLarge` with its 1-based place, or `OutOfRange` with its
-/// address. `BadNumber(1)` if there is no value; `Memory` if allocation fails.
+/// address. `BadNumber(1)` if there is no value. `Memory` if allocation fails.
 ///
 /// ```text
 /// let image = parse_immediate(alloc, "0x12, 0b101 017", 4)?;

@@ -33,7 +33,7 @@ use Rattle.avr_laws.proofs.Lines.AnyTape.{honest_prefix}
 use Rattle.avr_laws.proofs.ReportsOverTurns.{ends_over_turns, reports_over_turns}
 use Rattle.avr_laws.proofs.Reports.OverTape.{by_fates, said_prefix}
 
--- what was received is honest, by the fates of all frames that the run over it sends
+-- what was received is authentic, by the fates of all frames that the run over it sends
 pub honest_heard : {E R : Type 0} (d : Dialog E R) (n : ℕ) (p : Programmer) (fates : List Fate) (w : WiredState)
     → AsksBodies d → AreLawful fates → FollowsFates p fates w → InTurn d (progress_at n []) w.transcript
     → IsPrefixOf (sent w.transcript) (bytes_sent (played d n (heard w.transcript)).events)

@@ -1,4 +1,4 @@
--- Runs over any tape are runs along turns, and a link that forges a frame.
+-- Runs over any tape are runs along exchanges, and a link that forges a frame.
 pub mod Ends
 pub mod AnyTape
 pub mod NoFrame

@@ -1,4 +1,4 @@
--- A session that went along turns: its reports, and its end.
+-- A session that went along exchanges: its reports, and its end.
 use Rattle.std.proofs.Common.{◌≡◌, ℕ, List, All, length, sym, subst, rules}
 use Rattle.avr_desk.specs.Said.{OutputEvent}
 use Rattle.avr_part.specs.Part.{IsPart}

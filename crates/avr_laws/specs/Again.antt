@@ -1,4 +1,4 @@
--- When the same run again has the same result as one run, and when a run succeeds whatever the chip held.
+-- When the same run again has the result of one run, and when a run succeeds whatever the chip held.
 use Rattle.std.specs.Prelude.{ℕ, Bool, true, ◌==◌, ◌≡◌, List, [], ◌∷◌, Option, Some, None, replicate, ⊤}
 use Rattle.std.specs.Int.{bit_at}
 use Rattle.avr_image.specs.Image.{byte_at}
@@ -9,7 +9,7 @@ use Rattle.stk_emu.specs.Effect.{Item, Write, Memories}
 use Rattle.avr_tool.specs.Agrees.{Agrees}
 use Rattle.avr_tool.specs.ExpectedRun.{expected_run}
 
--- A byte of the high fuse that keeps EEPROM, or none.
+-- This byte of the high fuse keeps EEPROM at an erase, or there is none.
 abbrev pub is_keeping : Part → Option ℕ → Bool
 is_keeping part None = true
 is_keeping part (Some byte) = bit_at byte part.eesave_bit == 0
@@ -23,6 +23,7 @@ abbrev pub AreKeeping : Part → List Item → Type 0
 AreKeeping part [] = ⊤
 AreKeeping part (item ∷ items) = IsKeeping part item × AreKeeping part items
 
+-- Memories of this part in which each byte is this one.
 abbrev pub chip_of : Part → ℕ → Memories
 chip_of part byte = record {
   flash = replicate part.flash_size byte;
@@ -39,7 +40,7 @@ pub record AgreesAnyway (plan : Plan) : Type 0 where
   pub zeros : Agrees plan (chip_of plan.part 0)
   pub ones : Agrees plan (chip_of plan.part 255)
 
--- The plan's expected run from these memories has status 0, and leaves what the one from those before would have
+-- REPAIRS: the plan's expected run from what was left has status 0, and leaves what the one from before would have
 -- left.
 pub record Heals (plan : Plan) (before left : Memories) : Type 0 where
   pub status : (expected_run plan left).status ≡ 0

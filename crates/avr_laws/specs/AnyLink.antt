@@ -25,11 +25,10 @@ abbrev pub WereTrue : Plan → Programmer → List Turn → List (Event OutputEv
 WereTrue plan p turns events =
     SaidTrue device (λ q output. IsTrue plan (memories_of p.chip) (memories_of q.chip) output) events turns p
 
--- A session of this plan, however it ends, also if it breaks off or waits forever. Over what was received it does these
--- events.
+-- What holds of a session however it ends, also if it breaks off or waits forever. These are its events over what was
+-- received.
 pub record ReportsOverTurns (plan : Plan) (p q : Programmer) (turns : List Turn) (bytes : List ℕ)
     (events : List (Event OutputEvent)) : Type 0 where
-  -- what it leaves and sends
   pub leaves : OverTurns plan p q turns bytes
   -- each line reported and each file written was true of the chip at that moment
   pub believable : WereTrue plan p turns events
@@ -42,19 +41,18 @@ pub record EndsOverTurns (plan : Plan) (before after : Memories) (turns : List T
   pub comes : ComesOverTurns plan before after turns says status
   -- with the line of a failed step the status is 1
   pub said : EndsAsForetold plan before says status
-  -- few bad frames change nothing: the session is its expected run if at most three of any seven consecutive frames
-  -- go wrong, and a reset counts as four
+  -- few bad frames change nothing
   pub few_bad : AreFew turns → IsExpectedRun plan before after says status
-  -- then a plan that erases, and whose comparisons agree on a chip of 00 and on one of FF, succeeds, whatever the
-  -- chip held
+  -- then some plans succeed, whatever the chip held
   pub again : AreFew turns → has_erase (items plan) ≡ true → AgreesAnyway plan → status ≡ 0
 
+-- What holds of a session that ran whole.
 abbrev pub WholeOverTurns : Plan → Programmer → Programmer → List Turn → List ℕ → List (Event OutputEvent) → ℕ → Type 0
 WholeOverTurns plan p q turns bytes events status =
     ReportsOverTurns plan p q turns bytes events
     × EndsOverTurns plan (memories_of p.chip) (memories_of q.chip) turns (outputs events) status
 
--- What a session of this plan did between these states of a wire, as avr_tool's `OverAnyLine`, with all of this.
+-- What a session did between these states of a wire: what avr_tool's `OverAnyLine` states, and all of this.
 pub record OverAnyWire (plan : Plan) (before after : WiredState) (old now : DeskState) (status : ℕ) : Type 0 where
   pub line : ReportsOverTurns plan (fresh_programmer before.wire.programmer.chip) after.wire.programmer
       (turns_of before.wire.fates) (sent after.transcript) (events_over plan after)

@@ -15,8 +15,7 @@ after_pieces m [] becames p = p
 after_pieces m (piece ∷ sent) becames p =
     after_pieces m sent (other_becames becames) (after_became (first_became becames) (after_frame m piece p) p m.reset)
 
--- The turn of a question, from what happened to the programmer and what was read. The reply to a command that was
--- obeyed is its own, unless it is the refusal.
+-- The exchange of a question with a reply. The reply to a command that was obeyed is its own, unless it is the refusal.
 abbrev pub answered_turn : Became → List ℕ → Turn
 answered_turn Obeyed body = if bytes_eq body refusal then Wrong Obeyed Refusal else Right
 answered_turn became body = Wrong became Refusal
@@ -27,12 +26,12 @@ turn_by became Silent = Wrong became Nothing
 turn_by became Ended = Wrong became Ending
 turn_by became Babbled = Wrong became Babble
 
--- A question whose reply is awaited has read nothing.
+-- If the reply is still awaited, nothing was read.
 abbrev pub turns_from : Became → (Reading → Tape → List Turn) → Option (Reading × Tape) → List Turn
 turns_from became more None = Wrong became Nothing ∷ []
 turns_from became more (Some (reading, tape)) = turn_by became reading ∷ more reading tape
 
--- THE TURNS of a run over this tape, one for each frame sent.
+-- THE EXCHANGES of a run over this tape, one for each frame sent.
 abbrev pub turns_heard : {E R : Type 0} → Dialog E R → ℕ → Tape → List Became → List Turn
 turns_heard (Done r) n tape becames = []
 turns_heard (Say e dialog) n tape becames = turns_heard dialog n tape becames
@@ -40,15 +39,15 @@ turns_heard (Ask bytes go_on) n tape becames =
     turns_from (first_became becames)
     (λ reading left. turns_heard (go_on reading) (next n) left (other_becames becames)) (answer n tape)
 
--- A run waits: its output is that along the turns of all questions but the last.
+-- A run that waits for a reply: its output is that along the exchanges of all questions but the last.
 pub record WaitsAlong {E R P : Type 0} (m : Device P) (d : Dialog E R) (p : P) (turns : List Turn)
     (sent : List (List ℕ)) (says : List E) : Type 0 where
   pub answered : ℕ
   pub one_more : length sent ≡ suc answered
   pub said : says ≡ said_along m answered d p turns
 
--- The run of a dialog over a tape goes along its turns. After any first frames the programmer is the one along them.
--- If the run is done, the dialog is done along them, with the same result and the same output.
+-- The run of a dialog over a tape goes along its exchanges. After any first frames the programmer is the one along
+-- them. If the run is done, so is the dialog along them, with the same result and output.
 pub record GoesAs {E R P : Type 0} (m : Device P) (d : Dialog E R) (n : ℕ) (tape : Tape) (p : P)
     (becames : List Became) : Type 0 where
   pub programmer : (k : ℕ) → k ≤ length (frames_in (played d n tape).events)
@@ -62,8 +61,7 @@ pub record GoesAs {E R P : Type 0} (m : Device P) (d : Dialog E R) (n : ℕ) (ta
       → WaitsAlong m d p (turns_heard d n tape becames) (frames_in (played d n tape).events)
       (outputs (played d n tape).events)
 
--- The frames that the programmer gets of those sent, in order, each at most once, given what happened to it at each:
--- those up to its first restart, and those after each restart.
+-- Frames that the programmer receives: those up to its first restart, and those after each restart.
 abbrev pub Got : Type 0
 Got = List (List ℕ) × List (List (List ℕ))
 
@@ -72,6 +70,7 @@ getting Kept piece got = got
 getting Obeyed piece got = (piece ∷ got.0, got.1)
 getting (Anew became) piece got = getting became piece ([], got.0 ∷ got.1)
 
+-- The frames received of those sent, in order, each at most once, given what happened to the programmer at each.
 abbrev pub let_through : List Became → List (List ℕ) → Got
 let_through [] sent = ([], [])
 let_through (became ∷ more) [] = ([], [])
@@ -80,18 +79,18 @@ let_through (became ∷ more) (piece ∷ sent) = getting became piece (let_throu
 abbrev pub good_frames : List ℕ → List (List ℕ)
 good_frames bytes = filter is_good (frames bytes)
 
--- A programmer that got any bytes, and `later` after each of its restarts: the good frames cut from them are some of
--- those sent.
+-- A programmer received any bytes, and `later` after each restart. The good frames cut from them are some of those
+-- sent, in order, each at most once. Anything else may be between them.
 pub record CameThrough (got : List ℕ) (later : List (List ℕ)) (sent : List (List ℕ)) (becames : List Became)
     : Type 0 where
   pub good : let_through becames sent ≡ (good_frames got, map good_frames later)
 
--- The device after it got these bytes, and after it restarted and got these more, each time.
+-- The device after it received these bytes, and these later ones after each restart.
 abbrev pub after_bytes : {P : Type 0} → Device P → List ℕ → List (List ℕ) → P → P
 after_bytes m got [] p = after_frames m (frames got) p
 after_bytes m got (first ∷ later) p = after_bytes m first later (m.reset (after_frames m (frames got) p))
 
--- Without a restart: true for each frame that arrived.
+-- What happened at each frame if the programmer never restarts: true for a frame that arrived.
 abbrev pub became_by : List Bool → List Became
 became_by [] = []
 became_by (true ∷ more) = Obeyed ∷ became_by more

@@ -1,4 +1,4 @@
--- The plan that settings and files ask for, as a relation. It says nothing of the order in which files are read.
+-- The plan that settings and files ask for, as a relation: in which order files are read is left open.
 use Rattle.std.specs.Prelude.{◌≡◌, ◌≤◌, ℕ, List, [], ◌∷◌, Contains, drop, length, Option, Some, None, Ok, true}
 use Rattle.avr_cli.specs.declared.settings.Settings.{Settings}
 use Rattle.avr_cli.specs.declared.update.Format.{Format}
@@ -17,15 +17,15 @@ use Rattle.avr_plan.specs.declared.planned.Task.{Task}
 use Rattle.avr_plan.specs.declared.planned.Task.TheVariants as task
 use Rattle.avr_records.specs.declared.kind.Ending.{Ending}
 
--- What a name stands for; `-` is standard input.
+-- The text under each name; `-` is standard input.
 abbrev pub Files : Type 0
 Files = Bytes → Option Bytes
 
--- What reading gives for a name: this whole text. Each of these says so of a name and a text.
+-- A relation: reading this name gives this whole text.
 abbrev pub Giving : Type 1
 Giving = Bytes → Bytes → Type 0
 
--- Reading gives what the file holds.
+-- Reading gives what the files hold.
 abbrev pub Holding : Files → Giving
 Holding files name text = files name ≡ Some text
 
@@ -42,7 +42,6 @@ HasImage Gives name format size image =
     (text : Bytes) × (ending : Ending) × Gives name text × (length text ≤ 4194304)
     × (whole_file (kind_of format text) text size ≡ Ok (image, ending))
 
--- A task does what its update asks.
 abbrev pub IsTaskOf : Giving → Part → Update → Task → Type 0
 IsTaskOf Gives part u (task.Write mem image) =
     (u.op ≡ op.Write) × (u.memory ≡ mem) × HasImage Gives u.file u.format (size_of mem part) image

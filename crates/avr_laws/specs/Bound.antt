@@ -7,7 +7,7 @@ use Rattle.stk_host.specs.Transcript.{Transcript, Got, sent, heard}
 use Rattle.stk_host.specs.Tape.{Tape, limit}
 use Rattle.stk_host.specs.declared.link.Item.TheVariants.{Byte, Silence, End}
 
--- The number of timeouts; below, the number of bytes.
+-- The number of timeouts on a tape; below, of bytes.
 abbrev pub silences : Tape → ℕ
 silences [] = 0
 silences (Silence ∷ tape) = suc (silences tape)
@@ -20,9 +20,8 @@ bytes_on (Byte b ∷ tape) = suc (bytes_on tape)
 bytes_on (Silence ∷ tape) = bytes_on tape
 bytes_on (End ∷ tape) = bytes_on tape
 
--- A dialog that sends at most `n` frames. In a whole run at most one timeout occurs for each frame, and at most 4,096
--- bytes are read for each, except those left unread. Wherever it listens, also in a run that breaks off later, fewer
--- came before.
+-- A dialog that sends at most `n` frames. In a whole run it has at most one timeout for each frame, and reads at most
+-- 4,096 bytes for each. Whenever it listens, also in a run that breaks off later, it had fewer before.
 pub record ListensAtMost {E R : Type 0} (n : ℕ) (dialog : Dialog E R) : Type 0 where
   pub whole : (first : Progress) (transcript : Transcript) (events : List (Event E)) (result : R) (last : Progress)
       → Plays dialog first transcript events result last

@@ -10,7 +10,7 @@ use Rattle.avr_part.specs.State.{ChipState as Chip, fresh_state}
 abbrev pub file_held : Stock → Record → Bytes → Option Bytes
 file_held stock kept name = stood_for stock (all_files kept) name
 
--- The chip in a file: its bytes, which have the part's length, or a fresh chip if the file doesn't exist.
+-- The chip in a file of the part's length, or a fresh chip if the file doesn't exist.
 abbrev pub IsChipOf : Part → Option Bytes → Chip → Type 0
 IsChipOf part None chip = chip ≡ fresh_state part
 IsChipOf part (Some bytes) chip = (length bytes ≡ chip_file_size part) × (chip ≡ state_in part bytes)

@@ -10,7 +10,7 @@ use Rattle.stk_emu.specs.Turn.{Became, after_became}
 use Rattle.avr_tool.specs.Honest.{first_became, other_becames}
 use Rattle.avr_laws.specs.NoFrame.{given}
 
--- These bytes differ in one place.
+-- These bytes are as many, and differ in one place.
 abbrev pub DifferInOne : List ℕ → List ℕ → Type 0
 DifferInOne [] came = ⊥
 DifferInOne (a ∷ sent) [] = ⊥
@@ -23,7 +23,7 @@ IsDamaged (start ∷ seq ∷ high ∷ low ∷ token ∷ more) came =
     × DifferInOne (seq ∷ more) (other ∷ rest)
 IsDamaged sent came = ⊥
 
--- These bytes arrived of these frames, in order: of each all, nothing, or one damaged. The list has true for each that
+-- These bytes arrived of these frames, in order: each whole, damaged or not at all. The list has true for those that
 -- arrived whole.
 abbrev pub Arrived : List (List ℕ) → List Bool → List ℕ → Type 0
 Arrived [] through got = got ≡ []
@@ -49,23 +49,23 @@ abbrev pub burst : List Arrival → List (List ℕ)
 burst (Whole piece ∷ more) = piece ∷ burst more
 burst other = []
 
--- It is one of the first `k` of these replies, perhaps damaged.
+-- The piece is one of the first `k` of these replies, perhaps damaged.
 abbrev pub IsOf : ℕ → List (List ℕ) → List ℕ → Type 0
 IsOf zero sent piece = ⊥
 IsOf (suc k) [] piece = ⊥
 IsOf (suc k) (first ∷ sent) piece = (piece ≡ first) ⊎ (IsDamaged first piece ⊎ IsOf k sent piece)
 
--- It refuses a damaged command, of any number.
+-- The piece is the refusal of a damaged frame, of any number, perhaps damaged too.
 abbrev pub Refuses : List ℕ → Type 0
 Refuses piece = (n : ℕ) × ((piece ≡ frame n refusal) ⊎ IsDamaged (frame n refusal) piece)
 
--- Each frame up to the first that is taken for the reply to frame `n` is a refusal, or replies to one of the last 256.
+-- Each piece up to the reply to frame `n` is a refusal, or the reply to one of the last 256 frames, perhaps damaged.
 abbrev pub AreReplies : ℕ → List (List ℕ) → List (List ℕ) → Type 0
 AreReplies n sent [] = Unit {0}
 AreReplies n sent (piece ∷ pieces) =
     (IsOf 256 sent piece ⊎ Refuses piece) × (is_answer n piece ≡ false → AreReplies n sent pieces)
 
--- The bytes up to the end of that frame.
+-- The bytes up to the end of that reply.
 abbrev pub up_to_reply : ℕ → List (List ℕ) → List ℕ
 up_to_reply n [] = []
 up_to_reply n (piece ∷ pieces) = piece ++ (if is_answer n piece then [] else up_to_reply n pieces)
@@ -82,8 +82,8 @@ abbrev pub when_read : (Reading → List Arrival → Type 0) → Option (Reading
 when_read Claim None = Unit {0}
 when_read Claim (Some (reading, more)) = Claim reading more
 
--- AT EACH QUESTION of this dialog the link brings replies that the programmer has sent by then, in any order and number:
--- each whole or with one byte changed, none more than 255 questions late, with fewer than 4,096 bytes up to the awaited one.
+-- AT EACH QUESTION of this dialog the link brings refusals and replies to the last 256 frames, in any order and number.
+-- Each is whole or has one byte changed. Up to the awaited reply they have fewer than 4,096 bytes.
 abbrev pub BringsReplies : {E R P : Type 0} → Device P → Dialog E R → ℕ → List Arrival → P → List Became → List (List ℕ)
     → Type 0
 BringsReplies m (Done r) n come p becames before = Unit {0}

@@ -2,8 +2,8 @@
 use Rattle.std.specs.Prelude.{ℕ, zero, suc, ◌+◌, ◌≤◌, List, [], ◌∷◌}
 use Rattle.stk_emu.specs.Turn.{Turn, Became, Kept, Obeyed, Anew, Instead, Refusal, Nothing, Babble, Ending, Right, Wrong, first_turn, other_turns}
 
--- A question that goes wrong counts 1. A restart of the programmer or the end of the link counts 4, because no
--- attempt can succeed after it.
+-- For how many bad frames a question that goes wrong counts. A restart of the programmer or the end of the link counts
+-- 4, because no attempt can succeed after it.
 abbrev pub bad_became : Became → ℕ
 bad_became Kept = 1
 bad_became Obeyed = 1
@@ -19,7 +19,7 @@ abbrev pub bad : Turn → ℕ
 bad Right = 0
 bad (Wrong became instead) = bad_became became + bad_instead instead
 
--- How badly the first `n` frames go wrong.
+-- How many of the first `n` frames go wrong, so counted.
 abbrev pub bad_in : ℕ → List Turn → ℕ
 bad_in zero turns = 0
 bad_in (suc n) turns = bad (first_turn turns) + bad_in n (other_turns turns)
@@ -29,8 +29,8 @@ abbrev pub FewOf : ℕ → List Turn → Type 0
 FewOf n [] = Unit {0}
 FewOf n (turn ∷ turns) = (bad_in n (turn ∷ turns) ≤ 3) × FewOf n turns
 
--- At most three of any seven consecutive frames go wrong. If four attempts of at most two commands fail, four of
--- seven frames go wrong.
+-- FEW BAD FRAMES: at most three of any seven consecutive frames go wrong. Seven, because four failed attempts of at
+-- most two commands have four bad frames of seven.
 abbrev pub AreFew : List Turn → Type 0
 AreFew = FewOf 7
 

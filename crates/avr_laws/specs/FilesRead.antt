@@ -40,7 +40,7 @@ files_of (u ∷ updates) = file_of_op u u.op ++ files_of updates
 abbrev pub files_read : Settings → List Bytes
 files_read s = part_file s.parts ++ files_of s.updates
 
--- What opening a name gives if it has these contents and is read whole.
+-- The opening of this name, if it has these contents and is read whole.
 abbrev pub read_whole : Bytes → Option Bytes → Opening
 read_whole name None = Absent name
 read_whole name (Some bytes) = Found (record { name = name; bytes = bytes; ended = true })
@@ -48,6 +48,7 @@ read_whole name (Some bytes) = Found (record { name = name; bytes = bytes; ended
 abbrev pub files_give : Stock → List Bytes → List Opening
 files_give stock names = map (λ name. read_whole name (stood_for stock [] name)) names
 
+-- Planning over these files, each read whole.
 abbrev pub planned_of : Settings → Stock → StageResult Plan
 planned_of s stock = planned s (files_give stock (files_read s))
 

@@ -1,5 +1,5 @@
 -- FROM BYTES TO BYTES. What a run leaves is a function of its settings, files, standard input and replies, if these
--- are known. No device is in it.
+-- are known.
 use Rattle.std.specs.Io.KnownBytes.{Appends, Consumes}
 use Rattle.std.specs.Prelude.{◌≡◌, ℕ, List, [], ◌++◌, replicate, Option, Some, option_map}
 use Rattle.avr_cli.specs.declared.settings.Settings.{Settings}
@@ -46,13 +46,13 @@ run_of settings stock tape = run settings (files_give stock (files_read settings
 abbrev pub IsLeft : Settings → Stock → Tape → RunOutcome → Type 0
 IsLeft settings stock tape outcome = (more : Tape) → run_outcome (run_of settings stock (tape ++ more)) ≡ Some outcome
 
--- The same for a tape followed by as many ends as the run reads.
+-- The run over this tape leaves this outcome, with as many ends of the link after it as the run reads.
 pub record Leaves (settings : Settings) (stock : Stock) (tape : Tape) (outcome : RunOutcome) : Type 0 where
   pub ends : ℕ
   pub is : IsLeft settings stock (tape ++ replicate ends End) outcome
 
--- The same for a reader and a writer. Some tape was received, whose bytes are those that the reader gave, if these
--- are known. The writer took what was sent. A reader's bytes don't show its timeouts and its end.
+-- A run over a reader and a writer leaves this outcome. It leaves it over some tape with the bytes that the reader
+-- gave, if these are known. They don't show timeouts and the end. The writer took what was sent.
 pub record LeavesStreams {R W : Type 0} (remaining : R → Option Bytes) (contents : W → Option Bytes)
     (settings : Settings) (stock : Stock) (old new : StreamState R W) (outcome : RunOutcome) : Type 0 where
   pub tape : Tape

@@ -1,5 +1,5 @@
--- THE PROMISE: what status 0 says of the chip and of the desk, over a link that forges no frame. By what was sent and
--- received alone: no dialog is in it. docs/PROMISE.md reads it out.
+-- THE PROMISE: what status 0 means for the chip and the desk, over a link that forges no frame. It is stated by what
+-- was sent and received alone. docs/PROMISE.md reads it out.
 use Rattle.std.specs.Prelude.{◌≡◌, ℕ, false, not, List, [], ◌∷◌, ◌++◌, filter, take, if◌then◌else◌}
 use Rattle.avr_cli.specs.declared.settings.Switches.{Switches}
 use Rattle.avr_desk.specs.Named.{is_dash}
@@ -25,8 +25,8 @@ use Rattle.stk_frame.specs.Cut.{body_of, cut, frames, seq_of}
 use Rattle.stk_host.specs.Tape.{Tape, answer, bytes_in, limit}
 use Rattle.stk_host.specs.Transcript.{Transcript, heard, sent}
 
--- THE LINK FORGES NO FRAME: these frames were sent, in order, and each waited for its reply on the tape. Each good frame
--- that was cut from the tape until then is a refusal, or the reply to one of the last 256 frames sent.
+-- THE LINK FORGES NO FRAME: these frames were sent, in order, and each waited for its reply on the tape. Each good
+-- frame cut from the tape until that came is a refusal, or the reply to one of the last 256 frames sent.
 abbrev pub NoneForged : {P : Type 0} → Device P → List (List ℕ) → Tape → P → List Became → List (List ℕ) → Type 0
 NoneForged m [] tape p becames before = Unit {0}
 NoneForged m (piece ∷ pieces) tape p becames before =
@@ -38,7 +38,7 @@ NoneForged m (piece ∷ pieces) tape p becames before =
     (given m (seq_of piece) (body_of piece) p (first_became becames) ∷ before))
     (answer (seq_of piece) tape)
 
--- ---- what status 0 says
+-- ---- what status 0 means
 
 -- The files that an action reads a memory into: the text is of what the chip holds then, by `-A` with the trailing FF.
 abbrev pub action_files : Part → Switches → Action → Memories → List Writing
@@ -78,8 +78,8 @@ pub record Keeps (plan : Plan) (before after : Memories) (old now : DeskState) :
   -- each file that a memory was read into has the text of what the chip held then
   pub saved : AreSaved (saved_files plan before) old now
 
--- WHAT STATUS 0 SAYS, by what passed over the link, and of the desk. Whatever the programmer was, and whatever it got
--- before and after its restarts, the plan was kept.
+-- WHAT STATUS 0 MEANS, by what passed over the link. Whatever the programmer was, and whatever it received before and
+-- after its restarts, the plan was kept.
 abbrev pub IsKept : Plan → Transcript → DeskState → DeskState → Type 0
 IsKept plan passed old now =
     (p : Programmer) (got : List ℕ) (later : List (List ℕ)) (becames : List Became) → IsSoundChip p.chip

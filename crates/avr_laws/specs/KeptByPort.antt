@@ -1,4 +1,4 @@
--- THE PROMISE OF THE PROGRAM: what status 0 says, by the port that the command line names.
+-- THE PROMISE OF THE PROGRAM: what status 0 means, by the port that the command line names.
 use Rattle.std.specs.Prelude.{◌≡◌, true, List, [], ◌∷◌, ◌++◌, Option, Some, Ok}
 use Rattle.clap.specs.Words.{takes}
 use Rattle.avr_cli.specs.Command.{asked_by, avrstk}
@@ -19,7 +19,8 @@ use Rattle.stk_emu.specs.Effect.{memories_of}
 use Rattle.stk_host.specs.Transcript.{LinkState}
 
 -- The last file that was opened is the chip file. It held a chip of the plan's part; without a file the chip is a fresh
--- one. The plan was kept for this chip. The record's last use is this file, made with the chip that this left.
+-- one. The plan was kept for this chip. The last use in the record is this file, put there whole with the chip that was
+-- left. The record doesn't tell whether the file was created or replaced.
 pub record IsKeptIn (file : Bytes) (plan : Plan) (old new : DeskState) : Type 0 where
   pub before : List Opening
   pub found : Option Bytes
@@ -51,7 +52,7 @@ KeepsAt At (Emulated file) settings old new =
     KeepsPlan settings old.desk new.desk (λ plan. IsKeptIn file plan old.desk new.desk)
 KeepsAt At (Served port file) settings old new = Unit {0}
 
--- WHAT STATUS 0 SAYS. If these words of the process ask for a run, and not for help, its plan was kept.
+-- WHAT STATUS 0 MEANS. If the command line asks for a run, and not for help, its plan was kept.
 abbrev pub KeepsWords : (List Bytes → Type 0) → Connected → Devices → Devices → Type 0
 KeepsWords AreWords At old new =
     (words : List Bytes) × AreWords words

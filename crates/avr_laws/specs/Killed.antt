@@ -1,4 +1,4 @@
--- A run that is killed, or whose machine stops.
+-- What a run leaves that is killed, or whose machine stops.
 use mathlib.Core.Logic.{inl, inr}
 use Rattle.std.specs.Prelude.{◌≡◌, ◌⊎◌, ℕ, Option, None, Some}
 use Rattle.avr_cli.specs.declared.settings.Settings.{Settings}
@@ -13,7 +13,7 @@ use Rattle.avr_tool.specs.OverNet.{new_link}
 use Rattle.avr_tool.specs.ServedNet.{ServesNet}
 use Rattle.stk_host.specs.Transcript.{LinkState}
 
--- A crash may have left under this name what was there when it was locked, or the file of the chip, if there is one.
+-- After a crash this name has what it had when it was locked, or the file of the chip, if there is one.
 abbrev pub LeavesOldOrNew : {S F I H : Type 0} → Ghosts S F I H → S → Bytes → Option Bytes → Type 0
 LeavesOldOrNew system now file chip = (found : Option Bytes) → system.left now file found
     → system.began file found ⊎ ((bytes : Bytes) × (chip ≡ Some bytes) × (found ≡ Some bytes))

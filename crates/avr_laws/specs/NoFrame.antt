@@ -14,26 +14,26 @@ given m n bytes p Kept = []
 given m n bytes p Obeyed = frame n (m.answer bytes p)
 given m n bytes p (Anew became) = []
 
--- It is one of the first `k` of these.
+-- The piece is one of the first `k` of these.
 abbrev pub IsAmong : ℕ → List (List ℕ) → List ℕ → Type 0
 IsAmong zero sent piece = ⊥
 IsAmong (suc k) [] piece = ⊥
 IsAmong (suc k) (first ∷ sent) piece = (piece ≡ first) ⊎ IsAmong k sent piece
 
--- The programmer sent this piece, given the replies so far, the last one first. It replies to one of the last 256 frames
--- sent, or is a refusal of a damaged frame with any number, or is no good frame.
+-- This piece isn't forged, given the replies so far, the last one first. It is the reply to one of the last 256 frames
+-- sent, the refusal of a damaged frame with any number, or no good frame.
 abbrev pub WasSent : List (List ℕ) → List ℕ → Type 0
 WasSent sent piece = is_good piece ≡ true → (body_of piece ≡ refusal) ⊎ IsAmong 256 sent piece
 
--- All pieces up to the first that is taken for the reply to frame `n` were sent. What follows isn't read yet.
+-- No piece is forged, up to and including the reply to frame `n`. What follows isn't read yet.
 abbrev pub WereSent : ℕ → List (List ℕ) → List (List ℕ) → Type 0
 WereSent n sent [] = Unit {0}
 WereSent n sent (piece ∷ pieces) =
     WasSent sent piece × (is_answer n piece ≡ false → WereSent n sent pieces)
 
 -- THE LINK FORGES NO FRAME: at a question, each good frame that the host cuts is the programmer's reply to one of the
--- last 256 frames sent, or a refusal. The dialog is run over this tape. Anything else may be anywhere on the tape: parts of
--- replies, noise, earlier replies, refusals, timeouts.
+-- last 256 frames sent, or a refusal. The dialog is run over this tape. Anything else may be anywhere on the tape:
+-- parts of replies, noise, earlier replies, refusals, timeouts.
 abbrev pub MakesNoFrame : {E R P : Type 0} → Device P → Dialog E R → ℕ → Tape → P → List Became → List (List ℕ)
     → Type 0
 MakesNoFrame m (Done r) n tape p becames before = Unit {0}

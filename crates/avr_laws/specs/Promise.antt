@@ -1,5 +1,5 @@
--- THE PROMISE, to be read alone: what the files hold after a run over the emulator with status 0. No device, frame or
--- dialog is in it. docs/PROMISE.md reads it out.
+-- THE PROMISE, to be read alone: what the files hold after a run over the emulator with status 0. docs/PROMISE.md reads
+-- it out.
 use Rattle.std.specs.Prelude.{◌≡◌, false, Some}
 use Rattle.avr_cli.specs.declared.settings.Settings.{Settings}
 use Rattle.avr_desk.specs.Named.{newest}
@@ -15,11 +15,11 @@ use Rattle.avr_laws.specs.ChipFound.{IsChipOf}
 use Rattle.avr_laws.specs.Kept.{named_files, saved_files}
 use Rattle.stk_emu.specs.Effect.{effects, memories_of}
 
--- `files` and `after` say what each file holds before and after a run over the chip file `file`. The settings and files
--- ask for a plan. The chip file held a chip of the plan's part, or is absent, for a fresh chip. All that the plan compares
--- agreed. The file then holds the chip that the plan's erase and writes make of that. Unless verifying was off, the images
--- are in its memories, and elsewhere what they held before, or an erase's FF. Each other file that a memory was read into
--- has the text of what the chip held then, of the last such read. No other file has changed.
+-- `files` and `after` are what each file holds before and after a run over the chip file `file`. The settings and
+-- files ask for a plan. The chip file held a chip of the plan's part, or is absent, for a fresh chip. All that the
+-- plan compares agreed. The file then holds the chip that the plan's erase and writes make of that. Unless verifying
+-- was off, the images are in its memories, and elsewhere what they held before, or an erase's FF. Each other file that
+-- a memory was read into has the text of what the chip held then, of the last such read. No other file has changed.
 pub record Promised (settings : Settings) (file : Bytes) (files after : Files) : Type 0 where
   pub plan : Plan
   pub asked : IsAsked settings (Holding files) plan

@@ -22,7 +22,7 @@ use Rattle.stk_emu.specs.Turn.{Turn, after_turn, turn_reading, first_turn, other
 use Rattle.avr_tool.specs.Agrees.{Shows}
 use Rattle.avr_tool.specs.Items.{items}
 
--- Each output of a dialog along a link holds of the programmer that obeyed the questions before it.
+-- Each output of a dialog along these exchanges holds of the programmer that obeyed the questions before it.
 abbrev pub TellsTrue : {E R P : Type 0} → Device P → (P → E → Type 0) → ℕ → Dialog E R → P → List Turn → Type 0
 TellsTrue m IsTrue k (Done r) p turns = ⊤
 TellsTrue m IsTrue k (Say e dialog) p turns = IsTrue p e × TellsTrue m IsTrue k dialog p turns
@@ -73,7 +73,7 @@ pub data IsTrue (plan : Plan) (before now : Memories) (output : OutputEvent) : T
       → IsTrue plan before now output
   SessionDone : output ≡ Line (information (codes "done" ∷ [])) → IsTrue plan before now output
 
--- Each output among the events holds of the programmer as the frames sent before it left it, by their turns.
+-- Each output among the events holds of the programmer as the frames sent before it left it, by their exchanges.
 abbrev pub SaidTrue : {E P : Type 0} → Device P → (P → E → Type 0) → List (Event E) → List Turn → P → Type 0
 SaidTrue m IsTrue [] turns p = ⊤
 SaidTrue m IsTrue (Frame bytes ∷ events) turns p =

@@ -19,7 +19,7 @@ use Rattle.avr_tool.specs.Serving.{HasNoEnd}
 
 -- ---- 1. Both ends in one order
 
--- One call of one end: it sent bytes, or had taken them when it failed at sending, or it received a piece.
+-- One call of one end: it sent bytes, it failed at sending after these, or it received a piece.
 pub data EndCall : Type 0 where
   HostSays : List ℕ → EndCall
   HostBreaks : List ℕ → EndCall
@@ -61,8 +61,8 @@ StallsBetweenAnswers tape = (before after : Tape) → tape ≡ before ++ Silence
 
 -- ---- 2. The server's end
 
--- However serving ended, the server took the first bytes received, obeyed all frames in them, and sent their replies,
--- the last one perhaps in part.
+-- However serving ended, the server took a prefix of the bytes received and obeyed all frames in it. What it sent is a
+-- prefix of their replies.
 pub record HasServed (p : Programmer) (transcript : Transcript) (left : Programmer) : Type 0 where
   pub used : List ℕ
   pub unused : List ℕ
@@ -73,7 +73,7 @@ pub record HasServed (p : Programmer) (transcript : Transcript) (left : Programm
 
 -- ---- 3. What happened to the frames
 
--- The first of them were obeyed, and the others never arrived.
+-- The first `h` frames were obeyed, and the others never arrived.
 abbrev pub obeyed : ℕ → List Became
 obeyed zero = []
 obeyed (suc h) = Obeyed ∷ obeyed h

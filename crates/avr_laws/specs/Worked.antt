@@ -60,7 +60,7 @@ lines_due =
     informs 0 (codes "device signature = " ∷ spaced_digits (0x1E ∷ 0x95 ∷ 0x0F ∷ []) ∷ [])
     ++ informs 0 (codes "done" ∷ [])
 
--- What the run leaves, whatever files exist.
+-- What the worked run leaves, whatever files exist.
 abbrev pub worked_outcome : RunOutcome
 worked_outcome = record {
   status = 0;

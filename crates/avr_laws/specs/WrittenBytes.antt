@@ -7,8 +7,7 @@ use Rattle.stk_emu.specs.Effect.{Image, Item, Erase, Write, Memories, are_locked
 use Rattle.avr_tool.specs.Items.{has_erase}
 use Rattle.avr_tool.specs.Written.{memory_number}
 
--- An item writes an image to flash with this byte at this
--- address.
+-- An item writes an image to flash with this byte at this address.
 abbrev pub Brings : Item → ℕ → ℕ → Type 0
 Brings (Write Flash image) addr byte = byte_at image addr ≡ Some byte
 Brings item addr byte = ⊥
@@ -34,8 +33,7 @@ pub record IsMade (items : List Item) (addr before after : ℕ) : Type 0 where
   pub are_there : AreThere items addr bytes
   pub is : after ≡ and_all first bytes
 
--- No image among these items has a byte of this memory at this
--- address.
+-- No image among these items has a byte of this memory at this address.
 abbrev pub LeaveFree : List Item → Mem → ℕ → Type 0
 LeaveFree [] mem addr = ⊤
 LeaveFree (Erase ∷ items) mem addr = LeaveFree items mem addr

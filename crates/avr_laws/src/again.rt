@@ -1,4 +1,4 @@
-//! Laws of running the same run again, and of succeeding whatever the chip held. No code.
+//! Laws of running the same run again, and of plans that succeed whatever the chip held.
 #![tactic(auto)]
 
 ghost use Rattle.std.specs.Prelude.{◌≡◌, ℕ, true, take, All};
@@ -12,8 +12,9 @@ ghost use Rattle.avr_tool.specs.ExpectedRun.{expected_run};
 ghost use Rattle.avr_tool.specs.Items.{items, has_erase};
 ghost use Rattle.avr_tool.specs.Outcome.{page_writes, IsTouched, IsDone};
 
-/// States that a plan leaves the same memories if some of its first writes were made before. If the plan erases and
-/// the chip keeps EEPROM at an erase, each byte that it writes to the high fuse must keep it too.
+/// States that a plan leaves the same memories if some of its first write operations were done before, except for one
+/// case with a fuse. If the plan erases and the chip keeps EEPROM at an erase, each byte that the plan writes to the
+/// high fuse must keep it too.
 pub fn a_second_run_heals_the_first()
     ensures { (plan : Plan) (k : ℕ) (m : Memories) → IsPart plan.part → All (IsFitted plan.part) plan.tasks
         → FitsPart plan.part m
@@ -35,9 +36,9 @@ pub fn what_agrees_on_two_chips_agrees_on_all()
     ensures needed { (plan : Plan) → ((m : Memories) → FitsPart plan.part m → Agrees plan m) → AgreesAnyway plan }
 {}
 
-/// States that the same run again heals what a broken-off run left. Its expected run has status 0, and leaves the
-/// memories that one run would have left. `done`: a second run with status 0, whatever its link does, leaves what a
-/// first run leaves that is not broken off.
+/// States when the same run again repairs what a broken-off run left. The plan erases, and its comparisons agree on a
+/// chip of 00 and on one of FF. A write to the high fuse is as in [`a_second_run_heals_the_first`]. Then the expected
+/// run has status 0, and leaves what one run would have left. `done`: every second run with status 0 leaves that.
 pub fn the_same_run_again_heals()
     ensures touched { (plan : Plan) (before after : Memories) → IsPart plan.part → All (IsFitted plan.part) plan.tasks
         → FitsPart plan.part before

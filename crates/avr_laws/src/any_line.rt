@@ -1,4 +1,4 @@
-//! Laws of what a run leaves in a chip and how much it sends, whatever the link does. No code.
+//! Laws of what a run leaves in a chip, reports and sends, over any link.
 #![tactic(auto)]
 
 ghost use Rattle.std.specs.Prelude.{◌≡◌, ◌*◌, ◌++◌, ℕ, List, [], All, Some, take};
@@ -43,8 +43,8 @@ ghost use Rattle.avr_tool.specs.Made.{made_by};
 ghost use Rattle.avr_laws.specs.Told.{TellsTrue, IsTrue};
 ghost use Rattle.avr_tool.specs.Outcome.{page_writes};
 
-/// States that at each moment of a session the memories are those of the first writes of its plan, in order: those
-/// completed, and perhaps one more.
+/// States that over any link that forges no frame the memories are at each moment those of the plan's first write
+/// operations, in order. These are the completed ones, and perhaps one more.
 // Proof: avr_tool's `session_makes` (AnyLine/PageWriteOrder), by `makes_items` (AnyLine/PageWrites).
 pub fn a_run_makes_its_page_writes_in_order()
     ensures { (plan : Plan) (m : Memories) (p : Programmer) (turns : List Turn)
@@ -59,14 +59,14 @@ pub fn a_run_sends_at_most_four_times_its_commands()
     ensures { (plan : Plan) → SendsAtMost SaidPart (4 * commands_in (run_steps plan)) (session plan) }
 {}
 
-/// Bounds how long a run can take, without a clock, whatever the link does. At most one timeout occurs for each frame
-/// sent, so at most four times as many as the steps have commands. At most 4,096 bytes are read for each frame.
+/// States that a session has at most one timeout for each frame sent, and reads at most 4,096 bytes for each, whatever
+/// the link does. So it has at most four timeouts for each command of its steps, also if it breaks off.
 pub fn a_run_listens_at_most_once_for_each_frame()
     ensures { (plan : Plan) → IsPart plan.part → All (IsFitted plan.part) plan.tasks
         → ListensAtMost (4 * commands_in (run_steps plan)) (session plan) }
 {}
 
-/// States that everything reported is true of the chip at that moment, whatever the link does and whatever the
+/// States that everything reported over a link that forges no frame is true of the chip at that moment, whatever the
 /// status. So each line of a run that failed later can be trusted. What was written is there as the plan's writes so
 /// far make it, and what was verified is held. What was read and saved is what the chip has, and a reported
 /// difference exists.
@@ -76,8 +76,8 @@ pub fn what_a_run_tells_is_true()
         → TellsTrue device (λ q output. IsTrue plan m (memories_of q.chip) output) k (session plan) p turns }
 {}
 
-/// States that everything reported over a wire was true of the chip at that moment. This covers all output of a
-/// session that ran whole, and all whole events of one that stopped.
+/// States that everything reported over a wire was true of the chip at that moment, up to an output that was cut short.
+/// Only a session that stopped can have one.
 pub fn what_was_told_was_true()
     ensures played { (plan : Plan) (w v : WiredState) (d e : DeskState) (status : ℕ)
         → w.transcript ≡ [] → OverAnyWire plan w v d e status
@@ -89,9 +89,9 @@ pub fn what_was_told_was_true()
         → WereTrue plan (fresh_programmer w.wire.programmer.chip) (turns_of w.wire.fates) stopped.breaks.prefix.whole }
 {}
 
-/// States that a session outputs its expected run up to a fault, at each moment and whatever the link does. Its
-/// output so far is that of the expected run, or of its first actions, each of which ended. After these at most the
-/// line of a failed step follows.
+/// States that a session outputs its expected run up to a fault, at each moment, over any link that forges no frame.
+/// Its output so far is that of the expected run, or of its first actions, each of which ended. After these at most
+/// the line of a failed step follows.
 ///
 /// With a status the output is all of the expected run, with its status, or the output up to a failed step, with
 /// status 1. The output of first actions is a prefix of the expected run's.
@@ -108,8 +108,9 @@ pub fn a_session_outputs_its_expected_run_up_to_a_fault()
         → (later : List OutputEvent) × ((expected_run plan m).says ≡ says ++ later) }
 {}
 
-/// States what more holds of a session over a new wire to a chip of its plan's part, whatever the fates of its frames.
-/// The premises are what avr_tool's `drive_wired` and `run_emu` state of a call.
+/// States that a session over a new wire reports what is true, and what its expected run reports up to a fault. The
+/// chip is of the plan's part, and the frames have any lawful fates. The premises are what avr_tool's `drive_wired` and
+/// `run_emu` state of a call.
 // Proof: `over_any_wire` and `emulated_wire` (AnyWire), by `ends_over_turns` (ReportsOverTurns).
 pub fn a_session_over_a_wire_can_be_believed()
     ensures wire { (plan : Plan) (w v : WiredState) (d e : DeskState) (status : ℕ)
@@ -124,15 +125,15 @@ pub fn a_session_over_a_wire_can_be_believed()
 {}
 
 /// States what a session does over any link that forges no frame, with a programmer in any state. The link may lose,
-/// spoil, cut, delay and hold anything, and repeat replies. The session goes along the turns of its questions, which
-/// follow from what was read and what happened to the programmer. It does what the page says.
+/// spoil, cut, delay and hold anything, and repeat replies. The session goes along the exchanges of its questions.
+/// These follow from what was read and what happened to the programmer.
 ///
 /// `bytes` states this in bytes. The programmer may have got any bytes whose good frames are some of those sent, in
-/// order, each at most once: a frame that arrives twice is forged. The tape that came back is any on which each good
-/// frame that the host cuts is one of the programmer's last replies, or a refusal.
+/// order, each at most once: a frame that arrives twice is forged. On the tape that came back each good frame that the
+/// host cuts is the reply to one of the last 256 frames, or a refusal.
 ///
 /// `end` holds however a session ends, so that any prefix of its bytes was sent. The memories are those of its first
-/// writes. Its output is the expected run's, up to the line of a failed step.
+/// write operations. Its output is the expected run's, up to the line of a failed step.
 // Proof: `over_any_line`, `over_bytes` and `over_any_end` (AnyLink), by `ends_over_turns` (ReportsOverTurns).
 pub fn a_session_over_any_line()
     ensures turns { (plan : Plan) (p : Programmer) (becames : List Became) (bytes : List ℕ)
@@ -159,10 +160,10 @@ pub fn a_session_over_any_line()
         (turns_heard (session plan) 1 tape becames) bytes (played (session plan) 1 tape).events }
 {}
 
-/// States what a session leaves that ran whole or broke off, also because its link failed, over a link over which
-/// nothing had passed. If no frame is forged, the memories are those of its first writes: as many as were completed
-/// by what was received, and at most one more. Its output is the expected run's, up to the line of a failed step.
-// Proof: `over_any_run` (AnyLink); its page writes are avr_tool's `session_makes` (AnyLine/PageWriteOrder).
+/// States what a session leaves over a new link that forges no frame, whether it ran whole or broke off. The memories
+/// are those of its first write operations: those completed by what was received, and at most one more. Its output is
+/// the expected run's, up to the line of a failed step. This holds also if the link fails.
+// Proof: `over_any_run` (AnyLink); its write operations are avr_tool's `session_makes` (AnyLine/PageWriteOrder).
 pub fn whatever_becomes_of_a_session_its_first_page_writes_were_made()
     ensures { (plan : Plan) (p : Programmer) (got : List ℕ) (later : List (List ℕ)) (becames : List Became)
         (old new : Devices) (status : ℕ)

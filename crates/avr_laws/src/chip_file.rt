@@ -1,4 +1,4 @@
-//! Laws of runs over the emulator and its chip file. No code.
+//! Laws of runs over the emulator and its chip file.
 
 ghost use Rattle.std.specs.Prelude.{◌≡◌, ◌⊎◌, ℕ, true, false, [], Some};
 ghost use Rattle.avr_cli.specs.declared.settings.Settings.{Settings};
@@ -18,8 +18,8 @@ ghost use Rattle.avr_part.specs.ChipFile.{chip_file};
 ghost use Rattle.stk_emu.specs.Effect.{memories_of, erase_keeps_eeprom};
 
 /// States which chip a run over the emulator begins with, over a desk in memory: the one in its file, or a fresh one
-/// if the file doesn't exist. The file is as it was before the run, and has the part's length. With status 0 the run
-/// leaves its chip there. A file named `-` is read from standard input, so no chip is left in it.
+/// if the file doesn't exist. The file is read as it was before the run, and has the part's length. With status 0 the
+/// run leaves its chip there, unless the file's name is `-`, which is standard input.
 // Proof: `chip_found` (ChipFile/Found) and `chip_left` (ChipFile/SecondRun).
 pub fn a_run_finds_and_leaves_the_chip_of_its_file()
     ensures finds { (settings : Settings) (file : Bytes) (stock : Stock) (old new : MemDeskState) (status : ℕ)
@@ -33,7 +33,7 @@ pub fn a_run_finds_and_leaves_the_chip_of_its_file()
 
 /// States the promise over files alone, for a run over the emulator with status 0 and a desk in memory. The settings
 /// and files ask for a plan. The chip file held a chip of its part, and holds what the plan makes of it. If the run was
-/// verified, these are the images. No other file has changed, but those that the plan reads into.
+/// verified, these are the images. No other file has changed, except those that the plan reads into.
 // Proof: `promised` (ChipFile/Promised). The plan is `plan_asked` (Plans/AskedPlan), the memories are
 // avr_tool's `comes_over_turns` (OverTurns), the other files are `lack_said` (ChipFile/Others).
 pub fn the_chip_file_holds_the_images()
@@ -43,12 +43,9 @@ pub fn the_chip_file_holds_the_images()
         → Promised settings file (stood_for stock []) (file_held stock new.kept) }
 {}
 
-/// States that a further run over its chip file heals, for a plan as in [`a_further_run_heals`], however the first
-/// run and the saving of its chip ended. Unless a device or an allocation failed, the run's status is 0, and the chip
-/// is as one run would have left it before both.
-///
-/// The EEPROM condition is that of [`a_further_run_heals`]. No update of the first run may be read into the chip's
-/// own file.
+/// States when a further run over its chip file repairs the chip, however the first run and the saving of its chip
+/// ended. The plan is as in [`a_further_run_heals`], and no update of the first run is read into the chip file. If no
+/// device and no allocation fails, the status is 0, and the chip is as one run would have left it.
 // Proof: `heals_file` (ChipFile/SecondRun), by `done_again` (SecondRun/Status).
 pub fn a_further_run_over_its_chip_file_heals()
     ensures { (settings : Settings) (file : Bytes) (stock : Stock) (old mid new : MemDeskState) (status further : ℕ)

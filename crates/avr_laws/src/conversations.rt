@@ -1,5 +1,5 @@
-//! Laws of a conversation with the emulated programmer over a bad link. What a link does to a question is a turn. A
-//! conversation goes along the turns question by question, over a wire and over any tape without forged frames.
+//! Laws of a conversation with the emulated programmer over a bad link. What a link does to one question is an
+//! exchange. A conversation goes along its exchanges, over a wire and over any tape without forged frames.
 
 ghost use Rattle.std.specs.Prelude.{filter, true, ◌≡◌, ◌++◌, ℕ, List, [], ◌∷◌, Ok, length, replicate, ◌<◌, ◌≤◌, Err};
 ghost use Rattle.avr_part.specs.Part.{Part, IsPart};
@@ -31,9 +31,8 @@ ghost use Rattle.avr_tool.specs.AnyLine.{AreGood};
 ghost use Rattle.stk_host.specs.declared.fault.StepFault.TheVariants.{NoAnswer};
 ghost use Rattle.stk_frame.specs.declared.command.Command.TheVariants.{LoadAddress};
 
-/// States that steps bring all their data if at most three of any seven consecutive frames go wrong. After each step
-/// the link is still such a link. A good link is the simplest case. The bound is sharp: four lost commands in a row
-/// are too many, and so are three lost of any six, if every second one is lost.
+/// States that steps return all their data if at most three of any seven consecutive frames go wrong. The bound is
+/// sharp: four lost commands in a row are too many, and so are three lost of any six, if every second one is lost.
 pub fn few_bad_fates_bring_all_data()
     ensures step { (part : Part) (commands : List Command) (m : Memories) (k : ℕ) (p : Programmer) (turns : List Turn)
         → IsPart part → IsStep part commands → FitsPart part m → Ready part m p → AreFew turns → 8 ≤ k
@@ -55,9 +54,9 @@ pub fn few_bad_fates_bring_all_data()
         ≡ Done (Err NoAnswer) }
 {}
 
-/// States that a conversation over any tape goes along turns, one for each frame sent, as long as the link forges no
-/// reply. The programmer may have got any bytes whose good frames are some of those sent, in order. Then it is the
-/// programmer along these turns, and the conversation has the same output and result as along them.
+/// States that a conversation over any tape goes along exchanges, one for each frame sent, if the link forges no
+/// frame. It has the same output and result as along them. The programmer has the same state, if the good frames that
+/// it received are some of those sent, in order.
 pub fn over_any_tape_a_conversation_goes_along_turns<E, R>()
     ensures goes { (d : Dialog E R) (n : ℕ) (tape : Tape) (p : Programmer) (becames : List Became)
         → AsksBodies d → AreHonest device d n tape p becames → GoesAs device d n tape p becames }
@@ -65,7 +64,7 @@ pub fn over_any_tape_a_conversation_goes_along_turns<E, R>()
         → CameThrough got later sent becames → after_bytes device got later p ≡ after_pieces device sent becames p }
 {}
 
-/// States that everything read on a link that forges no frame is honest, from the first frame on. A reply that is
+/// States that everything read on a link that forges no frame is authentic, from the first frame on. A reply that is
 /// taken has the number of its question, and of the last 256 frames only that question has it.
 // Proof: `no_frame_honest` (Lines/NoFrame).
 pub fn a_line_that_makes_no_frame_is_honest<E, R>()
@@ -73,8 +72,8 @@ pub fn a_line_that_makes_no_frame_is_honest<E, R>()
         → MakesNoFrame device d n tape p becames [] → AreHonest device d n tape p becames }
 {}
 
-/// States that everything read over a wire with fates is honest. A programmer that got a prefix of the bytes sent, as
-/// over a link that keeps their order, got some of the frames.
+/// States that everything read over a wire with lawful fates is authentic. `prefix`: a programmer that received a
+/// prefix of the bytes sent received the first frames, each once.
 // Proof: avr_tool's `over_wire` (Lines/WireTapes) and `prefix_came` (Lines/NoFrame).
 pub fn a_wire_is_an_honest_line<E, R>()
     ensures wire { (d : Dialog E R) (n : ℕ) (w : Wire Programmer) (sent more : List (List ℕ)) → AsksBodies d
@@ -85,15 +84,15 @@ pub fn a_wire_is_an_honest_line<E, R>()
         → filter is_good sent ≡ sent → CameThrough got [] sent (became_by (replicate (length (frames got)) true)) }
 {}
 
-/// States that a conversation over a wire never receives while nothing waits, if it receives only when it is due.
+/// States that a conversation over a wire never receives while nothing waits, if it receives only when due.
 pub fn a_conversation_in_turn_is_never_idle<E, R>()
     ensures { (d : Dialog E R) (n : ℕ) (p : Programmer) (fates : List Fate) (transcript : Transcript)
         → AsksBodies d → AreLawful fates → InTurn d (progress_at n []) transcript → NeverIdle p fates transcript }
 {}
 
-/// States that a conversation over a wire goes along the turns of its fates, one for each frame sent. The programmer is
-/// the one along them, also if the conversation broke off: then its bytes are a prefix of what it sends over what it
-/// received. A whole conversation has the same result and output as along them.
+/// States that a conversation over a wire goes along the exchanges of its fates, one for each frame sent. A whole
+/// conversation has the same result and output as along them. The programmer has the same state, also if the
+/// conversation broke off.
 pub fn over_a_wire_a_conversation_goes_along_turns<E, R>()
     ensures programmer { (d : Dialog E R) (n : ℕ) (p : Programmer) (fates : List Fate) (w : WiredState)
         → AsksBodies d → AreLawful fates → FollowsFates p fates w → InTurn d (progress_at n []) w.transcript

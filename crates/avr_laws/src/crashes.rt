@@ -1,4 +1,4 @@
-//! Laws of runs and services that are killed. No code.
+//! Laws of runs and services that are killed.
 
 ghost use Rattle.avr_cli.specs.Port.{port_number};
 ghost use Rattle.avr_cli.specs.declared.settings.Settings.{Settings};
@@ -19,8 +19,8 @@ use avr_tool::Network;
 use std::io::Write;
 
 /// States what a crash leaves of the chip file, for a run over the emulator and for a server, on the new desk of a
-/// program. Whenever it is killed or the machine stops, the file is as it was when it was locked. Or it is the file of
-/// the chip that the run or the server states with its status. A file that is written in place is not meant.
+/// program. Whenever it is killed or the machine stops, the file is as it was when it was locked, or it holds the chip
+/// that the run or the server states with its status. The law doesn't cover a file that is written in place.
 // Proof: `run_killed` and `server_killed` (ChipFile/KilledRuns), from what avr_desk's `TellsAll` says of a crash.
 pub fn a_crash_leaves_the_old_chip_or_the_new_one<
     R: FileSystem + Drop,
@@ -42,11 +42,8 @@ pub fn a_crash_leaves_the_old_chip_or_the_new_one<
         (devices old (shown_state before.now)) (devices new (shown_state after.now)) status s) }
 {}
 
-/// States what a crash leaves of the chip file of a service at a port, on the new desk of a program. Whenever the
-/// program is killed or the machine stops, the file is as it was when it was locked. Or it is the file of the chip that
-/// the service states with its status. A file that is written in place is not meant.
-///
-/// [`a_crash_leaves_the_old_chip_or_the_new_one`] says the same of a run over the emulator.
+/// States what a crash leaves of the chip file of a service at a port, on the new desk of a program. It is what
+/// [`a_crash_leaves_the_old_chip_or_the_new_one`] states of a server over a link.
 // Proof: `service_killed` (ChipFile/Killed).
 pub fn a_crash_leaves_the_old_chip_or_the_served_one<
     N: Network,

@@ -1,4 +1,4 @@
-//! Laws of links that lose, delay and damage frames. No code.
+//! Laws of links that lose, delay and damage frames.
 #![tactic(auto)]
 
 ghost use Rattle.std.specs.Prelude.{◌≡◌, true, false, ℕ, List, [], Bool, All};
@@ -22,11 +22,11 @@ ghost use Rattle.avr_laws.specs.Damaged.{Arrived, Arrival, BringsReplies, as_tap
 ghost use Rattle.avr_laws.specs.Kept.{Keeps};
 ghost use Rattle.avr_laws.specs.NoFrame.{MakesNoFrame};
 
-/// States that a link forges no frame if it loses or delays whole frames and changes at most one byte of each: any
-/// changed byte makes the XOR wrong. The changed byte isn't of the start, the size or the token.
+/// States when a link that loses, delays and damages frames forges none. It changes at most one byte of a frame, which
+/// isn't of the start, the size or the token: so the XOR is wrong.
 ///
-/// `programmer`: of such frames, those that arrived whole came through. `host`: at each question what comes are replies
-/// to the last 256 frames and refusals, damaged or not. Up to the awaited reply they have fewer than 4,096 bytes.
+/// `programmer`: the good frames that arrive are those that arrived whole. `host`: at each question what comes are
+/// replies to the last 256 frames and refusals, damaged or not, of fewer than 4,096 bytes up to the awaited reply.
 // Proof: `arrived_came` and `brings_no_frame` (Lines/Damaged).
 pub fn a_link_that_damages_one_byte_forges_no_frame<E, R>()
     ensures programmer { (sent : List (List ℕ)) (through : List Bool) (got : List ℕ) → All IsPiece sent
@@ -36,8 +36,9 @@ pub fn a_link_that_damages_one_byte_forges_no_frame<E, R>()
         → BringsReplies device d n come p becames [] → MakesNoFrame device d n (as_tape come) p becames [] }
 {}
 
-/// States what status 0 means over such a link, without a word about forged frames. Of the frames sent, in order, each
-/// arrived whole, damaged or not at all. The replies came as above.
+/// States what status 0 means over a link that loses or delays frames, or damages one byte of them. Of the frames sent,
+/// in order, each arrived whole, damaged or not at all. The replies came as in
+/// [`a_link_that_damages_one_byte_forges_no_frame`].
 // Proof: `over_damage` (Outcomes/OverDamage).
 pub fn over_a_link_that_damages_one_byte_status_0_means_the_images()
     ensures { (s : Settings) (plan : Plan) (before now : Devices) (r : IsRun s before now 0)

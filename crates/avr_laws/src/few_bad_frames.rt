@@ -1,4 +1,4 @@
-//! Laws of a run over a link on which few frames go wrong. No code.
+//! Laws of a run over a link on which few frames go wrong.
 #![tactic(auto)]
 
 ghost use Rattle.std.specs.Prelude.{◌≡◌, ◌≤◌, ◌*◌, ℕ, List, All};
@@ -18,7 +18,7 @@ ghost use Rattle.avr_session.specs.PlanSteps.{run_steps};
 ghost use Rattle.avr_tool.specs.ExpectedRun.{expected_run};
 
 /// States when a session is its expected run: if at most three of any seven consecutive frames go wrong, and a
-/// restart of the programmer counts as four. It is done after at most four times its commands, with the expected
+/// restart of the programmer counts as four. It ends after at most four frames for each command, with the expected
 /// run's output, status and memories.
 pub fn a_run_with_few_bad_frames_is_its_expected_run()
     ensures done { (plan : Plan) (m : Memories) (k : ℕ) (p : Programmer) (turns : List Turn)

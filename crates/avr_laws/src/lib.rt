@@ -7,26 +7,19 @@
 
 // what a plan asks of files
 mod planning;
-// a second run after a first one
 mod again;
 // what a run leaves, reports and sends over any link
 mod any_line;
-// a run over a link on which few frames go wrong
 mod few_bad_frames;
-// a conversation over any link
 mod conversations;
-// links that damage frames
 mod damaged_frames;
 // what a plan writes, address by address
 mod written;
 // runs from settings to a status, and worked ones
 mod runs;
-// runs over the emulator and its chip file, and what a crash leaves of it
 mod chip_file;
 mod crashes;
-// the program, from its command line on
 mod program;
-// a session and a server in two processes
 mod two_processes;
 
 pub use again::{

@@ -1,4 +1,4 @@
-//! Laws of planning, over the definitions alone; no code.
+//! Laws of planning, over the definitions alone.
 ghost use Rattle.std.specs.Prelude.{◌≡◌, ◌++◌, ℕ, List, [], All, Err};
 ghost use Rattle.avr_cli.specs.declared.settings.Settings.{Settings};
 ghost use Rattle.ghosts.specs.Failures.{HasStood};
@@ -16,13 +16,13 @@ ghost use Rattle.avr_desk.specs.Stage.{Made, Unread, told_in};
 ghost use Rattle.avr_plan.specs.Plan.{Plan, IsFitted};
 
 /// States that planning only opens files for reading and prints lines, whatever the files give. Nothing is created,
-/// written or output. It sends nothing by its type: a stage knows of no link.
+/// written or output. By its type a stage has no link, so it sends nothing.
 pub fn a_plan_only_reads_and_warns()
     ensures { (s : Settings) (openings : List Opening) → OnlyReads (told_in (planned s openings)) }
 {}
 
-/// States what happens if a plan fails although the desk's failure counts didn't rise. Either the plan is refused as
-/// planning says, with its line, or the messages end with the out-of-memory line.
+/// States that planning reports why it fails, if no device failed: its refusal, or that memory ran out. The refusal is
+/// that of `planned`, with its line. In the other case the messages end with the out-of-memory line.
 pub fn a_sound_plan_is_refused_aloud()
     ensures { (s : Settings) (before after : Record) (k l m n status : ℕ) → HasStood k l
         → ((prefix : Bytes) → after.messages ≡ prefix ++ memory_line → ⊥)
@@ -39,8 +39,8 @@ pub fn a_plan_is_of_whole_files()
         × (lines_in (told_in (planned_of s stock)) ≡ lines_in (told_in (planned s openings))) }
 {}
 
-/// States that a plan that was made fits its part. The images are of the sizes of their memories, and it writes to no
-/// memory that can't be written.
+/// States that a plan that was made fits its part. Each image has the size of its memory, and the plan writes only to
+/// memories that can be written.
 pub fn a_plan_fits_its_part()
     ensures { (s : Settings) (openings : List Opening) (plan : Plan)
         → (planned s openings).answer ≡ Made plan → All (IsFitted plan.part) plan.tasks }

@@ -1,4 +1,4 @@
-//! The promise of the program: what its contract and the laws of runs say together.
+//! The promise of the program: what its contract and the laws of runs state together.
 ghost use Rattle.std.specs.Prelude.{◌≡◌, []};
 ghost use Rattle.avr_desk.specs.Handles.{IsTrueRecord};
 ghost use Rattle.avr_desk.specs.Shown.{IsNewDesk, shown_state};
@@ -15,8 +15,8 @@ use std::io::{Read, Write};
 use stk_host::StreamLink;
 
 /// Runs a command line as [`avr_tool::run_command_line`] does, at a new desk and over a link on which nothing has
-/// passed. States what its status 0 means, over any files, any network and any streams: the plan that the words and the
-/// opened files ask for was kept.
+/// passed. States what its status 0 means, over any files, any network and any streams: the plan that the command line
+/// and the opened files ask for was kept. Output and messages are not in the clauses `files` and `streams`.
 // Proof: `words_kept` (KeptByPort/EachPort), by `kept` (Outcomes/Kept) over a link, and `file_kept` (KeptByPort/InFile)
 // over the emulator.
 pub fn a_program_with_status_0_kept_its_plan<
@@ -38,7 +38,7 @@ pub fn a_program_with_status_0_kept_its_plan<
         → KeepsWords C.is_words (IsOverAddress N.Network N.Stream.Read N.Stream.Write N.Stream.closed)
         (devices (stream_state link.old) (shown_state desk.old))
         (devices (stream_state link.new) (shown_state desk.new)) }
-    // What a new desk's record has of files, and the link's transcript, is what these gave and took.
+    // A new desk's record of files, and the link's transcript, are what these gave and took.
     ensures files { IsNewDesk S.FileSystem desk.old
         → IsTrueRecord S.FileSystem S.File.Read S.File.Write S.Input.Read desk.new.system desk.new.opened
         desk.new.hold desk.new.kept }

@@ -1,4 +1,4 @@
-//! What status 0 means. Laws of runs: what few bad frames and a further run do, and worked outcomes.
+//! What status 0 means. Laws of few bad frames, of a further run, and of worked outcomes.
 
 ghost use Rattle.std.specs.Prelude.{◌≡◌, ◌<◌, ◌*◌, ◌⊎◌, ℕ, true, false, List, [], All, Some, map};
 ghost use Rattle.avr_cli.specs.declared.settings.Settings.{Settings};
@@ -56,13 +56,13 @@ use std::alloc::Global;
 use std::io::{Read, Write};
 use stk_host::Link;
 
-/// Runs what the settings ask for over a link, as [`avr_tool::run`] does, and states what status 0 means then. Nothing had
-/// passed over the link. The settings and the files that were opened ask for a plan, and the chip holds its images.
+/// Runs what the settings ask for over a new link, as [`avr_tool::run`] does, and states what status 0 means then. The
+/// settings and the files that were opened ask for a plan, and the chip holds its images.
 ///
 /// The programmer may be in any state. It received any bytes whose good frames are some of those sent, also after it
-/// restarted, and no reply was forged. Then the memories of its chip are what the plan's writes make of them, and all that
-/// the plan compares agreed. If the run was verified, each holds its images. Elsewhere it holds what it held before, or the
-/// FF of an erase. Each file that a memory was read into has the text of what the chip held then.
+/// restarted, and no reply was forged. Then the memories of its chip are what the plan's writes make of them, and all
+/// that the plan compares agreed. If the run was verified, each memory holds its images. Elsewhere it holds what it
+/// held before, or the FF of an erase. Each file that a memory was read into has the text of what the chip held then.
 // Proof: `promised` (Outcomes/Kept), by `over_bytes` (AnyLink) and avr_tool's `comes_over_turns` (OverTurns). There the
 // memories are `session_leaves` (AnyLine/Outcomes), the images `run_written` (Memories/VerifiedRuns). The files are
 // `expected_writes` (Outcomes/Saved), the plan `desk_asked` (Plans/Given).
@@ -79,11 +79,11 @@ pub fn status_0_means_the_images<D: Desk, L: Link>(
     run(alloc, settings, desk, link)
 }
 
-/// States that a run that ended anywhere, and then one with status 0, leave what one run leaves. The first sent any prefix
-/// of its bytes: it was killed, or its link failed. The programmer may then be in any state, as long as its chip holds what
-/// the first run left.
+/// States that a run that ended anywhere, and then one with status 0, leave what one run leaves, except for one case
+/// with a fuse. No frame is forged. The first sent any prefix of its bytes: it was killed, or its link failed. The
+/// programmer may then be in any state, as long as its chip holds what the first run left.
 ///
-/// If the plan erases and the chip keeps EEPROM at an erase, each byte that the plan writes to the high fuse must keep it
+/// If the plan erases and the chip keeps EEPROM at an erase, each byte that it writes to the high fuse must keep it
 /// too. If the second run was verified, each memory holds its images.
 // Proof: `as_one` and `images_there` (Outcomes/TwoRuns), by `done_again` (SecondRun/Status).
 pub fn an_ended_run_and_one_with_status_0_are_as_one()
@@ -104,9 +104,9 @@ pub fn an_ended_run_and_one_with_status_0_are_as_one()
         (written_to plan.part mem (asked_items plan)) (memories_of (after_bytes device over more q).chip)) }
 {}
 
-/// States what the page refuses of a run over a wire. With status 0: memories that the plan's writes don't leave, or
-/// output other than over a perfect link. With any status: a chip that changed though no frame was sent, or more than
-/// four frames for each command, by any weight.
+/// States what can't be the outcome of a run over a wire. With status 0: memories that the plan's writes don't leave,
+/// or output other than over a perfect link. With any status: a chip that changed though no frame was sent, or more
+/// than four frames for each command, by any weight.
 // Proof: `not_all_written`, `said_otherwise`, `touched_in_silence` and `too_much` (Outcomes/Refused).
 pub fn a_wrong_outcome_is_refused()
     ensures memories { (plan : Plan) (w v : WiredState) (d e : DeskState)
@@ -142,13 +142,13 @@ pub fn a_sound_run_is_its_expected_run()
         → (status ≡ 0) × IsWritten plan.part (asked_items plan) (memories w) (memories v) }
 {}
 
-/// States that a further run heals: the same run again, over the chip that a first one left, however that one ended.
+/// States when a further run repairs: the same run again, over the chip that a first one left, however that one ended.
 /// At most three of any seven consecutive frames go wrong, and a reset counts as four. The plan erases, and its
-/// comparisons agree on a chip of 00 and on one of FF. Then its status is 0, and the chip is as one run would have
-/// left it before both.
+/// comparisons agree on a chip of 00 and on one of FF. Then its status is 0 unless it stops, and the chip is as one run
+/// would have left it.
 ///
 /// If the chip keeps EEPROM at an erase, each byte that the plan writes to the high fuse must keep it too. `wire`
-/// states this over a wire, `link` over any link that forges no frame, by the turns and without regard to devices.
+/// states this over a wire, `link` over the exchanges of any link that forges no frame, for a run that doesn't stop.
 // Proof: `further_heals` (ChipFile/FewBadThenAgain), by `done_again` (SecondRun/Status).
 pub fn a_further_run_heals()
     ensures wire { (plan : Plan) (w v x y : WiredState) (d e f g : DeskState) (status further : ℕ)
@@ -168,8 +168,8 @@ pub fn a_further_run_heals()
         → (further ≡ 0) × IsDone plan (memories_of p.chip) (memories_of y.chip) }
 {}
 
-/// States that a worked run, `-p m328p` with all its replies, has one outcome: with another status, frame or line it
-/// is no run.
+/// States that a worked run, `-p m328p` with all its replies, has one outcome. With status 1, other frames or other
+/// lines it is no run.
 // Proof: `another_status`, `another_frame` and `another_line` (Outcomes/Refused).
 pub fn a_worked_run_has_one_outcome()
     ensures status { (transcript : Transcript) (a b : ℕ) (d e : DeskState)
@@ -184,9 +184,10 @@ pub fn a_worked_run_has_one_outcome()
         → IsRun worked_settings (devices (link_state [] a) d) (devices (link_state transcript b) e) status → ⊥ }
 {}
 
-/// States what a run leaves over known files and a known tape, or what the reader gave: a function of these and the
-/// settings. Like any run it may stop instead, because devices in memory fail if allocation fails. The premises are what
-/// avr_tool's `run` states of a call over a desk in memory, over which and over its link nothing had passed.
+/// States what a run leaves over known files and a known tape, unless it stops: a function of these and the settings.
+/// It may stop because devices in memory fail if allocation fails. Over a reader it leaves what some tape with the
+/// reader's bytes leaves. The premises are what avr_tool's `run` states of a call over a new desk in memory and a new
+/// link.
 // Proof: `run_is_over_tape` and `run_is_over_streams` (KnownFiles/RunsInMemory).
 pub fn a_run_in_memory_is_a_function_of_its_files<R: Read, W: Write>()
     ensures tape { (s : Settings) (old new : MemDeskState) (before after : TapeState) (status : ℕ)
@@ -207,7 +208,7 @@ pub fn a_run_in_memory_is_a_function_of_its_files<R: Read, W: Write>()
 {}
 
 /// States that what a run leaves over some files and a tape is one outcome. For `-p m328p` with all its replies it is
-/// the one below. If the part file doesn't exist, the outcome reports this, and nothing is sent.
+/// `worked_outcome`. If the part file doesn't exist, the run reports this, and sends nothing.
 // Proof: `one_outcome`, `worked_leaves` and `absent_leaves` (KnownFiles/OneOutcome).
 pub fn a_run_in_memory_has_one_outcome()
     ensures one { (s : Settings) (stock : Stock) (tape : Tape) (a b : RunOutcome)
@@ -217,8 +218,8 @@ pub fn a_run_in_memory_has_one_outcome()
 {}
 
 /// States that the promise needs a link without forged frames. Over a tape with one, comparing the low fuse with E2
-/// ends with status 0 whatever the chip has. For a chip with another fuse the promise fails. No link without forged
-/// frames gives this tape.
+/// ends with status 0 whatever the chip has. For a chip with another fuse the promise fails. A link that forges no
+/// frame can't give this tape.
 // Proof: `made_done`, `promise_void` and `frame_made` (Lines/MadeFrame).
 pub fn a_made_frame_voids_the_promise()
     ensures ends { (played (session fuse_plan) 1 made_answers).outcome ≡ Some (0, 8, []) }

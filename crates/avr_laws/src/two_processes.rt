@@ -1,4 +1,4 @@
-//! Laws of a session and a server at the two ends of a link. No code.
+//! Laws of a session and a server at the two ends of a link.
 
 ghost use Rattle.std.specs.Prelude.{◌≡◌, ◌++◌, ℕ, length, List, [], All, ◌∷◌, Ok};
 ghost use Rattle.avr_desk.specs.Record.{Bytes};
@@ -31,9 +31,8 @@ ghost use Rattle.stk_host.specs.Play.{Progress, Plays, IsPrefixOf, InTurn};
 ghost use Rattle.stk_host.specs.declared.link.Item.TheVariants.{Byte, Silence};
 ghost use Rattle.stk_host.specs.Tape.{Tape, bytes_of};
 
-/// States what a server sends. If it replied to all it received, it sent exactly the replies to the frames in it, and
-/// its programmer is as they left it. However serving ended, it took a prefix of the bytes received, obeyed all
-/// frames in it, and sent their replies, the last one perhaps in part.
+/// States that a server obeys all frames that it takes, and sends a prefix of their replies. It takes a prefix of the
+/// bytes received. `all`: if it replied to all it received, it took and sent all.
 pub fn a_server_sends_the_answers_to_what_it_heard()
     ensures all { (p : Programmer) (transcript : Transcript) (left : Machine)
         → AnswersAll p [] (bytes_of (heard transcript)) (sent transcript) left
@@ -43,7 +42,7 @@ pub fn a_server_sends_the_answers_to_what_it_heard()
         → ServingLeaves served p [] transcript left → HasServed p transcript left.programmer }
 {}
 
-/// States that all a host reads from a server is honest, over a link that keeps their bytes in order and has timeouts
+/// States that all a host reads from a server is authentic, over a link that keeps bytes in order and has timeouts
 /// only between replies. The frames that the server took were obeyed, and the others never arrived; the server's
 /// programmer is as they left it. This holds at any moment of a session, however it ends.
 pub fn what_a_host_hears_of_a_server_is_honest()
@@ -62,7 +61,8 @@ pub fn what_a_host_hears_of_a_server_is_honest()
         (obeyed (length (frames serves.used))) (fresh_programmer s) ≡ left }
 {}
 
-/// States that there is no deadlock: a session and a server never both listen when everything sent was received.
+/// States that a session and a server never both listen when everything sent was received, if the host has timeouts
+/// only between replies. So there is no deadlock.
 pub fn two_processes_never_both_wait()
     ensures { (plan : Plan) (s : Chip) (first : List EndCall) (host_items server_items : Tape)
         → IsSoundChip s → s.part ≡ plan.part → All (IsFitted plan.part) plan.tasks
@@ -73,9 +73,10 @@ pub fn two_processes_never_both_wait()
         → bytes_of (heard (of_host first)) ≡ sent (of_server first) → ⊥ }
 {}
 
-/// THE TWO PROCESSES: a session that ran whole, and a server that ended in any way, in one order of their calls. The
-/// status means for the server's chip what the page says for one behind a wire, and that chip is the one saved. If
-/// timeouts occur within replies too, this holds as long as they forge no frame.
+/// States that a session that ran whole and a server that ended in any way are one run, over a link that keeps bytes in
+/// order and has timeouts only between replies. The status means for the server's chip what it means for one behind a
+/// wire. `anywhere`: timeouts may occur within replies too, if no frame is forged. `saved`: with status 0 the server
+/// saved that chip.
 pub fn a_session_and_a_server_are_one_run()
     ensures between { (plan : Plan) (s : Chip) (calls : List EndCall) (old new : Devices)
         (server_old server_new : Devices)
@@ -105,14 +106,16 @@ pub fn a_session_and_a_server_are_one_run()
         → Saves serves.told_desk new.desk file (chip_file serves.left.programmer.chip) (Ok tt) }
 {}
 
-/// States that the laws of two processes apply: for every plan there is such a run, over a link without timeouts.
+/// States that for every plan a session and a server have a run over a link without timeouts. So the laws of two
+/// processes apply.
 pub fn two_processes_have_a_run()
     ensures { (plan : Plan) (s : Chip) (file : Bytes)
         → IsSoundChip s → s.part ≡ plan.part → All (IsFitted plan.part) plan.tasks → HasRun plan s file }
 {}
 
-/// States that a session and a server make the expected run of the plan if the host never has a timeout, however the
-/// link cuts. The status, the output and the memories in the saved chip are those of the expected run.
+/// States that a session that ran whole and a server make the expected run, if the link keeps bytes in order and the
+/// host never has a timeout. The link may cut anywhere. Status, output and the memories of the server's chip are those
+/// of the expected run.
 pub fn a_prompt_line_brings_the_expected_run()
     ensures { (plan : Plan) (s : Chip) (calls : List EndCall) (old new : Devices) (server_old server_new : Devices)
         (file : Bytes) (most status served_status : ℕ) (after : Progress)
@@ -127,8 +130,8 @@ pub fn a_prompt_line_brings_the_expected_run()
         × (memories_of serves.left.programmer.chip ≡ (expected_run plan (memories_of s)).memories) }
 {}
 
-/// States what the saved chip holds, whether the session ran whole or broke off, and however serving ended. It has
-/// the first writes of the plan: as many as were completed by what was received, and at most one more.
+/// States what the server's chip holds, whether the session ran whole or broke off, and however serving ended. It has
+/// the plan's first write operations: those completed by what was received, and at most one more.
 pub fn whatever_becomes_of_both_some_page_writes_were_made()
     ensures { (plan : Plan) (s : Chip) (calls : List EndCall) (old new : Devices) (server_old server_new : Devices)
         (file : Bytes) (most status served_status : ℕ)
@@ -144,7 +147,8 @@ pub fn whatever_becomes_of_both_some_page_writes_were_made()
         (sent (of_host calls)) (played (session plan) 1 (heard (of_host calls))).events }
 {}
 
-/// States what no such link does: have a timeout within a reply, lose a byte, or bring one before it was sent.
+/// States what the conditions on the link of two processes rule out: a timeout within a reply, a lost byte, and a byte
+/// received before it was sent.
 pub fn an_unordered_line_is_refused()
     ensures within { StallsBetweenAnswers (Byte 27 ∷ Silence ∷ []) → ⊥ }
     ensures lost { IsOrdered (HostSays (1 ∷ 2 ∷ []) ∷ ServerHears (Byte 2 ∷ []) ∷ []) → ⊥ }

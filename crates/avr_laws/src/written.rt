@@ -1,4 +1,4 @@
-//! Laws of what a plan writes, and what the memories hold after a verified run, address by address. No code.
+//! Laws of what a plan writes, and what the memories hold after a verified run, address by address.
 #![tactic(auto)]
 
 ghost use Rattle.std.specs.Prelude.{◌≡◌, ◌↔◌, ◌<◌, ◌++◌, ◌∷◌, [], ℕ, false, List, All, length, map};
@@ -54,7 +54,7 @@ pub fn a_verified_run_leaves_its_images()
 
 /// States how a byte of flash is made, whatever was done. It is the byte before, or the FF of an erase, AND the bytes
 /// at this address of none, one or more images written to flash. After a run that did its whole plan these are the
-/// plan's images; after any other run they are those of its page writes.
+/// plan's images; after any other run they are those of its write operations.
 pub fn a_byte_of_flash_is_made_by_images()
     ensures items { (part : Part) (items : List Item) (m : Memories) (addr : ℕ) → addr < length m.flash
         → IsMade items addr (byte_in part Flash addr m) (byte_in part Flash addr (effects part items m)) }
@@ -68,8 +68,7 @@ pub fn a_byte_of_flash_is_made_by_images()
 
 /// States when a memory holds an image after the line that it was written. EEPROM and fuses: the chip was not locked.
 /// Flash: moreover, the same plan erased it before, and wrote no other image at the same addresses. The lock: the
-/// plan did the same for it. Otherwise `written` means only that each command got the status OK, and `verified`
-/// what is there.
+/// plan did the same for it. Otherwise `written` means only that each command got the status OK.
 // Proof: `written_there` (Memories/WrittenThere).
 pub fn what_is_written_is_there()
     ensures { (part : Part) (before now : Memories) (mem : Mem) (image : Image) (first : List Item)

@@ -1,4 +1,4 @@
--- A block at once is a block byte by byte.
+-- Loading or reading a block at once does the same as its instructions byte by byte.
 use Rattle.std.proofs.lemmas.Grind.{common_steps}
 use Rattle.std.proofs.Common.{◌≡◌, ℕ, zero, suc, ◌+◌, ◌*◌, ◌/◌, ◌%◌, ◌≤◌, ◌<◌, List, [], ◌∷◌, length, set, take, drop, refl, ap, ap₂, ◌∙◌, arith, true, rules}
 use Rattle.std.proofs.Math.Nat.{mod-mod_of_dvd, dvd-mul_right, dvd_trans}

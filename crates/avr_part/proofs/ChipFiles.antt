@@ -1,4 +1,4 @@
--- A chip file read again.
+-- A chip file reads back, and is written again as it was.
 use Rattle.std.proofs.lemmas.Grind.{common_steps}
 use Rattle.std.proofs.Common.{◌≡◌, ◌∙◌, ap, arith, ℕ, ◌+◌, List, [], ◌∷◌, ◌++◌, length, take, drop, get_or, Ok, length-append, append_assoc, rules}
 use Rattle.std.proofs.lemmas.List.{get_or-drop, length-drop, take-append-drop, take_at, drop_at, get_or-append-add}
@@ -19,7 +19,7 @@ pub fuse_part : (flash eeprom fuses : List ℕ) (at k : ℕ) → at ≡ length f
     → get_or (flash ++ eeprom ++ fuses) at 0 ≡ get_or fuses k 0
 fuse_part flash eeprom fuses at k e = search (rules, length-append, get_or-append-add)
 
--- the chip of its own file has the same memories, and empty buffers
+-- a chip's own file gives a chip with the same memories and empty buffers
 pub read_again : (s : ChipState) → IsSoundChip s → chip_in s.part (chip_file s) ≡ Ok (with_empty_buffers s)
 read_again s sound =
     let fuses = s.lfuse ∷ s.hfuse ∷ s.efuse ∷ s.lock ∷ [] in
@@ -37,7 +37,6 @@ read_again s sound =
 four_bytes : (xs : List ℕ) → length xs ≡ 4 → xs ≡ get_or xs 0 0 ∷ get_or xs 1 0 ∷ get_or xs 2 0 ∷ get_or xs 3 0 ∷ []
 four_bytes xs e = grind (arith, common_steps)
 
--- the file of the chip of a file is the file
 pub written_again : (p : Part) (bytes : List ℕ) → length bytes ≡ chip_file_size p → chip_file (state_in p bytes) ≡ bytes
 written_again p bytes e =
     let n = p.flash_size in

@@ -1,4 +1,4 @@
--- Parts that are judged one after another.
+-- Parts of a file, which are checked one after another.
 use Rattle.std.proofs.Common.{◌≡◌, List, [], ◌∷◌, ◌++◌, Result, Ok, Err, String, Global, string_bytes, append_assoc, Some, None, rules}
 use Rattle.std.specs.Str.{is_utf8, IsUtf8}
 use Rattle.std.proofs.lemmas.Bool.{false_from_ne_true}
@@ -18,7 +18,6 @@ pub onto-next : (ps : List Part) (p : Part) (r : Result (List Part) NamedFault)
     → onto ps (r >>= (λ qs. Ok (p ∷ qs))) ≡ onto (ps ++ p ∷ []) r
 onto-next ps p r = search (rules, append_assoc)
 
--- one more member is judged
 pub judged_next : (all : Result (List Part) NamedFault) (ps : List Part) (left next : List (String Global × Value))
     (k : String Global) (v : Value) (p : Part)
     → left ≡ (k, v) ∷ next → all ≡ onto ps (parts_in (members_view left))

@@ -1,4 +1,4 @@
--- A memory and its name.
+-- A memory is found by its own name only.
 use Rattle.std.proofs.Common.{◌≡◌, arith, ℕ, List, [], ◌∷◌, Bool, true, find, Some, inl, inr, rules}
 use Rattle.std.proofs.lemmas.Bool.{cases_Bool}
 use Rattle.std.proofs.lemmas.Slice.Eq.{bytes_eq-Decides}
@@ -9,7 +9,6 @@ use Rattle.avr_part.specs.declared.part.Mem.{Mem}
 pub found_by_name : (m : Mem) → memory_named (name_of m) ≡ Some m
 found_by_name m = search rules
 
--- what is found passes the test
 find_passes : {A : Type 0} (test : A → Bool) (xs : List A) (x : A) → find test xs ≡ Some x → test x ≡ true
 find_passes test [] x e = absurd (cc)
 find_passes test (y ∷ ys) x e =

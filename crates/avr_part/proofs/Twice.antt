@@ -1,4 +1,4 @@
--- Changing a chip twice is changing it once.
+-- Repeating a change of a chip changes nothing more.
 use Rattle.std.proofs.lemmas.Grind.{common_steps}
 use Rattle.std.proofs.Common.{◌≡◌, refl, ap₂, ℕ, suc, List, [], ◌∷◌, rules, arith}
 use Rattle.std.proofs.lemmas.List.{length-replicate}

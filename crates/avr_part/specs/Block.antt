@@ -1,4 +1,4 @@
--- Blocks of flash: what instructions do one after another, for the low and the high byte of each word in turn.
+-- Blocks of flash: what instructions do one by one, for the low and then the high byte of each word.
 use Rattle.std.specs.Prelude.{ℕ, Bool, true, false, zero, suc, ◌+◌, ◌*◌, ◌/◌, ◌%◌, ◌==◌, ◌&&◌, nat_le, List, [], ◌∷◌, length, Option, Some, None, if◌then◌else◌}
 use Rattle.avr_part.specs.State.{ChipState, after_instruction, flash_byte, word_address}
 use Rattle.avr_part.specs.declared.instruction.Half.{Half}

@@ -1,4 +1,4 @@
--- The fields of a chip, as its state.
+-- The state that contracts see of a chip.
 use Rattle.avr_part.specs.State.{ChipState}
 use Rattle.avr_part.specs.declared.chip.Chip.TheInside.{Inside}
 

@@ -1,4 +1,4 @@
--- Faults of parts and chips.
+-- The names of fields in a part file, and the numbers of faults.
 use Rattle.std.specs.Prelude.{ℕ, List, codes}
 use Rattle.avr_part.specs.declared.fault.Field.{Field}
 use Rattle.avr_part.specs.declared.fault.Field.TheVariants as field

@@ -1,4 +1,4 @@
--- The memories of a part.
+-- The names of memories.
 use Rattle.std.specs.Prelude.{ℕ, List, [], ◌∷◌, Bool, true, false, Option, find, codes}
 use Rattle.std.specs.Str.{bytes_eq}
 use Rattle.avr_part.specs.declared.part.Mem.{Mem}

@@ -7,7 +7,7 @@ AreBytes xs = All (λ b. b < 256) xs
 abbrev pub AreLoads : List (Option ℕ) → Type 0
 AreLoads loads = All (λ o. IfSome o (λ b. b < 256)) loads
 
--- it holds these items, has this size, and is sound
+-- `new` has these items and this size, and is sound
 pub record Becomes {A : Type 0} (IsSound : List A → Type 0) (items : List A) (size : ℕ) (new : List A) : Type 0 where
   pub bytes : new ≡ items
   pub len : length new ≡ size

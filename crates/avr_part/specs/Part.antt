@@ -1,4 +1,4 @@
--- What is known of a part.
+-- The data of a part, and the ids and sizes that a part can have.
 use Rattle.std.specs.Prelude.{◌≡◌, ◌<◌, ◌≤◌, ◌%◌, ℕ, List, Bool, true, length, Option, Some, None, if◌then◌else◌, ◌&&◌, ◌||◌, ◌==◌, nat_le}
 use Rattle.std.specs.List.{list_all}
 use Rattle.avr_part.specs.declared.part.Mem.{Mem}

@@ -1,4 +1,4 @@
--- How the TOML tree of a part file is read.
+-- The parts, or the fault, that a part file means by its TOML tree.
 use Rattle.std.specs.Prelude.{◌≡◌, ◌≢◌, ◌≤◌, ◌⊎◌, ◌+◌, ℕ, ℤ, pos, negsuc, List, [], ◌∷◌, ◌&&◌, ◌==◌, ◌%◌, Option, Some, None, Result, Ok, Err, ok_or, codes, count_by, take, if◌then◌else◌}
 use Rattle.std.specs.Int.{is_power_of_two}
 use Rattle.std.specs.Str.{is_utf8}
@@ -126,7 +126,7 @@ not_toml_at line = record { why = of_file NotToml; line = Some line }
 abbrev pub lineless : NamedFault → PlacedFault
 lineless why = record { why = why; line = None }
 
--- a text that is not TOML has a line, one of its own; no other fault has one
+-- only a text that is not TOML has a line, which is one of its lines
 abbrev pub HasLine : Bytes → PartFault → Option ℕ → Type 0
 HasLine text fault (Some line) = (fault ≡ NotToml) × (1 ≤ line) × (line ≤ line_count text)
 HasLine text fault None = fault ≢ NotToml
@@ -151,7 +151,7 @@ parts_of bytes = do
   document ← ok_or (parse_document text) (of_file NotToml)
   document_parts document
 
--- the wanted result, or allocation failed
+-- the contract of calls that make parts and chips: the wanted result, or allocation failed
 abbrev pub GivesChipOrMemory : {T : Type 0} → Result T PartFault → Result T PartFault → Type 0
 GivesChipOrMemory want got = (got ≡ want) ⊎ (got ≡ Err Memory)
 

@@ -4,7 +4,7 @@ use Rattle.avr_part.specs.Part.{IsPart}
 use Rattle.avr_part.specs.Memory.{AreBytes, AreLoads}
 use Rattle.avr_part.specs.State.{ChipState}
 
--- The memories and buffers have the part's sizes and hold bytes.
+-- Every chip's memories and buffers have the part's sizes and hold bytes.
 pub record IsSoundChip (s : ChipState) : Type 0 where
   pub part : IsPart s.part
   pub flash_size : length s.flash ≡ s.part.flash_size

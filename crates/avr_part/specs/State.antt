@@ -1,4 +1,4 @@
--- The chip as its memories and buffers, and what each instruction does to them.
+-- The state of a chip, and what each instruction does to it.
 use Rattle.std.specs.Prelude.{ℕ, Bool, ◌+◌, ◌*◌, ◌/◌, ◌%◌, ◌==◌, List, [], ◌∷◌, Option, Some, None, replicate, slice_index, slice_set, bit_and, if◌then◌else◌}
 use Rattle.std.specs.Int.{bit_at}
 use Rattle.avr_part.specs.Memory.{map_indexed, byte_and_page, overlaid, blank, nothing_loaded, page_start}
@@ -48,7 +48,7 @@ with_empty_buffers s = record s {
   extended = 0;
 }
 
--- the EESAVE bit is 0
+-- the EESAVE bit is 0, so an erase keeps the EEPROM
 abbrev pub keeps_eeprom : ChipState → Bool
 keeps_eeprom s = bit_at s.hfuse s.part.eesave_bit == 0
 

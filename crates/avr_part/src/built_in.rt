@@ -1,4 +1,3 @@
-//! The built-in parts.
 ghost use Rattle.std.specs.Prelude.{◌≡◌, ◌≤◌, length, slice_get};
 ghost use Rattle.avr_part.specs.BuiltIn.{built_in_parts};
 

@@ -1,4 +1,4 @@
-//! The chip as a machine of serial programming instructions.
+//! The chip, which executes serial programming instructions.
 ghost use Rattle.std.specs.Prelude.{◌≡◌, ◌+◌, ◌*◌, ◌%◌, ◌<◌, ◌≤◌, IfOk, slice_get, Ok, length, ◌/◌};
 ghost use Rattle.std.specs.Option.{option_copied};
 
@@ -118,7 +118,7 @@ impl Chip {
         &self.part
     }
 
-    /// States that the memories and buffers have the part's sizes, and hold bytes. It is a law, and no code.
+    /// Law: the memories and buffers have the part's sizes and hold bytes. The call does nothing.
     pub fn is_sound(&self)
         ensures { IsSoundChip self.now }
     {
@@ -193,7 +193,7 @@ impl Chip {
         usize::from(address) % self.part.size_of(Mem::Eeprom) as usize
     }
 
-    /// Returns whether LB1 is programmed: then only a chip erase changes flash, EEPROM and fuses.
+    /// Returns whether LB1 is programmed. Then only a chip erase changes flash, EEPROM and fuses.
     fn is_locked(&self) -> bool
         ensures { result ≡ is_locked self.now }
     {
@@ -324,13 +324,12 @@ impl Chip {
         }
     }
 
-    /// Runs one instruction (ATmega328P data sheet, table "Serial Programming Instruction Set"). Returns 00, the
+    /// Executes one instruction (ATmega328P data sheet, table "Serial Programming Instruction Set"). Returns 00, the
     /// first two bytes, and the byte that it reads, or the third byte if it reads none. Bytes that are no instruction
-    /// change nothing. The three bytes before the last are this project's choice: a part shifts them out as others
-    /// come in.
+    /// change nothing. Only the last byte returned is a data sheet's; the other three are this project's choice.
     ///
-    /// It allocates nothing. A chip erase takes the time of the memories, a page write and programming enable that of
-    /// the page buffers, all else constant time.
+    /// It allocates nothing. A chip erase takes time in proportion to the memories, a page write or programming enable
+    /// in proportion to the page buffers, and all else constant time.
     ///
     /// ```text
     /// let mut chip = Chip::fresh(alloc, Parts::none().find("m328p")?)?;
@@ -346,9 +345,9 @@ impl Chip {
         [0, bytes[0], bytes[1], answer]
     }
 
-    /// Loads a block as instructions 40 and 48 would, from a word of the page on, low byte first. `word` counts from
-    /// the page's start, modulo the words of a page. Returns false and changes nothing if the block reaches over the
-    /// page's end.
+    /// Loads bytes into the page buffer from a word on, low byte first, as instructions 40 and 48 would. `word` counts
+    /// from the page's start, modulo the words of a page. Returns false and changes nothing if the block reaches over
+    /// the page's end.
     ///
     /// ```text
     /// let mut chip = Chip::fresh(alloc, Parts::none().find("m328p")?)?;
@@ -427,7 +426,6 @@ impl Chip {
     }
 }
 
-/// Shows the part's id.
 impl fmt::Debug for Chip {
     fn fmt<W: fmt::Write>(&self, f: &mut fmt::Formatter<W>) -> fmt::Result {
         f.debug_struct("Chip")

@@ -1,4 +1,3 @@
-//! The chip file.
 ghost use Rattle.std.specs.Prelude.{◌≡◌, ◌+◌, IfOk, IfErr, length, Ok};
 ghost use Rattle.avr_part.specs.ChipFile.{chip_file, chip_file_size, chip_in, state_in};
 ghost use Rattle.avr_part.specs.PartFile.{GivesChipOrMemory};
@@ -71,7 +70,7 @@ impl Chip {
         read_chip(alloc, part, bytes).map_err(|_| PartFault::Memory)
     }
 
-    /// Returns the bytes of the chip's file.
+    /// Returns the chip's memories as the bytes of a chip file.
     ///
     /// # Errors
     ///

@@ -1,4 +1,4 @@
-//! Faults of parts and chips.
+//! Why there is no such part or chip.
 ghost use Rattle.std.specs.Prelude.{◌≡◌, Some};
 ghost use Rattle.avr_part.specs.Fault.{field_name, part_fault_number};
 
@@ -70,7 +70,7 @@ pub enum PartFault {
     /// The field has a value that no part has.
     #[error("{0} has a bad value")]
     BadValue(Field),
-    /// A memory is not whole pages.
+    /// A size is no multiple of its page.
     #[error("sizes do not fit")]
     BadSizes,
     /// Neither the part file nor the built-in list has a part of this id.
@@ -105,7 +105,6 @@ impl PartFault {
     }
 }
 
-/// Shows the message.
 impl fmt::Debug for PartFault {
     fn fmt<W: fmt::Write>(&self, f: &mut fmt::Formatter<W>) -> fmt::Result {
         fmt::Display::fmt(self, f)

@@ -81,8 +81,8 @@ impl PartFileFault {
         PartFileFault { why, line: None }
     }
 
-    /// Returns the id of the part at fault. It is missing if the file is not TOML, `parts` is missing or no table,
-    /// the part's key is no id, or allocation failed.
+    /// Returns the id of the part at fault, or `None` if the file is not TOML, `parts` is missing or no table, the key
+    /// of the part is no id, or allocation failed.
     ///
     /// ```text
     /// if let Err(fault) = parse_part_file(alloc, b"parts = 3") {
@@ -98,7 +98,7 @@ impl PartFileFault {
         }
     }
 
-    /// Returns the fault.
+    /// Returns why the file is refused.
     ///
     /// ```text
     /// if let Err(fault) = parse_part_file(alloc, b"parts = 3") {
@@ -114,8 +114,8 @@ impl PartFileFault {
     /// Returns the 1-based line at which the text stops being TOML, or `None` for every other fault. It is the line
     /// of the first byte that is not UTF-8, else of the first byte that `toml` refuses.
     ///
-    /// The refused text may be empty: then it is the line of that place. Of a duplicate key it is the second one's
-    /// line.
+    /// If something is missing, as at the end of the text, it is the line of that place. For a duplicate key it is the
+    /// line of the second one.
     ///
     /// ```text
     /// if let Err(fault) = parse_part_file(alloc, b"a = 1\na = 2\n") {
@@ -139,7 +139,6 @@ impl fmt::Display for PartFileFault {
     }
 }
 
-/// Shows the message.
 impl fmt::Debug for PartFileFault {
     fn fmt<W: fmt::Write>(&self, f: &mut fmt::Formatter<W>) -> fmt::Result {
         fmt::Display::fmt(self, f)

@@ -167,7 +167,7 @@ impl Instruction {
     }
 }
 
-/// Shows the variant's name.
+/// Shows the variant's name, without its fields.
 impl fmt::Debug for Instruction {
     fn fmt<W: fmt::Write>(&self, f: &mut fmt::Formatter<W>) -> fmt::Result {
         f.write_str(self.name())

@@ -1,8 +1,7 @@
 //! AVR parts: their data, the part file, and the chip behind its serial programming pins.
 //!
 //! Sizes and instructions are those of the parts' data sheets (ATmega328P: "Memory Programming", table "Serial
-//! Programming Instruction Set"); docs/PART.md has them all. Four bytes are decoded once to an instruction, which
-//! acts on memories that are lists of bytes.
+//! Programming Instruction Set"); docs/PART.md has them all.
 //!
 //! ```text
 //! let mut chip = Chip::fresh(alloc, Parts::none().find("m328p")?)?;
@@ -10,9 +9,7 @@
 //! ```
 #![tactic(auto)]
 
-// a part and its memories
 mod part;
-// the built-in parts
 mod built_in;
 mod parts;
 // the part file
@@ -21,11 +18,9 @@ mod file_fault;
 mod judge;
 mod lines;
 mod part_file;
-// the chip: its instructions
+// the chip: its instructions, memories and file
 mod instruction;
-// its memories and buffers
 mod memory;
-// the chip itself, and its file
 mod chip;
 mod chip_file;
 pub mod laws;

@@ -1,4 +1,4 @@
-//! Lines of a text, counted from 1.
+//! The line of a place in a text, counted from 1.
 ghost use Rattle.std.specs.Prelude.{◌≡◌, ◌≤◌, length};
 ghost use Rattle.avr_part.specs.PartFile.{line_at};
 

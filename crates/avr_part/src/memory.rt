@@ -5,7 +5,7 @@ ghost use Rattle.avr_part.specs.Memory.{AreLoads, AreBytes, Becomes, nothing_loa
 use std::alloc::{AllocError, Global};
 use std::marker::Model;
 
-/// A page buffer: for each place the byte that was loaded there, if any.
+/// The EEPROM page buffer: for each place the byte that was loaded there, if any.
 #[derive(Drop)]
 pub struct Loads {
     bytes: Vec<Option<u8>>,
@@ -109,7 +109,6 @@ impl Memory {
         self.bytes[start..start + bytes.len()].copy_from_slice(bytes);
     }
 
-    /// ANDs each byte of the page into the bytes from `start` on.
     pub fn and_page(&mut self, start: usize, page: &[u8])
         requires { start + length page.now ≤ length self.old }
         ensures { Becomes AreBytes (map_indexed (byte_and_page start page.now) self.old) (length self.old) self.new }
@@ -129,7 +128,6 @@ impl Memory {
         }
     }
 
-    /// Makes every byte FF.
     pub fn erase(&mut self)
         ensures { Becomes AreBytes (blank self.old) (length self.old) self.new }
     {

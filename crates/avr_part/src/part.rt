@@ -85,7 +85,6 @@ impl Mem {
     }
 }
 
-/// Writes the memory's name.
 impl fmt::Display for Mem {
     ghost output = { λ mem. Some (name_of mem) };
 
@@ -143,7 +142,7 @@ impl Model for Part {
 impl Part {
     ghost use Rattle.avr_part.specs.Part.{size_of, page_of, IsPart};
 
-    /// Returns the id.
+    /// Returns the id: 1 to 31 ASCII letters, digits, `_` and `-`.
     ///
     /// ```text
     /// assert_eq!(rt; Parts::none().find("t85")?.id(), "t85");

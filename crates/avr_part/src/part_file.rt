@@ -1,4 +1,3 @@
-//! The part file.
 ghost use Rattle.std.specs.Prelude.{◌≡◌, ◌≢◌, false, Err, Some, None, IfErr};
 ghost use Rattle.std.specs.Str.{is_utf8};
 ghost use Rattle.std.specs.Str.Lossy.{utf8_valid_len};
@@ -41,7 +40,7 @@ fn judge_document(alloc: Global, document: &Table) -> Result<Vec<Part>, NamedFau
     judge_all(alloc, table)
 }
 
-/// Parses the document; a fault has the line at which the text stops being TOML.
+/// Parses a text as TOML; a fault other than `Memory` has the line at which the text stops being TOML.
 #[tactic(auto, using(crate::proofs::LineCounts::line_within))]
 fn read_document(alloc: Global, text: &str) -> Result<Table, PartFileFault>
     ensures reads { ReadsDocument (parse_document text.now) result }
@@ -61,8 +60,8 @@ fn read_document(alloc: Global, text: &str) -> Result<Table, PartFileFault>
 ///
 /// # Errors
 ///
-/// The first fault, with the id of the part at fault. Parts are read in the byte order of their ids, and a part's
-/// fields in the order of [`Field`].
+/// The first fault, with the id of its part. Parts are read in the byte order of their ids, and a part's fields in the
+/// order of [`Field`].
 /// - [`PartFault::NotToml`]: the text is not UTF-8, or `toml` refuses it; only this fault has a line.
 /// - [`PartFault::Missing`]: a field or the table `parts` is missing.
 /// - [`PartFault::BadValue`]: a field's value has another kind or is out of range, or `parts` or a member of it is no
@@ -86,7 +85,6 @@ pub fn parse_part_file(alloc: Global, text: &[u8]) -> Result<Parts, PartFileFaul
     let text = match str::from_utf8(text) {
         Ok(text) => text,
         Err(error) => {
-            // the line of the first byte that isn't UTF-8
             let line = line_at(text, error.valid_up_to());
             return Err(PartFileFault::not_toml_at(line));
         }

@@ -1,4 +1,4 @@
-//! The parts of a file, and how a part is found.
+//! The parts of a file and the built-in ones.
 ghost use Rattle.std.specs.Prelude.{◌≡◌, ◌++◌, [], IfOk};
 ghost use Rattle.std.specs.Iterator.{YieldsFirst, item_count};
 ghost use Rattle.avr_part.specs.BuiltIn.{built_in_parts, part_of_id};
@@ -9,7 +9,7 @@ use crate::fault::PartFault;
 use crate::part::Part;
 use std::marker::Model;
 
-/// The parts of a part file, if there is one, in the byte order of their ids.
+/// The parts of a part file, if there is one, in the byte order of their ids; then the built-in parts.
 ///
 /// ```text
 /// let part = Parts::none().find("m328p")?;
@@ -57,8 +57,7 @@ impl Parts {
         }
     }
 
-    /// Iterates over the file's parts, then the built-in ones. A built-in part comes even if a part of the file has
-    /// its id.
+    /// Iterates over the file's parts, then all built-in ones, also those whose id a part of the file has.
     ///
     /// ```text
     /// let parts = Parts::none();
@@ -94,7 +93,7 @@ impl Parts {
     }
 }
 
-/// Iterates over parts. Contracts see it as the list of parts left.
+/// Iterates over parts. In contracts its value is the list of parts left.
 ///
 /// ```text
 /// assert_eq!(rt; Parts::none().iter().count(), 3);

@@ -1,4 +1,3 @@
--- The numbers of faults.
 use Rattle.std.specs.Prelude.{ℕ}
 use Rattle.avr_plan.specs.declared.intake.BadFile.{BadFile}
 use Rattle.avr_plan.specs.declared.intake.BadFile.TheVariants.{Record, Raw, Elf, TooLong}

@@ -1,4 +1,4 @@
--- The image in the bytes of a file.
+-- The image that the bytes of a file are.
 use Rattle.std.specs.Prelude.{ℕ, List, length, take, nat_le, Option, Some, None, Result, Ok, Err, if◌then◌else◌}
 use Rattle.avr_cli.specs.declared.update.Format.{Format}
 use Rattle.avr_cli.specs.declared.update.Format.TheVariants as letter
@@ -17,7 +17,7 @@ use Rattle.avr_records.specs.declared.fault.RecordFault.{RecordFault}
 use Rattle.avr_plan.specs.declared.intake.BadFile.{BadFile}
 use Rattle.avr_plan.specs.declared.intake.BadFile.TheVariants.{Record, Raw, Elf, TooLong}
 
--- An image, and whether its file had an end record; or the fault of the file.
+-- an image, and whether its file had an end record; or the fault of the file
 abbrev pub Given : Type 0
 Given = Result (List (Option ℕ) × Ending) BadFile
 
@@ -25,12 +25,12 @@ abbrev pub of_records : Result (List (Option ℕ) × Ending) RecordFault → Giv
 of_records (Ok good) = Ok good
 of_records (Err fault) = Err (Record fault)
 
--- Raw bytes need no end record.
+-- Raw bytes have no end record and need none.
 abbrev pub of_raw : Result (List (Option ℕ)) ImageFault → Given
 of_raw (Ok image) = Ok (image, Ended)
 of_raw (Err fault) = Err (Raw fault)
 
--- What a file of this kind is, for a memory of this size.
+-- The image of a whole file of this kind, for a memory of `size` bytes.
 abbrev pub whole_file : Found → Bytes → ℕ → Given
 whole_file file.Ihex bytes size = of_records (image_in_text records.Ihex bytes size)
 whole_file file.Srec bytes size = of_records (image_in_text records.Srec bytes size)
@@ -41,7 +41,7 @@ abbrev pub or_too_long : Option RecordFault → BadFile
 or_too_long (Some fault) = Record fault
 or_too_long None = TooLong
 
--- The fault of a longer file that begins like this: the first fault of a line that ends there, or its length.
+-- The fault of a longer file that begins with `prefix`: the first fault of a line that ends in it, or `TooLong`.
 abbrev pub long_file : Found → Bytes → ℕ → BadFile
 long_file file.Ihex prefix size = or_too_long (closed_fault records.Ihex prefix size)
 long_file file.Srec prefix size = or_too_long (closed_fault records.Srec prefix size)

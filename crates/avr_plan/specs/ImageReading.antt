@@ -1,4 +1,4 @@
--- What passes at a desk while an image file is read.
+-- What a desk records while an image file is read.
 use Rattle.std.specs.Prelude.{◌≡◌, ◌≤◌, ◌+◌, ℕ, List, ◌++◌, length, Option, Bool, false, Result, Ok, Err, MatchBool}
 use Rattle.avr_cli.specs.declared.update.Format.{Format}
 use Rattle.avr_desk.specs.Fault.{HasSameCounts}
@@ -18,23 +18,20 @@ use Rattle.avr_plan.specs.declared.image_file.ReadFault.TheVariants.{File, Image
 abbrev pub ImageOrFault : Type 0
 ImageOrFault = Result (List (Option ℕ) × Ending) ReadFault
 
--- The result is what the bytes are.
 abbrev pub IsGiven : Given → ImageOrFault → Type 0
 IsGiven given (Ok good) = Ok good ≡ given
 IsGiven given (Err (Image bad)) = Err bad ≡ given
 IsGiven given (Err (File fault)) = ⊥
 
--- How a fault changes the counts of failures.
 abbrev pub IsCountedRead : DeskState → DeskState → ReadFault → Type 0
 IsCountedRead old new (File fault) = IsCounted old new fault
 IsCountedRead old new (Image bad) = HasSameCounts old new
 
--- The open file was read to its end, or far enough to show its format.
+-- The open file was read to its end, or its first 1,024 bytes were read.
 pub record ReadsFirstBytes (old new : DeskState) (prefix : FirstBytes) : Type 0 where
   pub kept : Passes (after_reading prefix.bytes.items prefix.ended) old new
   pub enough : MatchBool prefix.ended (length prefix.bytes.items ≤ 1024) (length prefix.bytes.items ≡ 1024)
 
--- The open file gave some bytes, and no end.
 abbrev pub IsReadInPart : DeskState → DeskState → Type 0
 IsReadInPart old new = (bytes : Bytes) × Passes (after_reading bytes false) old new
 
@@ -42,7 +39,7 @@ abbrev pub FirstBytesAreRead : DeskState → DeskState → Result FirstBytes Fil
 FirstBytesAreRead old new (Ok prefix) = ReadsFirstBytes old new prefix
 FirstBytesAreRead old new (Err fault) = (fault ≡ NotRead) × IsReadInPart old new
 
--- After these bytes the rest of the open file was read, to its end or past the limit. The whole is this.
+-- After `before` the rest of the open file was read, to its end or past the limit. `given` is the image of both.
 pub record ReadsRest (limit : ℕ) (found : Found) (size : ℕ) (before : Bytes) (old new : DeskState)
     (given : Given) : Type 0 where
   pub bytes : Bytes
@@ -56,7 +53,7 @@ RestIsRead limit found size before old new (Ok good) = ReadsRest limit found siz
 RestIsRead limit found size before old new (Err (Image bad)) = ReadsRest limit found size before old new (Err bad)
 RestIsRead limit found size before old new (Err (File fault)) = (fault ≡ NotRead) × IsReadInPart old new
 
--- The file was opened and read to its end or past the limit, and is this.
+-- The file was opened and read to its end or past the limit. `given` is its image.
 pub record ReadsImage (limit : ℕ) (format : Format) (size : ℕ) (name : Bytes) (old new : DeskState)
     (given : Given) : Type 0 where
   pub bytes : Bytes
@@ -70,7 +67,7 @@ ImageIsRead limit format size name old new (Ok good) = ReadsImage limit format s
 ImageIsRead limit format size name old new (Err (Image bad)) = ReadsImage limit format size name old new (Err bad)
 ImageIsRead limit format size name old new (Err (File fault)) = FileBreaks name old new fault
 
--- The open file gave some bytes, which were fed. Together with those left they fill the room.
+-- The open file gave some bytes, and all were fed. Their count and `left` add up to `room`.
 pub record Going (old now : DeskState) (first last : Intake) (room left : ℕ) : Type 0 where
   pub bytes : Bytes
   pub kept : Passes (after_reading bytes false) old now

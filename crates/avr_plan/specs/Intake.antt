@@ -1,4 +1,4 @@
--- The bytes of a file so far, and the texts that they can be.
+-- The state of an image reader, and the text that it was fed.
 use Rattle.std.specs.Prelude.{◌≡◌, ℕ, length, ◌++◌, Err}
 use Rattle.avr_image.specs.Raw as raw_file
 use Rattle.avr_desk.specs.Record.{Bytes}
@@ -17,12 +17,12 @@ abbrev pub found_as : Kind → Found
 found_as records.Ihex = file.Ihex
 found_as records.Srec = file.Srec
 
--- What is reported of a longer file with this fault in its first bytes.
+-- the fault of a longer file with this fault in its first bytes
 abbrev pub in_long_file : BadFile → BadFile
 in_long_file (Record fault) = Record fault
 in_long_file fault = TooLong
 
--- Every file that begins with this text has this fault.
+-- Every file that begins with this text has this fault, whatever follows.
 pub record Decides (found : Found) (size : ℕ) (fault : BadFile) (text : Bytes) : Type 0 where
   pub whole : (more : Bytes) → whole_file found (text ++ more) size ≡ Err fault
   pub long : (more : Bytes) → long_file found (text ++ more) size ≡ in_long_file fault
@@ -37,7 +37,7 @@ pub record TakesRaw (found : Found) (size : ℕ) (reader : raw_file.Holding) (te
   pub of_size : length reader.image ≡ size
   pub stands : raw_file.HoldsText reader text
 
--- It was fed this text, of a file of this kind, for a memory of this size.
+-- The reader was fed this text of a file of this kind, for a memory of `size` bytes.
 abbrev pub Takes : Found → ℕ → Intake → Bytes → Type 0
 Takes found size (intake.Records reader) text = TakesRecords found size reader text
 Takes found size (intake.Raw reader) text = TakesRaw found size reader text

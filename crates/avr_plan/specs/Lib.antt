@@ -1,4 +1,4 @@
--- the definitions that contracts of public calls cite
+-- what contracts of public calls cite
 pub mod Faults
 pub mod Lines
 pub mod ImageFile
@@ -9,7 +9,7 @@ pub mod PlanFaults
 pub mod Taking
 -- inside: representations, and contracts of private functions
 pub mod Intake
--- of the crates below, the definitions that public contracts cite
+-- what they cite of the crates below
 pub use Rattle.avr_desk.specs.Fault
 pub use Rattle.avr_desk.specs.Memory
 pub use Rattle.avr_desk.specs.Playing

@@ -1,4 +1,4 @@
--- The lines of a plan's warnings and refusals.
+-- The lines of warnings and errors while a plan is made.
 use Rattle.std.specs.Prelude.{ℕ, List, [], ◌∷◌, codes, decimal}
 use Rattle.byteorder.specs.Endian.{big_bytes}
 use Rattle.avr_desk.specs.Record.{Bytes}
@@ -27,7 +27,7 @@ no_end_line file = warning (file ∷ codes ": no end record" ∷ [])
 abbrev pub field_pieces : Bytes → Field → Bytes → List Bytes
 field_pieces file field text = file ∷ codes ": " ∷ field_name field ∷ text ∷ []
 
--- No part file has the faults of the last equation.
+-- A part file has no other fault.
 abbrev pub part_file_pieces : Bytes → PartFault → List Bytes
 part_file_pieces file part_fault.NotToml = file ∷ codes ": not TOML" ∷ []
 part_file_pieces file (part_fault.Missing field) = field_pieces file field (codes " is missing")
@@ -54,7 +54,7 @@ line_range_pieces file line address =
     file ∷ codes ": line " ∷ decimal line ∷ codes ": address " ∷ digits (big_bytes 4 address)
     ∷ codes " out of range" ∷ []
 
--- No file that is read in pieces has the faults of the last equation.
+-- A file that is read in pieces has no other fault.
 abbrev pub record_pieces : Bytes → RecordFault → List Bytes
 record_pieces file (record_fault.BadMark line) = in_line_pieces file line (codes ": no record mark")
 record_pieces file (record_fault.BadDigit line) = in_line_pieces file line (codes ": bad digit")
@@ -94,7 +94,7 @@ image_line file fault = error (image_pieces file fault)
 abbrev pub value_pieces : Mem → ℕ → Bytes → List Bytes
 value_pieces memory place text = name_of memory ∷ codes ": value " ∷ decimal place ∷ text ∷ []
 
--- No values have the faults of the last equation.
+-- Values have no other fault.
 abbrev pub values_pieces : Mem → ImageFault → List Bytes
 values_pieces memory (image_fault.OutOfRange address) = range_pieces (name_of memory) address
 values_pieces memory (image_fault.BadNumber place) = value_pieces memory place (codes ": not a number")

@@ -1,4 +1,4 @@
--- The work of a run, after all that it needs was read and judged.
+-- The work of a run, after all that it needs was read and checked.
 use Rattle.std.specs.Prelude.{◌≡◌, true, List, length}
 use Rattle.avr_cli.specs.declared.settings.Switches.{Switches}
 use Rattle.avr_part.specs.Mem.{is_writable}
@@ -11,7 +11,7 @@ pub record Plan : Type 0 where
   pub tasks : List Task
   pub switches : Switches
 
--- An image has the size of its memory, and a memory that is written can be written.
+-- The image of a task has the size of its memory. A memory that the task writes is writable.
 abbrev pub IsFitted : Part → Task → Type 0
 IsFitted part (Write memory image) = (length image ≡ size_of memory part) × (is_writable memory ≡ true)
 IsFitted part (Verify memory image) = length image ≡ size_of memory part

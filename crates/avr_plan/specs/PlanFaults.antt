@@ -1,4 +1,4 @@
--- The line that was printed for each fault of a plan.
+-- The line that is printed for each fault of a plan.
 use Rattle.std.specs.Prelude.{◌≡◌, ℕ, List, Option, Some, None, Result, slice_get}
 use Rattle.std.specs.Result.{result_map_both}
 use Rattle.avr_cli.specs.declared.settings.Settings.{Settings}
@@ -19,7 +19,7 @@ use Rattle.avr_plan.specs.declared.plan_fault.TaskFault.TheVariants.{ReadOnly, V
 abbrev pub with_status : {A E : Type 0} → Result A E → Result A ℕ
 with_status result = result_map_both (λ a. a) (λ fault. 1) result
 
--- This line was printed last and whole, unless a write to the messages failed.
+-- This line was reported last: whole, unless a write to the messages failed.
 abbrev pub LastTold : Bytes → DeskState → DeskState → Type 0
 LastTold line old new = (between : DeskState) × (Follows old between × Tells between new line)
 
@@ -28,12 +28,12 @@ part_file_fault_line file (of_parts.File fault) = file_fault_line file fault
 part_file_fault_line file of_parts.TooLong = too_long_line file LARGEST_PART_FILE
 part_file_fault_line file (of_parts.Parts fault) = part_file_line file fault
 
--- Only a given file has a fault.
+-- Without a part file there is no such fault.
 abbrev pub TellsPartsFault : Option Bytes → DeskState → DeskState → PartsFault → Type 0
 TellsPartsFault (Some file) old new fault = LastTold (part_file_fault_line file fault) old new
 TellsPartsFault None old new fault = ⊥
 
--- For `Unwarned` the line that could not be printed is a warning.
+-- For `Unwarned` no line follows: the warning could not be printed.
 abbrev pub TellsTaskFault : Update → DeskState → DeskState → TaskFault → Type 0
 TellsTaskFault u old new ReadOnly = LastTold (read_only_line u.memory) old new
 TellsTaskFault u old new (Values fault) = LastTold (values_line u.memory fault) old new

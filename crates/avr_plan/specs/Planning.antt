@@ -1,4 +1,4 @@
--- The plan of a run, in order: the part file, the part, and each update with its file.
+-- The stages of a plan in order: the part file, the part, and each update with its file.
 use Rattle.std.specs.Prelude.{ℕ, Bool, false, nat_le, nat_lt, List, [], ◌∷◌, ◌++◌, length, Option, Some, None, Result, Ok, Err, IsErr, if◌then◌else◌}
 use Rattle.avr_desk.specs.Record.{DeskState, Bytes}
 use Rattle.avr_cli.specs.declared.settings.Settings.{Settings}
@@ -48,7 +48,7 @@ abbrev pub part_or_line : Bytes → Result Part PartFault → Result Part Bytes
 part_or_line id (Ok part) = Ok part
 part_or_line id (Err fault) = Err (no_part_line id)
 
--- The part with this id; those of the file come before the built-in ones.
+-- The part with this id. Parts of the file come before the built-in ones.
 abbrev pub part_stage : Bytes → List Part → Stage Part
 part_stage id parts = verdict_stage (part_or_line id (part_of_id id parts))
 
@@ -57,7 +57,7 @@ LacksPart id parts old new = IsErr (part_of_id id parts) × Tells old new (no_pa
 
 -- ---- the image of an update
 
--- A missing end record causes a warning, unless warnings are off.
+-- A missing end record causes a warning, unless `-q` was given twice or more.
 abbrev pub is_warned : Switches → Ending → Bool
 is_warned switches Ended = false
 is_warned switches NoEnd = nat_lt switches.quiet 2
@@ -82,7 +82,7 @@ abbrev pub values_or_line : Mem → Result (List (Option ℕ)) ImageFault → Re
 values_or_line memory (Ok image) = Ok image
 values_or_line memory (Err fault) = Err (values_line memory fault)
 
--- Values are on the command line; any other image is in a file.
+-- Immediate values are on the command line. Any other image is in a file.
 abbrev pub image_stage : Switches → Mem → ℕ → Bytes → Format → Stage (List (Option ℕ))
 image_stage switches memory size file Immediate = verdict_stage (values_or_line memory (values file size))
 image_stage switches memory size file format = file_image_stage switches file format size
@@ -106,7 +106,7 @@ op_stage switches part u op.Read = verdict_stage (Ok (Read u.memory u.format u.f
 abbrev pub task_stage : Switches → Part → Update → Stage Task
 task_stage switches part u = op_stage switches part u u.op
 
--- The tasks so far, and then those of the updates.
+-- `tasks`, then those of the updates
 abbrev pub tasks_stage : Switches → Part → List Task → List Update → Stage (List Task)
 tasks_stage switches part tasks [] = verdict_stage (Ok tasks)
 tasks_stage switches part tasks (u ∷ updates) =

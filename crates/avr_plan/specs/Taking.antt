@@ -1,5 +1,4 @@
--- When a failed allocation may stop a plan while no file is open. If a file is open, avr_desk's `NoMemoryFor`
--- applies.
+-- When a failed allocation may stop a plan while no file is open. If a file is open, the break is `NoMemoryFor`.
 use Rattle.std.specs.Prelude.{◌≡◌, Bool, true, false, List, [], ◌∷◌, ◌++◌, if◌then◌else◌}
 use Rattle.avr_cli.specs.declared.settings.Settings.{Settings}
 use Rattle.avr_cli.specs.declared.settings.Switches.{Switches}
@@ -17,19 +16,18 @@ use Rattle.avr_plan.specs.Plan.{Plan}
 use Rattle.avr_plan.specs.Planning.{planned, tasks_stage}
 use Rattle.avr_plan.specs.declared.planned.Task.{Task}
 
--- The values are on the command line.
 abbrev pub has_values : Format → Bool
 has_values Immediate = true
 has_values format = false
 
--- The image of values is allocated, and the name of the file that a read creates.
+-- An operation allocates the image of immediate values, or the name of the file that a read creates.
 abbrev pub op_takes_memory : Update → Op → Bool
 op_takes_memory u op.Write = if is_writable u.memory then has_values u.format else false
 op_takes_memory u op.Verify = has_values u.format
 op_takes_memory u op.Read = true
 
--- An update that allocates without a file is next. The updates before it were planned from all openings so far, and
--- the output so far is all that their plan has.
+-- The next update, `due`, allocates without a file. The openings and events so far are those of the plan of the
+-- updates before it. Contracts of `plan` give it as the only point of a failed allocation without a file.
 pub record AtUpdate (s : Settings) (passed : List Opening) (said : List OutputEvent) : Type 0 where
   pub done : List Update
   pub due : Update
@@ -40,7 +38,7 @@ pub record AtUpdate (s : Settings) (passed : List Opening) (said : List OutputEv
   pub is_planned : planned (record s { updates = done }) passed
       ≡ record { says = said; answer = Made plan; left = [] }
 
--- inside: the same for the tasks of these updates, which follow other tasks
+-- inside: the same for some updates whose tasks follow others
 pub record AtTask (switches : Switches) (part : Part) (tasks : List Task) (updates : List Update)
     (passed : List Opening) (said : List OutputEvent) : Type 0 where
   pub done : List Update

@@ -1,4 +1,4 @@
-//! Reads an image file over a desk: in pieces to its end, or past the limit, and judges it only then.
+//! Reads an image file over a desk in pieces, and checks it once its end or the limit is reached.
 ghost use Rattle.std.specs.Prelude.{◌≡◌, ◌+◌, ◌<◌, ◌^◌, ℕ, IfErr, OnOk, length};
 ghost use Rattle.avr_desk.specs.Fault.{Follows, HasSameCounts};
 ghost use Rattle.avr_desk.specs.Record.{DeskState, Bytes};
@@ -19,10 +19,9 @@ use avr_records::{Ending, FIRST_BYTES, Found, detect};
 use std::alloc::Global;
 use thiserror::Error;
 
-/// The most bytes of an image file.
 pub(crate) const LARGEST_IMAGE_FILE: usize = 4_194_304;
 
-/// The most bytes read at a time. The file's first bytes are held besides, so 4,096 in all.
+/// The most bytes read at a time. With the file's first bytes, 4,096 bytes are in memory.
 const PIECE: usize = 4096 - FIRST_BYTES;
 
 /// Why a file gave no image. Its text is the reason alone, without the file's name.
@@ -31,7 +30,7 @@ pub enum ReadFault {
     /// The file was not read to its end.
     #[error("{0}")]
     File(FileFault),
-    /// The file was read, and is no image.
+    /// The file was read and is no image.
     #[error("{0}")]
     Image(BadFile),
 }
@@ -55,7 +54,7 @@ pub(crate) struct FirstBytes {
     pub ended: bool,
 }
 
-/// Returns the kind of a file of this format; `Auto` and its like are detected from the first bytes.
+/// Returns the kind of a file. Formats other than Intel HEX, S-record and raw are detected from the first bytes.
 fn file_kind(format: Format, prefix: &[u8]) -> Found
     ensures { result ≡ kind_of format prefix.now }
 {
@@ -104,7 +103,7 @@ fn finish(intake: Intake) -> Result<(Image, Ending), ReadFault>
     }
 }
 
-/// Reads the rest of the open file, of at most `left` bytes, and judges the whole.
+/// Reads the rest of the open file, at most `left` bytes, and checks the whole.
 fn read_rest<D: Desk>(
     desk: &mut D,
     mut intake: Intake,
@@ -135,17 +134,16 @@ fn read_rest<D: Desk>(
 }
 
 /// Reads an image file for a memory of `size` bytes. The file is opened and read to its end, or until more than
-/// 4,194,304 bytes have come, and judged only then. It is read in pieces of at most 3,072 bytes, and at most 4,096
-/// bytes of it are held at a time.
+/// 4,194,304 bytes have come, and checked only then. At most 4,096 bytes of it are in memory at a time.
 ///
-/// The name `-` is standard input. Intel HEX, S-records and raw bytes are read as such. For any other `format` the
-/// first 1,024 bytes show which of these the file is, or that it is ELF. The image has exactly `size` places.
+/// The name `-` is standard input. For a `format` other than Intel HEX, S-record and raw, the first 1,024 bytes show
+/// which of these the file is, or that it is ELF. The image has exactly `size` places.
 ///
 /// # Errors
 ///
 /// `ReadFault::File` if the file doesn't exist, can't be opened or can't be read to its end, or if allocation fails.
 /// Otherwise `ReadFault::Image` with the first fault of the file. In a file past the limit only the lines that end
-/// within the limit are judged; if none has a fault, it is `BadFile::TooLong`.
+/// within the limit are checked; if none has a fault, it is `BadFile::TooLong`.
 ///
 /// ```text
 /// let mut desk = MemDesk::empty(alloc);

@@ -1,4 +1,4 @@
-//! Makes an image from the bytes of a file as they come, or reports why they are no image.
+//! Makes an image from the bytes of a file as they come, or returns why they are no image.
 ghost use Rattle.std.specs.Prelude.{◌≡◌, ◌+◌, ◌<◌, ◌≤◌, ◌^◌, ◌++◌, ℕ, [], length, MatchResult};
 ghost use Rattle.avr_plan.specs.Faults.{bad_file_number};
 ghost use Rattle.avr_desk.specs.Record.{Bytes};
@@ -15,10 +15,10 @@ use thiserror::Error;
 /// Why the bytes of a file are no image of a memory.
 #[derive(Clone, Copy, Debug, Drop, PartialEq, Eq, Error)]
 pub enum BadFile {
-    /// A line of a record file has a fault: the first such line, counted from 1.
+    /// The first line of a record file with a fault; lines count from 1.
     #[error("{0}")]
     Record(RecordFault),
-    /// Raw bytes go past the memory; the address is the first one outside.
+    /// Raw bytes go past the end of the memory. The address is the first one outside.
     #[error("{0}")]
     Raw(ImageFault),
     /// The file is an executable in the ELF format.
@@ -43,7 +43,7 @@ impl BadFile {
     }
 }
 
-/// The bytes of a file so far: a reader, or the fault that it met.
+/// The state after the bytes of a file so far: a reader, or the first fault.
 #[derive(Drop)]
 pub(crate) enum Intake {
     Records(RecordReader),
@@ -61,7 +61,7 @@ fn record_intake(alloc: Global, kind: Kind, size: u32) -> Result<Intake, FileFau
     }
 }
 
-/// Returns the fault of a file that is too long and has this fault in its first bytes.
+/// Returns the fault of a file that is too long and has `fault` in its first bytes.
 fn in_long_file(fault: BadFile) -> BadFile
     ensures { result ≡ in_long_file fault }
 {
@@ -87,7 +87,7 @@ impl Intake {
         }
     }
 
-    /// Takes the next bytes of the file. The first fault is kept.
+    /// Feeds the next bytes of the file. After a fault, more bytes change nothing.
     pub(crate) fn fed(self, piece: &[u8]) -> Intake
         requires { fed_count self + length piece.now < 2 ^ 32 }
         ensures takes { (found : AnyFound) (size : ℕ) (text : Bytes) → Takes found size self text
@@ -121,7 +121,7 @@ impl Intake {
         }
     }
 
-    /// Returns the fault of a longer file that begins with these bytes.
+    /// Returns the fault of a longer file that begins with the bytes fed.
     pub(crate) fn exceeded(self) -> BadFile
         ensures { (found : AnyFound) (size : ℕ) (text : Bytes) → Takes found size self text
             → result ≡ long_file found text size }

@@ -1,8 +1,7 @@
-//! The plan of a run: reads and judges all that the settings ask for, before any frame is sent or file created.
+//! The plan of a run: reads and checks all that the settings ask for, before any frame is sent or file created.
 //!
-//! The rules are those of AVRDUDE's `-U`. A part is looked up in the part file, then in the built-in parts, and the
-//! file of each update becomes an image of its memory. Planning is a function of what the openings of files give, and
-//! a call returns that function of the openings that passed.
+//! The rules are those of AVRDUDE's `-U`. A part is looked up in the part file, then in the built-in parts. The file of
+//! each update becomes an image of its memory. A plan is a function of what the openings of files give.
 //!
 //! ```text
 //! let mut desk = MemDesk::empty(alloc);
@@ -13,15 +12,11 @@
 //! ```
 #![tactic(auto)]
 
-// an image file, read to its end or past its limit
 mod image_file;
 mod intake;
-// the part, and the image of an update
 mod part_choice;
 mod update_image;
-// the tasks of a run
 mod planned;
-// the plan, or why there is none
 mod messages;
 mod plan_fault;
 mod planning;

@@ -1,4 +1,3 @@
-//! The messages of refusals.
 ghost use Rattle.std.specs.Prelude.{◌≡◌};
 ghost use Rattle.avr_plan.specs.Lines.{bad_file_pieces, field_pieces, image_pieces, in_line_pieces, line_range_pieces, no_part_pieces, part_file_pieces, range_pieces, raw_pieces, read_only_pieces, record_pieces, value_pieces, values_pieces};
 
@@ -28,7 +27,7 @@ pub(crate) fn part_file_message<'a>(file: &'a str, fault: PartFault) -> Message<
         PartFault::Missing(field) => field_message(file, field, " is missing"),
         PartFault::BadValue(field) => field_message(file, field, " has a bad value"),
         PartFault::BadSizes => Message::about(file, ": sizes do not fit"),
-        // no part file has the other faults; they mean that allocation failed
+        // A part file has no other fault, except that allocation failed.
         _ => memory_message(),
     }
 }
@@ -75,7 +74,7 @@ fn record_message<'a>(file: &'a str, fault: RecordFault) -> Message<'a>
         RecordFault::OutOfRange(line, address) => line_range_message(file, line, address),
         RecordFault::LineTooLong(line) => in_line_message(file, line, ": line too long"),
         RecordFault::BadCount(line) => in_line_message(file, line, ": bad record count"),
-        // no file that is read in pieces has these
+        // A file that is read in pieces has none of these, unless allocation fails.
         RecordFault::Failed | RecordFault::Memory | RecordFault::TooLong => memory_message(),
     }
 }
@@ -96,7 +95,7 @@ fn raw_message<'a>(file: &'a str, fault: ImageFault) -> Message<'a>
 {
     match fault {
         ImageFault::OutOfRange(address) => range_message(file, address),
-        // no raw file has the others
+        // A raw file has no other fault, except that allocation failed.
         _ => memory_message(),
     }
 }
@@ -139,7 +138,7 @@ pub(crate) fn values_message(memory: Mem, fault: ImageFault) -> Message<'static>
         ImageFault::OutOfRange(address) => range_message(memory.name(), address),
         ImageFault::BadNumber(place) => value_message(memory, place, ": not a number"),
         ImageFault::TooLarge(place) => value_message(memory, place, ": above 255"),
-        // no values have these, unless allocation fails
+        // Values have none of these, unless allocation fails.
         ImageFault::Failed | ImageFault::Memory | ImageFault::OtherSize => memory_message(),
     }
 }

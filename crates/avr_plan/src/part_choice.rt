@@ -1,4 +1,4 @@
-//! The part: reads and judges the part file, and looks the part up.
+//! Reads and checks the part file, and looks up the part.
 ghost use Rattle.std.specs.Prelude.{◌≡◌, false, [], None, Ok, IfErr};
 ghost use Rattle.avr_plan.specs.PlanFaults.{TellsPartsFault, with_status};
 ghost use Rattle.avr_plan.specs.Planning.{LacksPart, parts_stage, part_stage};
@@ -18,8 +18,8 @@ const LARGEST_PART_FILE: usize = 65_536;
 ///
 /// # Errors
 ///
-/// The file has at most 65,536 bytes. A fault is returned if it can't be read, is longer or isn't a part file, or if
-/// allocation fails. The fault's line was printed, as far as the desk takes it.
+/// A fault if the file can't be read, has more than 65,536 bytes or isn't a part file, or if allocation fails. Its line
+/// was printed, as far as the desk takes it.
 pub fn given_parts<D: Desk>(
     alloc: Global,
     desk: &mut D,
@@ -56,12 +56,11 @@ pub fn given_parts<D: Desk>(
     }
 }
 
-/// Returns the part with this id. The parts of the part file come before the built-in ones.
+/// Returns the part with this id. `parts` come before the built-in ones.
 ///
 /// # Errors
 ///
-/// The status 1 if no part has this id. The line `avrstk: error: no part ID` was printed, as far as the desk takes
-/// it.
+/// The status 1 if no part has this id. The line `avrstk: error: no part ID` was printed, as far as the desk takes it.
 ///
 /// ```text
 /// let mut desk = MemDesk::empty(alloc);

@@ -1,4 +1,3 @@
-//! Why there is no plan, as a value.
 ghost use Rattle.std.specs.Prelude.{◌≡◌};
 ghost use Rattle.avr_plan.specs.Faults.{parts_fault_number, plan_fault_number, task_fault_number};
 
@@ -17,7 +16,7 @@ pub enum PartsFault {
     /// The file has more than 65,536 bytes.
     #[error("longer than 65536 bytes")]
     TooLong,
-    /// The file was read, and isn't a part file.
+    /// The file was read and isn't a part file.
     #[error("{0}")]
     Parts(PartFault),
 }
@@ -35,7 +34,7 @@ impl PartsFault {
     }
 }
 
-/// Why an update is refused. Its text is the reason alone, without memory and file.
+/// Why an update is refused. Its text is the reason alone, without the names of memory and file.
 #[derive(Clone, Copy, Debug, PartialEq, Eq, Error)]
 pub enum TaskFault {
     /// The memory can't be written.
@@ -50,7 +49,7 @@ pub enum TaskFault {
     /// Allocation failed.
     #[error("out of memory")]
     Memory,
-    /// The warning about a missing end record could not be printed.
+    /// The warning about a missing end record couldn't be printed.
     #[error("a warning could not be printed")]
     Unwarned,
 }

@@ -1,4 +1,3 @@
-//! The work of a run: a part, and tasks in order.
 ghost use Rattle.std.specs.Prelude.{◌≡◌, All};
 ghost use Rattle.avr_plan.specs.Plan.{IsFitted};
 
@@ -14,17 +13,15 @@ pub enum Task {
     Write(Mem, Image),
     /// Compares the memory with the bytes of the image.
     Verify(Mem, Image),
-    /// Reads the memory, and writes it to a file that is created then.
+    /// Reads the memory and writes it to a file, which is created only then.
     Read {
         memory: Mem,
-        /// The format of the file.
         format: Format,
         /// The file's name as given; `-` is standard output.
         file: Text,
     },
 }
 
-/// The tasks in order. Contracts see the list.
 #[derive(Debug, Drop)]
 pub(crate) struct Tasks {
     items: Vec<Task>,
@@ -53,7 +50,7 @@ impl Tasks {
     }
 }
 
-/// The work of a run. All that it needs was read and judged.
+/// The work of a run: a part, tasks in order, and switches. All that it needs was read and checked.
 #[derive(Debug, Drop)]
 pub struct Plan {
     part: Part,
@@ -91,15 +88,14 @@ impl Plan {
         &self.part
     }
 
-    /// Returns the tasks in the order given. Each image has the size of its memory.
+    /// Returns the tasks in the order of the updates. Each image has the size of its memory.
     pub fn tasks(&self) -> &[Task]
         ensures value { result.now ≡ self.now.tasks }
     {
         self.tasks.as_slice()
     }
 
-    /// States that each image has the size of its memory, and that what is written can be written. It is a law, and no
-    /// code.
+    /// A law, without code: each image has the size of its memory, and each memory to write is writable.
     pub fn is_sound(&self)
         ensures { All (IsFitted self.now.part) self.now.tasks }
     {

@@ -1,4 +1,3 @@
-//! Makes the plan of a run: reads and judges all that it needs, before any frame is sent.
 ghost use Rattle.std.specs.Prelude.{◌≡◌, ◌<◌, [], None, All, IfOk, IfErr, IsOk, OnOk, vec_len, vec_capacity};
 ghost use Rattle.avr_plan.specs.Plan.{IsFitted};
 ghost use Rattle.avr_plan.specs.PlanFaults.{TellsPlanFault, TellsTaskFault, TellsTasksFault, with_status};
@@ -95,8 +94,8 @@ fn update_tasks<D: Desk>(
 ///
 /// # Errors
 ///
-/// The first of these, after its line as far as the desk takes it. `PartFile` if the part file gives no parts.
-/// `NoPart` if no part has the id. `Update` with the place of an update, from 0, and its [`TaskFault`].
+/// The first fault. Its line was printed, as far as the desk takes it. `PartFile` if the part file gives no parts;
+/// `NoPart` if no part has the id; `Update` with the number of an update, from 0, and its [`TaskFault`].
 ///
 /// ```text
 /// let mut settings = Settings::for_link(alloc, "m328p")?;
@@ -140,16 +139,16 @@ pub fn plan_or_fault<D: Desk>(
     Ok(Plan::new(part, tasks, switches))
 }
 
-/// Makes the plan of a run: reads and judges the part file, finds the part, and then reads and judges the file of
-/// each update in order. Warns about a missing end record, unless warnings are off.
+/// Makes the plan of a run: reads the part file, finds the part, and then reads the file of each update in order. Warns
+/// about a missing end record, unless warnings are off.
 ///
-/// Every file is opened anew and read to its end, or past its limit, before it is judged. No file is created.
+/// Each file is opened anew, read to its end or past its limit, and then checked. No file is created.
 ///
 /// # Errors
 ///
-/// The status is always 1. The first refusal prints its line, as far as the desk takes it, and nothing more is
-/// opened. This is also so if the desk fails or allocation fails. Allocation happens while a file is read, and at the
-/// start of an update that has values or reads a memory.
+/// The status 1 if the settings can't be met, the desk fails or allocation fails. The line about it was printed, as far
+/// as the desk takes it, and nothing more was opened. Allocation happens while a file is read, and at the start of an
+/// update that has values or reads a memory.
 pub fn plan<D: Desk>(alloc: Global, settings: &Settings, desk: &mut D) -> Result<Plan, u8>
     ensures goes { Goes (AtUpdate settings.now) (planned settings.now) (D.view desk.old)
         (D.view desk.new) result }

@@ -1,4 +1,3 @@
-//! The image of an update, from a file or from values on the command line.
 ghost use Rattle.std.specs.Prelude.{◌≡◌, ◌<◌, false, length, IfErr, IfOk, OnOk, vec_len, vec_capacity};
 ghost use Rattle.avr_part.specs.Part.{size_of};
 ghost use Rattle.avr_cli.specs.declared.update.Update.{Update as AnyUpdate};
@@ -20,7 +19,6 @@ use avr_part::Part;
 use avr_records::Ending;
 use std::alloc::Global;
 
-/// Returns whether the ending of a file causes a warning: no end record came, and warnings are not off.
 fn is_warned(switches: Switches, ending: Ending) -> bool
     ensures { result ≡ is_warned switches ending }
 {
@@ -52,7 +50,7 @@ fn warn_of_ending<D: Desk>(
     }
 }
 
-/// Reads the image in a file. It makes room for the task as soon as the file is read.
+/// Reads the image in a file, and makes room for its task as soon as the file is read.
 fn file_image<D: Desk>(
     alloc: Global,
     desk: &mut D,

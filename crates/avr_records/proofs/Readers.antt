@@ -1,4 +1,4 @@
--- What a reader holds of the lines that it was fed, and which fault is first.
+-- What a reader keeps of the lines that it was fed, and which fault is first.
 pub mod LaterLines
 pub mod Held
 pub mod Fed

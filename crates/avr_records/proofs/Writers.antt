@@ -1,4 +1,4 @@
--- The written texts, and that they read back.
+-- Written texts are those of the definitions, and read back.
 pub mod Pieces
 pub mod Lines
 pub mod Reread

@@ -1,4 +1,4 @@
--- The lines of a text that a line end has closed, and their first fault.
+-- The first fault of the lines that have ended. `RecordReader::feed` returns it.
 use Rattle.std.specs.Prelude.{ℕ, List, [], ◌∷◌, map, Option, Some, None, Result, Ok, Err}
 use Rattle.avr_records.specs.Lines.{lines}
 use Rattle.avr_records.specs.Reading.{Said, up_to_end, in_place, first_fault, said_by_line}
@@ -10,11 +10,11 @@ all_but_last [] = []
 all_but_last (line ∷ []) = []
 all_but_last (line ∷ next ∷ more) = line ∷ all_but_last (next ∷ more)
 
--- the first fault of some lines, up to an end record
+-- The first fault of some lines. Lines after an end record don't count.
 abbrev pub fault_among : ℕ → List Said → Option RecordFault
 fault_among size said = first_fault size (in_place [] (up_to_end said))
 
--- the first fault of a file's closed lines, for a memory of this size
+-- The first fault of the text's ended lines, for a memory of this size.
 abbrev pub closed_fault : Kind → List ℕ → ℕ → Option RecordFault
 closed_fault kind text size = fault_among size (map (said_by_line kind) (all_but_last (lines text)))
 

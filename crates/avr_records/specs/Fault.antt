@@ -1,4 +1,4 @@
--- Numbers, lines and addresses of faults.
+-- The number, line and address of a fault, as `RecordFault` returns them.
 use Rattle.std.specs.Prelude.{ℕ, Option, Some, None}
 use Rattle.avr_records.specs.declared.fault.RecordFault.{RecordFault}
 use Rattle.avr_records.specs.declared.fault.RecordFault.TheVariants.{BadMark, BadDigit, BadLength, BadSum, BadType, OutOfRange, LineTooLong, BadCount, Failed, Memory, TooLong}
@@ -16,7 +16,7 @@ fault_number Failed = 9
 fault_number Memory = 10
 fault_number TooLong = 11
 
--- the line at fault, if there is one
+-- The 1-based line at fault. It is `None` for faults of no line.
 abbrev pub fault_line_number : RecordFault → Option ℕ
 fault_line_number (BadMark line) = Some line
 fault_line_number (BadDigit line) = Some line
@@ -30,7 +30,7 @@ fault_line_number Failed = None
 fault_line_number Memory = None
 fault_line_number TooLong = None
 
--- the address outside the memory, if there is one
+-- The byte address outside the memory, of `OutOfRange` alone.
 abbrev pub fault_address : RecordFault → Option ℕ
 fault_address (OutOfRange line addr) = Some addr
 fault_address fault = None

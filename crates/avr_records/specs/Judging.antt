@@ -1,4 +1,4 @@
--- What the code finds in a line.
+-- What private functions return for a line, as the records and meanings of the definitions.
 use Rattle.std.specs.Prelude.{◌≡◌, ℕ, ◌+◌, ◌%◌, ◌<◌, ◌≤◌, List, length, fold, Result, Ok, Err, MatchResult}
 use Rattle.avr_records.specs.Record.{RecordFields}
 use Rattle.avr_records.specs.Meaning.{Meaning}
@@ -13,12 +13,12 @@ use Rattle.avr_records.specs.declared.line.Line.TheVariants as line
 abbrev pub record_of : LineRecord → RecordFields
 record_of r = record { type = r.record_type; address = r.address; bytes = r.bytes.now }
 
--- Bounds of the fields: a line has at most 255 data bytes, and Intel HEX offsets have 16 bits.
+-- The fields are in their bounds: at most 255 data bytes, and an Intel HEX offset has 16 bits.
 abbrev pub FitsFields : Kind → LineRecord → Type 0
 FitsFields Ihex r = (r.address < 65536) × (length r.bytes.now ≤ 255)
 FitsFields Srec r = length r.bytes.now ≤ 255
 
--- fields that fit, of the record that is there, or its fault
+-- The call returns the wanted record, with fields in their bounds, or the wanted fault.
 abbrev pub Finds : Kind → Result RecordFields LineFault → Result LineRecord LineFault → Type 0
 Finds kind want result =
     MatchResult result (λ found. (want ≡ Ok (record_of found)) × FitsFields kind found) (λ fault. want ≡ Err fault)
@@ -30,13 +30,12 @@ meaning_of (line.Rebase base) = said.Rebase base
 meaning_of (line.Counted n) = said.Counted n
 meaning_of line.End = said.End
 
--- Bounds of the addresses by kind: Intel HEX has small offsets; S-records have no base.
+-- The meaning is one of this kind of file: offsets of Intel HEX have 16 bits, and S-records set no base.
 abbrev pub FitsKind : Kind → Line → Type 0
 FitsKind Ihex (line.Data offset bytes) = (offset < 65536) × (length bytes.now ≤ 255)
 FitsKind Srec (line.Data offset bytes) = length bytes.now ≤ 255
 FitsKind Srec (line.Rebase base) = ⊥
 FitsKind kind line = Unit {0}
 
--- the sum modulo 256, byte by byte
 abbrev pub low_sum : List ℕ → ℕ
 low_sum = fold (λ total byte. (total + byte) % 256) 0

@@ -1,4 +1,4 @@
--- The record of a line.
+-- The record of a line of either kind. `read_record` returns it.
 use Rattle.std.specs.Prelude.{ℕ, List, Result}
 use Rattle.avr_records.specs.Record.{RecordFields, unless_long}
 use Rattle.avr_records.specs.Ihex.{ihex_line}
@@ -7,11 +7,11 @@ use Rattle.avr_records.specs.declared.kind.Kind.{Kind}
 use Rattle.avr_records.specs.declared.kind.Kind.TheVariants.{Ihex, Srec}
 use Rattle.avr_records.specs.declared.fault.LineFault.{LineFault}
 
--- without blanks at its end
+-- The record of a line without blanks at its end.
 abbrev pub bare_record : Kind → List ℕ → Result RecordFields LineFault
 bare_record Ihex = ihex_line
 bare_record Srec = srec_line
 
--- with blanks at its end
+-- The record of a line. Blanks at its end are cut off first.
 abbrev pub line_record : Kind → List ℕ → Result RecordFields LineFault
 line_record kind = unless_long (bare_record kind)

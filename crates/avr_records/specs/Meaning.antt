@@ -1,4 +1,4 @@
--- What a record means for its file.
+-- What the record of a line means for its file.
 use Rattle.std.specs.Prelude.{ℕ, ◌+◌, ◌*◌, ◌==◌, nat_le, List, [], ◌∷◌, if◌then◌else◌}
 use Rattle.avr_records.specs.Record.{RecordFields}
 use Rattle.avr_records.specs.declared.kind.Kind.{Kind}
@@ -6,8 +6,8 @@ use Rattle.avr_records.specs.declared.kind.Kind.TheVariants.{Ihex, Srec}
 use Rattle.avr_records.specs.declared.kind.AddressBase.{AddressBase}
 use Rattle.avr_records.specs.declared.kind.AddressBase.TheVariants.{Linear, Segment}
 
--- Nothing that counts, such as a header or a start address; bytes at an offset; a new base; how many data records
--- came before; the end.
+-- Nothing that counts (a header or a start address), bytes at an offset, a new base, how many data records came
+-- before, or the end.
 pub data Meaning : Type 0 where
   Nothing : Meaning
   Data : ℕ → List ℕ → Meaning
@@ -15,7 +15,7 @@ pub data Meaning : Type 0 where
   Counted : ℕ → Meaning
   End : Meaning
 
--- a base from the two bytes of its record, high byte first
+-- The base of a record's two bytes, high byte first.
 abbrev pub rebase : (ℕ → AddressBase) → List ℕ → Meaning
 rebase base (high ∷ low ∷ []) = Rebase (base (high * 256 + low))
 rebase base bytes = Nothing

@@ -1,4 +1,4 @@
--- What the ended lines of a record file leave, as a reader holds it.
+-- What a reader keeps of the lines that have ended.
 use Rattle.std.specs.Prelude.{ℕ, ◌≡◌, List, [], length, count_by, None}
 use Rattle.std.specs.List.{list_any}
 use Rattle.avr_image.specs.Image.{image_of_pairs}
@@ -10,7 +10,7 @@ use Rattle.avr_records.specs.declared.progress.Progress.{Progress}
 abbrev pub image_size : Progress → ℕ
 image_size p = length p.image
 
--- What these lines leave, if none is at fault in a memory of this size and only the last may be an end record.
+-- The extent is that of these lines. None is at fault in a memory of this size, and only the last may be an end record.
 pub record IsExtentOf (size : ℕ) (e : Extent) (said : List Said) : Type 0 where
   pub no_fault : first_fault size (in_place [] said) ≡ None
   pub end : e.end ≡ end_of (all_placed said)
@@ -19,7 +19,7 @@ pub record IsExtentOf (size : ℕ) (e : Extent) (said : List Said) : Type 0 wher
   pub lines : e.lines ≡ length said
   pub ended : e.ended ≡ list_any is_end said
 
--- What these lines leave, up to an end record among them, with their bytes.
+-- The extent and image are those of these lines, up to an end record among them.
 pub record Holds (p : Progress) (said : List Said) : Type 0 where
   pub extent : IsExtentOf (image_size p) p.extent (up_to_end said)
   pub image : p.image ≡ image_of_pairs (image_size p) (all_placed (up_to_end said))

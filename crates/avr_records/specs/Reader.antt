@@ -1,4 +1,4 @@
--- What a reader of record files holds, and the texts that it may have been fed.
+-- The state of a `RecordReader`, and the texts that it may have been fed.
 use Rattle.std.specs.Prelude.{ℕ, Bool, false, ◌≡◌, ◌+◌, List, [], ◌∷◌, ◌++◌, length, map, take}
 use Rattle.avr_records.specs.Lines.{lines}
 use Rattle.avr_records.specs.Progress.{Holds, image_size}
@@ -7,12 +7,12 @@ use Rattle.avr_records.specs.Record.{longest}
 use Rattle.avr_records.specs.declared.kind.Kind.{Kind}
 use Rattle.avr_records.specs.declared.progress.Progress.{Progress}
 
--- what is kept of an unfinished line: enough to show that it is too long
+-- What is kept of an unfinished line: enough to show that it is too long.
 abbrev pub kept : List ℕ → List ℕ
 kept = take (longest + 1)
 
--- What the ended lines of the text leave, none of them at fault, and what is kept of the last one. After an end
--- record nothing has to be kept.
+-- The state is that after this text: no ended line is at fault, and `part` is kept of the last line. After an end
+-- record `part` doesn't count.
 pub record ReadsLines (kind : Kind) (progress : Progress) (part text : List ℕ) : Type 0 where
   pub prefix : List (List ℕ)
   pub last : List ℕ
@@ -20,8 +20,8 @@ pub record ReadsLines (kind : Kind) (progress : Progress) (part text : List ℕ)
   pub holds : Holds progress (map (said_by_line kind) prefix)
   pub keeps : progress.extent.ended ≡ false → part ≡ kept last
 
--- What a reader holds: the kind of file; what the lines so far leave, and what is kept of the last one; the count of
--- bytes; whether it has failed.
+-- The state of a reader: its kind of file, what it keeps of the ended lines and of the last one, how many bytes it was
+-- fed, and whether it has failed.
 pub record ReaderState : Type 0 where
   pub kind : Kind
   pub progress : Progress
@@ -29,16 +29,17 @@ pub record ReaderState : Type 0 where
   pub fed : ℕ
   pub failed : Bool
 
+-- The size of the memory that the reader reads into.
 abbrev pub memory_size : ReaderState → ℕ
 memory_size s = image_size s.progress
 
--- The reader may have been fed this text, and has not failed.
+-- The reader may have been fed this text, and has not failed. Contracts of `RecordReader` speak of such texts.
 pub record StandsFor (s : ReaderState) (text : List ℕ) : Type 0 where
   pub reads : ReadsLines s.kind s.progress s.part text
   pub fed : s.fed ≡ length text
   pub sound : s.failed ≡ false
 
--- A reader for this kind of file and this size of memory that was fed nothing.
+-- `RecordReader::new` returns such a reader: of this kind and size of memory, and fed nothing.
 pub record IsNewReader (kind : Kind) (size : ℕ) (s : ReaderState) : Type 0 where
   pub of_kind : s.kind ≡ kind
   pub of_size : memory_size s ≡ size

@@ -1,4 +1,4 @@
--- The record files of memories with gaps: only the bytes that are there.
+-- The record files of memories with gaps: what `Writer` and `Cursor` write.
 use Rattle.std.specs.Prelude.{◌≡◌, ℕ, ◌+◌, ◌/◌, ◌%◌, ◌-◌, ◌^◌, ◌≤◌, ◌==◌, List, [], ◌∷◌, ◌++◌, length, flat_map, map, replicate, Option, Some, None, Ok, if◌then◌else◌}
 use Rattle.avr_image.specs.Image.{HoldsBytes, empty}
 use Rattle.avr_image.specs.Runs.{runs}
@@ -9,26 +9,26 @@ use Rattle.avr_records.specs.declared.kind.Kind.{Kind}
 use Rattle.avr_records.specs.declared.kind.Kind.TheVariants.{Ihex, Srec}
 use Rattle.avr_records.specs.declared.kind.Ending.TheVariants.{Ended}
 
--- bytes at addresses below 2 to the power 32
+-- All bytes are below 256, at addresses below 2 to the power 32. Contracts of `Sparse` promise it.
 pub record IsMemory (image : List (Option ℕ)) : Type 0 where
   pub short : length image ≤ 2 ^ 32
   pub bytes : HoldsBytes image
 
--- the memory that holds these bytes from `base` on, and ends with the last of them
+-- The memory that holds these bytes from `base` on, and ends with the last of them: that of a `Run`.
 abbrev pub run_at : ℕ → List ℕ → List (Option ℕ)
 run_at base [] = []
 run_at base (b ∷ bs) = replicate base None ++ map (λ byte. Some byte) (b ∷ bs)
 
--- the rows of each run, one run after the other
+-- The rows of each run, one run after the other.
 abbrev pub rows_of : (ℕ → ℕ) → List (ℕ × List ℕ) → List (ℕ × List ℕ)
 rows_of size = flat_map (λ run. rows size run.0 run.1)
 
--- the most bytes of a row at an address
+-- The most bytes of a row at this address.
 abbrev pub row_size : Kind → ℕ → ℕ
 row_size Ihex addr = ihex_row_size addr
 row_size Srec addr = 32
 
--- the upper half of an address, if an Intel HEX record has to set it
+-- The upper 16 bits of an address, if a record of Intel HEX has to set them.
 abbrev pub new_upper : Kind → ℕ → ℕ → Option ℕ
 new_upper Ihex in_force addr = if addr / 65536 == in_force then None else Some (addr / 65536)
 new_upper Srec in_force addr = None
@@ -37,23 +37,24 @@ abbrev pub row_text : Kind → AddressSize → ℕ → List ℕ → List ℕ
 row_text Ihex size addr bytes = ihex_record 0 (addr % 65536) bytes
 row_text Srec size addr bytes = srec_record (width_of size - 1) (low_bytes (width_of size) addr ++ bytes)
 
--- the data records and the end record, with this upper half in force (Intel HEX) or this size of addresses
--- (S-records)
+-- The data records and the end record. Intel HEX begins with these upper 16 bits of the address in force, and
+-- S-records have addresses of this size.
 abbrev pub file_rows : Kind → ℕ → AddressSize → List (ℕ × List ℕ) → List ℕ
 file_rows Ihex upper size rows = ihex_rows upper rows
 file_rows Srec upper size rows = srec_rows size rows
 
--- the last address that holds a byte, else `last`; the image begins at `addr`
+-- The last address that holds a byte, or `last` if none does. The image begins at `addr`.
 abbrev pub last_held : ℕ → ℕ → List (Option ℕ) → ℕ
 last_held last addr [] = last
 last_held last addr (None ∷ image) = last_held last (addr + 1) image
 last_held last addr (Some b ∷ image) = last_held addr (addr + 1) image
 
+-- The whole record file of a memory: what `Writer` writes and `avr_records_length` measures.
 abbrev pub image_text : Kind → List (Option ℕ) → List ℕ
 image_text kind image =
     file_rows kind 0 (address_size (last_held 0 0 image)) (rows_of (row_size kind) (runs 0 image))
 
--- The file of a memory reads back, into one at least as large, as the memory with its gaps and the end record.
+-- The file of a memory reads back, into one at least as large, as the same bytes and gaps with the end record.
 abbrev pub ReadsBack : Kind → Type 0
 ReadsBack kind =
     (image : List (Option ℕ)) (more : ℕ) → length image ≤ 2 ^ 32 → HoldsBytes image

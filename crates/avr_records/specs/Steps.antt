@@ -1,4 +1,4 @@
--- How one line changes what the lines before it leave.
+-- How one line changes what a reader keeps.
 use Rattle.std.specs.Prelude.{ℕ, true, false, ◌+◌, ◌≡◌, ◌≤◌, List, Option, Some, None, Result, Ok, Err, IsSome, MatchResult, OnOk, if◌then◌else◌}
 use Rattle.avr_image.specs.Image.{laid_over}
 use Rattle.avr_records.specs.Fault.{fault_line_number}
@@ -29,7 +29,7 @@ abbrev pub extent_unless : Option LineFault → Extent → Result Extent RecordF
 extent_unless (Some fault) new = Err (in_line new.lines fault)
 extent_unless None new = Ok new
 
--- what one more line leaves, or its fault
+-- The extent after one more line, or the line's fault.
 abbrev pub next_extent : ℕ → Extent → Said → Result Extent RecordFault
 next_extent size e said = extent_unless (fault_under size e.base e.data_records said) (extended e said)
 
@@ -37,28 +37,28 @@ abbrev pub with_extent : Progress → Said → Result Extent RecordFault → Res
 with_extent p said (Err fault) = Err fault
 with_extent p said (Ok e) = Ok (record { extent = e; image = laid_over p.image (placed_under p.extent.base said) })
 
--- the same with the image; nothing counts after an end record
+-- Extent and image after one more line, or the line's fault. After an end record a line changes nothing.
 abbrev pub next_progress : Progress → Said → Result Progress RecordFault
 next_progress p said = if p.extent.ended then Ok p else with_extent p said (next_extent (image_size p) p.extent said)
 
 abbrev pub ending_of : Extent → Ending
 ending_of e = if e.ended then Ended else NoEnd
 
--- S-records have no base
+-- A base that lines of this kind may set. S-records set none.
 abbrev pub HasBase : Kind → AddressBase → Type 0
 HasBase Ihex base = Unit {0}
 HasBase Srec base = base ≡ Linear 0
 
--- a fault with a line
+-- The fault has a line.
 abbrev pub IsLineFault : RecordFault → Type 0
 IsLineFault fault = IsSome (fault_line_number fault)
 
--- what keeps addresses and counts in range
+-- Keeps the code's addresses and counts in range.
 pub record InRange (kind : Kind) (e : Extent) : Type 0 where
   pub base : HasBase kind e.base
   pub counts : e.data_records ≤ e.lines
 
--- a reader takes its next line
+-- The call reads the next line and changes the state by it, or returns the line's fault.
 pub record TakesOne (kind : Kind) (p : Progress) (line : List ℕ) (new : Progress) (result : Result Unit RecordFault)
     : Type 0 where
   pub step : MatchResult result (λ _. next_progress p (said_by_line kind line) ≡ Ok new)

@@ -1,4 +1,4 @@
--- The text that a writer has still to make.
+-- The text that a writer has not written yet.
 use Rattle.std.specs.Prelude.{ℕ, Bool, true, false, List, [], drop, Option}
 use Rattle.avr_image.specs.Runs.{runs}
 use Rattle.avr_records.specs.Sparse.{file_rows, row_size, rows_of}
@@ -6,16 +6,15 @@ use Rattle.avr_records.specs.declared.address_size.AddressSize.{AddressSize}
 use Rattle.avr_records.specs.declared.cursor.Cursor.{Cursor}
 use Rattle.avr_records.specs.declared.kind.Kind.{Kind}
 
--- the records of a memory from an address on
+-- The records of a memory from an address on.
 abbrev pub text_from : Kind → ℕ → AddressSize → ℕ → List (Option ℕ) → List ℕ
 text_from kind upper size addr image = file_rows kind upper size (rows_of (row_size kind) (runs addr (drop addr image)))
 
--- a text, unless the end record was written
 abbrev pub unless_ended : Bool → List ℕ → List ℕ
 unless_ended true text = []
 unless_ended false text = text
 
--- what a cursor has still to write
+-- The text that is left at a cursor. Contracts of `Cursor`, `Writer` and of the library for C cite it.
 abbrev pub left : Cursor → List (Option ℕ) → List ℕ
 left cursor image =
     unless_ended cursor.ended (text_from cursor.kind cursor.upper cursor.address_size cursor.addr image)

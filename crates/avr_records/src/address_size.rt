@@ -1,9 +1,9 @@
-//! How many bytes an S-record's address has.
+//! The size of S-records' addresses, by the highest one.
 
 ghost use Rattle.std.specs.Prelude.{◌≡◌, ◌≤◌};
 ghost use Rattle.avr_records.specs.Text.{address_size, width_of};
 
-/// How many bytes the addresses of a file of S-records have.
+/// How many bytes each address of a file of S-records has.
 #[derive(Clone, Copy, Debug, PartialEq, Eq)]
 pub enum AddressSize {
     /// Two bytes, in S1 and S9: up to FFFF.
@@ -15,7 +15,6 @@ pub enum AddressSize {
 }
 
 impl AddressSize {
-    /// Returns the least size that holds the address `last`.
     pub(crate) fn holding(last: u64) -> AddressSize
         ensures { result ≡ address_size last }
     {

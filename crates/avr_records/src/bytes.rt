@@ -8,7 +8,7 @@ ghost use Rattle.avr_records.specs.Judging.{low_sum};
 use crate::fault::LineFault;
 use crate::line::LONGEST;
 
-/// The room for a line's decoded bytes.
+/// The most decoded bytes of a line.
 pub(crate) const ROOM: usize = LONGEST / 2;
 
 pub(crate) fn first(count: usize, text: &[u8]) -> &[u8]
@@ -23,7 +23,7 @@ pub(crate) fn are_digits(text: &[u8]) -> bool
     text.iter().all(|c| c.is_ascii_hexdigit())
 }
 
-/// Decodes digits into `room`, two digits a byte. A bad digit comes before an odd number of digits.
+/// Decodes digits into `room`, two digits a byte. A bad digit is returned before an odd number of digits.
 pub(crate) fn decode_digits<'b>(
     digits: &[u8],
     room: &'b mut [u8; ROOM],

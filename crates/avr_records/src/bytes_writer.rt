@@ -11,8 +11,8 @@ use arrayvec::ArrayVec;
 use avr_image::Pieces;
 use std::marker::Model;
 
-/// Writes consecutive bytes as Intel HEX, line by line: a `Writer` with a `Run` of its own. Contracts see the text still
-/// to come.
+/// Writes consecutive bytes as Intel HEX, line by line, as a `Writer` of a `Run`. Contracts see the text that isn't
+/// written yet.
 ///
 /// ```text
 /// let text = IhexWriter::new(0xFFFE, &[1, 2, 3]).to_vec(alloc)?;
@@ -71,8 +71,8 @@ impl Pieces for IhexWriter<'_> {
     }
 }
 
-/// Writes consecutive bytes as S-records, line by line: a `Writer` with a `Run` of its own. Contracts see the text still
-/// to come.
+/// Writes consecutive bytes as S-records, line by line, as a `Writer` of a `Run`. Contracts see the text that is not
+/// written yet.
 ///
 /// ```text
 /// let text = SrecWriter::new(0x10000, &[0xAA]).to_vec(alloc)?;

@@ -1,4 +1,4 @@
-//! How far a record file of a memory is written.
+//! The lines of a memory's record file, one after the other.
 
 ghost use Rattle.std.specs.Prelude.{◌≡◌, ◌<◌, ◌≤◌, ◌↔◌, ◌++◌, [], false, length, IsTrue};
 ghost use Rattle.avr_records.specs.Text.{IsLine, IsThisLine, address_size};
@@ -27,8 +27,8 @@ fn last_held_of<M: Sparse>(memory: &M) -> u64
     last
 }
 
-/// How far a record file of a memory is written. A cursor may be stored anywhere, and the file goes on from there.
-/// Rows have at most 32 bytes and cross no gap. Those of Intel HEX cross no multiple of 65,536 either.
+/// How far a record file of a memory is written. A cursor holds plain numbers: a caller may store it and go on later.
+/// Rows have at most 32 bytes and cross no gap. Rows of Intel HEX cross no multiple of 65,536 either.
 ///
 /// ```text
 /// let mut image = Image::new(alloc, 8)?;
@@ -54,8 +54,8 @@ pub struct Cursor {
 }
 
 impl Cursor {
-    /// Creates the cursor at the start of a memory's file. S-records get the shortest addresses that the last byte
-    /// allows.
+    /// Creates the cursor at the start of a memory's file. Addresses of S-records get as few bytes as the memory's last
+    /// byte allows.
     ///
     /// ```text
     /// let mut image = Image::new(alloc, 0x10001)?;
@@ -82,7 +82,7 @@ impl Cursor {
     }
 
     /// Puts the next line of the file into `out` and returns true. After the end record it empties `out` and returns
-    /// false. If the memory changes between two calls, the lines are the file of neither state.
+    /// false. The memory must stay the same between the calls: else the lines belong to no single state of it.
     ///
     /// ```text
     /// let mut image = Image::new(alloc, 0x20001)?;
@@ -130,7 +130,7 @@ impl Cursor {
         }
     }
 
-    /// Returns the upper 16 bits of an address, if a record has to set them.
+    /// Returns the upper 16 bits of an address if a record has to set them.
     fn new_upper(&self, addr: u32) -> Option<u16>
         ensures { result ≡ spec_new_upper self.now.kind self.now.upper addr }
     {
@@ -141,7 +141,6 @@ impl Cursor {
         }
     }
 
-    /// Returns the most bytes of a row at this address.
     fn row_size(&self, addr: u32) -> usize
         ensures size { result ≡ spec_row_size self.now.kind addr }
         ensures most { result ≤ 32 }

@@ -1,4 +1,3 @@
-//! Detects a file's format from its first bytes.
 ghost use Rattle.std.specs.Prelude.{◌≡◌, Some, take, find, not, true, false, MatchOption};
 ghost use Rattle.std.specs.List.{list_all};
 ghost use Rattle.std.specs.Str.{bytes_eq};
@@ -9,7 +8,7 @@ use crate::bytes::{are_digits, first};
 use crate::kind::Found;
 use crate::line::{is_blank_byte, split_line};
 
-/// How many of a file's first bytes `detect` looks at. This many, or all of a shorter file, show what the whole does.
+/// How many of a file's first bytes `detect` looks at. Further bytes never change its result.
 ///
 /// ```text
 /// assert_eq!(rt; FIRST_BYTES, 1024);
@@ -22,7 +21,6 @@ fn is_elf(prefix: &[u8]) -> bool
     prefix.starts_with(b"\x7fELF")
 }
 
-/// Returns whether the text begins with `n` hexadecimal digits.
 fn has_digits(n: usize, text: &[u8]) -> bool
     ensures { result ≡ spec_has_digits n text.now }
 {
@@ -56,7 +54,7 @@ fn shown_unless_blank(line: &[u8]) -> Option<Found>
     }
 }
 
-/// Returns what the first line shows that isn't blank.
+/// Returns the format that the first line shows that isn't blank.
 fn first_shown(prefix: &[u8]) -> Found
     ensures { result ≡ kind_of_line (find (λ line. not (list_all is_blank line)) (lines prefix.now)) }
 {
@@ -70,8 +68,8 @@ fn first_shown(prefix: &[u8]) -> Found
     shown_unless_blank(rest).unwrap_or(Found::Raw)
 }
 
-/// Detects the format of a file from its first 1,024 bytes. An ELF file has its magic number. The first line of a
-/// record file that isn't blank shows its kind. Anything else is raw bytes.
+/// Detects the format of a file from its first 1,024 bytes. An ELF file begins with its magic number. A record file
+/// shows its kind in the first line that isn't blank. Anything else is raw bytes.
 ///
 /// ```text
 /// assert_eq!(rt; detect(b"\r\n:0400000001020304F2\r\n"), Found::Ihex);

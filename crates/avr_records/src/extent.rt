@@ -1,4 +1,4 @@
-//! The lines of a record file so far: their bytes' end, and what holds for the next line.
+//! What is known after some lines of a record file: how far their bytes reach, and what the next line depends on.
 ghost use Rattle.std.specs.Prelude.{◌≡◌, ◌<◌, ◌+◌, ◌^◌, Ok, Err, MatchResult, OnOk};
 ghost use Rattle.avr_records.specs.Laying.{spans_places};
 ghost use Rattle.avr_records.specs.Reading.{placed_under, said_by_line};
@@ -18,7 +18,7 @@ pub struct Extent {
     pub(crate) lines: u32,
     /// The address after the highest byte.
     pub(crate) end: u32,
-    /// Whether the last line was an end record, after which nothing counts.
+    /// Whether the last line was an end record. No line after it counts.
     pub(crate) ended: bool,
 }
 
@@ -35,7 +35,8 @@ impl Extent {
         }
     }
 
-    /// Takes the next line, decoded into `room`, and returns the bytes that it places. They have to be below `limit`.
+    /// Reads the next line, decoded into `room`, and returns its bytes with their addresses. An address is out of range
+    /// if it isn't below `limit`.
     #[tactic(auto, using(crate::proofs::Texts::Places::near))]
     #[inline(always)]
     pub(crate) fn take_line<'b>(

@@ -1,4 +1,4 @@
-//! Faults of record files.
+//! The faults of record files, with numbers that never change.
 
 ghost use Rattle.std.specs.Prelude.{◌≡◌};
 ghost use Rattle.avr_records.specs.Fault.{fault_address, fault_number, fault_line_number};
@@ -7,7 +7,7 @@ ghost use Rattle.avr_records.specs.Reading.{in_line};
 use std::fmt;
 use thiserror::Error;
 
-/// Why a record file is refused. The first number is the 1-based line.
+/// Why a record file can't be read. The first number is the 1-based line.
 ///
 /// ```text
 /// let mut reader = RecordReader::new(alloc, Kind::Ihex, 32_768)?;
@@ -22,7 +22,7 @@ pub enum RecordFault {
     /// After the mark there is something other than hexadecimal digits.
     #[error("line {0}: bad digit")]
     BadDigit(u32),
-    /// The number of digits is odd, or the number of bytes isn't what the record says or its type requires.
+    /// The number of digits is odd, or the record's own size or its type requires another number of bytes.
     #[error("line {0}: bad length")]
     BadLength(u32),
     /// The checksum doesn't match the record's other bytes.
@@ -40,7 +40,7 @@ pub enum RecordFault {
     /// The record's count differs from the number of data records before it.
     #[error("line {0}: bad record count")]
     BadCount(u32),
-    /// The reader has failed before.
+    /// An earlier call of this reader failed.
     #[error("the reader met a fault before")]
     Failed,
     /// Allocation failed.
@@ -113,7 +113,7 @@ impl RecordFault {
     }
 }
 
-/// The fault of one line.
+/// The fault of a line whose number isn't known yet.
 #[derive(Clone, Copy, Drop)]
 pub enum LineFault {
     Mark,
@@ -144,7 +144,6 @@ impl LineFault {
     }
 }
 
-/// Shows the message.
 impl fmt::Debug for RecordFault {
     fn fmt<W: fmt::Write>(&self, f: &mut fmt::Formatter<W>) -> fmt::Result {
         fmt::Display::fmt(self, f)

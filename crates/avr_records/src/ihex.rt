@@ -1,4 +1,3 @@
-//! The fields of an Intel HEX record.
 ghost use Rattle.std.specs.Prelude.{Ok};
 ghost use Rattle.avr_records.specs.Ihex.{ihex_from_fields};
 ghost use Rattle.avr_records.specs.Judging.{record_of, Finds, FitsFields};
@@ -22,7 +21,6 @@ pub(crate) const EXTENDED_LINEAR_ADDRESS: u8 = 4;
 
 const START_LINEAR_ADDRESS: u8 = 5;
 
-/// Checks the number of data bytes.
 fn with_size(n: usize, good: LineRecord<'_>) -> Result<LineRecord<'_>, LineFault>
     requires { FitsFields Kind.Ihex good }
     ensures { Finds Kind.Ihex (spec_with_size n good.entry.bytes.now (Ok (record_of good.entry))) result }

@@ -1,8 +1,8 @@
 //! Writes lines of Intel HEX, by Intel's "Hexadecimal Object File Format Specification" (revision A, 1988).
 //!
-//! Rows have at most 32 bytes and never cross a multiple of 65,536. An extended linear address record comes whenever
-//! the upper 16 bits of the address change. No start address is written. Digits are upper case, and each line ends
-//! with LF.
+//! Rows have at most 32 bytes and never cross a multiple of 65,536. When the upper 16 bits of the address change, an
+//! extended linear address record is written first. No start address is written. Digits are upper case, and each line
+//! ends with LF.
 ghost use Rattle.std.specs.Prelude.{◌≤◌, length};
 ghost use Rattle.avr_records.specs.Text.{IsThisLine, ihex_record as spec_record, two};
 
@@ -11,7 +11,7 @@ use crate::ihex::EXTENDED_LINEAR_ADDRESS;
 use crate::written_line::{Fields, append, put_line};
 use arrayvec::ArrayVec;
 
-/// Writes a record of this type, by its number in Intel's specification.
+/// Writes a record. `kind` is the number of its type in Intel's specification.
 pub(crate) fn put_record(kind: u8, offset: u16, row: &[u8], out: &mut ArrayVec<u8, 80>)
     requires { length row.now ≤ 32 }
     ensures { IsThisLine out.new.items (spec_record kind offset row.now) }
@@ -26,7 +26,6 @@ pub(crate) fn put_record(kind: u8, offset: u16, row: &[u8], out: &mut ArrayVec<u
     put_line(b":", fields.as_slice(), out);
 }
 
-/// Writes the record that sets the upper 16 bits of the addresses after it.
 pub(crate) fn put_upper(upper: u16, out: &mut ArrayVec<u8, 80>)
     ensures { IsThisLine out.new.items (spec_record 4 0 (two upper)) }
 {

@@ -1,4 +1,3 @@
-//! Kinds of files.
 ghost use Rattle.std.specs.Prelude.{◌≡◌};
 ghost use Rattle.avr_records.specs.Detect.{record_kind};
 
@@ -19,7 +18,7 @@ pub enum Kind {
     Srec,
 }
 
-/// Whether a record file had its end record. Only this shows that a file was cut short at a line's end.
+/// Whether a record file had its end record. Without one the file may have been cut short after a line.
 ///
 /// ```text
 /// let mut reader = RecordReader::new(alloc, Kind::Ihex, 4)?;
@@ -30,13 +29,13 @@ pub enum Kind {
 /// ```
 #[derive(Clone, Copy, Debug, Drop, PartialEq, Eq)]
 pub enum Ending {
-    /// The end record came; nothing after it was read.
+    /// The file has an end record. Nothing after it was read.
     Ended,
-    /// The file ended without an end record.
+    /// The file has no end record.
     NoEnd,
 }
 
-/// What the first bytes of a file show.
+/// The format that a file's first bytes show.
 ///
 /// ```text
 /// assert_eq!(rt; detect(b"S107000001020304EE\n"), Found::Srec);
@@ -54,7 +53,7 @@ pub enum Found {
 }
 
 impl Found {
-    /// Returns the kind of record file, or `None` if it is not a record file.
+    /// Returns the kind of record file; `None` for ELF and raw bytes.
     ///
     /// ```text
     /// assert_eq!(rt; detect(b"S107000001020304EE\n").kind(), Some(Kind::Srec));
@@ -74,11 +73,11 @@ impl Found {
 /// How many addresses an offset of 16 bits reaches: those with the same upper 16 bits, or the bytes of a segment.
 pub(crate) const SEGMENT: u32 = 65_536;
 
-/// The base of the addresses of data records.
+/// The base to which data records add their offsets.
 #[derive(Clone, Copy)]
 pub enum AddressBase {
     /// The upper 16 bits of the address.
     Linear(u16),
-    /// A paragraph of 16 bytes; an offset wraps within 65,536 bytes.
+    /// The number of a paragraph of 16 bytes. Offsets wrap within the 65,536 bytes from there.
     Segment(u16),
 }

@@ -1,4 +1,4 @@
-//! Lines of a record file: where one ends, and what each says alone.
+//! Lines of a record file: where one ends, and what each means alone.
 ghost use Rattle.std.specs.Prelude.{◌≡◌, ◌∷◌, ◌++◌, [], MatchOption, ◌≤◌, length, Ok, Err, MatchResult};
 ghost use Rattle.avr_records.specs.Lines.{lines, trimmed_line, is_blank};
 ghost use Rattle.avr_records.specs.Line.{bare_record, line_record};
@@ -16,7 +16,7 @@ use crate::record::LineRecord;
 use crate::srec::srec_fields;
 use memchr::memchr;
 
-/// Splits the text after its first line end, if there is one.
+/// Splits the text at its first line end, if there is one.
 #[inline(always)]
 pub(crate) fn split_line(text: &[u8]) -> Option<(&[u8], &[u8])>
     ensures { MatchOption result (lines text.now ≡ text.now ∷ [])
@@ -28,15 +28,14 @@ pub(crate) fn split_line(text: &[u8]) -> Option<(&[u8], &[u8])>
     }
 }
 
-/// The most bytes of a line, without its end.
+/// The most bytes of a line without its end.
 pub(crate) const LONGEST: usize = 600;
 
-/// What a good line says.
+/// What a line means for its file.
 #[derive(Clone, Copy)]
 pub enum Line<'a> {
-    /// Nothing that counts.
+    /// Nothing: an empty line, a header or a start address.
     Nothing,
-    /// Bytes at an offset.
     Data(u32, &'a [u8]),
     Rebase(AddressBase),
     /// How many data records came before.
@@ -44,14 +43,12 @@ pub enum Line<'a> {
     End,
 }
 
-/// Returns whether a byte is a space, a tab or a carriage return.
 pub(crate) fn is_blank_byte(c: u8) -> bool
     ensures { result ≡ is_blank c }
 {
     c == b' ' || c == b'\t' || c == b'\r'
 }
 
-/// Cuts off the blanks at the end.
 fn trim(line: &[u8]) -> &[u8]
     ensures value { result.now ≡ trimmed_line line.now }
     ensures bound { length result.now ≤ length line.now }
@@ -85,7 +82,7 @@ fn srec_record<'b>(line: &[u8], room: &'b mut [u8; ROOM]) -> Result<LineRecord<'
     }
 }
 
-/// Reads a line, whose bytes are decoded into `room`.
+/// Reads the record of a line. Its bytes are decoded into `room`.
 pub(crate) fn record_in<'b>(
     kind: Kind,
     line: &[u8],
@@ -103,7 +100,7 @@ pub(crate) fn record_in<'b>(
     }
 }
 
-/// Returns what a line says. The bytes of a data record are decoded into `room`.
+/// Returns what a line means. The bytes of a data record are decoded into `room`.
 pub(crate) fn line_says<'b>(
     kind: Kind,
     line: &[u8],
@@ -119,14 +116,13 @@ pub(crate) fn line_says<'b>(
     if line.is_empty() {
         return Ok(Line::Nothing);
     }
-    // (the meaning beside the record of its kind, so that a data line's type is tested once)
+    // Each kind has its own call, so that the type of a data line is tested once.
     match kind {
         Kind::Ihex => Ok(ihex_meaning(ihex_record(line, room)?)),
         Kind::Srec => Ok(srec_meaning(srec_record(line, room)?)),
     }
 }
 
-/// Returns what a record of Intel HEX means for its file.
 fn ihex_meaning(found: LineRecord<'_>) -> Line<'_>
     requires { FitsFields Kind.Ihex found }
     ensures means { meaning_of result ≡ means Kind.Ihex (record_of found.entry) }
@@ -145,7 +141,6 @@ fn ihex_meaning(found: LineRecord<'_>) -> Line<'_>
     }
 }
 
-/// Returns what an S-record means for its file.
 fn srec_meaning(found: LineRecord<'_>) -> Line<'_>
     requires { FitsFields Kind.Srec found }
     ensures means { meaning_of result ≡ means Kind.Srec (record_of found.entry) }

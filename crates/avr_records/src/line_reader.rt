@@ -1,4 +1,4 @@
-//! The lines of a text that comes in pieces, and what is kept of an unfinished one.
+//! Reads the lines of a text that comes in pieces, and keeps the beginning of an unfinished line.
 ghost use Rattle.std.specs.Prelude.{◌≡◌, ◌<◌, [], Some, MatchOption, ◌+◌, ◌≤◌, ◌^◌, ◌++◌, ℕ, List, false, ◌∷◌, length, OnOk, IfErr, IfOk};
 ghost use Rattle.avr_records.specs.Closed.{closed_fault};
 ghost use Rattle.avr_records.specs.Lines.{lines};
@@ -15,7 +15,7 @@ use crate::progress::Progress;
 use arrayvec::ArrayVec;
 use avr_image::Image;
 
-/// How many bytes of an unfinished line are kept: one more than the longest line has shows that it is too long.
+/// How many bytes of an unfinished line are kept. One more than the longest line has shows that it is too long.
 const KEPT: usize = LONGEST + 1;
 
 fn extend(part: &mut ArrayVec<u8, KEPT>, more: &[u8])
@@ -30,12 +30,12 @@ pub struct LineReader {
     pub(crate) kind: Kind,
     pub(crate) progress: Progress,
     pub(crate) part: ArrayVec<u8, KEPT>,
-    /// Holds the decoded bytes of a line. It is made once, so that a line need not clear it.
+    /// The decoded bytes of a line. The buffer is made once, so that no line has to clear it.
     pub(crate) room: [u8; ROOM],
 }
 
 impl LineReader {
-    /// Takes the last bytes of a line at its end. A line of which nothing is kept is read in place.
+    /// Reads a line, of which `rest` are the last bytes. If nothing is kept of it, it is read where it is.
     #[inline(always)]
     fn end_line(&mut self, rest: &[u8]) -> Result<(), RecordFault>
         requires range { InRange self.old.kind self.old.progress.extent }
@@ -56,7 +56,7 @@ impl LineReader {
         taken
     }
 
-    /// Splits the next ended line from `rest`. After an end record, when nothing counts, it looks for none.
+    /// Splits the next ended line from `rest`. After an end record it returns `None`, because no line counts.
     fn next_line<'a>(&self, rest: &'a [u8]) -> Option<(&'a [u8], &'a [u8])>
         ensures { MatchOption result (self.now.progress.extent.ended ≡ false → lines rest.now ≡ rest.now ∷ [])
             (λ parts. (lines parts.0.now ≡ parts.0.now ∷ []) × (rest.now ≡ parts.0.now ++ 10 ∷ parts.1.now)) }
@@ -68,7 +68,7 @@ impl LineReader {
         }
     }
 
-    /// Takes the next piece of the text, with the lines that end in it.
+    /// Reads the lines that end in the next piece of the text, and keeps the beginning of the next one.
     pub(crate) fn feed(&mut self, piece: &[u8]) -> Result<(), RecordFault>
         requires range { InRange self.old.kind self.old.progress.extent }
         requires few { self.old.progress.extent.lines + length piece.now < 2 ^ 32 }
@@ -90,7 +90,6 @@ impl LineReader {
             self.end_line(line)?;
             rest = more;
         }
-        // Of an unfinished line the bytes are kept, if they count.
         if self.progress.extent.ended {
             return Ok(());
         }
@@ -98,7 +97,7 @@ impl LineReader {
         Ok(())
     }
 
-    /// Takes the last line and returns what the whole text says.
+    /// Reads the last line and returns the image and ending of the whole text.
     pub(crate) fn finish(mut self) -> Result<(Image, Ending), RecordFault>
         requires range { InRange self.kind self.progress.extent }
         requires few { self.progress.extent.lines + length self.part.items < 2 ^ 32 }
@@ -114,7 +113,6 @@ impl LineReader {
         Ok(self.read())
     }
 
-    /// Returns the image, and whether the end record came.
     fn read(self) -> (Image, Ending)
         ensures { result ≡ (self.progress.image, ending_of self.progress.extent) }
     {

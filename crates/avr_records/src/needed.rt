@@ -1,4 +1,3 @@
-//! How large a memory a record file needs, before there is an image.
 ghost use Rattle.std.specs.Prelude.{◌≡◌, ◌<◌, ◌≤◌, ◌^◌, ℕ, List, length, Option, Ok, Err};
 ghost use Rattle.avr_records.specs.Needed.{largest, needed_in_text};
 ghost use Rattle.avr_records.specs.Reading.{image_in_text};
@@ -16,9 +15,9 @@ use crate::line::split_line;
 ///
 /// # Errors
 ///
-/// Those of `read_records` for the largest memory, which has 2 to the power 32 - 1 bytes: a byte at FFFFFFFF or above
-/// is `OutOfRange` with the address FFFFFFFF. `TooLong` if the file has 2 to the power 32 bytes or more, which are
-/// not read. `Failed` and `Memory` never come.
+/// Those of `read_records` for the largest memory, which has 2 to the power 32 - 1 bytes. A byte at FFFFFFFF or above
+/// is `OutOfRange` with the address FFFFFFFF. `TooLong` if the file has 2 to the power 32 bytes or more. It never
+/// returns `Failed` or `Memory`.
 ///
 /// ```text
 /// let size = needed_size(Kind::Ihex, b":020000040800F2\n:020010000102EB\n:00000001FF\n");
@@ -48,7 +47,7 @@ pub fn needed_size(kind: Kind, text: &[u8]) -> Result<u32, RecordFault>
     Ok(extent.end)
 }
 
-/// A file is read without a fault exactly into the memories that have at least the needed bytes.
+/// A file is read without a fault exactly if the memory has at least the needed size.
 pub fn a_needed_size_is_the_least()
     ensures enough { (kind : Kind) (text : List ℕ) (needed size : ℕ)
         → needed_in_text kind text ≡ Ok needed → needed ≤ size

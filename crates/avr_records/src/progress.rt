@@ -1,4 +1,4 @@
-//! The lines of a record file so far: their extent, and their bytes in an image.
+//! What is known after some lines of a record file, and the image of their bytes.
 ghost use Rattle.std.specs.Prelude.{◌<◌, ◌+◌, ◌^◌};
 ghost use Rattle.avr_records.specs.Steps.{InRange, TakesOne};
 
@@ -15,8 +15,8 @@ pub struct Progress {
 }
 
 impl Progress {
-    /// Takes the next line, if it counts. Its bytes are decoded into `room` and put from there into the image. It
-    /// stays a call so that all the work of a line is in one place.
+    /// Reads the next line, unless an end record came before. Its bytes are decoded into `room` and put from there into
+    /// the image. It isn't inlined, so that the work of a line is in the program once.
     #[inline(never)]
     pub(crate) fn take_line(
         &mut self,

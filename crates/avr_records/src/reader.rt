@@ -19,8 +19,8 @@ use std::marker::Model;
 /// Reads a record file of one kind into an image, from pieces of any length.
 ///
 /// A reader keeps the image and at most 601 bytes of a line. Contracts speak of the texts that it may have been fed
-/// (`StandsFor`): whatever the pieces, the results are those of the whole text. Start addresses and headers (S0) are
-/// checked as records, then dropped.
+/// (`StandsFor`), so the results don't depend on the pieces. Start addresses and headers (S0) are checked as records,
+/// then dropped.
 ///
 /// ```text
 /// let mut reader = RecordReader::new(alloc, Kind::Ihex, 32_768)?;
@@ -58,8 +58,7 @@ impl Model for RecordReader {
 }
 
 impl RecordReader {
-    /// Creates a reader for a memory of `size` bytes; all byte addresses have to be below. It allocates all that the
-    /// reader needs.
+    /// Creates a reader for a memory of `size` bytes. No later call allocates.
     ///
     /// # Errors
     ///
@@ -94,7 +93,7 @@ impl RecordReader {
         })
     }
 
-    /// Returns how many bytes were fed, without those of a `feed` that failed.
+    /// Returns how many bytes the reader was fed, without those of a `feed` that failed.
     ///
     /// ```text
     /// let mut reader = RecordReader::new(alloc, Kind::Ihex, 4)?;
@@ -107,7 +106,7 @@ impl RecordReader {
         self.fed
     }
 
-    /// Takes the next piece of the file. All pieces together must have fewer than 2 to the power 32 bytes.
+    /// Reads the next piece of the file. All pieces together must have fewer than 2 to the power 32 bytes.
     ///
     /// # Errors
     ///
@@ -148,11 +147,11 @@ impl RecordReader {
         }
     }
 
-    /// Returns the image of the whole file, and whether the end record came.
+    /// Returns the image of the whole file, and whether it has an end record.
     ///
     /// # Errors
     ///
-    /// The fault of a last line without a line end; `Failed` after any fault.
+    /// The fault of a last line without a line end. `Failed` after any fault.
     ///
     /// ```text
     /// let mut reader = RecordReader::new(alloc, Kind::Ihex, 4)?;
@@ -175,13 +174,13 @@ impl RecordReader {
 }
 
 /// Reads a whole record file for a memory of `size` bytes: Intel HEX (Intel's "Hexadecimal Object File Format
-/// Specification") or Motorola S-records. Returns the image, and whether the end record came. Start addresses and
-/// headers (S0) are dropped.
+/// Specification") or Motorola S-records. Returns the image, and whether the file has an end record. Start addresses
+/// and headers (S0) are dropped.
 ///
 /// # Errors
 ///
 /// The first fault of the file, as [`RecordReader::feed`] returns it. `Memory` if allocation fails. `TooLong` if the
-/// file has 2 to the power 32 bytes or more, which are not read.
+/// file has 2 to the power 32 bytes or more.
 ///
 /// ```text
 /// let (image, ending) = read_records(alloc, Kind::Ihex, 4, b":0400000001020304F2\n:00000001FF\n")?;
@@ -207,7 +206,6 @@ pub fn read_records(
     reader.finish()
 }
 
-/// Shows the kind of file, how many bytes came, and whether the reader has failed.
 impl fmt::Debug for RecordReader {
     fn fmt<W: fmt::Write>(&self, f: &mut fmt::Formatter<W>) -> fmt::Result {
         f.debug_struct("RecordReader")

@@ -1,4 +1,3 @@
-//! The record of one line, as its fields.
 ghost use Rattle.std.specs.Prelude.{◌≡◌, ◌≤◌, length};
 ghost use Rattle.avr_records.specs.Judging.{record_of};
 ghost use Rattle.avr_records.specs.Line.{line_record};
@@ -12,7 +11,7 @@ use arrayvec::ArrayVec;
 use std::fmt;
 use std::marker::Model;
 
-/// The fields of a record; the data bytes are borrowed.
+/// The fields of a record. The data bytes are borrowed.
 #[derive(Clone, Copy)]
 pub struct LineRecord<'a> {
     pub(crate) record_type: u8,
@@ -20,7 +19,7 @@ pub struct LineRecord<'a> {
     pub(crate) bytes: &'a [u8],
 }
 
-/// A record: its type, its address field and its data bytes, which it owns. Its checksum was right.
+/// A record with a right checksum: its type, its address field and its data bytes, which it owns.
 ///
 /// ```text
 /// let record = read_record(Kind::Srec, b"S107000001020304EE")?;
@@ -73,8 +72,8 @@ impl Record {
         self.record_type
     }
 
-    /// Returns the address field. In Intel HEX it is an offset of 16 bits. In S-records it is an address; for the
-    /// types 5 and 6 it is the count, for the types 7 to 9 the start address.
+    /// Returns the address field. In Intel HEX it is an offset of 16 bits. In S-records it is an address: for the types
+    /// 7 to 9 the start address. For the types 5 and 6 it is the count.
     ///
     /// ```text
     /// let record = read_record(Kind::Srec, b"S5030001FB")?;
@@ -115,8 +114,8 @@ impl fmt::Debug for Record {
 ///
 /// # Errors
 ///
-/// `BadMark`, `BadDigit`, `BadLength`, `BadSum`, `BadType` or `LineTooLong`, with 1 as the line. An empty line, which
-/// a file may have, is no record: `BadMark`.
+/// `BadMark`, `BadDigit`, `BadLength`, `BadSum`, `BadType` or `LineTooLong`, with 1 as the line. An empty line is
+/// `BadMark`, although a file may have empty lines.
 ///
 /// ```text
 /// let record = read_record(Kind::Ihex, b":0400100001020304E2\r")?;

@@ -1,4 +1,4 @@
-//! Consecutive bytes of a memory.
+//! A memory of consecutive bytes, for the writers of record files.
 
 ghost use Rattle.std.specs.Prelude.{◌≡◌, ◌+◌, ◌^◌, ◌≤◌, length};
 ghost use Rattle.avr_image.specs.Image.{first_from};
@@ -32,7 +32,7 @@ impl<'a> Model for Run<'a> {
 }
 
 impl<'a> Run<'a> {
-    /// Creates a run whose first byte is at the byte address `base`. It borrows the bytes. The last one has to be
+    /// Creates a run whose first byte is at the byte address `base`. It borrows the bytes. Their addresses have to be
     /// below 2 to the power 32.
     ///
     /// ```text
@@ -46,7 +46,6 @@ impl<'a> Run<'a> {
     }
 }
 
-/// Returns the least address from `addr` on that holds one of the bytes.
 fn next_in(base: u32, bytes: &[u8], addr: u64) -> Option<u32>
     requires { base + length bytes.now ≤ 2 ^ 32 }
     ensures next { result ≡ first_from (run_at base bytes.now) addr }
@@ -67,7 +66,6 @@ impl Sparse for Run<'_> {
         next_in(self.base, self.bytes, addr)
     }
 
-    // None of the bytes if the run begins after `addr`.
     fn row_at(&self, addr: u32, most: usize) -> &[u8] {
         if addr < self.base {
             return &[];

@@ -1,4 +1,3 @@
-//! The addresses of a data record's bytes.
 ghost use Rattle.std.specs.Prelude.{◌≡◌, ◌≤◌, ◌*◌, ◌+◌, length, [], None};
 ghost use Rattle.std.specs.List.{enumerate_from};
 ghost use Rattle.avr_image.specs.Image.{laid_over};
@@ -21,7 +20,7 @@ fn span_end(limit: u32, end: u32, addr: u32, bytes: &[u8]) -> Result<u32, u32>
     }
 }
 
-/// Bytes from an address on, and those that wrap: past the end of a segment a record goes on at its start.
+/// The bytes of a data record: those from `addr` on, and those past the end of a segment, which wrap to its `start`.
 #[derive(Clone, Copy)]
 pub struct Spans<'a> {
     addr: u32,
@@ -82,7 +81,7 @@ impl<'a> Spans<'a> {
         }
     }
 
-    /// Puts the bytes into an image that has all their addresses.
+    /// Puts the bytes into an image. All their addresses have to be inside.
     #[inline(always)]
     pub(crate) fn lay(self, image: &mut Image)
         requires { beyond (length image.old) (spans_places self) ≡ None }

@@ -1,4 +1,4 @@
-//! A memory with gaps, as writers of record files walk over it.
+//! What a writer of record files asks of a memory.
 
 ghost use Rattle.std.specs.Prelude.{◌≡◌, ◌+◌, ◌≤◌, ℕ, List, Option, length, take, drop, min};
 ghost use Rattle.avr_image.specs.Image.{first_from};
@@ -7,8 +7,8 @@ ghost use Rattle.avr_records.specs.Sparse.{IsMemory};
 
 use avr_image::Image;
 
-/// A memory with gaps: an `Image`, a `Run`, or a caller's own. A `Writer` or a `Cursor` makes the lines of its record
-/// file.
+/// A memory with gaps, of which a `Writer` or a `Cursor` writes the record file: an `Image`, a `Run`, or a caller's
+/// own type.
 ///
 /// ```text
 /// let mut image = Image::new(alloc, 64)?;
@@ -17,23 +17,21 @@ use avr_image::Image;
 /// assert_eq!(rt; image.row_at(8, 32).len(), 2);
 /// ```
 pub trait Sparse {
-    // The image of the bytes that are there.
     ghost held: { Self → List (Option ℕ) };
 
     /// Returns the least byte address from `addr` on that holds a byte.
     fn next_held(&self, addr: u64) -> Option<u32>
         ensures next { result ≡ first_from (held self.now) addr }
 
-        // Names what the list alone doesn't show: its values are bytes, and at most 2 to the power 32.
+        // The list alone doesn't show that its values are bytes, and at most 2 to the power 32.
         ensures memory { IsMemory (held self.now) };
 
-    /// Returns the bytes from the byte address `addr` on, up to a gap, and at most `most` of them.
+    /// Returns the bytes from the byte address `addr` on up to the next gap, but at most `most`.
     fn row_at(&self, addr: u32, most: usize) -> &[u8]
         ensures row { result.now ≡ take most (lead (drop addr (held self.now))) }
         ensures few { length result.now ≤ most };
 }
 
-/// Returns the end of a row of at most `most` bytes at `place`.
 fn row_end(image: &Image, place: u32, most: usize) -> u32
     ensures { result ≡ place + min most (length (lead (drop place image.now))) }
 {

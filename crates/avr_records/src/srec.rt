@@ -1,4 +1,3 @@
-//! The fields of an S-record.
 ghost use Rattle.std.specs.Prelude.{◌≤◌, length};
 ghost use Rattle.avr_records.specs.Judging.{Finds};
 ghost use Rattle.avr_records.specs.Srec.{srec_from_fields, typed_srec, record_with_address as spec_addressed, without_data as spec_without_data};
@@ -10,7 +9,6 @@ use crate::fault::LineFault;
 use crate::kind::Kind;
 use crate::record::LineRecord;
 
-/// Reads a record with an address, and data after it.
 fn addressed(record_type: u8, size: AddressSize, bytes: &[u8]) -> Result<LineRecord<'_>, LineFault>
     requires { length bytes.now ≤ 255 }
     ensures { Finds Kind.Srec (spec_addressed record_type (width_of size) bytes.now) result }
@@ -27,7 +25,6 @@ fn addressed(record_type: u8, size: AddressSize, bytes: &[u8]) -> Result<LineRec
     }
 }
 
-/// Reads a record with an address, without data.
 fn without_data(
     record_type: u8,
     size: AddressSize,
@@ -62,7 +59,7 @@ fn srec_typed(digit: u8, bytes: &[u8]) -> Result<LineRecord<'_>, LineFault>
     }
 }
 
-/// Reads the record from a line's bytes, and checks count and sum.
+/// Reads the record from a line's bytes. It checks count and checksum.
 pub(crate) fn srec_fields(digit: u8, bytes: &[u8]) -> Result<LineRecord<'_>, LineFault>
     ensures { Finds Kind.Srec (srec_from_fields digit bytes.now) result }
 {

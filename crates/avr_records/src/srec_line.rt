@@ -1,7 +1,7 @@
 //! Writes lines of S-records, by Motorola's "M68000 Family Programmer's Reference Manual" (appendix C).
 //!
-//! Rows have at most 32 bytes, in S1, S2 or S3, the narrowest that holds the last address. The end is S9, S8 or S7
-//! with start address 0. No header is written. Digits are upper case, and each line ends with LF.
+//! Rows have at most 32 bytes. They are in S1, S2 or S3, whichever is the shortest that holds the last address. The end
+//! is S9, S8 or S7 with start address 0. No header is written. Digits are upper case, and each line ends with LF.
 ghost use Rattle.std.specs.Prelude.{◌≤◌, ◌++◌, length};
 ghost use Rattle.avr_records.specs.Text.{IsThisLine, srec_record as spec_record, width_of, low_bytes};
 
@@ -10,7 +10,6 @@ use crate::bytes::low_sum_of;
 use crate::written_line::{Fields, append, put_line};
 use arrayvec::ArrayVec;
 
-/// Writes an S-record with an address of this size, and data bytes after it.
 #[tactic(auto, using(crate::proofs::Writers::Pieces::length_low_bytes))]
 pub(crate) fn put_record(
     kind: u8,

@@ -1,4 +1,4 @@
-//! A writer of record files: of a memory with gaps only the bytes that are there.
+//! The writer of a memory's record file, line by line or in one call.
 
 ghost use Rattle.std.specs.Prelude.{◌≡◌, length, Ok};
 ghost use Rattle.avr_records.specs.Reading.{image_in_text};
@@ -12,8 +12,8 @@ use avr_image::Pieces;
 use std::fmt;
 use std::marker::Model;
 
-/// Writes the record file of a memory line by line: of an `Image`, a `Run` of bytes, or any other `Sparse`. Each
-/// piece is a line. Contracts see it as the text still to come.
+/// Writes the record file of an `Image`, a `Run` of bytes, or any other `Sparse`. Each piece is a line. Contracts see
+/// the text that is not written yet.
 ///
 /// ```text
 /// let mut image = Image::new(alloc, 8)?;
@@ -73,7 +73,6 @@ impl<M: Sparse> Pieces for Writer<'_, M> {
     }
 }
 
-/// Shows the kind of file, the address below which all is written, and whether the end record is.
 impl<M: Sparse> fmt::Debug for Writer<'_, M> {
     fn fmt<W: fmt::Write>(&self, f: &mut fmt::Formatter<W>) -> fmt::Result {
         f.debug_struct("Writer")

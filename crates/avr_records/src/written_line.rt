@@ -1,4 +1,4 @@
-//! Writes a line: marks, then the fields of a record as digits.
+//! Writes one line of a record file: its marks, then the bytes of a record as digits.
 
 ghost use Rattle.std.specs.Prelude.{◌≡◌, ◌+◌, ◌*◌, ◌<◌, ◌≤◌, [], ◌∷◌, ◌++◌, length, map, not, true};
 ghost use Rattle.std.specs.List.{list_all};
@@ -9,7 +9,7 @@ ghost use Rattle.hex.specs.Hex.{encode_upper};
 
 use arrayvec::ArrayVec;
 
-/// How many data bytes a row has, unless it ends at a gap or a border.
+/// How many data bytes a row has, unless a gap or a multiple of 65,536 ends it.
 pub(crate) const ROW_SIZE: usize = 32;
 
 /// The bytes of a record: at most a count, four address bytes, 32 data bytes and a checksum.
@@ -22,7 +22,7 @@ pub(crate) fn append<const N: usize>(out: &mut ArrayVec<u8, N>, bytes: &[u8])
     let _ = out.try_extend_from_slice(bytes);
 }
 
-/// Makes letters upper case: the call of `hex` that doesn't allocate writes lower-case digits.
+/// Makes letters upper case, because the call of `hex` that doesn't allocate writes lower-case digits.
 fn uppercase(digits: &mut [u8])
     ensures { digits.new ≡ map to_ascii_uppercase digits.old }
 {

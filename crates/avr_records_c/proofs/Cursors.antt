@@ -1,4 +1,4 @@
--- The numbers of a cursor give back the place of its lines, and pieces joined are the file.
+-- The numbers of a cursor give back its position, and pieces joined are the file.
 use Rattle.std.proofs.lemmas.Grind.{common_steps}
 use Rattle.std.proofs.lemmas.Bool.Decides.{nat_tests}
 use Rattle.std.proofs.Common.{◌≡◌, ◌∙◌, ap, sym, arith, ℕ, ◌^◌, ◌<◌, min, List, [], ◌∷◌, length, take, drop, Bool, Option, Some, rules}
@@ -23,7 +23,7 @@ ended-back x = grind (arith, nat_tests)
 size-back : (size : AddressSize) (image : List (Option ℕ)) → size_in_force Srec (width_of size) image ≡ Some size
 size-back x image = grind (arith, nat_tests)
 
--- past the memory all addresses are the same
+-- after the last byte it doesn't matter which address a position has
 capped : (kind : Kind) (upper : ℕ) (size : AddressSize) (addr : ℕ) (image : List (Option ℕ)) → length image < 2 ^ 32
     → text_from kind upper size (min addr 4294967295) image ≡ text_from kind upper size addr image
 capped kind upper size addr image few = grind (arith, nat_tests, cases_lt, drop_all)

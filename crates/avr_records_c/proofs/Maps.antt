@@ -1,4 +1,4 @@
--- Bitmaps and images, place by place.
+-- The bitmap of an image, octet by octet, as `put_bitmap` makes it.
 use Rattle.std.proofs.lemmas.Bool.Decides.{nat_tests}
 use Rattle.std.proofs.Common.{◌≡◌, ◌∙◌, ap, refl, arith, ℕ, zero, suc, ◌+◌, ◌*◌, ◌/◌, ◌<◌, ◌≤◌, List, [], ◌∷◌, length, get_or, set, take, drop, replicate, ◌++◌, ◌-◌, Option, Some, None, rules}
 use Rattle.std.proofs.lemmas.List.{get_or-set_same, get_or-set_other, get_or_append_left, get_or-append_right, get_or-take, get_or-replicate, get_or-drop, length-take-le, length-replicate}
@@ -20,7 +20,7 @@ pub bitmap_is : (image : List (Option ℕ)) (n : ℕ) (xs : List ℕ) → length
     → ((i : ℕ) → i < n → get_or xs i 0 ≡ octet image (i * 8)) → xs ≡ bitmap image n
 bitmap_is image n xs len each = grind (arith, nat_tests, octets_are)
 
--- ---- octets that are all gap, or have none
+-- ---- octets of gaps alone, and octets without a gap
 
 -- the octets before that of the next byte, and those after the last byte
 pub gap_before : (image : List (Option ℕ)) (from place : ℕ) → first_from image (from * 8) ≡ Some place
@@ -43,12 +43,12 @@ pub record PutUpTo (image : List (Option ℕ)) (n : ℕ) (xs : List ℕ) : Type 
   pub put : (i : ℕ) → i < n → get_or xs i 0 ≡ octet image (i * 8)
   pub zeros : (i : ℕ) → n ≤ i → get_or xs i 0 ≡ 0
 
--- all of it
+-- all octets are put
 pub put-all : (image : List (Option ℕ)) (n : ℕ) (xs : List ℕ) → PutUpTo image n xs → length xs ≤ n
     → xs ≡ bitmap image (length xs)
 put-all image n xs p long = grind (arith, nat_tests, bitmap_is)
 
--- up to the next byte, or without one
+-- the octets before the next byte, or all if there is none
 pub put-gap : (image : List (Option ℕ)) (from place : ℕ) (xs : List ℕ) → first_from image (from * 8) ≡ Some place
     → PutUpTo image from xs → PutUpTo image (place / 8) xs
 put-gap image from place xs found p =
@@ -58,12 +58,12 @@ pub put-none : (image : List (Option ℕ)) (from : ℕ) (xs : List ℕ) → firs
     → PutUpTo image from xs → xs ≡ bitmap image (length xs)
 put-none image from xs none p = grind (arith, nat_tests, bitmap_is, gap_behind image from none)
 
--- one octet more
+-- one more octet is put
 pub put-one : (image : List (Option ℕ)) (first byte : ℕ) (xs : List ℕ) → first < length xs
     → byte ≡ octet image (first * 8) → PutUpTo image first xs → PutUpTo image (first + 1) (set xs first byte)
 put-one image first byte xs inside is p = grind (arith, nat_tests, get_or-set_other, get_or-set_same)
 
--- octets of a run more
+-- the octets of a run are put
 pub put-run : (image : List (Option ℕ)) (first end size : ℕ) (xs ys : List ℕ) → PutUpTo image first xs
     → first * 8 ≤ size → first ≤ end → end ≤ run_end image (first * 8) size / 8
     → ys ≡ take first xs ++ (replicate (end - first) 255 ++ drop end xs) → end ≤ length xs → PutUpTo image end ys

@@ -6,7 +6,7 @@ use Rattle.std.proofs.lemmas.Bool.{cases_lt}
 use Rattle.std.proofs.lemmas.List.{append_assoc, drop-drop, length-drop, length-take-le, length-append, take_all, take-append-le, drop-append-le, take-append-drop}
 use Rattle.avr_records_c.specs.Writing.{PutsOn}
 
--- the first `put` bytes of a text are in the room, and this is left of it
+-- the first `put` bytes of the text are in the room, and this is left of the text
 pub record IsPut (text rest room : List ℕ) (put : ℕ) (now : List ℕ) : Type 0 where
   pub fits : put ≤ length room
   pub most : put ≤ length text
@@ -68,7 +68,7 @@ more-put text whole room now after put gone count next is fit put_is =
           grind (arith, nat_tests, append_assoc, take-more);
     }
 
--- the whole line is out
+-- the room takes the whole line
 pub line-out : (text whole room now : List ℕ) (put gone left : ℕ) (next : NextLine whole)
     → IsPut text (drop gone whole) room put now → length next.line ≤ gone → left ≡ gone - length next.line
     → IsPut text (drop left next.more) room put now
@@ -82,7 +82,7 @@ line-out text whole room now put gone left next is past left_is =
       stands = is.stands;
     }
 
--- a full room, and a text at its end
+-- the loop ends: the room is full, or the text is at its end
 pub all-put : (text left room now : List ℕ) (put : ℕ) → IsPut text left room put now
     → put ≡ min (length room) (length text) → PutsOn text left room put now
 all-put text left room now put is far = record { count = far; left = is.left; stands = is.stands }

@@ -1,4 +1,4 @@
--- What the definitions refuse.
+-- What the definitions refuse, in worked examples.
 use Rattle.std.proofs.Common.{◌≡◌, ap, refl, arith, ℕ, List, [], ◌∷◌, Option, Some, None, Err, rules}
 use Rattle.avr_records.specs.declared.fault.RecordFault.TheVariants.{BadSum}
 use Rattle.avr_records.specs.declared.kind.Kind.TheVariants.{Ihex, Srec}
@@ -40,16 +40,16 @@ no_address_of_five_bytes : file_left Srec gap_first
     (record { addr = 3; gone = 0; upper = 0; address_size = 5; ended = 0 }) ≡ None
 no_address_of_five_bytes = refl
 
--- an empty file is good: no call may report a fault of it except a failed allocation, nor an end record
+-- An empty file is good. A call may report a failed allocation, but no other fault and no end record.
 no_fault_of_nothing : Reads 1 [] [] [] (record { outcome = outcome_of_fault (BadSum 1); bytes = []; present = [] }) → ⊥
 no_fault_of_nothing x0 = search rules
 
--- a misfit is reported as one
+-- a misfit of the arguments is reported as fault 11
 no_reading_of_a_fourth_kind : Reads 4 [] [] []
     (record { outcome = outcome_of_fault (BadSum 1); bytes = []; present = [] }) → ⊥
 no_reading_of_a_fourth_kind e = let same : 4 ≡ 11 = ap (λ (l : Left). l.outcome.fault) e in absurd (omega (arith, same))
 
--- and a file that isn't a record file as such
+-- a format without records is reported as fault 12
 no_misfit_of_raw_bytes : Reads 0 [] [] [] (record { outcome = misfit; bytes = []; present = [] }) → ⊥
 no_misfit_of_raw_bytes e = let same : 11 ≡ 12 = ap (λ (l : Left). l.outcome.fault) e in absurd (omega (arith, same))
 

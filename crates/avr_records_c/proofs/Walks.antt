@@ -25,7 +25,7 @@ next-here : (k : ℕ) (present bytes : List ℕ) → k < length bytes
     ≡ byte_if_there present k (get_or bytes k 0) ∷ drop (k + 1) (image_of present bytes)
 next-here k present bytes inside = grind (arith, nat_tests, drop-image, drop_more)
 
--- ---- the next byte that is there
+-- ---- the next byte that the bitmap marks
 
 pub first-there : (k : ℕ) (present bytes : List ℕ) → k < length bytes → is_there present k ≡ true
     → first_from (image_of present bytes) k ≡ Some k

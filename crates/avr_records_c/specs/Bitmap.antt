@@ -1,4 +1,4 @@
--- A memory as C passes it: its bytes, and a bitmap of those that are there, the lowest address in the lowest bit.
+-- A memory as C passes it: its bytes, and a bitmap that marks the present ones, the lowest address in the lowest bit.
 use Rattle.std.specs.Prelude.{◌≡◌, ℕ, zero, suc, Bool, ◌+◌, ◌*◌, ◌/◌, ◌%◌, ◌^◌, ◌<◌, ◌==◌, List, [], ◌∷◌, length, slice_index, Option, Some, None, is_some, if◌then◌else◌}
 use Rattle.std.specs.Int.{bit_at}
 use Rattle.avr_image.specs.Image.{byte_at}
@@ -34,7 +34,7 @@ image_from addr present (byte ∷ bytes) = byte_if_there present addr byte ∷ i
 abbrev pub image_of : List ℕ → List ℕ → List (Option ℕ)
 image_of present bytes = image_from 0 present bytes
 
--- fewer than 2 to the power 32 bytes, and as many octets as these need
+-- There are fewer than 2 to the power 32 bytes, and as many octets as these need.
 pub record HasBitmap (present bytes : List ℕ) : Type 0 where
   pub below : length bytes < 2 ^ 32
   pub octets : length present ≡ octets_of (length bytes)

@@ -1,4 +1,4 @@
--- How far a file is written.
+-- The numbers of a cursor of C, and the position in a file that they stand for.
 use Rattle.std.specs.Prelude.{ℕ, Bool, true, false, ◌==◌, min, List, Option, Some, None, if◌then◌else◌}
 use Rattle.std.specs.Option.{option_map, option_and_then}
 use Rattle.avr_records.specs.Sparse.{last_held}
@@ -13,7 +13,8 @@ use Rattle.avr_records_c.specs.declared.cursor.Cursor.{Cursor}
 abbrev pub ended_of : ℕ → Option Bool
 ended_of n = if n == 0 then Some false else if n == 1 then Some true else None
 
--- the size of an S-record's address: at the beginning the least that holds the last one; Intel HEX needs none
+-- The size of an S-record's address by a cursor's number: 0 means the least that holds the last one. Intel HEX needs
+-- none.
 abbrev pub size_in_force : Kind → ℕ → List (Option ℕ) → Option AddressSize
 size_in_force Ihex n image = Some Two
 size_in_force Srec n image =
@@ -23,7 +24,6 @@ size_in_force Srec n image =
     else if n == 4 then Some Four
     else None
 
--- the position by the numbers of a cursor; none if no call leaves such numbers
 abbrev pub lines_with : Kind → Cursor → Bool → AddressSize → Lines
 lines_with kind cursor ended size =
     record { kind = kind; addr = cursor.addr; upper = cursor.upper; address_size = size; ended = ended }
@@ -41,7 +41,7 @@ abbrev pub size_number : Kind → AddressSize → ℕ
 size_number Ihex size = 0
 size_number Srec size = width_of size
 
--- the cursor for `lines`, with `gone` bytes of the next line put
+-- The cursor for the position `lines`, with `gone` bytes of the next line put.
 abbrev pub cursor_of : Lines → ℕ → Cursor
 cursor_of lines gone =
     record {

@@ -1,4 +1,4 @@
--- The texts of fault numbers.
+-- The texts of fault numbers: what `avr_records_fault_text` puts into a room.
 use Rattle.std.specs.Prelude.{ℕ, ◌==◌, min, List, [], ◌∷◌, ◌++◌, length, take, drop, codes, if◌then◌else◌}
 
 abbrev pub fault_text : ℕ → List ℕ
@@ -17,8 +17,8 @@ fault_text fault =
     else if fault == 12 then codes "no record file"
     else codes "no fault of this number"
 
--- A text and a 0 at a room's start, as much of the text as leaves space for the 0. What comes after is unchanged, and
--- an empty room stays empty.
+-- The room with a text and a 0 at its start, as much of the text as leaves space for the 0. The rest is unchanged,
+-- and an empty room stays empty.
 abbrev pub put_text : List ℕ → List ℕ → List ℕ
 put_text text [] = []
 put_text text (first ∷ room) =

@@ -1,4 +1,4 @@
--- The numbers that C uses for formats, faults and versions.
+-- The numbers that C has for formats, faults and versions.
 use Rattle.std.specs.Prelude.{ℕ, true, false, ◌+◌, ◌*◌, ◌==◌, Option, Some, None, Result, Ok, Err, unwrap_or, if◌then◌else◌}
 use Rattle.avr_records.specs.Fault.{fault_number, fault_line_number, fault_address}
 use Rattle.avr_records.specs.declared.fault.RecordFault.{RecordFault}
@@ -38,7 +38,7 @@ misfit = record { line = 0; address = 0; fault = 11; ended = false }
 abbrev pub no_records : Outcome
 no_records = record { line = 0; address = 0; fault = 12; ended = false }
 
--- the kind of record file to read: raw bytes and ELF have no records, and other numbers name no format
+-- The kind of record file to read. Raw bytes and ELF have no records, and other numbers name no format.
 abbrev pub kind_to_read : ℕ → Result Kind Outcome
 kind_to_read number =
     if number == 0 then Err no_records

@@ -1,4 +1,4 @@
--- What C gets of a record file that was read.
+-- What `avr_records_read` leaves in the caller's memory.
 use Rattle.std.specs.Prelude.{◌≡◌, ◌⊎◌, ℕ, ◌==◌, ◌&&◌, ◌^◌, nat_lt, List, length, Option, Result, Ok, Err, MatchResult, if◌then◌else◌}
 use Rattle.avr_image.specs.Image.{filled_bytes}
 use Rattle.avr_records.specs.Reading.{image_in_text}
@@ -15,7 +15,7 @@ pub record Left : Type 0 where
   pub bytes : List ℕ
   pub present : List ℕ
 
--- an image goes into bytes, FF in its gaps, and a bitmap; a fault changes neither
+-- What a read leaves: the image's bytes, FF in gaps, and its bitmap. A fault changes neither.
 abbrev pub left_in : List ℕ → List ℕ → Result (List (Option ℕ) × Ending) RecordFault → Left
 left_in bytes present (Ok (image, ending)) =
     record {
@@ -25,14 +25,14 @@ left_in bytes present (Ok (image, ending)) =
     }
 left_in bytes present (Err fault) = record { outcome = outcome_of_fault fault; bytes = bytes; present = present }
 
--- The kind of file if the arguments fit, else the outcome. File and memory must have fewer than 2 to the power 32
--- bytes, the bitmap the memory's octets, and the number must be a kind's.
+-- The kind of file if the arguments fit, else the outcome. File and memory have to be shorter than 2 to the power 32
+-- bytes, and the bitmap has to be the memory's in length.
 abbrev pub asked_read : ℕ → ℕ → ℕ → ℕ → Result Kind Outcome
 asked_read kind text size present =
     if nat_lt text (2 ^ 32) && nat_lt size (2 ^ 32) && present == octets_of size then kind_to_read kind else Err misfit
 
--- A call leaves what the file says, or allocation failed. If the arguments don't fit one another or the format has no
--- records, it changes nothing.
+-- The call leaves the file's image, or reports that allocation failed. If the arguments don't fit one another or the
+-- format has no records, it changes nothing.
 abbrev pub Reads : ℕ → List ℕ → List ℕ → List ℕ → Left → Type 0
 Reads kind text bytes present left =
     MatchResult (asked_read kind (length text) (length bytes) (length present))

@@ -1,4 +1,4 @@
--- What is written of a memory, then read back.
+-- What a memory's file reads back as. Law `what_is_written_reads_back` uses it.
 use Rattle.std.specs.Prelude.{ℕ, ◌<◌, List, length, slice_index}
 use Rattle.avr_image.specs.Image.{filled_bytes}
 use Rattle.avr_records.specs.declared.kind.Ending.TheVariants.{Ended}
@@ -9,7 +9,7 @@ use Rattle.avr_records_c.specs.Reading.{Left}
 abbrev pub EachIsByte : List ℕ → Type 0
 EachIsByte bytes = (i : ℕ) → i < length bytes → slice_index bytes i < 256
 
--- the bytes that were there, FF for the others, and the bitmap of the same addresses
+-- The bytes that the bitmap marks, FF for the others, and the bitmap of the same addresses.
 abbrev pub written_and_read : List ℕ → List ℕ → Left
 written_and_read present bytes =
     let image = image_of present bytes in

@@ -1,4 +1,4 @@
--- What C gets of a record file that is written.
+-- What `avr_records_write` and `avr_records_length` do.
 use Rattle.std.specs.Prelude.{◌≡◌, ℕ, ◌==◌, ◌&&◌, ◌^◌, nat_lt, min, List, [], ◌∷◌, ◌++◌, length, take, drop, Option, Some, None, MatchOption, if◌then◌else◌}
 use Rattle.std.specs.Option.{option_map}
 use Rattle.avr_records.specs.Sparse.{image_text}
@@ -15,20 +15,20 @@ pub record Put : Type 0 where
   pub cursor : Cursor
   pub room : List ℕ
 
--- The kind of file if the arguments fit. The number must be a kind's, the memory must have fewer than 2 to the power
--- 32 bytes, and the bitmap the memory's octets.
+-- The kind of file if the arguments fit. The memory has to be shorter than 2 to the power 32 bytes, and the bitmap has
+-- to be the memory's in length.
 abbrev pub asked_write : ℕ → ℕ → ℕ → Option Kind
 asked_write kind size present =
     if nat_lt size (2 ^ 32) && present == octets_of size then kind_numbered kind else None
 
--- The room begins with as much of the text as fits, and is unchanged after it; `rest` is left.
+-- The room begins with as much of the text as fits, and is unchanged after it. `rest` is left of the text.
 pub record PutsOn (text rest room : List ℕ) (n : ℕ) (after : List ℕ) : Type 0 where
   pub count : n ≡ min (length room) (length text)
   pub left : rest ≡ drop n text
   pub stands : after ≡ take n text ++ drop n room
 
--- what is left of a memory's file by a cursor: its lines, without what was put of the first; none if no call leaves
--- such a cursor
+-- What is left of a memory's file at a cursor: the lines from its position on, without what was put of the first. It is
+-- `None` if no call leaves such a cursor.
 abbrev pub file_left : Kind → List (Option ℕ) → Cursor → Option (List ℕ)
 file_left kind image cursor =
     option_map (λ lines. drop cursor.gone (text_left lines image)) (lines_of kind cursor image)
@@ -36,18 +36,17 @@ file_left kind image cursor =
 abbrev pub file_start : Cursor
 file_start = record { addr = 0; gone = 0; upper = 0; address_size = 0; ended = 0 }
 
--- a call puts the next part of the text, and the cursor then gives the rest
+-- A call puts the next part of the text, and its cursor gives the rest.
 pub record PutsText (kind : Kind) (image : List (Option ℕ)) (text room : List ℕ) (put : Put) : Type 0 where
   pub good : put.piece.fault ≡ 0
   pub rest : List ℕ
   pub puts : PutsOn text rest room put.piece.length put.room
   pub left : file_left kind image put.cursor ≡ Some rest
 
--- nothing was put, by fault 11
 abbrev pub put_none : Cursor → List ℕ → Put
 put_none cursor room = record { piece = record { length = 0; fault = 11 }; cursor = cursor; room = room }
 
--- A call goes on with the memory's file. If the arguments don't fit one another, it changes nothing.
+-- The call puts the next part of the memory's file. If the arguments don't fit one another, it changes nothing.
 abbrev pub Writes : ℕ → List ℕ → List ℕ → Cursor → List ℕ → Put → Type 0
 Writes kind bytes present cursor room put =
     MatchOption (asked_write kind (length bytes) (length present))
@@ -56,7 +55,7 @@ Writes kind bytes present cursor room put =
     (put ≡ put_none cursor room)
     (λ text. PutsText k (image_of present bytes) text room put))
 
--- a call that put a piece by a cursor, and left the next one
+-- A call put this piece at `cursor`, and left `next`.
 pub record PieceCall (kind : Kind) (image : List (Option ℕ)) (cursor next : Cursor) (piece : List ℕ) : Type 0 where
   pub text : List ℕ
   pub room : List ℕ
@@ -66,13 +65,13 @@ pub record PieceCall (kind : Kind) (image : List (Option ℕ)) (cursor next : Cu
       (record { piece = record { length = length piece; fault = 0 }; cursor = next; room = after })
   pub prefix : piece ≡ take (length piece) after
 
--- calls that put these pieces one after the other, from a cursor to the file's end
+-- Calls put these pieces one after the other, from a cursor to the file's end. Law `pieces_join` uses it.
 abbrev pub Wrote : Kind → List (Option ℕ) → Cursor → List (List ℕ) → Type 0
 Wrote kind image cursor [] = file_left kind image cursor ≡ Some []
 Wrote kind image cursor (piece ∷ more) =
     (next : Cursor) × PieceCall kind image cursor next piece × Wrote kind image next more
 
--- A call returns the length of the memory's file, or 0 if the arguments don't fit one another.
+-- The call returns the length of the memory's file, or 0 if the arguments don't fit one another.
 abbrev pub Measures : ℕ → List ℕ → List ℕ → Piece → Type 0
 Measures kind bytes present piece =
     MatchOption (asked_write kind (length bytes) (length present))

@@ -1,4 +1,4 @@
-//! A memory as C passes it: its bytes, and a bitmap of those that are there.
+//! The bitmap of a memory: it marks the bytes that are present.
 ghost use Rattle.std.specs.Prelude.{◌≡◌, ◌==◌, ◌&&◌, ◌+◌, ◌*◌, ◌^◌, ◌<◌, ◌-◌, ◌≤◌, ◌++◌, length, take, drop, replicate, nat_lt};
 ghost use Rattle.avr_records_c.specs.Bitmap.{bit, bitmap, is_there as spec_is_there, octet, octets_of};
 
@@ -39,7 +39,7 @@ fn fill_octets(present: &mut [u8], first: usize, end: usize)
     present[first..end].fill(255);
 }
 
-/// Puts an image's bitmap. A step skips to the next byte, then puts all gapless octets from there on, or one.
+/// Puts an image's bitmap. Each step skips to the next byte, then puts all full octets from there on, or else one.
 pub(crate) fn put_bitmap(image: &Image, present: &mut [u8])
     requires { length present.old * 8 ≤ 2 ^ 32 }
     ensures { present.new ≡ bitmap image.now (length present.old) }

@@ -1,4 +1,4 @@
-//! How far a file is written, as C keeps it.
+//! The position in a file that is written, as numbers that C keeps.
 ghost use Rattle.std.specs.Prelude.{◌≡◌, ◌^◌, min, IfSome};
 ghost use Rattle.avr_records_c.specs.Cursor.{cursor_of as spec_cursor_of};
 ghost use Rattle.avr_records_c.specs.Cursor.{lines_of as spec_lines_of, size_in_force as spec_size_of};
@@ -10,7 +10,7 @@ use avr_records::{AddressSize, Cursor as Lines, Kind};
 #[repr(C)]
 #[derive(Clone, Copy, Debug, PartialEq, Eq)]
 pub struct Cursor {
-    /// All bytes below this address are in lines that were put.
+    /// All bytes below this address are in lines that were put completely.
     pub addr: u32,
     /// How many bytes of the next line were put.
     pub gone: u32,
@@ -22,7 +22,7 @@ pub struct Cursor {
     pub ended: u8,
 }
 
-/// Returns the size of an S-record's address by a cursor's number; any number will do for Intel HEX.
+/// Returns the size of an S-record's address by a cursor's number. For Intel HEX any number will do.
 fn size_in_force(kind: Kind, size: u8, memory: &Memory<'_>) -> Option<AddressSize>
     ensures { result ≡ spec_size_of kind size memory.now }
 {

@@ -1,4 +1,3 @@
-//! The texts of fault numbers.
 ghost use Rattle.std.specs.Prelude.{◌≡◌, ◌<◌, length};
 ghost use Rattle.avr_records_c.specs.FaultText.{fault_text, put_text};
 
@@ -35,7 +34,7 @@ fn put_text(text: &[u8], room: &mut [u8])
 }
 
 /// Puts the ASCII text of a fault's number and a 0 into the caller's room. Returns the text's length in bytes, below
-/// 40. A room that is too small gets as much of the text as leaves space for the 0; an empty one gets nothing. Bytes
+/// 40. A room that is too small gets as much of the text as leaves space for the 0, and an empty one nothing. Bytes
 /// after the 0 are unchanged.
 #[unsafe(no_mangle)]
 pub extern "C" fn avr_records_fault_text(fault: u8, room: &mut [u8]) -> usize

@@ -1,4 +1,4 @@
-//! Laws of what C gets, over the definitions alone.
+//! Laws of the definitions that contracts of the calls for C cite.
 ghost use Rattle.std.specs.Prelude.{◌≡◌, ◌*◌, ◌<◌, ◌≤◌, ◌^◌, ℕ, List, length, Option, is_some};
 ghost use Rattle.std.specs.List.{concat};
 ghost use Rattle.avr_image.specs.Image.{byte_at};
@@ -17,16 +17,15 @@ pub fn a_bitmap_says_what_is_there()
         → is_there (bitmap image n) addr ≡ is_some (byte_at image addr) }
 {}
 
-/// The pieces that calls put with one cursor, from a file's beginning to its end, joined are the file, whatever their
-/// rooms.
+/// If calls with one cursor put a file from beginning to end, their pieces joined are the file, whatever the rooms'
+/// sizes.
 #[tactic(auto, using(crate::proofs::Cursors::pieces_join))]
 pub fn pieces_join()
     ensures { (kind : Kind) (image : List (Option ℕ)) (pieces : List (List ℕ)) → Wrote kind image file_start pieces
         → concat pieces ≡ image_text kind image }
 {}
 
-/// The file of a memory reads back, into one of its size, with the end record. It gives the same bytes and bitmap,
-/// and FF in gaps.
+/// A memory's file reads back, into one of its size, as the same bytes and bitmap, with FF in gaps and the end record.
 #[tactic(auto, using(crate::proofs::RoundTrip::reads_back))]
 pub fn what_is_written_reads_back()
     ensures { (kind : Kind) (present bytes : List ℕ) → length bytes ≤ 2 ^ 32 → EachIsByte bytes

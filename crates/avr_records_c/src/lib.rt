@@ -1,7 +1,7 @@
-//! Record files for C: Intel HEX and S-records, read into a memory that the caller lends and written from one.
+//! Record files for C: Intel HEX and S-records, read into the caller's memory and written from it.
 //!
-//! Each function is that of avr_records over the caller's memory. No handle outlives a call, nothing is global, and a
-//! call frees all that it allocates. `include/avr_records.h` declares the functions and the duties of their callers.
+//! Each function is that of avr_records over the caller's memory. There are no handles and no global state, and a call
+//! frees all that it allocates. `include/avr_records.h` declares the functions and the duties of their callers.
 #![tactic(auto)]
 
 mod bitmap;

@@ -1,4 +1,3 @@
-//! A memory as C passes it, for the writers of record files.
 ghost use Rattle.std.specs.Prelude.{◌≡◌, ◌+◌, ◌^◌, ◌<◌, ◌≤◌, length, drop, min};
 ghost use Rattle.avr_image.specs.Image.{first_from};
 ghost use Rattle.avr_image.specs.Runs.{lead};
@@ -9,7 +8,7 @@ use crate::bitmap::is_there;
 use avr_records::Sparse;
 use std::marker::Model;
 
-/// The bytes of a memory, and the bitmap of those that are there.
+/// A memory as C passes it: its bytes, and the bitmap that marks the present ones.
 #[derive(Drop)]
 pub(crate) struct Memory<'a> {
     present: &'a [u8],
@@ -47,7 +46,7 @@ fn next_there(present: &[u8], bytes: &[u8], addr: usize) -> Option<usize>
         if is_there(present, at) {
             return Some(at);
         }
-        // An octet that is 0 is passed in one step.
+        // An octet that is 0 is skipped in one step.
         if at % 8 == 0 && present[at / 8] == 0 {
             at += 8;
             continue;

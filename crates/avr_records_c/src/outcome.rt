@@ -1,4 +1,3 @@
-//! How a read ended.
 ghost use Rattle.std.specs.Prelude.{◌≡◌, false};
 ghost use Rattle.avr_records_c.specs.Numbers.{outcome_of_end, outcome_of_fault};
 
@@ -10,7 +9,7 @@ pub const MISFIT: u8 = 11;
 /// The fault of a format without records.
 pub const NO_RECORDS: u8 = 12;
 
-/// How a read ended: it succeeded if the fault is 0.
+/// The result of a read. It succeeded if the fault is 0.
 #[repr(C)]
 #[derive(Clone, Copy, Debug, PartialEq, Eq)]
 pub struct Outcome {
@@ -20,7 +19,7 @@ pub struct Outcome {
     pub address: u32,
     /// 0, or the number of the fault.
     pub fault: u8,
-    /// Whether the end record came.
+    /// Whether the file has an end record.
     pub ended: bool,
 }
 
@@ -47,7 +46,6 @@ impl Outcome {
         }
     }
 
-    /// Returns the outcome of arguments by which nothing is read.
     pub(crate) fn unread(fault: u8) -> Outcome
         ensures { result ≡ record { line = 0; address = 0; fault = fault; ended = false } }
     {

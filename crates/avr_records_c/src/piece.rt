@@ -1,4 +1,3 @@
-//! How much of a text was put.
 ghost use Rattle.std.specs.Prelude.{◌≡◌};
 
 /// How much of a text was put into the caller's room, or how long a text is.

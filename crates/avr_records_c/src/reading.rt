@@ -1,4 +1,3 @@
-//! Reads a record file into the caller's memory.
 ghost use Rattle.std.specs.Prelude.{◌≡◌};
 ghost use Rattle.avr_records_c.specs.Reading.{asked_read as spec_asked_read, Reads};
 
@@ -18,15 +17,14 @@ fn asked_read(kind: u8, text: usize, size: usize, present: usize) -> Result<Kind
     }
 }
 
-/// Reads a whole record file, of kind 1 for Intel HEX or 2 for S-records, into a memory and its bitmap. The memory's
-/// bytes are FF in gaps. The bitmap has an octet for each eight bytes, the last perhaps in part. Start addresses and
-/// headers (S0) are dropped.
+/// Reads a whole record file, of kind 1 for Intel HEX or 2 for S-records, into a memory and its bitmap. Gaps get FF.
+/// The bitmap has an octet for each eight bytes and one for those that are left. Start addresses and headers (S0) are
+/// dropped.
 ///
-/// After a fault the bytes and the bitmap are unchanged. Faults have the numbers of `RecordFault`, and two more:
+/// After a fault the bytes and the bitmap are unchanged. Faults up to 10 have the numbers of `RecordFault`. The others:
 /// - 11 if the arguments don't fit one another: an unknown format, a bitmap of another length, or a file or memory of
 ///   2 to the power 32 bytes or more.
-/// - 12 if they do, but the format has no records: raw bytes (kind 0) or ELF (kind 3), as `avr_records_detect`
-///   returns them.
+/// - 12 if the arguments fit, but the format has no records: raw bytes (kind 0) or ELF (kind 3).
 #[unsafe(no_mangle)]
 pub extern "C" fn avr_records_read(
     alloc: Global,

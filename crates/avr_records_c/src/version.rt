@@ -1,4 +1,3 @@
-//! The version of the library.
 ghost use Rattle.std.specs.Prelude.{◌≡◌};
 ghost use Rattle.avr_records_c.specs.Numbers.{version_number};
 

@@ -1,4 +1,3 @@
-//! Writes a record file from the caller's memory.
 ghost use Rattle.std.specs.Prelude.{◌≡◌, ◌+◌, ◌-◌, ◌<◌, ◌≤◌, ◌^◌, ◌++◌, length, take, drop, min};
 ghost use Rattle.avr_records.specs.Writing.{left};
 ghost use Rattle.avr_records_c.specs.Writing.{asked_write as spec_asked_write, Measures, PutsOn, Writes};
@@ -22,7 +21,7 @@ fn asked_write(kind: u8, size: usize, present: usize) -> Option<Kind>
     }
 }
 
-/// Puts as much as fits of a line, without its first `gone` bytes, at `put` in the room. Returns how much.
+/// Puts as much as fits of a line, without its first `gone` bytes, at `put` in the room. Returns the number of bytes.
 fn put_part(line: &[u8], gone: usize, room: &mut [u8], put: usize) -> usize
     requires { put ≤ length room.old }
     ensures count { result ≡ min (length room.old - put) (length (drop gone line.now)) }
@@ -34,7 +33,7 @@ fn put_part(line: &[u8], gone: usize, room: &mut [u8], put: usize) -> usize
     count
 }
 
-/// Puts as much as fits of the rest of a file into the room. Returns how much.
+/// Puts as much as fits of the rest of a file into the room. Returns the number of bytes.
 fn put_left(lines: &mut Lines, gone: &mut u32, memory: &Memory<'_>, room: &mut [u8]) -> usize
     ensures put { PutsOn (drop gone.old (left lines.old memory.now)) (drop gone.new (left lines.new memory.now))
         room.old result room.new }
@@ -73,8 +72,8 @@ fn count_left(lines: Lines, memory: &Memory<'_>) -> usize
     count
 }
 
-/// Returns the length in bytes of a memory's record file, so that the caller can get a room for all of it. Arguments
-/// and fault are those of `avr_records_write`; with a fault the length is 0. It allocates nothing.
+/// Returns the length in bytes of a memory's record file, so that the caller can allocate a room for all of it.
+/// Arguments and fault are those of `avr_records_write`. With a fault the length is 0. It allocates nothing.
 #[unsafe(no_mangle)]
 pub extern "C" fn avr_records_length(kind: u8, bytes: &[u8], present: &[u8]) -> Piece
     ensures { Measures kind bytes.now present.now result }
@@ -90,13 +89,12 @@ pub extern "C" fn avr_records_length(kind: u8, bytes: &[u8], present: &[u8]) -> 
 }
 
 /// Puts the next bytes of a memory's record file into the caller's room, as many as fit. A piece shorter than the
-/// room is the last one. The cursor keeps the position in the file; all its numbers are 0 at the beginning. The file
-/// has no header and no start address, which is 0 in the end record of S-records. It allocates nothing.
+/// room is the last one. The cursor keeps the position in the file, and all its numbers are 0 at the beginning. The
+/// file has no header. Its start address, which only S-records have, is 0. It allocates nothing.
 ///
 /// The kind is 1 for Intel HEX or 2 for S-records. The bitmap, as in `avr_records_read`, marks the bytes that belong
-/// to the file. The fault is 11 if the arguments don't fit one another, or no call leaves such a cursor; then room
-/// and cursor are unchanged. A cursor that was otherwise changed, or comes from another memory or kind, is taken by
-/// its numbers.
+/// to the file. The fault is 11 if the arguments don't fit one another, or no call leaves such a cursor. Room and
+/// cursor are then unchanged. A cursor of another memory or kind isn't detected: its numbers are used as they are.
 #[tactic(auto, using(crate::proofs::Cursors::left_kept))]
 #[unsafe(no_mangle)]
 pub extern "C" fn avr_records_write(

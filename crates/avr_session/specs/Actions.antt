@@ -54,6 +54,7 @@ abbrev pub tasks_actions : Switches → List Task → List Action
 tasks_actions s [] = []
 tasks_actions s (task ∷ tasks) = task_actions s task ++ tasks_actions s tasks
 
+-- What a plan does, in order. Its dialog, its commands and its items follow from this list.
 abbrev pub actions : Plan → List Action
 actions plan = OpenSession ∷ (erase_actions plan.switches plan.tasks ++ tasks_actions plan.switches plan.tasks)
 

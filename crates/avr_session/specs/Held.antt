@@ -18,8 +18,8 @@ IsReady session = (session.host.broken ≡ None) × (session.host.part ≡ sessi
 abbrev pub shown : {D L : Type 0} → Links L → Desks D → Session D L → Devices
 shown link desk session = devices (link.view session.link.now) (desk.view session.desk.now)
 
--- A part of a session was run. The plan and the devices are the same, and the devices stay what they came from. If a
--- fault ended the session, the fault's line is the last one reported.
+-- A part of a session was run, of the same plan and on the same devices. If a fault ended the session, its line is the
+-- last one reported.
 pub record Proceeds {D L : Type 0} (link : Links L) (desk : Desks D) (Part : Performing) (old new : Session D L)
     (result : Result ⊤ End) : Type 0 where
   pub performs : Part old.host new.host (shown link desk old) (shown link desk new) (stands result)
@@ -30,6 +30,6 @@ pub record Proceeds {D L : Type 0} (link : Links L) (desk : Desks D) (Part : Per
   pub stays : Stays desk.comes_of old.desk.now new.desk.now
   pub told : EndsTold new.plan.now.part (desk.view new.desk.now) result
 
--- These actions of its plan were done in order, up to the first fault.
+-- These actions of the plan were done in order, up to the first fault.
 abbrev pub Does : {D L : Type 0} → Links L → Desks D → List Action → Session D L → Session D L → Result ⊤ End → Type 0
 Does link desk actions old new result = Proceeds link desk (PlanDoes old.plan.now actions) old new result

@@ -35,7 +35,7 @@ differs_pieces mem address want found =
     name_of mem ∷ codes ": address " ∷ digits (big_bytes 4 address) ∷ codes ": " ∷ digits (want ∷ [])
     ∷ codes " expected, " ∷ digits (found ∷ []) ∷ codes " found" ∷ []
 
--- The link failed at sending; below, at listening.
+-- The link failed at sending; below, at receiving.
 abbrev pub unsent_pieces : List Bytes
 unsent_pieces = codes "link cannot be written" ∷ []
 

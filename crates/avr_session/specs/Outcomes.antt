@@ -20,8 +20,8 @@ outcome_status _ = 1
 abbrev pub EndWith : Bytes → Bytes → Type 0
 EndWith line messages = (before : Bytes) × (messages ≡ before ++ line)
 
--- Done: it ran whole, without a fault. Faulty: it ran whole, and this fault's line is the last one. Stopped: it
--- stopped at once.
+-- The contract of `drive_outcome`. Done: the session ran whole, without a fault. Faulty: it ran whole, and this fault's
+-- line is the last one. Stopped: it stopped at once.
 abbrev pub ComesTo : Plan → Devices → Devices → Outcome → Type 0
 ComesTo plan old new outcome.Done = IsPlayed (session plan) old new 0
 ComesTo plan old new (outcome.Faulty fault) =

@@ -52,7 +52,6 @@ abbrev pub EndsSession : Plan → Standing → Performing
 EndsSession plan standing = PerformsBehind (record { takes = false; was_told = is_told standing }) (AtOnce false)
     (ending plan.part plan.switches standing)
 
--- A whole session.
 abbrev pub PlaysSession : Plan → Performing
 PlaysSession plan =
     PerformsBehind (untold (takes_memory plan)) (AtTaking plan.part plan.switches (actions plan)) (playing plan)

@@ -26,7 +26,7 @@ pub record SaysPrefix (cause : Cause) (old new : DeskState) (outputs : List Outp
   pub by_desk : IsOfDesk cause
   pub kept : Passes (after_all (whole ++ begun)) old new
 
--- A prefix of the output events was done, and then the report of the cause. Such a cause may stop them.
+-- A prefix of the output events was done, and then the cause was reported. `By` states which causes can stop output.
 pub record SaidSome (By : DeskState → DeskState → Cause → Bytes → Type 0) (old new : DeskState)
     (outputs : List OutputEvent) : Type 0 where
   pub between : DeskState
@@ -52,7 +52,7 @@ abbrev pub PrintStops : DeskState → DeskState → Cause → Bytes → Type 0
 PrintStops old new OfPrinting told = desk.HasFailedToSay old new × (told ≡ [])
 PrintStops old new cause told = ⊥
 
--- At a desk these events were reported, or such a cause stopped them.
+-- These output events were done at a desk, or a cause that `By` allows stopped them.
 pub record Outputs {D : Type 0} (desk : Ghosts D) (By : DeskState → DeskState → Cause → Bytes → Type 0)
     (outputs : List OutputEvent) (old new : D) (result : Result ⊤ DeskFault) : Type 0 where
   pub reports : Reports By (desk.view old) (desk.view new) outputs result
@@ -69,7 +69,7 @@ abbrev pub DeskStops : DeskState → DeskState → Cause → Bytes → Type 0
 DeskStops old new (OfFile file trouble) told = FileStops old new file trouble told
 DeskStops old new cause told = PrintStops old new cause told
 
--- It fails at a file only if there is something to save.
+-- The desk can fail at a file only after a read without a fault, because nothing else is saved.
 abbrev pub ReadStops : {A Fault : Type 0} → Result A Fault → DeskState → DeskState → Cause → Bytes → Type 0
 ReadStops (Ok read) = DeskStops
 ReadStops (Err fault) = PrintStops

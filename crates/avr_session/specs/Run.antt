@@ -14,12 +14,13 @@ use Rattle.avr_session.specs.Taking.{AtTaking}
 use Rattle.ghosts.specs.Stays.{Stays}
 use Rattle.stk_host.specs.Transcript.{LinkState}
 
--- The session of a plan was run whole to its status, or it broke off. Allocation can fail only at an action that
--- allocates.
+-- The contract of `drive`: the session of a plan ran whole to its status, or it broke off. Allocation can fail only at
+-- an action that allocates.
 abbrev pub RunsSession : Plan → Devices → Devices → ℕ → Type 0
 RunsSession plan old new status =
     RunsTo (session plan) old new (takes_memory plan) (AtTaking plan.part plan.switches (actions plan)) status
 
+-- The session of a plan broke off.
 abbrev pub StopsSession : Plan → Devices → Devices → Type 0
 StopsSession plan old new =
     BrokeOff (session plan) start old new (untold (takes_memory plan)) (AtTaking plan.part plan.switches (actions plan))
@@ -45,13 +46,13 @@ pub record RunsPlan (settings : Settings) (old : Devices) (between : DeskState) 
   pub made : Went (planned settings) old.desk between (Made plan)
   pub runs : RunsSession plan (devices old.link between) new status
 
--- That, or there is no plan, and nothing was sent or received.
+-- A plan was made and its session run; or there is no plan, and nothing was sent or received.
 abbrev pub RunsSettings : Settings → Devices → DeskState → Devices → ℕ → Type 0
 RunsSettings settings old between new status =
     RunsPlan settings old between new status
     ⊎ (LacksPlan settings old.desk new.desk status × (new.link ≡ old.link))
 
--- The same for a link and a desk, with the desk `between`, which stays what it came from.
+-- The same for a desk of any type. `between` is the desk when the plan was made.
 pub record RunsBetween {D Start : Type 0} (view : D → DeskState) (ComesOf : Start → D → Type 0) (settings : Settings)
     (link_old link_new : LinkState) (old new : D) (status : ℕ) : Type 0 where
   pub between : D

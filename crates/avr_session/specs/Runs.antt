@@ -22,9 +22,11 @@ pub record Devices : Type 0 where
 abbrev pub devices : LinkState → DeskState → Devices
 devices link desk = record { link = link; desk = desk }
 
+-- No call of link or desk failed between these states.
 abbrev pub NoneFailed : Devices → Devices → Type 0
 NoneFailed old new = (new.link.failures ≡ old.link.failures) × HasSameCounts old.desk new.desk
 
+-- Nothing was sent or received yet; the next frame has number 1.
 abbrev pub start : Progress
 start = record { next = 1; unread = [] }
 
@@ -32,8 +34,8 @@ pub data FileTrouble : Type 0 where
   NotCreated : FileTrouble
   NotWritten : FileTrouble
 
--- Why a run stops: the link failed at sending or at listening, the desk failed at a file or at printing, or
--- allocation failed.
+-- Why a run stops: the link failed at sending or at receiving, the desk failed at a file or at printing, or allocation
+-- failed.
 pub data Cause : Type 0 where
   OfSending : Cause
   OfListening : Cause
@@ -57,8 +59,7 @@ is_error output = false
 abbrev pub tells_fault : List OutputEvent → Bool
 tells_fault outputs = list_any is_error outputs
 
--- A prefix of the next frame was sent, perhaps nothing. It was sent whole only if the send that failed had taken its
--- end.
+-- A prefix of the next frame was sent, perhaps nothing. The whole frame was sent only if the failed send took its end.
 pub record AtFrame (during : Transcript) (begun later : List (Event OutputEvent)) : Type 0 where
   pub done : Bytes
   pub unsent : Bytes
@@ -85,8 +86,8 @@ pub record AtCreation (file : Bytes) (begun later : List (Event OutputEvent)) : 
 abbrev pub CreatesLast : Bytes → List (Event OutputEvent) → Type 0
 CreatesLast file whole = (before : List (Event OutputEvent)) × (whole ≡ before ++ Said (Creates file) ∷ [])
 
--- A cause stops a run after the whole events, in the next one, of which a part may have happened. Bytes are written
--- to a file that was created just before, or to standard output, whose name is `-`.
+-- A cause stops a run after the whole events, within the next one. Bytes are written to a file that was created just
+-- before, or to standard output, whose name is `-`.
 abbrev pub StopsAt : Cause → Transcript → List (Event OutputEvent) → List (Event OutputEvent)
     → List (Event OutputEvent) → Type 0
 StopsAt OfSending during whole begun later = AtFrame during begun later
@@ -97,13 +98,13 @@ StopsAt (OfFile file NotWritten) during whole begun later =
 StopsAt OfPrinting during whole begun later = AtPart Line begun later
 StopsAt OfMemory during whole begun later = begun ≡ []
 
--- If listening failed, all events so far have happened, and the run waits.
+-- If receiving failed, all events so far have happened, and the run waits.
 abbrev pub Listens : {A : Type 0} → Cause → Option A → Type 0
 Listens OfListening outcome = outcome ≡ None
 Listens cause outcome = Unit {0}
 
--- The cause occurred first: by the counts of failures this device has failed at this, and nothing else has. No count
--- shows a failed allocation, which occurs only if the dialog allocates (`takes`).
+-- The cause occurred before any other: by the counts of failures only this device failed. No count shows a failed
+-- allocation, which occurs only if the dialog allocates (`takes`).
 abbrev pub HasCome : Bool → Devices → Devices → Cause → Type 0
 HasCome takes old then OfSending = link.HasFailed old.link then.link × HasSameCounts old.desk then.desk
 HasCome takes old then OfListening = link.HasFailed old.link then.link × HasSameCounts old.desk then.desk
@@ -171,7 +172,7 @@ pub record BrokeOff {R : Type 0} (dialog : Dialog OutputEvent R) (before : Progr
   pub lacks : cause ≡ OfMemory → Lacks before during shown
   pub kept : Passes (λ r. after_err told (after_all (outputs shown) r)) old.desk new.desk
 
--- A whole run: it ran to its status, or it broke off with status 1.
+-- The dialog ran whole to its status, or it broke off with status 1.
 abbrev pub RunsTo : Dialog OutputEvent ℕ → Devices → Devices → Bool → Lacking → ℕ → Type 0
 RunsTo dialog old new takes Lacks status =
     ((after : Progress) × Ran dialog start old new status after)

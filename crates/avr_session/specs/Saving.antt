@@ -11,7 +11,7 @@ use Rattle.avr_desk.specs.declared.desk.DeskFault.{DeskFault}
 use Rattle.avr_desk.specs.declared.desk.DeskFault.TheVariants.{Failed}
 use Rattle.ghosts.specs.Stays.{Stays}
 
--- All of the text went there, or a prefix of it and a call failed.
+-- All of the text was written to the stream; or a prefix of it was, and then a call failed.
 pub record SendsText {D : Type 0} (desk : Ghosts D) (stream : Stream) (text : Bytes) (old new : D)
     (result : Result ⊤ DeskFault) : Type 0 where
   pub all : OnOk result (Passes (after_sent stream text) (desk.view old) (desk.view new))

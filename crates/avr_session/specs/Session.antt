@@ -130,6 +130,7 @@ ending part s Fine = reported closing (closed_says s.quiet part)
 ending part s Faulty = reported closing (λ _. []) >>= λ closed. Done Over
 ending part s Over = Done Over
 
+-- The actions of a plan and the end of its session.
 abbrev pub playing : Plan → Dialog OutputEvent Standing
 playing plan = actions_dialog plan.part plan.switches (actions plan) >>= ending plan.part plan.switches
 
@@ -138,5 +139,6 @@ abbrev pub status_of : Standing → ℕ
 status_of Fine = 0
 status_of _ = 1
 
+-- The whole session, which returns the status. Contracts of `drive` and of runs state that it was run.
 unfoldable pub session : Plan → Dialog OutputEvent ℕ
 session plan = playing plan >>= λ standing. Done (status_of standing)

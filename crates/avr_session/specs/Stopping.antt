@@ -1,4 +1,4 @@
--- What the contract of a run says if no device failed.
+-- What the contract of a run states if no device failed.
 use Rattle.std.specs.Prelude.{ℕ, ◌++◌, ◌≡◌}
 use Rattle.ghosts.specs.Failures.{HasStood}
 use Rattle.avr_desk.specs.Record.{Record, DeskState, showing, Bytes}
@@ -23,6 +23,6 @@ pub record IsSound (old new : Devices) : Type 0 where
 abbrev pub LacksMemory : Bytes → Type 0
 LacksMemory messages = (before : Bytes) × (messages ≡ before ++ cause_line OfMemory)
 
--- A run that ran whole to this status.
+-- The dialog ran whole to this status.
 abbrev pub IsPlayed : Dialog OutputEvent ℕ → Devices → Devices → ℕ → Type 0
 IsPlayed dialog old new status = (after : Progress) × Ran dialog start old new status after

@@ -5,7 +5,6 @@ ghost use Rattle.avr_session.specs.Concluding.{conclusion};
 use avr_desk::DeskFault;
 use stk_host::HostFault;
 
-/// Why a session ends early.
 #[derive(Clone, Copy)]
 pub(crate) enum End {
     /// This fault was reported, and the link can still be used.

@@ -1,4 +1,3 @@
-//! Writes a file in any format.
 ghost use Rattle.std.specs.Prelude.{◌≡◌, ◌≤◌, ◌^◌, length};
 ghost use Rattle.avr_session.specs.FileText.{file_text, trimmed};
 ghost use Rattle.avr_session.specs.Saving.{SendsText};
@@ -31,7 +30,6 @@ fn write_pieces<D: Desk, P: Pieces + Drop>(
     write_all(desk, stream, rest)
 }
 
-/// Writes these bytes as text in a format. After a fault a prefix of it was written.
 #[tactic(auto, unfolding(crate::specs::FileText::file_text))]
 pub(crate) fn write_text<D: Desk>(
     desk: &mut D,

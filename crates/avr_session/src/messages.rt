@@ -150,7 +150,7 @@ fn settings_message<'a>(fault: &'a SettingsFault) -> Message<'a>
 
 /// Prints the line of a fault of the settings on the desk's messages, and returns the status 1.
 ///
-/// If the desk fails, a prefix of the line was printed, and nothing more is.
+/// If the desk fails, only a prefix of the line is printed.
 #[tactic(auto, unfolding(crate::specs::Refusal::refusal_line))]
 pub fn refuse<D: Desk>(fault: &SettingsFault, desk: &mut D) -> u8
     ensures status { result ≡ 1 }

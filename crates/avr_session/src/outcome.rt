@@ -1,4 +1,3 @@
-//! The outcome of a session.
 ghost use Rattle.std.specs.Prelude.{◌≡◌};
 ghost use Rattle.avr_session.specs.Outcomes.{outcome_status, outcome_of};
 

@@ -38,7 +38,6 @@ pub(crate) fn is_erase_due(switches: Switches, tasks: &[Task]) -> bool
     switches.erase || (any_writes_flash(tasks) && !switches.keep_flash)
 }
 
-/// A session of a plan over a link, reported at a desk.
 #[derive(Drop)]
 pub(crate) struct Session<'a, D, L> {
     pub(crate) alloc: Global,
@@ -180,7 +179,6 @@ impl<'a, D: Desk, L: Link> Session<'a, D, L> {
         }
     }
 
-    /// Does the tasks in order, up to the first fault.
     pub(crate) fn perform_all(&mut self, tasks: &[Task]) -> Result<(), End>
         requires ready { IsReady self.old }
         requires fits { All (IsFitted self.old.plan.now.part) tasks.now }

@@ -1,4 +1,3 @@
-//! What a session reports.
 ghost use Rattle.std.specs.Prelude.{◌≡◌, ◌∷◌, [], map};
 ghost use Rattle.avr_desk.specs.Lines.{text_of};
 ghost use Rattle.avr_desk.specs.Said.{Line};
@@ -60,7 +59,6 @@ pub(crate) fn warn<D: Desk>(desk: &mut D, quiet: u8, pieces: &[Piece<'_>]) -> Re
     print_warning(desk, pieces)
 }
 
-/// Prints what was done with how many bytes of a memory.
 pub(crate) fn report_bytes<D: Desk>(
     desk: &mut D,
     quiet: u8,
@@ -149,7 +147,6 @@ pub(crate) fn report_erased<D: Desk>(
     }
 }
 
-/// Reports what was done with the bytes of an image, or the fault.
 pub(crate) fn report_image<D: Desk>(
     desk: &mut D,
     plan: &Plan,

@@ -1,4 +1,3 @@
-//! Saves what was read of a memory.
 ghost use Rattle.std.specs.Prelude.{◌≡◌, ◌≤◌, ◌<◌, ◌^◌, length};
 ghost use Rattle.avr_desk.specs.Fault.{Follows};
 ghost use Rattle.avr_session.specs.FileText.{file_text};
@@ -23,8 +22,8 @@ pub(crate) struct Target<'a> {
     pub(crate) format: Format,
 }
 
-/// Writes these bytes as text in a format, and waits until a file is on the disk. After a fault a prefix of the text was
-/// written, maybe all of it.
+/// Writes these bytes as text in a format, and waits until a file is on the disk. After a fault a prefix of the text
+/// was written, perhaps all of it.
 fn write_whole<D: Desk>(
     desk: &mut D,
     stream: Stream,
@@ -42,7 +41,7 @@ fn write_whole<D: Desk>(
     Ok(())
 }
 
-/// Writes these bytes in the target's format to the file just created, or to standard output.
+/// Writes to the file just created, or to standard output, and reports a failure.
 fn write_file<D: Desk>(
     desk: &mut D,
     stream: Stream,
@@ -65,7 +64,6 @@ fn write_file<D: Desk>(
     }
 }
 
-/// Saves bytes in the target's format, in its file or on standard output.
 pub(crate) fn save<D: Desk>(desk: &mut D, target: Target<'_>, bytes: &[u8]) -> Result<(), DeskFault>
     requires { length bytes.now ≤ 2 ^ 32 }
     ensures { Outputs D.Desk (SaveStops target.entry.file.now)
@@ -93,7 +91,6 @@ fn kept_of(mem: Mem, all: bool, bytes: &[u8]) -> &[u8]
     }
 }
 
-/// Saves what was read of a memory and reports it, or reports the fault.
 pub(crate) fn report_read<D: Desk>(
     desk: &mut D,
     plan: &Plan,

@@ -1,4 +1,3 @@
-//! The session of a plan, over a link and at a desk.
 ghost use Rattle.std.specs.Prelude.{◌≡◌, None, Err};
 ghost use Rattle.avr_desk.specs.Fault.{Follows};
 ghost use Rattle.avr_session.specs.Standing.{Fine, Faulty};
@@ -20,7 +19,6 @@ use std::alloc::Global;
 use stk_host::{HostFault, Link};
 
 impl<'a, D: Desk, L: Link> Session<'a, D, L> {
-    /// Does all that the plan asks for: opens a session, erases the chip if an erase is due, and does the tasks.
     fn work(&mut self) -> Result<(), End>
         requires { IsReady self.old }
         ensures { Does L.Link D.Desk (actions self.old.plan.now) self.old self.new result }

@@ -1,4 +1,4 @@
-//! What the contract of a run says if no device failed: a law of the contract alone.
+//! What the contract of a run states if no device failed.
 ghost use Rattle.std.specs.Prelude.{◌≡◌, ℕ, false};
 ghost use Rattle.avr_desk.specs.Record.{Record};
 ghost use Rattle.stk_host.specs.Transcript.{LinkState};

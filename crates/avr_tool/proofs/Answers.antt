@@ -1,4 +1,4 @@
--- Answers to bytes after others.
+-- Replies to bytes after others.
 use Rattle.std.proofs.Common.{◌≡◌, ℕ, ◌<◌, ◌≤◌, List, [], ◌∷◌, ◌++◌, length, sym, ap, ◌∙◌, append_assoc, arith, rules}
 use Rattle.std.specs.Prelude.{filter}
 use Rattle.std.proofs.lemmas.List.{append-nil}
@@ -34,12 +34,11 @@ pub breaks_more : (p : Programmer) (text a b : List ℕ) (x y : Transcript) (mid
     → BreaksOff p (text ++ a) b y now → BreaksOff p text (a ++ b) (x ++ y) now
 breaks_more p text a b x y mid now first then = search (rules, append_assoc, sent_append, none_behind)
 
--- after what was received
 pub breaks_heard : (p : Programmer) (text bytes : List ℕ) (tape : Tape) (transcript : Transcript) (now : Machine)
     → BreaksOff p text bytes transcript now → BreaksOff p text bytes (Got tape ∷ transcript) now
 breaks_heard p text bytes tape transcript now b = search rules
 
--- an answer whose send failed belongs to a frame, the last that was fed
+-- a reply whose send failed belongs to a frame, the last that was fed
 breaks_found : (p : Programmer) (text used unused part unsent : List ℕ) (transcript : Transcript) (now : Machine)
     (found : List (List ℕ))
     → length found ≤ 1
@@ -62,7 +61,7 @@ breaks_here p text used unused out b c old now a f s =
     (sym s.bytes_are ∙ (a.answered ∙ ap (answers device a.found) f.obeyed)) (is_fed old now used out p text a f)
     (rw (← s.bytes_are) s.some) s.bytes_sent s.not_whole
 
--- the answers to a prefix are a prefix of the answers
+-- the replies to a prefix are a prefix of the replies
 answers_prefix : (p : Programmer) (x y : List ℕ) → IsPrefixOf (emulate p x) (emulate p (x ++ y))
 answers_prefix p x y =
     let later : List (List ℕ) = filter is_frame (cut (rest x ++ y)) in
@@ -72,7 +71,6 @@ answers_prefix p x y =
       sym (ap (λ fs. answers device fs p) all ∙ answers_more device (frames x) later p),
     )
 
--- so is the part of them that was sent
 pub breaks_prefix : (p : Programmer) (text bytes : List ℕ) (transcript : Transcript) (now : Machine)
     → BreaksOff p text bytes transcript now
     → IsPrefixOf (emulate p text ++ sent transcript) (emulate p (text ++ bytes))

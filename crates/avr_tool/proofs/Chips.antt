@@ -1,4 +1,3 @@
--- The chip of a file.
 use Rattle.std.proofs.Common.{◌≡◌, refl, sym, arith, ℕ, List, ◌∷◌, ◌==◌, length, Bool, true, false, nat_le, inl, inr, Result, Ok, Err, if◌then◌else◌, rules}
 use Rattle.std.proofs.lemmas.Bool.Decides.{nat_tests}
 use Rattle.avr_desk.specs.Fault.{HasSameCounts}
@@ -63,7 +62,7 @@ pub opened_at : (opening : Opening) (passed : List Opening) (said : List OutputE
     → AtOpened (opening ∷ passed) (Opens opening ∷ said)
 opened_at opening passed said takes = search rules
 
--- the judgement of the file's bytes
+-- the check of the file's bytes
 goes_whole : (part : Part) (file bytes : Bytes) (ended : Bool) (old mid new : DeskState) (result : Result ChipState ℕ)
     → Passes (with_read file bytes ended) old mid → IsWhole LARGEST_CHIP_FILE (record { bytes = bytes; ended = ended })
     → HasSameCounts old mid
@@ -74,7 +73,7 @@ goes_whole part file bytes ended old mid new result kept whole rose goes =
     goes_opened (AtStart true) AtOpened file (chip_given part file) (Found reading) old mid new result refl kept rose
     (opened_at (Found reading)) (search (rules, goes_judged))
 
--- to its end
+-- if the file was read to its end
 pub goes_ended : (part : Part) (file bytes : Bytes) (ended : Bool) (old mid new : DeskState)
     (result : Result ChipState ℕ)
     → Passes (with_read file bytes ended) old mid → IsWhole LARGEST_CHIP_FILE (record { bytes = bytes; ended = ended })
@@ -86,7 +85,7 @@ goes_ended part file bytes true old mid new result kept whole is rose goes =
     let fits : nat_le (length bytes) LARGEST_CHIP_FILE ≡ true = grind (arith, nat_tests, whole) in
     goes_whole part file bytes true old mid new result kept whole rose (rw fits goes)
 
--- or past the limit
+-- if it was read past the limit
 pub goes_past : (part : Part) (file bytes : Bytes) (ended : Bool) (old mid new : DeskState) (status : ℕ)
     → Passes (with_read file bytes ended) old mid → IsWhole LARGEST_CHIP_FILE (record { bytes = bytes; ended = ended })
     → ended ≡ false → HasSameCounts old mid

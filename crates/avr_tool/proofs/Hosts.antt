@@ -1,4 +1,4 @@
--- What a host does after any turns, in the logic of dialogs.
+-- What a host does after any exchanges, in the logic of dialogs.
 pub mod AnyTurn
 pub mod Attempts
 pub mod Operations

@@ -28,7 +28,7 @@ pub record Reached (part : Part) (steps : List (List Command)) (m : Memories) (q
   pub count : ℕ
   pub stands : Settled part (changed_by part count steps m) q
 
--- with data: the memories after all steps, and what these give; with a fault: those after some first steps
+-- with data, the memories after all steps, and what these give; with a fault, those after some first steps
 abbrev pub AfterSteps : Part → List (List Command) → Memories → List ℕ → StepOutcome → Programmer → Type 0
 AfterSteps part steps m before (Ok got) q =
     Settled part (changed_by part (length steps) steps m) q × (got ≡ before ++ all_given part steps m)
@@ -51,7 +51,7 @@ AreSome ([] ∷ steps) = ⊥
 AreSome ((command ∷ commands) ∷ steps) = AreSome steps
 
 -- A run of steps after `k` questions: the condition of the first `count` steps holds. These are the completed steps and
--- perhaps one more. That one counts by the questions before the last, whose answer may not have come. If the run was
+-- perhaps one more. That one counts by the questions before the last, whose reply may not have come. If the run was
 -- completed, these are all steps.
 pub record Climbs {P : Type 0} (m : Device P) (At : ℕ → P → Type 0) (k : ℕ) (steps : List (List Command)) (p : P)
     (turns : List Turn) (s : LineState ⊥ StepOutcome P) : Type 0 where
@@ -62,7 +62,7 @@ pub record Climbs {P : Type 0} (m : Device P) (At : ℕ → P → Type 0) (k : �
   pub stands : At count s.programmer
   pub whole : (bytes : List ℕ) → s.dialog ≡ Done (Ok bytes) → count ≡ length steps
 
--- The next dialog makes its page writes after those already made. Either these had been completed before the last
+-- The next dialog makes its write operations after those already made. Either these were completed before the last
 -- question, or the next dialog makes none.
 pub record GoesOn {E A B P : Type 0} (m : Device P) (At : ℕ → P → Type 0) (s : LineState E A P) (made earlier : ℕ)
     (next : Dialog E B) (more : Count P) : Type 0 where

@@ -1,6 +1,6 @@
 -- in the order in which to read; the list beside a folder says what the folder holds
 pub mod Printed
--- a session over any line
+-- a session over any link
 pub mod Each
 pub mod Leads
 pub mod Lines
@@ -14,7 +14,7 @@ pub mod Bounds
 pub mod Sure
 pub mod OverTurns
 pub mod WirePlays
--- chips of files; serving: transcripts and answers, a piece and its answers, read after read; a run over the emulator
+-- chips of files; serving: transcripts and replies, a piece and its replies, read after read; a run over the emulator
 pub mod Chips
 pub mod Transcripts
 pub mod Answers

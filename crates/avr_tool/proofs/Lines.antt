@@ -1,4 +1,4 @@
--- Runs over a wire are runs along turns.
+-- Runs over a wire are runs along exchanges.
 pub mod Plays
 pub mod WireTapes
 pub mod InTurn

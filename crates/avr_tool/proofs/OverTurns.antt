@@ -1,4 +1,4 @@
--- A session that went along turns, in the words of the page.
+-- A session that went along exchanges: `OverTurns` and `ComesOverTurns` hold of it.
 use Rattle.std.proofs.Common.{◌≡◌, ℕ, List, All, length, sym, subst, rules}
 use Rattle.avr_desk.specs.Said.{OutputEvent}
 use Rattle.avr_part.specs.Part.{IsPart}
@@ -46,7 +46,7 @@ module _ (plan : Plan) (begun : Programmer) (is_sound : IsSoundChip begun.chip) 
   pub asks : AsksBodies (session plan)
   asks = session_asks plan its_part fitted
 
-  -- after the frames of these bytes the programmer is where the turns lead it
+  -- after the frames of these bytes the programmer is where the exchanges lead it
   module _ (turns : List Turn) (q : Programmer) (bytes : List ℕ)
       (stands : q ≡ (along device (length (frames bytes)) (session plan) begun turns).programmer) where
     abbrev count : ℕ
@@ -64,7 +64,6 @@ module _ (plan : Plan) (begun : Programmer) (is_sound : IsSoundChip begun.chip) 
           four = search (rules, prefix_weighs, asks, session_weighs);
         }
 
-    -- and the session has come to a status there
     module _ (says : List OutputEvent) (status : ℕ)
         (comes : (along device (length (frames bytes)) (session plan) begun turns).dialog ≡ Done status)
         (says_are : says ≡ said_along device (length (frames bytes)) (session plan) begun turns) where

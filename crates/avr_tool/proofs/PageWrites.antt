@@ -1,4 +1,4 @@
--- Each step of a host leads from its memories to those that it leaves, by page writes that are counted.
+-- Each step of a host leads from its memories to those that it leaves, by write operations that are counted.
 pub mod EachMemory
 pub mod Conditions
 pub mod Steps

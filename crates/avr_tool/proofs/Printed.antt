@@ -17,7 +17,6 @@ use Rattle.avr_tool.specs.Texts.{HasParts, HasPrinted, Parts, PrintsText, Report
 pub printed_none : (has : Parts) (s : Stream) (v : DeskState) → HasPrinted has s v v 0 0
 printed_none has s v = search rules
 
--- one more part
 parts_more : (has : Parts) (place : ℕ) (parts : List Bytes) (n : ℕ) (part : Bytes) → HasParts has place parts
     → n ≡ place + length (concat parts) → has n part → HasParts has place (parts ++ part ∷ [])
 parts_more has place [] n part are is given = search rules

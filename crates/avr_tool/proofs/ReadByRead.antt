@@ -27,7 +27,6 @@ leaves_more : (served : Served) (p : Programmer) (text : List ℕ) (x y : Transc
 leaves_more served p text x y mid now first then =
     search (rules, breaks_transcript, breaks_prefix, sent_append, all_more, heard_append, bytes_of_append)
 
--- one more read
 hears_more : (served : Served) (turns : ℕ) (x y : Transcript) → HearsUntil TooManyReads turns x → HearsUntil served 1 y
     → HearsUntil served (turns + 1) (x ++ y)
 hears_more served turns x y first then = search (rules, no_end_append, heard_append, append_assoc, reads_append)

@@ -1,4 +1,4 @@
--- Answers to one piece, frame by frame, and how each is sent.
+-- Replies to one piece, frame by frame, and how each is sent.
 use Rattle.std.proofs.lemmas.Grind.{common_steps}
 use Rattle.std.proofs.Common.{◌≡◌, ℕ, ◌+◌, List, ◌++◌, take, drop, sym, ap, ◌∙◌, subst, rules, arith}
 use Rattle.std.proofs.lemmas.List.{take-append-drop}
@@ -11,11 +11,10 @@ use Rattle.avr_tool.specs.Serving.{AnswersAll, BreaksOff}
 use Rattle.avr_tool.specs.Replying.{Replies, RepliesPart}
 use Rattle.avr_tool.proofs.Answers.{all_fed, all_more, breaks_here, breaks_more}
 
--- the bytes after the first n are fed, up to the first answer
+-- the bytes after the first n are fed, up to the first reply
 module _ (piece part out : List ℕ) (n used : ℕ) (old mid now : Machine) (a b c : LinkState)
     (r : Replies old (take n piece) a b mid) (is : part ≡ drop n piece)
     (one : Answers mid (take used part) now out) where
-  -- the answer is sent
   pub replies_more : Says out b.transcript c.transcript → Replies old (take (n + used) piece) a c now
   replies_more says = record {
     out = r.out ++ out;
@@ -27,7 +26,6 @@ module _ (piece part out : List ℕ) (n used : ℕ) (old mid now : Machine) (a b
         (search (rules, all_more, all_fed));
   }
 
-  -- or its send fails
   pub replies_part : SaysPart out b.transcript c.transcript → RepliesPart old piece a c now
   replies_part s = record {
     during = r.says.during ++ s.during;

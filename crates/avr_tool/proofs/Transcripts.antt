@@ -24,7 +24,7 @@ reads_append [] y = omega arith
 reads_append (Got tape ∷ x) y = omega (arith, reads_append x y)
 reads_append (other ∷ x) y = reads_append x y
 
--- nothing is read in a quiet transcript, so its answers are in turn
+-- nothing is read in a quiet transcript, so its replies are in turn
 pub reads_quiet : (transcript : Transcript) → IsQuiet transcript → reads transcript ≡ 0
 reads_quiet [] quiet = refl
 reads_quiet (Sent bytes ∷ transcript) quiet = reads_quiet transcript quiet
@@ -36,7 +36,6 @@ in_turn_quiet p text out [] quiet = tt
 in_turn_quiet p text out (Sent bytes ∷ transcript) quiet = in_turn_quiet p text (out ++ bytes) transcript quiet
 in_turn_quiet p text out transcript quiet = search rules
 
--- one transcript after another
 pub in_turn_append : (p : Programmer) (text out : List ℕ) (x y : Transcript) → NoneTaken x
     → AnswersInTurn p text out x → AnswersInTurn p (text ++ bytes_of (heard x)) (out ++ sent x) y
     → AnswersInTurn p text out (x ++ y)

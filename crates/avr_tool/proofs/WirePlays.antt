@@ -1,4 +1,4 @@
--- A session that ran over a wire went along the turns of its fates.
+-- A session that ran over a wire went along the exchanges of its fates.
 use Rattle.std.proofs.Common.{◌≡◌, ℕ, [], List, All, length, sym, ap, ◌∙◌, inl, inr, rules}
 use Rattle.std.proofs.lemmas.List.{append-nil}
 use Rattle.avr_desk.specs.Said.{OutputEvent, SaidPart, after_all}

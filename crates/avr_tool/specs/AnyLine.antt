@@ -1,5 +1,5 @@
--- What the session of a plan did over a link, whatever the link loses, delays and spoils. By the turns of its frames,
--- and over a wire to the emulated programmer by their fates.
+-- What the session of a plan did over a link, whatever the link loses, delays and corrupts: first by the exchanges of
+-- its frames, then over a wire to the emulated programmer, by their fates.
 use Rattle.std.specs.Prelude.{ℕ, ◌+◌, ◌*◌, ◌≡◌, ◌≤◌, ◌⊎◌, false, List, [], ◌∷◌, ◌++◌, map, length}
 use Rattle.avr_cli.specs.declared.settings.Switches.{Switches}
 use Rattle.avr_desk.specs.Record.{DeskState, Passes}
@@ -25,7 +25,7 @@ use Rattle.avr_tool.specs.Items.{asked_items}
 use Rattle.avr_tool.specs.Outcome.{IsExpectedRun, IsDone, MakesPageWrites}
 use Rattle.avr_tool.specs.Written.{IsWritten, comparing}
 
--- The weight of a body: 1 counts frames, its length counts bytes, 1 or 0 counts one command.
+-- A weight of bodies. Weight 1 counts frames, the body's length counts bytes, and 1 or 0 counts one command.
 abbrev pub Weight : Type 0
 Weight = List ℕ → ℕ
 
@@ -42,27 +42,27 @@ abbrev pub AreGood : List Turn → Type 0
 AreGood [] = Unit {0}
 AreGood (turn ∷ turns) = (turn ≡ Right) × AreGood turns
 
--- A session of this plan, however it ends, also if it breaks off or waits forever. Its frames had these turns and led
--- the programmer from `p` to `q`, and these bytes were sent.
+-- A session of this plan, however it ends, also if it breaks off or waits forever. Its frames had these exchanges and
+-- led the programmer from `p` to `q`, and these bytes were sent.
 pub record OverTurns (plan : Plan) (p q : Programmer) (turns : List Turn) (bytes : List ℕ) : Type 0 where
-  -- the first writes of the plan were made: those completed, and perhaps one more
+  -- the first write operations of the plan were made: those completed, and perhaps one more
   pub page_writes : MakesPageWrites plan p turns (length (frames bytes)) (memories_of p.chip) (memories_of q.chip)
   -- at most four frames for each command of the plan's steps, by every weight of bodies
   pub four : (weight : Weight) → weighed weight (map body_of (frames bytes))
       ≤ 4 * weighed weight (bodies_in (run_steps plan))
 
--- What holds besides for a session with this status. The expected run is the output, the status and the memories of
--- the same plan over a perfect link.
+-- What also holds of a session that ended with this status. The expected run is the output, the status and the memories
+-- of the same plan over a perfect link.
 pub record ComesOverTurns (plan : Plan) (before after : Memories) (turns : List Turn) (says : List OutputEvent)
     (status : ℕ) : Type 0 where
-  -- status 0 can be trusted: only trouble of the link was hidden
+  -- with status 0 the session is its expected run: only faults of the link were hidden
   pub success : status ≡ 0 → IsExpectedRun plan before after says status
   -- all that the plan writes was written, and all that it compares agreed
   pub done : status ≡ 0 → IsDone plan before after
   -- each memory holds its images, later over earlier; the rest is as it was, or as an erase leaves it
   pub images : status ≡ 0 → plan.switches.no_verify ≡ false
       → IsWritten plan.part (asked_items plan) before after
-  -- so a further run that compares memories with their images succeeds, if none of its frames goes wrong
+  -- so a further run that compares memories with their images has status 0, if none of its frames goes wrong
   pub further : status ≡ 0 → plan.switches.no_verify ≡ false → (s : Switches) (mems : List Mem) → s.erase ≡ false
       → (expected_run (comparing plan s mems) after).status ≡ 0
   -- if no frame goes wrong, the session is its expected run
@@ -70,13 +70,14 @@ pub record ComesOverTurns (plan : Plan) (before after : Memories) (turns : List 
 
 -- ---- over a wire
 
--- The memories of its chip; below, all events over what was received.
+-- The memories of the wire's chip; below, all events of the session over what was received.
 abbrev pub memories : WiredState → Memories
 memories w = memories_of w.wire.programmer.chip
 
 abbrev pub events_over : Plan → WiredState → List (Event OutputEvent)
 events_over plan w = (played (session plan) 1 (heard w.transcript)).events
 
+-- The devices of a run over a wire.
 abbrev pub wire_and_desk : WiredState → DeskState → Devices
 wire_and_desk w desk = devices (wired_link w) desk
 

@@ -14,7 +14,7 @@ use Rattle.avr_session.specs.Refusal.{refusal_line}
 use Rattle.avr_tool.specs.declared.asking.NotAsked.{NotAsked}
 use Rattle.avr_tool.specs.declared.asking.NotAsked.TheVariants.{Words, Refused}
 
--- The fault, or a failed allocation, was reported, and the status is 1.
+-- A fault of the settings, or a failed allocation, was reported, and the status is 1.
 pub record IsRefused (words : List Bytes) (old new : DeskState) (status : ℕ) : Type 0 where
   pub fault : SettingsFault
   pub is : GivesOrMemory (asked_by words) (Err fault)
@@ -22,16 +22,16 @@ pub record IsRefused (words : List Bytes) (old new : DeskState) (status : ℕ) :
   pub told : Tells old new (refusal_line fault)
   pub status_is : status ≡ 1
 
--- The settings are those of a command line that the command takes. A fault of them was reported. Any other command
--- line has an error of a kind that it calls for. A command line that the command takes has an error only if
--- allocation failed. With an error nothing was done at the desk.
+-- The contract of `asked`. With settings, the command takes the command line, which asks for these settings. With a
+-- status, a fault of the settings was reported. An error of `clap` is of a kind that the command line calls for; if the
+-- command takes the command line, it is that allocation failed. With settings or an error nothing was done at the desk.
 abbrev pub Asks : List Bytes → DeskState → DeskState → Result Settings NotAsked → Type 0
 Asks words old new (Ok settings) = (Ok settings ≡ asked_by words) × (fault_of avrstk words ≡ []) × (new ≡ old)
 Asks words old new (Err (Refused status)) = IsRefused words old new status
 Asks words old new (Err (Words error)) =
     HasKind (fault_of avrstk words) error × (takes avrstk words ≡ true → kind_of error ≡ OutOfMemory) × (new ≡ old)
 
--- An error of `clap`: a failed allocation is reported, any other error is left.
+-- An error of `clap`: a failed allocation was reported, any other error is returned.
 abbrev pub LeavesWords : Error → DeskState → DeskState → Result ℕ Error → Type 0
 LeavesWords error old new (Ok status) =
     (kind_of error ≡ OutOfMemory) × Tells old new (refusal_line Memory) × (status ≡ 1)

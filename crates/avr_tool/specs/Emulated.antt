@@ -54,7 +54,8 @@ pub record RunsOverEmulator (settings : Settings) (file : Bytes) (old now : Desk
   pub saved : IsSaved (sent after.transcript) played_desk now file (chip_file after.wire.programmer.chip) ran status
   pub follows : Follows played_desk now
 
--- That, or there is a plan but no chip, or there is no plan. Without a chip nothing was sent.
+-- The contract of `run_emu`: that run; or there is a plan but no chip; or there is no plan. Without a chip nothing was
+-- sent.
 abbrev pub RunsEmulator : Settings → Bytes → DeskState → DeskState → ℕ → Type 0
 RunsEmulator settings file old now status =
     RunsOverEmulator settings file old now status

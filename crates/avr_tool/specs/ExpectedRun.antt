@@ -61,7 +61,7 @@ actions_expected part s (action ∷ actions) m = action_expected part s action m
 abbrev pub working_expected : Plan → Memories → Expected
 working_expected plan m = actions_expected plan.part plan.switches (actions plan) m
 
--- The output at its end: nothing after a fault, because a second fault is not reported.
+-- The output at the end of a session: nothing after a fault, because a second fault is not reported.
 abbrev pub ending_says : Plan → Standing → List OutputEvent
 ending_says plan Fine = closed_says plan.switches.quiet plan.part (Ok tt)
 ending_says plan _ = []
@@ -71,6 +71,7 @@ pub record ExpectedRun : Type 0 where
   pub status : ℕ
   pub memories : Memories
 
+-- The run of a plan over a perfect link to a chip with these memories.
 abbrev pub expected_run : Plan → Memories → ExpectedRun
 expected_run plan m = record {
   says = (working_expected plan m).says ++ ending_says plan (working_expected plan m).standing;

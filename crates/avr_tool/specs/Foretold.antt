@@ -30,14 +30,14 @@ pub record SaysFault (part : Part) (s : Switches) (actions : List Action) (m : M
   pub fault : StepFault
   pub says_are : says ≡ told ++ Line (fault_line part (host_fault fault)) ∷ []
 
--- At any moment of a session.
+-- The output at any moment of a session.
 abbrev pub IsForetold : Plan → Memories → List OutputEvent → Type 0
 IsForetold plan m says =
     (says ≡ (expected_run plan m).says)
     ⊎ (SaysFirst plan.part plan.switches (actions plan) m says
     ⊎ SaysFault plan.part plan.switches (actions plan) m says)
 
--- With a status: that of the expected run, or 1.
+-- The output and the status of a session at its end: those of the expected run, or status 1 after a failed step.
 abbrev pub EndsAsForetold : Plan → Memories → List OutputEvent → ℕ → Type 0
 EndsAsForetold plan m says status =
     ((says ≡ (expected_run plan m).says) × (status ≡ (expected_run plan m).status))

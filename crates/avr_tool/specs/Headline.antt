@@ -27,7 +27,7 @@ use Rattle.stk_host.specs.Tape.{Tape, on_tape}
 
 -- ---- 1. The run, as one function of the settings, of what opening files gives, and of what the link gives
 
--- A plan is run. A refusal is reported, with status 1. A file that was not read to its end can't be judged.
+-- A plan is run. A refusal is reported, with status 1. A file that was not read to its end can't be checked.
 abbrev pub after_answer : StageAnswer Plan → Tape → Played OutputEvent ℕ
 after_answer (Made plan) tape = played (session plan) 1 tape
 after_answer (Refused line) tape = record { events = Said (Line line) ∷ []; outcome = Some (1, 1, tape) }
@@ -68,14 +68,14 @@ pub record IsRun (settings : Settings) (before now : Devices) (status : ℕ) : T
 -- at an action that allocates. The line of the reason is cut short only if a write to the messages failed; a failure
 -- at a file excuses no missing line. After a fault's line there is none.
 
--- It stopped while its plan was run: a prefix of the session was sent and output, and then the cause was reported.
+-- It stopped in its session: a prefix of the session was sent and output, and then the cause was reported.
 abbrev pub StoppedPlaying : Settings → Devices → Devices → Type 0
 StoppedPlaying settings before now =
     WithPlan settings before.desk (λ plan between. StopsSession plan (devices before.link between) now)
 
--- It stopped while it was planned: a prefix of planning's output was done, and nothing was sent or received.
--- Allocation failed only for the next file, or at an update that allocates without a file. Without a part file and
--- updates the only fault is an unknown part, which was reported.
+-- It stopped in planning: a prefix of planning's output was done, and nothing was sent or received. Allocation failed
+-- only for the next file, or at an update that allocates without a file. Without a part file and updates the only fault
+-- is an unknown part, which was reported.
 pub record StoppedPlanning (settings : Settings) (before now : Devices) : Type 0 where
   pub broke : StageBrokeOff (AtUpdate settings) (planned settings) before.desk now.desk
   pub bare : settings.parts ≡ None → settings.updates ≡ [] → LacksPart settings.part [] before.desk now.desk
@@ -99,7 +99,7 @@ stop_line (InPlanning (NotRead name bytes)) = not_read_line name
 stop_line (InPlanning NoMemory) = memory_line
 stop_line (InPlanning (NoMemoryFor reading)) = memory_line
 
--- The file of which a part was read when planning broke off.
+-- The reading of a file that had begun when planning broke off.
 abbrev pub opened_at : Reason → List OutputEvent
 opened_at (InSession cause) = []
 opened_at (InPlanning (InLine line)) = []
@@ -127,9 +127,9 @@ pub record IsPrefixOfRun (settings : Settings) (before now : Devices) : Type 0 w
 
 -- ---- 4. From settings to the bytes of the chip, over a fresh wire (stk_emu's `IsFresh`)
 
--- A plan was made, and its session was run. It is the run, or it stopped, as above (law `a_run_is_one_function`). If
--- the chip is of the plan's part, `OverAnyLine` states what happened to it. Or there is no plan, and the wire is
--- untouched.
+-- The contract of `run_wired`. A plan was made, and its session was run: whole, or until it stopped, as above (law
+-- `a_run_is_one_function`). If the chip is of the plan's part, `OverAnyLine` states what happened to it. Or there is no
+-- plan, and the wire is untouched.
 abbrev pub RunsWired : Settings → WiredState → WiredState → DeskState → DeskState → ℕ → Type 0
 RunsWired settings before after old now status =
     WithPlan settings old (λ plan between.

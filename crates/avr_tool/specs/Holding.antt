@@ -1,4 +1,4 @@
--- A chip file that one run has locked, from the loading of its chip on.
+-- A chip file that one run locks before it loads the chip.
 use Rattle.std.specs.Prelude.{◌≡◌, ◌⊎◌, ℕ, Result, Ok, Err, ⊤}
 use Rattle.avr_desk.specs.Fault.{HasSameCounts}
 use Rattle.avr_desk.specs.Record.{DeskState, Record, Passes, Bytes, after_err, released, with_denied, with_held}
@@ -16,12 +16,12 @@ pub data HoldingTrouble : Type 0 where
   InUse : HoldingTrouble
   NotReplaceable : HoldingTrouble
 
--- The desk returned that the file is locked already.
+-- The desk's record, if the file is locked already.
 abbrev pub denied_by : Bytes → HoldingTrouble → Record → Record
 denied_by file InUse r = with_denied file r
 denied_by file NotReplaceable r = r
 
--- The trouble's line was reported; or the desk failed at the file, and its line was reported from there on.
+-- The file is in use, or the desk failed at it; the line for this was reported.
 abbrev pub TellsHoldingTrouble : Bytes → HoldingTrouble → Bytes → DeskState → DeskState → Type 0
 TellsHoldingTrouble file InUse told old new = TellsLine (in_use_line file) told old new
 TellsHoldingTrouble file NotReplaceable told old new = TellsFailure (not_written_line file) told old new

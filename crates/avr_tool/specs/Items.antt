@@ -6,6 +6,7 @@ use Rattle.avr_plan.specs.declared.planned.Task.TheVariants as task
 use Rattle.avr_session.specs.Actions.{Action, EraseChip, WriteImage, is_erase_due, actions}
 use Rattle.stk_emu.specs.Effect.{Item, Erase, Write}
 
+-- What an action does to the memories.
 abbrev pub action_items : Action → List Item
 action_items EraseChip = Erase ∷ []
 action_items (WriteImage mem image) = Write mem image ∷ []
@@ -19,6 +20,7 @@ actions_items (action ∷ actions) = action_items action ++ actions_items action
 abbrev pub items : Plan → List Item
 items plan = actions_items (actions plan)
 
+-- Whether one of these items is an erase.
 abbrev pub has_erase : List Item → Bool
 has_erase [] = false
 has_erase (Erase ∷ more) = true
@@ -29,9 +31,9 @@ task_item (task.Write mem image) = Some (Write mem image)
 task_item (task.Verify mem image) = None
 task_item (task.Read mem format file) = None
 
--- The same in terms of switches and tasks, without the actions. A dry run does nothing; any other run erases if an
--- erase is due, and writes the image of each write in order. Law a_plan_writes_what_its_tasks_write states that both
--- are equal.
+-- `items` in terms of switches and tasks, without the actions. A dry run does nothing; any other run erases if an erase
+-- is due, and writes the image of each write in order. Law `a_plan_writes_what_its_tasks_write` states that both are
+-- equal.
 abbrev pub asked_items : Plan → List Item
 asked_items plan =
     if plan.switches.dry then []

@@ -33,7 +33,7 @@ pub use Rattle.stk_host.specs.Links
 pub use Rattle.stk_host.specs.Play
 pub use Rattle.stk_host.specs.Transcript
 pub use Rattle.stk_host.specs.Tape
--- what a plan makes of a chip, over any line
+-- what a plan makes of a chip, over any link
 pub mod Items
 pub mod Tallies
 pub mod Agrees

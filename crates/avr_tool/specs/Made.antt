@@ -1,4 +1,4 @@
--- The writes of a plan that have been completed along a link, each by all of its commands.
+-- How many write operations of a plan were completed along a link, each by all of its commands.
 use Rattle.std.specs.Prelude.{ℕ, suc, List, [], ◌∷◌, Ok, Err}
 use Rattle.avr_cli.specs.declared.settings.Switches.{Switches}
 use Rattle.avr_part.specs.Part.{Part}
@@ -24,7 +24,8 @@ step_count (Done (Err fault)) more = 0
 step_count (Say e dialog) more = 0
 step_count (Ask bytes go_on) more = 0
 
--- The steps completed after `k` questions along the link, by what its turns bring, not by what was received.
+-- The number of steps completed after `k` questions along the link, by what its exchanges bring, not by what was
+-- received.
 abbrev pub steps_done : {P : Type 0} → Device P → List (List Command) → ℕ → P → List Turn → ℕ
 steps_done m [] k p turns = 0
 steps_done m (commands ∷ steps) k p turns =
@@ -34,11 +35,10 @@ steps_done m (commands ∷ steps) k p turns =
 abbrev pub none_made : Count Programmer
 none_made k p turns = 0
 
--- An action makes the writes of its items; opening, comparing and saving make none.
+-- An action makes the write operations of its items; opening, comparing and saving make none.
 abbrev pub action_made : Part → Action → Count Programmer
 action_made part action = steps_done device (all_steps part (action_items action))
 
--- The next actions, which a fault skips.
 abbrev pub made_unless_fault : Count Programmer → Standing → Count Programmer
 made_unless_fault next Fine = next
 made_unless_fault next _ = none_made

@@ -11,18 +11,18 @@ use Rattle.avr_tool.specs.Agrees.{Agrees}
 use Rattle.avr_tool.specs.ExpectedRun.{expected_run}
 use Rattle.avr_tool.specs.Made.{made_by}
 
--- The page writes of a plan: its erase, and the parts of its writes.
+-- The write operations of a plan, in order: its erase, and for each write one for each page, EEPROM run, fuse or lock.
 abbrev pub page_writes : Plan → List Item
 page_writes plan = page_writes_of (all_steps plan.part (items plan))
 
--- The memories after some number of first writes.
+-- The memories after some number of the plan's first write operations.
 pub record IsTouched (plan : Plan) (before after : Memories) : Type 0 where
   pub count : ℕ
   pub memories : after ≡ effects plan.part (take count (page_writes plan)) before
 
--- The same, sharper, after this many frames over a link with these turns. At least the writes completed by then were
--- made. At most one more was made than had been completed before the last frame, whose reply may not have come.
--- Without a frame none was made.
+-- The same, with bounds, after this many frames over a link with these exchanges. At least the write operations
+-- completed by then were made. At most one more was made than was completed before the last frame, whose reply may not
+-- have come. Without a frame none was made.
 pub record MakesPageWrites (plan : Plan) (p : Programmer) (turns : List Turn) (frames : ℕ)
     (before after : Memories) : Type 0 where
   pub count : ℕ

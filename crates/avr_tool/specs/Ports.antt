@@ -1,4 +1,4 @@
--- What a port of the settings says.
+-- The kinds of ports that settings have, and what each names.
 use Rattle.std.specs.Prelude.{ℕ, List, []}
 use Rattle.avr_cli.specs.declared.settings.Port.{Port}
 use Rattle.avr_cli.specs.declared.settings.Port.TheVariants.{Emulated, Network, Served}
@@ -21,13 +21,12 @@ HasChip (Emulated file) = Unit {0}
 HasChip (Served port chip) = Unit {0}
 HasChip port = ⊥
 
--- the name of its chip file
 abbrev pub chip_file_of : Port → List ℕ
 chip_file_of (Emulated file) = file
 chip_file_of (Served port chip) = chip
 chip_file_of port = []
 
--- where it is: HOST:PORT of a connection, the digits of a service
+-- HOST:PORT of a connection, or the digits of a service
 abbrev pub port_place : Port → List ℕ
 port_place (Network address) = address
 port_place (Served port chip) = port

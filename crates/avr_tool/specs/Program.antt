@@ -90,13 +90,13 @@ pub record TellsUsage (peers : Peers) (words : List Bytes) (old new : Devices) (
   pub unused : peers.unused
   pub status_is : status ≡ usage_status (kind_of error) printed
 
--- From a command line to a status.
+-- The contract of `run_program`: from a command line to a status.
 abbrev pub RunsProgram : Peers → List Bytes → Devices → Devices → ℕ → Type 0
 RunsProgram peers words old new status =
     ActsOnWords peers words old new (Ok status) ⊎ TellsUsage peers words old new status
 
--- From the start of a process: its command line was read and run. Or it could not be read, this was reported, and the
--- status is 1.
+-- The contract of `run_command_line`: the process's command line was read and run. Or it could not be read, this was
+-- reported, and the status is 1.
 abbrev pub StartsProgram : {C : Type 0} → CommandLine C → Peers → Devices → Devices → ℕ → Type 0
 StartsProgram line peers old new status =
     ((words : List Bytes) × line.is_words words × RunsProgram peers words old new status)

@@ -11,12 +11,12 @@ pub data SavingTrouble : Type 0 where
   NotReplaced : SavingTrouble
   MaybeReplaced : SavingTrouble
 
--- The out-of-memory line was reported; or the desk failed at the file, and its line was reported from there on.
+-- Allocation failed, or the desk failed at the file; the line for this was reported.
 abbrev pub TellsSavingTrouble : Bytes → SavingTrouble → Bytes → DeskState → DeskState → Type 0
 TellsSavingTrouble file NoMemory told old new = TellsLine memory_line told old new
 TellsSavingTrouble file trouble told old new = TellsFailure (not_written_line file) told old new
 
--- Only what was tried may have replaced the file.
+-- The desk's record: only an attempt may have replaced the file.
 abbrev pub tried_by : Bytes → Bytes → SavingTrouble → Record → Record
 tried_by file bytes MaybeReplaced r = with_tried file bytes r
 tried_by file bytes trouble r = r
@@ -33,7 +33,7 @@ abbrev pub Saves : DeskState → DeskState → Bytes → Bytes → Result ⊤ �
 Saves old new file bytes (Ok done) = Passes (with_replaced file bytes) old new × HasSameCounts old new
 Saves old new file bytes (Err status) = (status ≡ 1) × Unsaved old new file bytes
 
--- It was saved, and the status is this; or it could not be saved, and the status is 1.
+-- The chip was saved, and the status is `ran`; or it could not be saved, and the status is 1.
 abbrev pub SavesAfter : ℕ → DeskState → DeskState → Bytes → Bytes → ℕ → Type 0
 SavesAfter ran old new file bytes status =
     (Saves old new file bytes (Ok tt) × (status ≡ ran))

@@ -19,8 +19,8 @@ ServesOn over part port file old new status =
     × ServesPart part file 16777216 (devices new_link old) (devices link new) status)
     ⊎ (over None × Tells old new (unopened_line [] port) × (status ≡ 1))
 
--- The part and the chip file of the settings were judged; then a client was served, or none could be accepted. Or the
--- part or the chip file is refused, and the network was left unused.
+-- The contract of `serve_on` and `serve_net`. The part and the chip file of the settings were checked; then a client
+-- was served, or none could be accepted. Or the part or the chip file is refused, and the network was left unused.
 abbrev pub ServesNet : Type 0 → (Option LinkState → Type 0) → Settings → Bytes → Bytes → DeskState → DeskState → ℕ
     → Type 0
 ServesNet unused over settings port file old new status =

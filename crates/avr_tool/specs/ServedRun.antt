@@ -48,7 +48,8 @@ pub record FindsNoPart (settings : Settings) (old new : DeskState) (status : ℕ
   pub refused : Goes (AtStart false) (settings_part settings) old new (Err status)
   pub bare : settings.parts ≡ None → LacksPart settings.part [] old new
 
--- The part of the settings was found and this file judged as a chip of it, or one of these is refused.
+-- The contract of `judge_part`: the part of the settings was found and this file checked as a chip of it, or one of
+-- these is refused.
 abbrev pub JudgesPart : Settings → Bytes → DeskState → DeskState → Result Part ℕ → Type 0
 JudgesPart settings file old new (Ok judged) =
     WithPart settings old (λ part desk. JudgesChip part file desk new (Ok judged))
@@ -104,7 +105,8 @@ pub record ServesLoaded (part : Part) (file : Bytes) (turns : ℕ) (old new : De
   pub loaded : Loaded part file old.desk loaded_desk chip
   pub serves : ServesChip chip file turns (devices old.link loaded_desk) new status
 
--- The same, or there is no chip: this was reported, and nothing was received or sent.
+-- The contract of `serve_part`: the chip was loaded and served. Or there is no chip: this was reported, and nothing was
+-- received or sent.
 abbrev pub ServesPart : Part → Bytes → ℕ → Devices → Devices → ℕ → Type 0
 ServesPart part file turns old new status =
     ServesLoaded part file turns old new status
@@ -117,6 +119,5 @@ RunsServedFor settings file turns old new status =
     WithPart settings old.desk (λ part desk. ServesPart part file turns (devices old.link desk) new status)
     ⊎ (FindsNoPart settings old.desk new.desk status × (new.link ≡ old.link))
 
--- `RunsServedFor` with at most 16,777,216 reads.
 abbrev pub RunsServed : Settings → Bytes → Devices → Devices → ℕ → Type 0
 RunsServed settings file = RunsServedFor settings file 16777216

@@ -62,7 +62,7 @@ IsOverPort network called reads writes closed (Some port) None =
 IsOverPort network called reads writes closed None (Some now) = ⊥
 IsOverPort network called reads writes closed None None = network.unused
 
--- The other sides that a run may connect to: at an address, and at a port. Or the network was left unused.
+-- What is known of a run's network: on a connection to an address, on a client at a port, and that it was left unused.
 pub record Peers : Type 1 where
   pub at_address : Bytes → Option LinkState → Type 0
   pub at_port : Option ℕ → Option LinkState → Type 0

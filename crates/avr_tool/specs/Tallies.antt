@@ -1,11 +1,11 @@
--- The number of writes made along a dialog of several calls.
+-- The number of write operations made along a dialog of several calls.
 use Rattle.std.specs.Prelude.{ℕ, suc, ◌+◌, ◌-◌, ◌≤◌, ◌≡◌, List}
 use Rattle.stk_host.specs.Dialog.{Dialog, Done, Say, Ask}
 use Rattle.stk_emu.specs.Turn.{Turn}
 use Rattle.stk_emu.specs.Device.{Device}
 use Rattle.stk_emu.specs.Along.{along}
 
--- The number completed after `k` questions, from a programmer and the turns to come.
+-- The number completed after `k` questions, from a programmer and the exchanges to come.
 abbrev pub Count : Type 0 → Type 0
 Count P = ℕ → P → List Turn → ℕ
 
@@ -20,8 +20,8 @@ then_count m d first more k p turns =
     let s = along m k d p turns in
     with_next s.dialog (first k p turns) (λ a. more a s.left s.programmer s.turns)
 
--- At each moment of a dialog this many writes are made: those completed, and perhaps one more. That one is counted by
--- the questions before the last, whose reply may not have come.
+-- At each moment of a dialog `count` write operations are made: those completed, and perhaps one more. That one is
+-- counted by the questions before the last, whose reply may not have come.
 pub record Tallies {E R P : Type 0} (m : Device P) (d : Dialog E R) (done : Count P) (At : ℕ → P → Type 0)
     (p : P) (turns : List Turn) : Type 0 where
   pub count : ℕ → ℕ

@@ -8,7 +8,7 @@ use Rattle.avr_desk.specs.Stream.{after_sent}
 use Rattle.avr_desk.specs.declared.desk.DeskFault.{DeskFault}
 use Rattle.avr_desk.specs.declared.stream.Stream.{Stream}
 
--- Where a part of a text begins, and its bytes. The part behind the text's end is empty.
+-- Where a part of a text begins, and its bytes. The part after the text's end is empty.
 abbrev pub Parts : Type 1
 Parts = ℕ → Bytes → Type 0
 
@@ -28,13 +28,13 @@ pub record IsText (has : Parts) (text : Bytes) : Type 0 where
   pub joined : text ≡ concat parts
   pub ends : length text < 2 ^ 54 → has (length text) []
 
--- These bytes are the front of the text.
+-- These bytes are a prefix of the text.
 pub record IsTextFront (has : Parts) (front : Bytes) : Type 0 where
   pub parts : List Bytes
   pub are : HasParts has 0 parts
   pub begins : IsPrefixOf front (concat parts)
 
--- The text was printed whole, and has so many bytes; or a write failed behind its front.
+-- The text was printed whole, and has `count` bytes; or a write failed after a prefix of it.
 abbrev pub ComesOut : Parts → Stream → Bytes → DeskState → DeskState → Result ℕ DeskFault → Type 0
 ComesOut has stream text old new (Ok count) = IsText has text × (count ≡ length text) × HasSameCounts old new
 ComesOut has stream text old new (Err fault) = IsTextFront has text × HasFailedAt stream old new
@@ -54,7 +54,7 @@ pub record ReportsText (has : Parts) (old new : DeskState) : Type 0 where
       ⊎ HasFailedToSay old new
   pub follows : Follows old new
 
--- inside: after some turns, `count` bytes of the text were printed
+-- inside: after some rounds of the loop `count` bytes of the text were printed
 pub record HasPrinted (has : Parts) (stream : Stream) (old new : DeskState) (count turns : ℕ) : Type 0 where
   pub parts : List Bytes
   pub are : HasParts has 0 parts

@@ -1,4 +1,3 @@
-//! Serving a link.
 ghost use Rattle.std.specs.Prelude.{◌≤◌, OnOk, OnErr};
 ghost use Rattle.ghosts.specs.Stays.{Stays};
 ghost use Rattle.stk_host.specs.Transcript.{LinkCounts};
@@ -15,7 +14,7 @@ use stk_host::{Heard, Link, LinkFault, send_all};
 pub enum Served {
     /// The link ended, and all replies were sent.
     Ended,
-    /// The link failed at listening, after all replies were sent.
+    /// The link failed at receiving, after all replies were sent.
     RecvFailed,
     /// The link failed at sending a reply, or took none of its bytes.
     SendFailed,
@@ -46,7 +45,7 @@ fn answer_piece<L: Link>(
 /// Serves a link in at most `turns` reads: feeds what is received to the emulator, and sends all replies before the
 /// next read.
 ///
-/// A timeout uses up a read. What the last read brings still gets its replies.
+/// A timeout counts as a read. The bytes of the last read still get their replies.
 #[tactic(auto, using(crate::proofs::ReadByRead::read_answered, crate::proofs::ReadByRead::read_broken))]
 pub fn answer_all<L: Link>(emulator: &mut Emulator, link: &mut L, turns: u32) -> Served
     ensures serves { Serves emulator.old turns result (L.view link.old) (L.view link.new) emulator.new }

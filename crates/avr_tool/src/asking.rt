@@ -1,4 +1,3 @@
-//! From a command line to settings.
 ghost use Rattle.std.specs.Prelude.{◌≡◌, map, string_bytes};
 ghost use Rattle.avr_tool.specs.Asked.{Asks, not_asked_number};
 ghost use Rattle.ghosts.specs.Stays.{Stays};

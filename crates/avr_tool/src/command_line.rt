@@ -1,4 +1,3 @@
-//! The command line of a process.
 ghost use Rattle.std.specs.Prelude.{ℕ, ⊤, IfOk, List, OnErr, map, string_bytes};
 
 use std::alloc::Global;

@@ -1,4 +1,3 @@
-//! Reports how serving ended.
 ghost use Rattle.std.specs.Prelude.{◌≡◌};
 ghost use Rattle.avr_desk.specs.Fault.{Follows};
 ghost use Rattle.avr_tool.specs.ServedRun.{TellsEnd, end_pieces, status_of_end};
@@ -8,7 +7,6 @@ use crate::answering::Served;
 use avr_desk::{Desk, Message, refuse};
 use avr_session::{unheard_message, unsent_message};
 
-/// Returns the message for how serving ended; the end of the link has none.
 fn end_message(served: Served) -> Option<Message<'static>>
     ensures { result ≡ end_pieces served }
 {

@@ -1,4 +1,3 @@
-//! Locks a chip file for one run, and loads its chip.
 ghost use Rattle.std.specs.Prelude.{◌≡◌, IfOk};
 ghost use Rattle.avr_desk.specs.Fault.{Follows};
 ghost use Rattle.avr_tool.specs.Holding.{HoldsAndLoads};

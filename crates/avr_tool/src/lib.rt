@@ -25,18 +25,16 @@
 //! ```
 #![tactic(auto)]
 
-// the chip file
 mod holding;
 mod loading;
 mod messages;
 mod saving;
-// the emulated programmer with its chip file: a run over it; serving it: the replies to what is received, from settings
-// to status
+// the emulated programmer with its chip file: a run over it, and serving it
 mod answering;
 mod ending;
 mod over_emulator;
 mod served_run;
-// the network: a run over a connection, and serving at a port
+// the network
 mod network;
 mod over_net;
 mod ports;
@@ -49,7 +47,7 @@ mod program;
 mod texts;
 // the runs of the headline
 mod running;
-// laws, without code
+// laws
 mod laws;
 mod numbers;
 
@@ -62,7 +60,7 @@ pub use avr_cli::{
 pub use avr_session::refuse;
 pub use command_line::CommandLine;
 pub use laws::{a_run_is_one_function, a_session_over_a_wire, a_stop_is_a_prefix};
-// what a run reads and writes beside its link
+// what a run reads and writes besides its link
 pub use avr_desk::{
     Bytes, ChipDesk, Desk, DeskCall, DeskFault, FailingDesk, FileSystem, FileUse, MemDesk, Opening,
     Piece, Reading, Stream, SystemDesk, WatchDesk, WatchedDesk, Writing, print_error,
@@ -90,7 +88,6 @@ pub use saving::save_chip;
 // parts, their chips and the contents of their memories
 pub use avr_image::Image;
 pub use avr_part::{Chip, Mem, Part, PartFault, Parts};
-// links
 pub use stk_emu::{Fate, Fates, FatesFault, Wired, noise_is_lawful};
 pub use stk_host::{
     FailingLink, Heard, HostFault, Item, Link, LinkCall, LinkFault, StreamLink, TapeLink,

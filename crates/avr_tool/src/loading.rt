@@ -1,4 +1,3 @@
-//! Loads a chip from its file.
 ghost use Rattle.std.specs.Prelude.{◌≡◌, ◌≤◌, true, IfOk, Ok, length};
 ghost use Rattle.avr_part.specs.State.{fresh_state};
 ghost use Rattle.avr_desk.specs.Playing.{AtStart, Goes};
@@ -27,7 +26,6 @@ fn fresh_chip<D: Desk>(alloc: Global, part: &Part, desk: &mut D) -> Result<Chip,
     }
 }
 
-/// Makes the chip from the bytes of its file.
 fn chip_of<D: Desk>(
     alloc: Global,
     part: &Part,

@@ -1,4 +1,4 @@
-//! Messages about ports and chip files, beside those of any file.
+//! Messages about ports and chip files. Those about any file are in avr_desk.
 ghost use Rattle.std.specs.Prelude.{◌≡◌};
 ghost use Rattle.avr_tool.specs.Lines.{in_use_pieces, length_pieces, unopened_pieces};
 

@@ -1,5 +1,3 @@
-//! Runs over the emulated programmer: of a plan over a wire, and from settings to status, with the chip file of their
-//! port.
 ghost use Rattle.std.specs.Prelude.{◌≡◌};
 ghost use Rattle.avr_desk.specs.Fault.{Follows};
 ghost use Rattle.avr_tool.specs.AnyLine.{OverAnyLine};
@@ -38,9 +36,8 @@ pub fn drive_wired<D: Desk, R: Recorder>(
         (devices (wired_link wire.new) (D.view desk.new)) result }
     // The counts of the desk's failures never fall.
     ensures follows { Follows (D.view desk.old) (D.view desk.new) }
-    // The wire stays what it came from.
     ensures comes { Stays ComesOf wire.old wire.new }
-    // With a chip of the plan's part this is the result, whatever the wire loses, delays and spoils. Proof:
+    // This holds if the chip is of the plan's part, whatever the wire loses, delays and corrupts. Proof:
     // `over_any_line` (WirePlays).
     ensures line { wire.old.wire.programmer.chip.part ≡ plan.now.part
         → OverAnyLine plan.now wire.old wire.new (D.view desk.old) (D.view desk.new) result }

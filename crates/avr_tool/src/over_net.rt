@@ -1,4 +1,3 @@
-//! A run over a port of the network, from settings to status.
 ghost use Rattle.avr_tool.specs.OverNet.{RunsOverNet};
 ghost use Rattle.avr_tool.specs.Ports.{IsNetwork, port_place};
 ghost use Rattle.avr_tool.specs.Sockets.{IsOverAddress};

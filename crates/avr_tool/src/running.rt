@@ -1,4 +1,3 @@
-//! The runs of the headline: over any link, and over the emulated programmer behind a faulty wire.
 ghost use Rattle.std.specs.Prelude.{◌⊎◌};
 ghost use Rattle.avr_desk.specs.Fault.{Follows};
 ghost use Rattle.avr_session.specs.Run.{RunsBetween};
@@ -58,7 +57,7 @@ pub fn run<D: Desk, L: Link>(alloc: Global, settings: &Settings, desk: &mut D, l
 }
 
 /// Runs what the settings ask for over a wire to the emulated programmer, as [`run`] does over a link, whatever the
-/// wire loses, delays and spoils.
+/// wire loses, delays and corrupts.
 ///
 /// The wire must be new: nothing sent or received yet. The promises about the chip hold if it is of the plan's part;
 /// it may be of another part.

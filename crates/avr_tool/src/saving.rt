@@ -1,4 +1,3 @@
-//! Saves a chip to its file.
 ghost use Rattle.avr_desk.specs.Fault.{Follows};
 ghost use Rattle.avr_part.specs.ChipFile.{chip_file};
 ghost use Rattle.avr_tool.specs.Saving.{Saves, SavesAfter};

@@ -1,4 +1,3 @@
-//! Serves an emulated programmer, from settings to status, with the chip file of their port.
 ghost use Rattle.std.specs.Prelude.{◌≡◌, ◌≤◌, [], None, IfErr, false};
 ghost use Rattle.avr_desk.specs.Fault.{Follows};
 ghost use Rattle.avr_desk.specs.Playing.{AtStart, Goes};
@@ -66,9 +65,9 @@ pub fn judge_part<D: ChipDesk>(alloc: Global, settings: &Settings, desk: &mut D)
 
 /// Serves a chip over a link in at most `turns` reads, reports how that ended, and saves the chip to this file.
 ///
-/// It sends the replies of a fresh programmer with this chip to what is received, and all of them before the next
-/// read. The end of the link prints no line; any other ending prints its own. In each case the chip is saved as the
-/// frames received have left it.
+/// A fresh programmer with this chip replies to what is received; all replies are sent before the next read. If the
+/// link ends, no line is printed; any other ending prints its line. In each case the chip is saved as the frames
+/// received have left it.
 ///
 /// Returns the status: 0 if the link ended and the chip was saved, otherwise 1.
 pub fn serve_chip<D: ChipDesk, L: Link>(

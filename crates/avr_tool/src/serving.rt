@@ -1,4 +1,3 @@
-//! Serves an emulated programmer at a port of this machine, from settings to status.
 ghost use Rattle.std.specs.Prelude.{IfOk, OnErr};
 ghost use Rattle.avr_cli.specs.Port.{port_number as number_of};
 ghost use Rattle.avr_tool.specs.Ports.{IsServed, chip_file_of, port_place};

@@ -14,7 +14,7 @@ const ROOM: usize = 512;
 /// The most parts of a text: more than a machine holds.
 const PARTS: u64 = 1 << 54;
 
-/// The bytes of a text after the first `skip`, as far as there is room. It accepts the whole text.
+/// Keeps the bytes of a text after the first `skip`, as far as there is room. It accepts the whole text.
 #[derive(Drop)]
 struct Window {
     skip: usize,

@@ -1,4 +1,3 @@
--- The text of the pages from one on.
 use Rattle.std.proofs.Common.{◌≡◌, refl, arith, ℕ, suc, ◌+◌, ◌-◌, ◌<◌, List, ◌++◌, Option}
 use Rattle.avr_part.specs.Part.{Part}
 use Rattle.avrstk_session.specs.Outline.{page_text, pages_text}

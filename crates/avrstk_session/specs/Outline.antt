@@ -28,7 +28,6 @@ page_text part image page =
     then codes "flash " ++ (number_line (page * part.flash_page) 32 ++ number_line part.flash_page 10)
     else []
 
--- `count` pages from this one on
 abbrev pub pages_text : Part → List (Option ℕ) → ℕ → ℕ → Bytes
 pages_text part image page zero = []
 pages_text part image page (suc count) = page_text part image page ++ pages_text part image (page + 1) count
@@ -57,7 +56,7 @@ abbrev pub AfterPlan : Result Plan ℕ → DeskState → DeskState → ℕ → T
 AfterPlan (Ok plan) old new status = PrintsOutline (outline_text plan) old new status
 AfterPlan (Err failed) old new status = (new ≡ old) × (status ≡ failed)
 
--- The files were read and judged as for a run. Then the outline of its session was reported, or the run was refused.
+-- The files were read and checked as for a run. Then the outline of its session was printed, or the run was refused.
 pub record Outlines (settings : Settings) (old new : DeskState) (status : ℕ) : Type 0 where
   pub outcome : Result Plan ℕ
   pub planned_desk : DeskState

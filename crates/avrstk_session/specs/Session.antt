@@ -21,7 +21,7 @@ use Rattle.avrstk_session.specs.Outline.{Outlines}
 abbrev pub usage_pieces : List Bytes
 usage_pieces = codes "usage: avrstk_session -p PART [--parts FILE] -P emu:CHIPFILE [-n], or AVRSTK'S OPTIONS -P stdio:" ∷ []
 
--- Help is no mistake. Any other error is one; that allocation failed has a line of its own.
+-- Help has status 0, any other error 1. A failed allocation has a line of its own.
 abbrev pub TellsUsage : ErrorKind → DeskState → DeskState → ℕ → Type 0
 TellsUsage DisplayHelp old new status = Tells old new (error usage_pieces) × (status ≡ 0)
 TellsUsage OutOfMemory old new status = Tells old new (error memory_pieces) × (status ≡ 1)
@@ -38,7 +38,7 @@ abbrev pub status_of : Result Part ℕ → ℕ
 status_of (Ok part) = 0
 status_of (Err status) = status
 
--- The part of the settings was found and this file judged as a chip of it, or one of these is refused.
+-- The part of the settings was found and this file checked as a chip of it, or one of these is refused.
 pub record JudgesOnly (settings : Settings) (file : Bytes) (old new : DeskState) (status : ℕ) : Type 0 where
   pub judged : Result Part ℕ
   pub judges : JudgesPart settings file old new judged
@@ -48,8 +48,8 @@ pub record JudgesOnly (settings : Settings) (file : Bytes) (old new : DeskState)
 abbrev pub RefusesUse : Devices → Devices → ℕ → Type 0
 RefusesUse old new status = Tells old.desk new.desk (error usage_pieces) × (new.link ≡ old.link) × (status ≡ 1)
 
--- With `-P emu:CHIPFILE` that file is served over the link. With `-n` too it is judged, and nothing is received or
--- sent. With `-P stdio:` the outline of a session is reported, also without the link. Any other port is refused.
+-- With `-P emu:CHIPFILE` that file is served over the link. With `-n` too it is only checked, and nothing is received
+-- or sent. With `-P stdio:` the outline of a session is printed, also without the link. Any other port is refused.
 abbrev pub ServesPort : Port → Settings → Devices → Devices → ℕ → Type 0
 ServesPort (Emulated file) settings old new status = MatchBool settings.switches.dry
     (JudgesOnly settings file old.desk new.desk status × (new.link ≡ old.link))

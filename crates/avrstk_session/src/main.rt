@@ -55,7 +55,6 @@ fn judge<D: ChipDesk>(alloc: Global, settings: &Settings, desk: &mut D) -> u8
     }
 }
 
-/// Returns the message that says how the program is used.
 fn usage_message<'a>() -> Message<'a>
     ensures { result ≡ usage_pieces }
 {
@@ -64,7 +63,6 @@ fn usage_message<'a>() -> Message<'a>
     )
 }
 
-/// Prints the outline of the plan's session on standard output.
 fn print_outline<D: Desk>(alloc: Global, desk: &mut D, plan: &Plan) -> u8
     ensures prints { PrintsOutline (outline_text plan.now) (D.view desk.old) (D.view desk.new) result }
     ensures stays { Stays D.comes_of desk.old desk.new }
@@ -164,7 +162,6 @@ fn start<
     run(rt, rt.alloc(), &mut desk, &mut link)
 }
 
-/// Serves what the process's command line asks for.
 fn run<C: CommandLine, S: FileSystem + Drop, O: Outlet + Drop, M: Outlet + Drop, L: Link>(
     line: &C,
     alloc: Global,

@@ -1,4 +1,3 @@
-//! The outline of a session: how many frames it sends, and which pages of flash it writes.
 ghost use Rattle.std.specs.Prelude.{◌≡◌, ◌<◌, ◌++◌, ◌/◌, IfOk, OnOk};
 ghost use Rattle.avrstk_session.specs.Outline.{number_line, page_text, pages_text, task_text, outline_text};
 
@@ -9,7 +8,6 @@ use avr_session::frame_count;
 use itoa::Buffer;
 use std::alloc::{AllocError, Global};
 
-/// Appends a number and the byte behind it.
 fn push_number(text: &mut Vec<u8>, number: u64, end: u8) -> Result<(), AllocError>
     ensures { OnOk result (text.new.items ≡ text.old.items ++ number_line number end) }
 {
@@ -31,7 +29,6 @@ fn push_page(text: &mut Vec<u8>, part: &Part, image: &Image, page: u32) -> Resul
     push_number(text, u64::from(size), b'\n')
 }
 
-/// Appends a line for each page of flash in which the image holds a byte.
 fn push_pages(text: &mut Vec<u8>, part: &Part, image: &Image) -> Result<(), AllocError>
     ensures { OnOk result (text.new.items ≡ text.old.items
         ++ pages_text part.now image.now 0 (part.now.flash_size / part.now.flash_page)) }

@@ -1,4 +1,4 @@
--- The programmer's answers, and its state after them.
+-- The programmer's replies, and its state after each command.
 pub mod Texts
 pub mod BodySizes
 pub mod Commands

@@ -1,4 +1,4 @@
--- The part's memories under blocks, pages, runs and images.
+-- How blocks, pages, runs and images change and read the part's memories.
 pub mod Blocks
 pub mod LaidImages
 pub mod Runs

@@ -1,3 +1,3 @@
--- Worked answers and effects.
+-- Worked examples of replies and effects.
 pub mod Answers
 pub mod Effects

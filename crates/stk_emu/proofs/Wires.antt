@@ -1,4 +1,4 @@
--- What a wire brings and keeps.
+-- What arrives over a wire, and what each of its calls preserves.
 pub mod Ports
 pub mod NoiseCuts
 pub mod Waiting

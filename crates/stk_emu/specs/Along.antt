@@ -1,4 +1,4 @@
--- A dialog over a link, question by question: without bytes, sequence numbers and late replies.
+-- A dialog run command by command, given their exchanges: without frames, sequence numbers and late replies.
 use Rattle.std.specs.Prelude.{ℕ, zero, suc, List, [], ◌∷◌}
 use Rattle.stk_host.specs.Tape.{Reading}
 use Rattle.stk_host.specs.Dialog.{Dialog, Done, Say, Ask}
@@ -6,14 +6,14 @@ use Rattle.stk_emu.specs.Turn.{Turn, after_turn, turn_reading, first_turn, other
 use Rattle.stk_emu.specs.Device.{Device}
 use Rattle.stk_emu.specs.Lawful.{IsBody}
 
--- The rest of a dialog, the programmer, the turns to come, and the questions that it may still ask.
+-- The rest of a dialog, the programmer, the exchanges to come, and how many more commands may be sent.
 pub record LineState (E R P : Type 0) : Type 0 where
   pub dialog : Dialog E R
   pub programmer : P
   pub turns : List Turn
   pub left : ℕ
 
--- The state after at most `k` questions.
+-- The state after at most `k` commands; the laws of sessions over any link are about it.
 abbrev pub along : {E R P : Type 0} → Device P → ℕ → Dialog E R → P → List Turn → LineState E R P
 along m k (Done r) p turns = record { dialog = Done r; programmer = p; turns = turns; left = k }
 along m k (Say e dialog) p turns = along m k dialog p turns
@@ -22,7 +22,7 @@ along m (suc k) (Ask bytes go_on) p turns =
     along m k (go_on (turn_reading (first_turn turns) (m.answer bytes p)))
     (after_turn (first_turn turns) (m.after bytes p) p m.reset) (other_turns turns)
 
--- The output events of at most `k` questions.
+-- The output events up to then.
 abbrev pub said_along : {E R P : Type 0} → Device P → ℕ → Dialog E R → P → List Turn → List E
 said_along m k (Done r) p turns = []
 said_along m k (Say e dialog) p turns = e ∷ said_along m k dialog p turns
@@ -31,7 +31,7 @@ said_along m (suc k) (Ask bytes go_on) p turns =
     said_along m k (go_on (turn_reading (first_turn turns) (m.answer bytes p)))
     (after_turn (first_turn turns) (m.after bytes p) p m.reset) (other_turns turns)
 
--- Each question is a body that a frame can carry.
+-- Each body that a dialog sends fits a frame.
 abbrev pub AsksBodies : {E R : Type 0} → Dialog E R → Type 0
 AsksBodies (Done r) = Unit {0}
 AsksBodies (Say e dialog) = AsksBodies dialog

@@ -1,10 +1,10 @@
--- What obeys frames, and its replies to them.
+-- A device that executes the commands of frames, and its replies.
 use Rattle.std.specs.Prelude.{ℕ, List, [], ◌∷◌, ◌++◌, if◌then◌else◌}
 use Rattle.stk_frame.specs.Frame.{frame}
 use Rattle.stk_frame.specs.Cut.{is_good, seq_of, body_of}
 use Rattle.stk_emu.specs.Programmer.{Programmer, obey, restarted_programmer}
 
--- The body of the reply to a body, the device after it, and the device after a restart.
+-- The body of the reply to a command's body, the device after that command, and the device after a restart.
 pub record Device (P : Type 0) : Type 0 where
   pub answer : List ℕ → P → List ℕ
   pub after : List ℕ → P → P
@@ -20,14 +20,14 @@ device = record {
 abbrev pub refusal : List ℕ
 refusal = 0xB0 ∷ 0xC1 ∷ []
 
--- A good frame is obeyed; any other is refused, and changes nothing.
+-- A good frame is executed; any other is refused and changes nothing.
 abbrev pub answer_body : {P : Type 0} → Device P → List ℕ → P → List ℕ
 answer_body m piece p = if is_good piece then m.answer (body_of piece) p else refusal
 
 abbrev pub after_frame : {P : Type 0} → Device P → List ℕ → P → P
 after_frame m piece p = if is_good piece then m.after (body_of piece) p else p
 
--- The frame of the reply, which has the frame's own sequence number.
+-- A reply's frame has the sequence number of the command's frame.
 abbrev pub answer_frame : {P : Type 0} → Device P → List ℕ → P → List ℕ
 answer_frame m piece p = frame (seq_of piece) (answer_body m piece p)
 

@@ -20,7 +20,7 @@ abbrev pub memories_of : ChipState → Memories
 memories_of s =
     record { flash = s.flash; eeprom = s.eeprom; lfuse = s.lfuse; hfuse = s.hfuse; efuse = s.efuse; lock = s.lock }
 
--- A byte or None for each address.
+-- For each address a byte, or None where the image has a gap.
 abbrev pub Image : Type 0
 Image = List (Option ℕ)
 
@@ -37,7 +37,7 @@ abbrev pub and_with : Option ℕ → ℕ → ℕ
 and_with (Some b) x = bit_and x b
 and_with None x = x
 
--- Each byte at an address of the image becomes itself AND the image's byte.
+-- Writing flash: each byte at an address of the image becomes itself AND the image's byte.
 abbrev pub and_in : Image → List ℕ → List ℕ
 and_in image [] = []
 and_in [] (x ∷ xs) = x ∷ xs
@@ -47,7 +47,7 @@ and_in (b ∷ image) (x ∷ xs) = and_with b x ∷ and_in image xs
 abbrev pub are_locked : Memories → Bool
 are_locked m = bit_at m.lock 0 == 0
 
--- The EESAVE bit is 0.
+-- The EESAVE bit is 0, so an erase keeps the EEPROM.
 abbrev pub erase_keeps_eeprom : Part → Memories → Bool
 erase_keeps_eeprom part m = bit_at m.hfuse part.eesave_bit == 0
 

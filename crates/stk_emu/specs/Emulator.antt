@@ -1,16 +1,16 @@
--- What an emulator holds, what it was fed, and what it replies.
+-- The state of an emulator, what it was fed, and its replies.
 use Rattle.std.specs.Prelude.{ℕ, List, ◌≡◌, ◌<◌, ◌≤◌, ◌++◌, length, filter}
 use Rattle.stk_frame.specs.Cut.{frames, is_frame}
 use Rattle.stk_frame.specs.Reader.{HoldsFrame, MayHold, Fed}
 use Rattle.stk_emu.specs.Programmer.{Programmer}
 use Rattle.stk_emu.specs.Device.{device, answers, after_frames}
 
--- The bytes of a frame that has not ended, or has just ended; and the programmer.
+-- The bytes of the frame that is arriving or has just ended, and the programmer.
 pub record Machine : Type 0 where
   pub held : List ℕ
   pub programmer : Programmer
 
--- All replies of a programmer to a text: to each of its frames in order.
+-- The replies of a programmer to all frames of a text, in order.
 abbrev pub emulate : Programmer → List ℕ → List ℕ
 emulate p text = answers device (frames text) p
 
@@ -19,7 +19,7 @@ pub record IsFed (p : Programmer) (text : List ℕ) (machine : Machine) : Type 0
   pub stands : MayHold machine.held text
   pub obeyed : machine.programmer ≡ after_frames device (frames text) p
 
--- It was fed these bytes, and `out` is the reply. At most one frame ends in them, with the last byte.
+-- It was fed the bytes `used`, and `out` is its reply. At most one frame ends in them, with their last byte.
 pub record Answers (old : Machine) (used : List ℕ) (new : Machine) (out : List ℕ) : Type 0 where
   pub found : List (List ℕ)
   pub few : length found ≤ 1
@@ -29,8 +29,7 @@ pub record Answers (old : Machine) (used : List ℕ) (new : Machine) (out : List
   pub answered : out ≡ answers device found old.programmer
   pub obeyed : new.programmer ≡ after_frames device found old.programmer
 
--- It was fed all of these bytes. Whatever text came before, the frames found end in them, and their replies were
--- appended in order.
+-- It was fed these bytes, and appended the replies to all frames that end in them, whatever text came before.
 pub record AppendsAnswers (old : Machine) (bytes : List ℕ) (new : Machine) (before after : List ℕ) : Type 0 where
   pub found : List (List ℕ)
   pub ends : (text : List ℕ) → MayHold old.held text → frames (text ++ bytes) ≡ frames text ++ found

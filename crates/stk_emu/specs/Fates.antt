@@ -9,7 +9,7 @@ abbrev pub fates_fault_number : FatesFault → ℕ
 fates_fault_number UnlawfulNoise = 1
 fates_fault_number Memory = 2
 
--- Only a lawful fate is refused for want of memory.
+-- Why the fate is not added: its noise is not lawful, or it is lawful and allocation failed.
 abbrev pub Refuses : FatesFault → Fate → Type 0
 Refuses UnlawfulNoise fate = IsLawfulFate fate → ⊥
 Refuses Memory fate = IsLawfulFate fate

@@ -1,4 +1,4 @@
--- Commands that are cut short and started again, on a device that may restart.
+-- Steps that are cut short and repeated, on a device that may restart.
 use Rattle.std.specs.Prelude.{ℕ, zero, suc, ◌⊎◌, ◌≡◌, List, [], ◌∷◌, length}
 use Rattle.stk_frame.specs.declared.command.Command.{Command}
 use Rattle.stk_frame.specs.Commands.{body}
@@ -12,9 +12,9 @@ after_commands m zero commands p = p
 after_commands m (suc i) [] p = p
 after_commands m (suc i) (command ∷ commands) p = after_commands m i commands (m.after (body command) p)
 
--- The commands lead from one condition to the other, also if they are cut short and started again. From the first,
--- any prefix leaves either condition. From the second, any prefix leaves the second. All of them, if each brought its
--- data, lead to the second. A restart keeps both.
+-- The commands of a step lead from `Before` to `After`, also if the step is cut short and repeated. A prefix of them
+-- keeps `After`, and leads from `Before` to either. All of them lead to `After` if each brought its data. A restart
+-- keeps both conditions.
 pub record Fits {P : Type 0} (m : Device P) (commands : List Command) (Before After : P → Type 0) : Type 0 where
   pub prefix : (p : P) (i : ℕ) → Before p → Before (after_commands m i commands p)
       ⊎ After (after_commands m i commands p)

@@ -1,4 +1,4 @@
--- The data that each step of a host brings.
+-- The data that each step of a host reads.
 use Rattle.std.specs.Prelude.{ℕ, ◌*◌, ◌%◌, ◌^◌, ◌≡◌, ◌⊎◌, List, [], ◌∷◌, ◌++◌, take, drop, ◌<◌, length, slice_index, Some}
 use Rattle.avr_part.specs.declared.instruction.Fuse.TheVariants as fuse
 use Rattle.avr_part.specs.declared.instruction.Instruction.{Instruction}
@@ -31,7 +31,7 @@ block_at address (ReadFlash f ∷ []) m = take f.count (drop (address % 2 ^ 31 *
 block_at address (ReadEeprom f ∷ []) m = take f.count (drop address m.eeprom)
 block_at address commands m = []
 
--- The data of a step, from these memories; a step that writes brings none.
+-- The data of a step over these memories; a step that writes has none.
 abbrev pub given_by : Part → List Command → Memories → List ℕ
 given_by part (LoadAddress address ∷ commands) m = block_at address commands m
 given_by part (ReadFuse f ∷ []) m = read_by part (instruction_of f.instruction) m
@@ -52,13 +52,13 @@ on_data (Stop fault) go_on = Stop fault
 abbrev pub reply_to : {P : Type 0} → Device P → Command → P → Reply
 reply_to m command p = reading_reply command (Answered (m.answer (body command) p))
 
--- The result of commands that are each obeyed and get a reply: all data joined, after `before`.
+-- The result of commands that are all executed and replied to: their data joined, after `before`.
 abbrev pub joined_reply : {P : Type 0} → Device P → List Command → List ℕ → P → Reply
 joined_reply m [] before p = Data before
 joined_reply m (command ∷ commands) before p =
     on_data (reply_to m command p) (λ bytes. joined_reply m commands (before ++ bytes) (m.after (body command) p))
 
--- The data of a step are those of one attempt, all of whose commands were obeyed in order, from either condition.
+-- These are the data of one attempt, which began in either condition, and whose commands were all executed in order.
 pub record Gives {P : Type 0} (m : Device P) (commands : List Command) (Before After : P → Type 0)
     (bytes : List ℕ) : Type 0 where
   pub from : P

@@ -1,5 +1,4 @@
--- Noise that can't be taken for a reply, bodies that a frame can carry, and late replies that can't be taken for
--- another one.
+-- Noise that can't be taken for a reply, bodies of frames, and late replies that can't be taken for another reply.
 use Rattle.std.specs.Prelude.{ℕ, zero, suc, List, [], ◌++◌, ◌<◌, ◌≤◌, ◌≡◌, ◌⊎◌, length, filter}
 use Rattle.stk_emu.specs.declared.fate.TheConstants.{LARGEST_NOISE}
 use Rattle.stk_frame.specs.declared.protocol.TheConstants.{LARGEST_BODY}
@@ -7,17 +6,17 @@ use Rattle.stk_frame.specs.Frame.{frame}
 use Rattle.stk_frame.specs.Cut.{cut, is_good}
 use Rattle.stk_host.specs.Dialog.{next}
 
--- Noise without a good frame.
+-- At most 2,048 bytes without a good frame.
 pub record IsLawful (noise : List ℕ) : Type 0 where
   pub few : length noise ≤ LARGEST_NOISE
   pub no_frame : filter is_good (cut noise) ≡ []
 
--- A body that a frame can carry.
+-- A body that a frame can carry: 1 to 275 bytes.
 pub record IsBody (body : List ℕ) : Type 0 where
   pub some : 0 < length body
   pub few : length body ≤ LARGEST_BODY
 
--- The last three replies that wait, in order; an absent one is empty.
+-- The last three late replies, in order; an absent one is empty.
 pub record Late : Type 0 where
   pub first : List ℕ
   pub second : List ℕ
@@ -30,7 +29,6 @@ none_late = record { first = []; second = []; third = [] }
 abbrev pub behind_late : Late → List ℕ → Late
 behind_late late answered = record { first = late.second; second = late.third; third = answered }
 
--- The bytes of all that wait.
 abbrev pub waiting : Late → List ℕ
 waiting late = late.first ++ (late.second ++ late.third)
 
@@ -51,7 +49,7 @@ pub record IsLate (k n : ℕ) (late : List ℕ) : Type 0 where
 abbrev pub IsPast : ℕ → ℕ → List ℕ → Type 0
 IsPast k n late = (late ≡ []) ⊎ IsLate k n late
 
--- The replies that wait, if there are any, are those to the last three frames before this one: none has its number.
+-- The late replies are those to the last three frames before frame `n`, so none has its sequence number.
 pub record IsClear (n : ℕ) (late : Late) : Type 0 where
   pub first : IsPast 3 n late.first
   pub second : IsPast 2 n late.second

@@ -1,4 +1,4 @@
--- What each step of a host writes.
+-- The write operation of each step: an erase, or a write of a page, of a run of EEPROM, of a fuse or of the lock.
 use Rattle.std.specs.Prelude.{ℕ, zero, suc, ◌+◌, ◌*◌, ◌%◌, ◌^◌, ◌<◌, ◌≤◌, ◌≡◌, List, [], ◌∷◌, ◌++◌, length, map, replicate, Some, None}
 use Rattle.avr_part.specs.declared.part.Mem.{Mem}
 use Rattle.avr_part.specs.declared.part.Mem.TheVariants.{Flash, Eeprom, Lfuse, Hfuse, Efuse, Lock}
@@ -25,21 +25,20 @@ memory_of_fuse fuse.Low = Lfuse
 memory_of_fuse fuse.High = Hfuse
 memory_of_fuse fuse.Extended = Efuse
 
--- What one instruction writes without an address.
+-- The write operation of an instruction without an address.
 abbrev pub written_by : Instruction → List Item
 written_by instruction.Erase = Erase ∷ []
 written_by (instruction.WriteFuse f byte) = Write (memory_of_fuse f) (Some byte ∷ []) ∷ []
 written_by (instruction.WriteLock byte) = Write Lock (Some byte ∷ []) ∷ []
 written_by i = []
 
--- What is written at an address: a block of flash or of EEPROM. For flash the address counts words, and bit 31 asks
--- for the extended address.
+-- The write operation at a loaded address. For flash it counts words, and bit 31 asks for the extended address.
 abbrev pub written_at : ℕ → List Command → List Item
 written_at address (ProgramFlash f ∷ []) = Write Flash (image_at (address % 2 ^ 31 * 2) f.bytes) ∷ []
 written_at address (ProgramEeprom f ∷ []) = Write Eeprom (image_at address f.bytes) ∷ []
 written_at address commands = []
 
--- What the commands of a step write: one part of an item, or nothing.
+-- The write operation of a step, one part of an item; a step that reads has none.
 abbrev pub page_write_of : List Command → List Item
 page_write_of (LoadAddress address ∷ commands) = written_at address commands
 page_write_of (ChipErase erase_delay poll_method bytes ∷ []) = written_by (instruction_of bytes)
@@ -77,12 +76,12 @@ AllFitItems part (item ∷ items) = FitsItem part item × AllFitItems part items
 
 -- What steps may carry.
 
--- The bytes of a page, by its number.
+-- The bytes of the flash page with this number.
 pub record IsPage (part : Part) (number : ℕ) (bytes : List ℕ) : Type 0 where
   pub whole : length bytes ≡ part.flash_page
   pub inside : number * part.flash_page + part.flash_page ≤ part.flash_size
 
--- Some bytes of EEPROM within one page.
+-- At least one byte of EEPROM, all within one page.
 pub record FitsEepromPage (part : Part) (address : ℕ) (bytes : List ℕ) : Type 0 where
   pub some : 0 < length bytes
   pub within : address % part.eeprom_page + length bytes ≤ part.eeprom_page
@@ -98,7 +97,7 @@ pub record AreWords (start count : ℕ) : Type 0 where
   pub start_even : start % 2 ≡ 0
   pub count_even : count % 2 ≡ 0
 
--- The steps that a host takes in programming mode: each writes one part of an item, or reads.
+-- The steps that a host takes in programming mode: each does one write operation, or reads.
 pub data IsStep (part : Part) (commands : List Command) : Type 0 where
   Erases : commands ≡ erase ∷ [] → IsStep part commands
   ProgramsPage : (number : ℕ) (bytes : List ℕ) → IsPage part number bytes

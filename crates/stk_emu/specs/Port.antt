@@ -1,4 +1,4 @@
--- A port with a programmer behind it: it takes what is written, and its replies are read.
+-- A port to an emulated programmer: a client writes frames to it and reads the replies.
 use Rattle.std.specs.Prelude.{ℕ, List, ◌++◌, ◌≡◌}
 use Rattle.stk_emu.specs.Programmer.{Programmer}
 use Rattle.stk_emu.specs.Emulator.{Machine, IsFed, emulate}
@@ -8,8 +8,7 @@ pub record PortState : Type 0 where
   pub machine : Machine
   pub waits : List ℕ
 
--- A port that began with this programmer: `written` is all that was fed to it. What was read and then what waits are
--- all its replies, in order.
+-- A port that began with this programmer and was fed `written`: what was read, and then what waits, are all replies.
 pub record IsPassed (p : Programmer) (written read : List ℕ) (port : PortState) : Type 0 where
   pub fed : IsFed p written port.machine
   pub answers : read ++ port.waits ≡ emulate p written

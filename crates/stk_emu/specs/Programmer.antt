@@ -30,7 +30,7 @@ fresh_programmer chip = record {
   chip = chip;
 }
 
--- A restart: the memories of the part stay, and all else is lost, the page buffers too.
+-- A restart keeps the memories of the part and loses all else, the page buffers too.
 abbrev pub restarted_programmer : Programmer → Programmer
 restarted_programmer p = fresh_programmer (with_empty_buffers p.chip)
 
@@ -118,11 +118,11 @@ leave_progmode p = (0x11 ∷ 0 ∷ [], record p { mode = false })
 abbrev pub chip_erase : List ℕ → Programmer → Response
 chip_erase instruction p = in_mode 0x12 p (0x12 ∷ 0 ∷ [], with_instructions (instruction ∷ []) p)
 
--- a fuse or the lock
+-- Writes a fuse or the lock.
 abbrev pub program_byte : ℕ → List ℕ → Programmer → Response
 program_byte code instruction p = in_mode code p (code ∷ 0 ∷ 0 ∷ [], with_instructions (instruction ∷ []) p)
 
--- a fuse, the lock, a signature byte or the calibration
+-- Reads a fuse, the lock, a signature byte or the calibration.
 abbrev pub read_byte : ℕ → ReadByte → Programmer → Response
 read_byte code f p =
     in_mode code p (if nat_le 1 f.return_address && nat_le f.return_address 4
@@ -143,7 +143,7 @@ abbrev pub flash_writes : Bool → ℕ → ℕ → Bool → List (List ℕ)
 flash_writes wide cmd address true = extension wide address ++ (at_address cmd address 0 ∷ [])
 flash_writes wide cmd address false = []
 
--- Page mode is asked for; below, writing the page.
+-- Bit 0 asks for page mode, bit 7 for writing the page.
 abbrev pub is_paged : ProgramBlock → Bool
 is_paged f = bit_at f.mode 0 == 1
 
@@ -204,7 +204,7 @@ flash_looks wide cmd address i (suc n) chip =
     look (at_address (for_half cmd i) (word_at address i) 0) (sent_to (extension wide (word_at address i)) chip)
     (flash_looks wide cmd address (suc i) n)
 
--- What loads a block of flash, and what is read of one.
+-- The instructions that load a block of flash, and the bytes read of one.
 abbrev pub block_loads : Block → List ℕ → List (List ℕ)
 block_loads block bytes = flash_loads block.wide block.command block.address 0 bytes
 
@@ -265,7 +265,7 @@ obey_command (SpiMulti send_count receive_count receive_start bytes) p =
 abbrev pub is_known : ℕ → Bool
 is_known code = nat_le 0x01 code && nat_le code 0x03 || code == 0x06 || nat_le 0x10 code && nat_le code 0x1D
 
--- The reply to a body that is no command depends on whether its first byte is a command's.
+-- A body that is no command fails if its first byte is a command's, and is unknown otherwise.
 abbrev pub not_read : ℕ → Programmer → Response
 not_read code p = (code ∷ (if is_known code then 0xC0 else 0xC9) ∷ [], p)
 

@@ -1,15 +1,15 @@
--- A programmer between whole commands, as far as the steps of a host depend on it.
+-- States of a programmer between commands, as far as the steps of a host depend on them.
 use Rattle.std.specs.Prelude.{◌≡◌, ◌≤◌, true, length, replicate, None}
 use Rattle.avr_part.specs.Part.{Part}
 use Rattle.avr_part.specs.Memory.{AreBytes}
 use Rattle.stk_emu.specs.Programmer.{Programmer}
 use Rattle.stk_emu.specs.Effect.{Memories, memories_of}
 
--- A part that needs no extended address.
+-- Flash of at most 128 kB needs no extended address.
 abbrev pub IsNarrow : Part → Type 0
 IsNarrow part = part.flash_size ≤ 131072
 
--- A programmer in any mode, whose part has these memories, and buffers of its page sizes.
+-- A programmer in any mode, with a chip of this part that has these memories.
 pub record Idle (part : Part) (m : Memories) (p : Programmer) : Type 0 where
   pub memories : memories_of p.chip ≡ m
   pub part_is : p.chip.part ≡ part

@@ -1,4 +1,4 @@
--- What waits to be received, as it is kept: bytes, and the places of the timeouts between them.
+-- What waits to be received, stored as bytes and the places of the timeouts between them.
 use Rattle.std.specs.Prelude.{ℕ, List, [], ◌∷◌, ◌++◌, ◌+◌, ◌*◌, ◌-◌, ◌<◌, ◌≤◌, take, drop}
 use Rattle.stk_frame.specs.declared.protocol.TheConstants.{LARGEST_FRAME}
 use Rattle.stk_emu.specs.declared.fate.TheConstants.{LARGEST_NOISE}

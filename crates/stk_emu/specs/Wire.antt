@@ -37,12 +37,12 @@ abbrev pub turns_of : List Fate → List Turn
 turns_of [] = []
 turns_of (fate ∷ fates) = turn_of fate ∷ turns_of fates
 
--- What happens to the programmer at each of the next `k` frames.
+-- What becomes of the command in each of the next `k` frames.
 abbrev pub becames_of : ℕ → List Fate → List Became
 becames_of zero fates = []
 becames_of (suc k) fates = became_in (turn_of (first_fate fates)) ∷ becames_of k (other_fates fates)
 
--- What a fate brings back, from the frames of the reply and of the refusal.
+-- What a fate brings back, given the frames of the reply and of the refusal.
 abbrev pub back : Fate → List ℕ → List ℕ → Tape
 back Good answered refused = on_tape answered
 back CommandRefused answered refused = on_tape refused
@@ -53,11 +53,11 @@ abbrev pub is_held : Fate → Bool
 is_held HeldAnswer = true
 is_held _ = false
 
--- The replies that arrive before what this frame brings.
+-- The late replies that arrive before what this frame brings.
 abbrev pub let_go : Fate → Late → List ℕ
 let_go fate late = if is_held fate then [] else waiting late
 
--- The replies that wait after it.
+-- The late replies that wait after it.
 abbrev pub late_of : Fate → List ℕ → Late → Late
 late_of LateAnswer answered late = behind_late none_late answered
 late_of HeldAnswer answered late = behind_late late answered

@@ -1,4 +1,4 @@
--- A wire as a link: what passes over it is what the fates say.
+-- A wire as a link: its fates decide what arrives.
 use Rattle.std.specs.Prelude.{ℕ, List, [], ◌∷◌, ◌++◌, ◌≡◌, ◌≢◌, length, take, drop, ◌<◌, filter}
 use Rattle.stk_frame.specs.Cut.{frames, is_frame}
 use Rattle.stk_frame.specs.Reader.{MayHold, Fed}
@@ -10,7 +10,7 @@ use Rattle.stk_emu.specs.Programmer.{Programmer, fresh_programmer}
 use Rattle.stk_emu.specs.Device.{device}
 use Rattle.stk_emu.specs.Wire.{Wire, AreLawful, fresh_wire, tape_of, wire_after}
 
--- The bytes of a frame that has not ended, the wire, the items that wait, the transcript, and the failures.
+-- The bytes of the frame that is arriving, the wire, the items that wait, the transcript, and the number of failures.
 pub record WiredState : Type 0 where
   pub held : List ℕ
   pub wire : Wire Programmer
@@ -25,14 +25,14 @@ wired_link wired = record { transcript = wired.transcript; failures = wired.fail
 abbrev pub brought : Programmer → List Fate → List ℕ → Tape
 brought p fates bytes = tape_of device (frames bytes) (fresh_wire p fates)
 
--- Nobody listened when nothing waited.
+-- The host received only when something waited.
 abbrev pub NeverIdle : Programmer → List Fate → Transcript → Type 0
 NeverIdle p fates transcript =
     (before after : Transcript) (items : Tape) → transcript ≡ before ++ Got items ∷ after
     → brought p fates (sent before) ≢ heard before
 
--- A wire that began with this programmer and these fates. It is what the frames sent have made of it. Unless somebody
--- listened when nothing waited, the items received and those that wait are what these frames bring.
+-- A wire that began with this programmer and these fates, as the frames sent have left it. If the host received only
+-- when something waited, the items received and those that wait are what these frames bring.
 pub record FollowsFates (p : Programmer) (fates : List Fate) (w : WiredState) : Type 0 where
   pub held : MayHold w.held (sent w.transcript)
   pub stands : w.wire ≡ wire_after device (frames (sent w.transcript)) (fresh_wire p fates)
@@ -55,7 +55,7 @@ pub record IsFresh (w : WiredState) : Type 0 where
   pub wire : w.wire ≡ fresh_wire (fresh_programmer w.wire.programmer.chip) w.wire.fates
   pub lawful : AreLawful w.wire.fates
 
--- Bytes were sent, in which these frames ended. What they bring waits behind what waited.
+-- Bytes were sent in which these frames ended, and what they bring waits behind what waited before.
 pub record PassesBytes (old new : WiredState) (used : List ℕ) : Type 0 where
   pub found : List (List ℕ)
   pub are_frames : filter is_frame found ≡ found
@@ -64,7 +64,7 @@ pub record PassesBytes (old new : WiredState) (used : List ℕ) : Type 0 where
   pub wire : new.wire ≡ wire_after device found old.wire
   pub transcript : new.transcript ≡ old.transcript ++ Sent used ∷ []
 
--- These items are received, and wait no more.
+-- These items were received.
 abbrev pub after_hearing : Tape → WiredState → WiredState
 after_hearing items w = record w { transcript = w.transcript ++ Got items ∷ []; waits = drop (length items) w.waits }
 

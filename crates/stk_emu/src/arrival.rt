@@ -1,4 +1,4 @@
-//! What a frame brings, and the replies that wait.
+//! What waits to be received, and the late replies.
 ghost use Rattle.std.specs.Prelude.{◌≡◌, ◌+◌, ◌*◌, ◌<◌, ◌≤◌, ◌++◌, [], ◌∷◌, length, take, drop, max, if◌then◌else◌, OnOk};
 ghost use Rattle.stk_frame.specs.declared.protocol.TheConstants.{LARGEST_FRAME};
 ghost use Rattle.stk_host.specs.declared.link.Item.TheVariants.{Silence};
@@ -18,7 +18,7 @@ use stk_frame::LARGEST_FRAME;
 /// The most bytes that one frame can bring: three late replies and noise.
 const ROOM: usize = 3 * LARGEST_FRAME + LARGEST_NOISE;
 
-/// What waits to be received: bytes, and a timeout before the byte at each of these places.
+/// What waits to be received: bytes, and a timeout before the byte at each place in `timeouts`.
 #[derive(Drop)]
 pub(crate) struct Arrivals {
     bytes: Vec<u8>,
@@ -55,7 +55,7 @@ impl Arrivals {
         }
     }
 
-    /// Begins anew at the front of the room if nothing waits.
+    /// Reuses the memory of received bytes if nothing waits.
     fn rewind(&mut self)
         ensures { self.new.tape ≡ self.old.tape }
     {
@@ -65,7 +65,7 @@ impl Arrivals {
         }
     }
 
-    /// Makes room for what one frame brings.
+    /// Makes room for the most that one frame can bring.
     pub fn reserve(&mut self) -> Result<(), AllocError>
         ensures tape { self.new.tape ≡ self.old.tape }
         ensures room { OnOk result (HasRoom self.new) }
@@ -92,7 +92,7 @@ impl Arrivals {
         self.timeouts.push_back_reserved(self.bytes.len());
     }
 
-    /// Returns the bytes before the first timeout.
+    /// Returns the bytes that wait before the first timeout.
     fn leading(&self) -> &[u8]
         ensures bytes { result.now ≡ bytes_in self.now.tape }
         ensures silent { result.now ≡ [] → BeginsSilent self.now.tape }
@@ -104,7 +104,7 @@ impl Arrivals {
         }
     }
 
-    /// Copies leading bytes into the buffer, and returns how many.
+    /// Copies these bytes into the buffer as far as they fit, and returns how many.
     pub fn copy_to(&self, buffer: &mut [u8]) -> usize
         ensures within { result ≤ length buffer.new }
         ensures taken { on_tape (take result buffer.new) ≡ take result self.now.tape }
@@ -117,7 +117,7 @@ impl Arrivals {
         count
     }
 
-    /// Drops this many leading bytes. If there is none, it drops the leading timeout.
+    /// Drops `count` leading bytes, or the leading timeout if `count` is 0.
     pub fn drop_next(&mut self, count: usize)
         requires inside { count ≤ length (bytes_in self.old.tape) }
         requires silent { count ≡ 0 → BeginsSilent self.old.tape }
@@ -131,7 +131,7 @@ impl Arrivals {
     }
 }
 
-/// The last three replies that wait, in order; an absent one is empty.
+/// The last three late replies, in order; an absent one is empty.
 #[derive(Drop)]
 pub(crate) struct Late {
     first: Frame,
@@ -170,7 +170,7 @@ impl Late {
         self.first = mem::replace(&mut self.second, third);
     }
 
-    /// Puts all that wait into `out`, unless this fate of a frame lets them go on waiting.
+    /// Moves the late replies to `out`, unless this fate of a frame keeps them waiting.
     pub fn bring(&mut self, fate: &Fate, out: &mut Arrivals)
         requires { HasRoom out.old }
         ensures tape { out.new.tape ≡ out.old.tape ++ on_tape (let_go fate.now self.old) }

@@ -8,7 +8,7 @@ use crate::programmer::Body;
 use crate::spi::{at_address, byte_at};
 use avr_part::Chip;
 
-/// Sends the instruction for each byte of a block: it loads the page buffer or writes the byte.
+/// Sends an instruction for each byte of a block, which loads the page buffer or writes the byte.
 pub(crate) fn load_bytes(chip: &mut Chip, command: u8, address: u32, bytes: &[u8])
     requires address { address < bit_31 }
     requires count { length bytes.now < 65536 }
@@ -28,7 +28,6 @@ pub(crate) fn write_page(chip: &mut Chip, command: u8, address: u32, is_asked: b
     }
 }
 
-/// Reads `count` bytes and appends them to `out`.
 pub(crate) fn read(chip: &mut Chip, command: u8, address: u32, count: u16, out: &mut Body)
     requires address { address < bit_31 }
     requires room { length out.old.items + count ≤ LARGEST_BODY }

@@ -1,4 +1,4 @@
-//! The programmer behind its frames.
+//! A programmer that receives frames and sends replies.
 
 ghost use Rattle.std.specs.Prelude.{◌≡◌, ◌<◌, ◌≤◌, ◌++◌, [], ℕ, ◌+◌, List, length, take, OnOk, OnErr};
 ghost use Rattle.stk_frame.specs.Frame.{frame};
@@ -22,7 +22,7 @@ const REFUSAL: [u8; 2] = [ANSWER_CKSUM_ERROR, STATUS_CKSUM_ERROR];
 
 pub(crate) type Frame = ArrayVec<u8, LARGEST_FRAME>;
 
-/// Makes `out` the refusal of the frame that the reader holds.
+/// Makes `out` the refusal of the frame in the reader.
 pub(crate) fn refuse(reader: &FrameReader, out: &mut Frame)
     requires { HoldsFrame reader.now }
     ensures { out.new.items ≡ frame (seq_of reader.now) refusal }
@@ -30,7 +30,7 @@ pub(crate) fn refuse(reader: &FrameReader, out: &mut Frame)
     put_frame(reader.seq(), &REFUSAL, out);
 }
 
-/// Replies to the frame that the reader holds: obeys it if it is good, and refuses it otherwise.
+/// Makes `out` the reply to the frame in the reader, which is executed if it is good, and refused otherwise.
 pub(crate) fn answer(reader: &FrameReader, good: bool, programmer: &mut Programmer, out: &mut Frame)
     requires holds { HoldsFrame reader.now }
     requires tells { is_good reader.now ≡ good }
@@ -45,7 +45,7 @@ pub(crate) fn answer(reader: &FrameReader, good: bool, programmer: &mut Programm
     put_frame(reader.seq(), body.as_slice(), out);
 }
 
-/// Replies to the frame that the event reports; if it reports none, `out` becomes empty.
+/// Makes `out` the reply to the frame that the event reports, or empty if it reports none.
 fn answer_event(reader: &FrameReader, event: Event, programmer: &mut Programmer, out: &mut Frame)
     requires { TellsEvent event reader.now }
     ensures answers { out.new.items ≡ answers device (frames_of_event event reader.now) programmer.old }
@@ -60,8 +60,8 @@ fn answer_event(reader: &FrameReader, event: Event, programmer: &mut Programmer,
 
 /// A programmer with its part: takes the bytes of a link and replies to each frame.
 ///
-/// It obeys a good frame, and replies to a frame with a wrong XOR with the body `B0 C1`. A reply has the sequence
-/// number of its frame, whatever the numbers before. Only the part of a frame that has arrived is held.
+/// It executes a good frame, and replies to a frame with a wrong XOR with the body `B0 C1`. A reply has the sequence
+/// number of its frame, whatever the numbers before. It stores at most one frame.
 ///
 /// ```text
 /// let chip = Chip::fresh(alloc, Parts::none().find("t85")?)?;
@@ -86,7 +86,7 @@ impl Model for Emulator {
 }
 
 impl Emulator {
-    /// Creates a programmer with this chip, out of programming mode, that was fed nothing.
+    /// Creates a programmer with this chip, out of programming mode.
     ///
     /// ```text
     /// let chip = Chip::fresh(alloc, Parts::none().find("t85")?)?;
@@ -178,7 +178,6 @@ impl Emulator {
             answers.old.items answers.new.items) }
         ensures prefix { OnErr result (AnswersPrefix self.old bytes.now self.new
             answers.old.items answers.new.items) }
-        // A list of all replies so far becomes a list of all replies.
         ensures fed { (p : ProgrammerState) (text : List ℕ) → IsFed p text self.old
             → OnOk result (IsFed p (text ++ bytes.now) self.new) }
         ensures all { (p : ProgrammerState) (text : List ℕ) → IsFed p text self.old

@@ -1,4 +1,4 @@
-//! What can happen to a frame and its reply, and noise on the wire.
+//! Faults injected into frames and replies.
 ghost use Rattle.std.specs.Prelude.{◌↔◌, IsTrue, true, false};
 ghost use Rattle.stk_emu.specs.Lawful.{IsLawful};
 
@@ -17,23 +17,23 @@ use stk_frame::{Event, FrameReader};
 /// ```
 #[derive(Debug, Drop, PartialEq, Eq)]
 pub enum Fate {
-    /// The frame is obeyed, and the reply arrives.
+    /// The frame is executed, and the reply arrives.
     Good,
-    /// The frame is not obeyed, and a timeout follows.
+    /// The frame is not executed, and a timeout follows.
     LostCommand,
-    /// The frame is obeyed, and a timeout follows.
+    /// The frame is executed, and a timeout follows.
     LostAnswer,
-    /// The frame is obeyed, and a timeout follows. The reply arrives before what the next frame brings.
+    /// The frame is executed, and a timeout follows. The reply arrives before what the next frame brings.
     LateAnswer,
-    /// The frame is obeyed, and a timeout follows. The reply waits behind those that wait already. All of them
+    /// The frame is executed, and a timeout follows. The reply waits behind those that wait already. All of them
     /// arrive before what the first later frame of another fate brings. Three can wait; a fourth one drops the first.
     HeldAnswer,
-    /// The frame is not obeyed, and the programmer restarts: its memories stay, and programming mode, address,
+    /// The frame is not executed, and the programmer restarts: its memories stay, and programming mode, address,
     /// parameters and page buffers are lost. A timeout follows.
     Reset,
-    /// The frame is not obeyed. The reply reports a wrong XOR, with the frame's sequence number.
+    /// The frame is not executed. The reply reports a wrong XOR, with the frame's sequence number.
     CommandRefused,
-    /// The frame is obeyed. This noise arrives in place of the reply, and then a timeout.
+    /// The frame is executed. This noise arrives in place of the reply, and then a timeout.
     AnswerSpoiled(Vec<u8>),
 }
 

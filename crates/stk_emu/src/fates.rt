@@ -1,4 +1,4 @@
-//! The fates of a wire's frames, checked when they are added.
+//! A list of fates, which are checked when they are added.
 ghost use Rattle.std.specs.Prelude.{◌≡◌, ◌++◌, ◌∷◌, ◌↔◌, [], length, IsTrue, IfErr, OnOk, OnErr};
 ghost use Rattle.stk_emu.specs.Wire.{AreLawful, IsLawfulFate};
 ghost use Rattle.stk_emu.specs.Fates.{Refuses, fates_fault_number};
@@ -17,7 +17,7 @@ use thiserror::Error;
 /// ```
 #[derive(Clone, Copy, Debug, Drop, PartialEq, Eq, Error)]
 pub enum FatesFault {
-    /// The noise is not lawful: [`noise_is_lawful`] refuses it.
+    /// The noise is longer than 2,048 bytes or has a good frame ([`noise_is_lawful`]).
     #[error("noise is not lawful")]
     UnlawfulNoise,
     /// Allocation failed.
@@ -78,7 +78,7 @@ fn is_lawful(fate: &Fate) -> bool
 }
 
 impl Fates {
-    /// Creates an empty list: every frame is obeyed, and its reply arrives.
+    /// Creates an empty list: every frame is executed, and its reply arrives.
     ///
     /// ```text
     /// let fates = Fates::none(alloc);
@@ -92,12 +92,12 @@ impl Fates {
         }
     }
 
-    /// Adds the fate of the next frame without one. After a fault nothing has changed.
+    /// Adds the fate of the next frame that has none. After a fault nothing has changed.
     ///
     /// # Errors
     ///
-    /// [`FatesFault::UnlawfulNoise`] if the fate has noise that could be taken for a reply
-    /// ([`crate::noise_is_lawful`]). [`FatesFault::Memory`] if allocation fails.
+    /// [`FatesFault::UnlawfulNoise`] if the fate's noise is not lawful ([`crate::noise_is_lawful`]).
+    /// [`FatesFault::Memory`] if allocation fails.
     ///
     /// ```text
     /// let mut fates = Fates::none(alloc);
@@ -147,7 +147,6 @@ impl Fates {
         self.all.is_empty()
     }
 
-    /// Returns the fates, all lawful.
     pub(crate) fn into_all(self) -> Vec<Fate>
         ensures all { result.items ≡ self }
         ensures lawful { AreLawful result.items }

@@ -8,7 +8,7 @@ use crate::programmer::Body;
 use crate::spi::{at_address, extend, for_half, word_at};
 use avr_part::Chip;
 
-/// The instructions that the chip obeys a block at a time: load a byte of the page buffer, and read a byte of flash.
+/// The instructions of which the chip runs a block at once: load a byte of the page buffer, and read a byte of flash.
 const LOAD: u8 = 0x40;
 
 const READ: u8 = 0x20;

@@ -1,4 +1,4 @@
-//! A port with an emulated programmer behind it.
+//! A port for clients that use `Read` and `Write`.
 ghost use Rattle.std.specs.Prelude.{◌≡◌, ◌+◌, ◌<◌, ◌≤◌, ◌++◌, [], ℕ, List, length, take, Some, None, IsOk, IsErr, IfOk, IfErr, OnErr};
 ghost use Rattle.std.specs.VecDeque.{deque_len, deque_capacity};
 ghost use Rattle.std.specs.IoError.{error_kind};
@@ -17,7 +17,7 @@ use std::io::{ErrorKind, Read, Write};
 use std::marker::Model;
 use stk_frame::LARGEST_FRAME;
 
-/// A port for a client that uses `Read` and `Write`: it writes to an emulated programmer and reads the replies.
+/// A port to an emulated programmer: a client writes frames with `Write` and reads the replies with `Read`.
 ///
 /// A write takes bytes up to the end of the first frame, so `write_all` writes a whole text. If no reply waits, a
 /// read fails with `ErrorKind::WouldBlock`, as a serial port does after its timeout. A read never reports the end. A
@@ -72,7 +72,7 @@ impl EmulatedPort {
         }
     }
 
-    /// Returns the chip as the whole frames written so far have left it.
+    /// Returns the chip after the whole frames written so far.
     ///
     /// ```text
     /// let chip = Chip::fresh(alloc, Parts::none().find("t85")?)?;
@@ -85,7 +85,7 @@ impl EmulatedPort {
         self.emulator.chip()
     }
 
-    /// Returns the emulator as what was written has left it. Replies not yet read are lost.
+    /// Returns the emulator after all that was written. Replies not yet read are lost.
     ///
     /// ```text
     /// let chip = Chip::fresh(alloc, Parts::none().find("t85")?)?;
@@ -112,7 +112,6 @@ impl Read for EmulatedPort {
         ensures blocks { OnErr result (self.old.waits ≡ []) }
         ensures kind { IfErr result (λ e. error_kind e ≡ ErrorKind.WouldBlock) }
         ensures some { IfOk result (λ n. 0 < length buf.new → 0 < n) }
-        // The bytes read are the next ones of all replies.
         ensures passed { (p : ProgrammerState) (written given : List ℕ) → IsPassed p written given self.old
             → IfOk result (λ n. IsPassed p written (given ++ take n buf.new) self.new) }
     {
@@ -128,7 +127,6 @@ impl Write for EmulatedPort {
         ensures bound { WritesAtMost result buf.now }
         ensures bytes { WriteAppends None None result buf.now }
         ensures some { IfOk result (λ n. 0 < length buf.now → 0 < n) }
-        // The bytes written are fed, and their replies wait behind those that wait already.
         ensures answers { IfOk result (λ n. AppendsAnswers self.old.machine (take n buf.now) self.new.machine
             self.old.waits self.new.waits) }
         ensures passed { (p : ProgrammerState) (written given : List ℕ) → IsPassed p written given self.old

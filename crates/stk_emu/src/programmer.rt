@@ -1,4 +1,4 @@
-//! The programmer, and what each command does.
+//! Executes each command of the protocol.
 
 ghost use Rattle.std.specs.Prelude.{◌≡◌, ◌<◌, ◌≤◌, ◌∷◌, [], ◌+◌, ◌%◌, length, false, true};
 ghost use Rattle.stk_frame.specs.declared.protocol.TheConstants.{LARGEST_BODY, STATUS_CMD_FAILED};
@@ -32,7 +32,6 @@ const MODE_PAGE: u8 = 0x01;
 
 const MODE_WRITE: u8 = 0x80;
 
-/// A programmer with its part.
 #[derive(Drop)]
 pub(crate) struct Programmer {
     mode: bool,
@@ -118,7 +117,7 @@ impl Programmer {
         chip
     }
 
-    /// Restarts: the memories of the part stay, and all else is lost, the page buffers too.
+    /// Keeps the memories of the part and loses all else, the page buffers too.
     pub fn restart(&mut self)
         ensures { self.new ≡ restarted_programmer self.old }
     {
@@ -227,7 +226,6 @@ impl Programmer {
         self.address = (self.address + u32::from(count)) % EXTENDED_ADDRESS;
     }
 
-    /// Returns the block at the programmer's address, with this instruction.
     fn block(&self, command: u8) -> Block
         ensures { result ≡ record { wide = self.now.wide; command = command; address = self.now.address } }
     {
@@ -368,7 +366,7 @@ impl Programmer {
         }
     }
 
-    /// Obeys the body of a frame, and makes `out` the body of the reply.
+    /// Executes the command with this body, and makes `out` the body of the reply.
     pub fn obey(&mut self, body: &[u8], out: &mut Body)
         ensures { (out.new.items, self.new) ≡ obey body.now self.old }
     {

@@ -1,4 +1,4 @@
-//! What keeps the transcript of a wire.
+//! The transcript of a wire: whole, or without its bytes.
 ghost use Rattle.std.specs.Prelude.{◌≡◌, ◌==◌, ◌≤◌, ◌<◌, ◌++◌, ◌∷◌, [], ℕ, length, OnOk, OnErr};
 ghost use Rattle.stk_host.specs.Transcript as piece;
 ghost use Rattle.stk_host.specs.Transcript.{Transcript, FitsBuffer, sent};
@@ -11,24 +11,24 @@ use stk_host::{Heard, History, Log, Piece};
 pub trait Recorder: Drop {
     ghost transcript: { Self → Transcript };
 
-    // There is room for one more piece of so many bytes sent.
+    // There is room for one more piece of this many bytes sent.
     ghost HasRoom: { Self → ℕ → Type 0 };
 
     /// Returns whether no byte was sent.
     fn sent_nothing(&self) -> bool
         ensures { result ≡ (length (sent (transcript self.now)) == 0) };
 
-    /// Makes room for one more piece of at most `count` bytes sent. The transcript stays, also if allocation fails.
+    /// Makes room for one more piece of at most `count` bytes sent. The transcript never changes.
     fn reserve(&mut self, count: usize) -> Result<(), AllocError>
         ensures transcript { transcript self.new ≡ transcript self.old }
         ensures room { OnOk result ((n : ℕ) → n ≤ count → HasRoom self.new n) };
 
-    /// Adds these bytes as sent. There is room for them.
+    /// Records these bytes as sent.
     fn say(&mut self, bytes: &[u8])
         requires { HasRoom self.old (length bytes.now) }
         ensures { transcript self.new ≡ transcript self.old ++ piece.Sent bytes.now ∷ [] };
 
-    /// Adds what was received; its bytes are at the start of the buffer. If allocation fails, the transcript stays.
+    /// Records what was received; its bytes are at the start of the buffer. If allocation fails, nothing changes.
     fn hear(&mut self, heard: Heard, buffer: &[u8]) -> Result<(), AllocError>
         requires { FitsBuffer heard (length buffer.now) }
         ensures ok { OnOk result (transcript self.new ≡ transcript self.old ++ piece.Got

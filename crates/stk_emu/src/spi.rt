@@ -6,7 +6,7 @@ ghost use Rattle.stk_emu.specs.Programmer.{bit_31, at_address, word_at, byte_add
 use avr_part::Chip;
 use stk_frame::protocol::EXTENDED_ADDRESS;
 
-/// Returns an instruction at an address, of which it carries bits 15 to 0.
+/// Returns an instruction that carries bits 15 to 0 of an address.
 pub(crate) fn at_address(command: u8, address: u32, byte: u8) -> [u8; 4]
     ensures { result ≡ at_address command address byte }
 {

@@ -1,4 +1,4 @@
-//! The wire, frame by frame.
+//! Passes frames over the wire, each with its fate.
 ghost use Rattle.std.specs.Prelude.{◌≡◌, ◌++◌};
 ghost use Rattle.stk_frame.specs.Frame.{frame};
 ghost use Rattle.stk_frame.specs.Cut.{is_good, seq_of};
@@ -18,7 +18,7 @@ use avr_part::Chip;
 use std::marker::Model;
 use stk_frame::{Event, FrameReader};
 
-/// The programmer at the end of a wire, the fates to come, and the late replies.
+/// A wire: the programmer at its end, the fates of its frames, and the late replies.
 #[derive(Drop)]
 pub(crate) struct Wire {
     programmer: Programmer,
@@ -43,7 +43,7 @@ impl Model for Wire {
     ghost invariant = { λ wire. AreLawful wire.fates.items };
 }
 
-/// Passes the frame that the reader holds, with this fate. Puts what it brings into `out`, behind the late replies.
+/// Passes the frame in the reader with this fate, and appends what arrives for it to `out`, late replies first.
 fn pass_with(
     fate: &Fate,
     programmer: &mut Programmer,
@@ -96,7 +96,7 @@ fn pass_with(
 }
 
 impl Wire {
-    /// Creates a wire to a programmer with this chip. After these fates all are good.
+    /// Creates a wire to a programmer with this chip. Frames after those with these fates pass unharmed.
     pub fn new(chip: Chip, fates: Vec<Fate>) -> Wire
         requires { AreLawful fates.items }
         ensures { result ≡ fresh_wire (fresh_programmer chip) fates.items }

@@ -1,4 +1,4 @@
-//! A wire as a link.
+//! An emulated programmer as a link, with injected faults.
 
 ghost use Rattle.std.specs.Prelude.{◌≡◌, ◌==◌, ◌+◌, ◌<◌, ◌≤◌, [], length, take, drop, IfOk, OnOk, OnErr};
 ghost use Rattle.stk_host.specs.Tape.{bytes_of};
@@ -26,7 +26,7 @@ use stk_host::{Heard, Link, LinkFault, Log};
 /// all are [`Fate::Good`].
 ///
 /// What a frame brings waits until it is received; if nothing waits, a timeout is received. If allocation fails, the
-/// link has failed: it counts this, and nothing else changes. It keeps the transcript, unless it is [`Wired::unlogged`].
+/// link counts a failure, and nothing else changes. It keeps the transcript, unless it is [`Wired::unlogged`].
 ///
 /// ```text
 /// let part = Parts::none().find("t85")?;
@@ -90,7 +90,7 @@ impl Wired {
         }
     }
 
-    /// Creates a wire as [`Wired::new`] does, with fates whose noise was judged when they were added.
+    /// Creates a wire as [`Wired::new`] does, with fates that were checked when they were added.
     pub fn with_fates(alloc: Global, chip: Chip, fates: Fates) -> Wired
         ensures held { result.held ≡ [] }
         ensures wire { result.wire ≡ fresh_wire (fresh_programmer chip) fates }
@@ -215,7 +215,6 @@ impl<R: Recorder> Wired<R> {
         self.failures
     }
 
-    /// Counts a failure.
     fn fail(&mut self) -> LinkFault
         ensures fails { self.new ≡ record self.old { failures = counted (self.old.failures + 1) } }
         ensures counted { self.old.failures ≤ self.new.failures }
@@ -235,10 +234,9 @@ impl<R: Recorder> Link for Wired<R> {
     fn send(&mut self, bytes: &[u8]) -> Result<usize, LinkFault>
         ensures sends { Sends bytes.now (wired_link self.old) (wired_link self.new) result }
         ensures sound { OnOk result (self.new.failures ≡ self.old.failures) }
-        // In every state, what the frames bring waits behind what waited.
+        // What the frames bring waits behind what waited.
         ensures passes { IfOk result (λ n. PassesBytes self.old self.new (take n bytes.now)) }
         ensures same { OnErr result (self.new ≡ record self.old { failures = self.new.failures }) }
-        // What passes stays what the fates say.
         ensures comes { Stays ComesOf self.old self.new }
     {
         let Ok(()) = self.waits.reserve() else {
@@ -256,7 +254,7 @@ impl<R: Recorder> Link for Wired<R> {
     fn recv(&mut self, buffer: &mut [u8]) -> Result<Heard, LinkFault>
         requires { 0 < length buffer.old }
         ensures receives { Receives buffer.new (wired_link self.old) (wired_link self.new) result }
-        // It receives what waited first; if nothing waited, a timeout.
+        // What waited first is received; if nothing waited, a timeout.
         ensures heard { IfOk result (λ heard. self.new ≡ after_hearing (items_of heard buffer.new) self.old) }
         ensures next { IfOk result (λ heard. IsNext (items_of heard buffer.new) self.old.waits) }
         ensures same { OnErr result (self.new ≡ record self.old { failures = self.new.failures }) }

@@ -1,4 +1,4 @@
--- A held file that is replaced and then left.
+-- A held file that is replaced and then released.
 use Rattle.std.specs.Prelude.{Result, Ok, Err, OnOk}
 use Rattle.avr_desk.specs.Journal.{Does, Done, calling, holding, made}
 use Rattle.avr_desk.specs.Record.{Bytes}

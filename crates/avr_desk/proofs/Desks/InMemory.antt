@@ -1,4 +1,4 @@
--- A desk in memory, call after call: what it keeps stays true by the files that it began with.
+-- A desk in memory: its record stays true of the files that it began with, call after call.
 use Rattle.std.proofs.Common.{◌≡◌, ◌∙◌, sym, ap, subst, refl, arith, ℕ, ◌==◌, ◌&&◌, ◌||◌, not, Bool, true, false, List, [], ◌∷◌, ◌++◌, append_assoc, append-nil, take, drop, length, Some, None, if◌then◌else◌, rules}
 use Rattle.std.proofs.Math.Seq.{drop-append_seam}
 use Rattle.std.proofs.lemmas.Bool.Decides.{nat_tests}
@@ -16,7 +16,7 @@ use Rattle.avr_desk.specs.declared.record.Opening.TheVariants.{Absent}
 use Rattle.avr_desk.specs.declared.record.Reading.{Reading}
 use Rattle.avr_desk.specs.declared.record.Writing.{Writing}
 
--- ---- uses that are joined
+-- ---- two lists of uses
 
 -- later uses are true, by the files of both
 pub true_append : (stock : Stock) (made : List Writing) (first last : List FileUse) → AreTrue stock made first
@@ -67,7 +67,6 @@ changed_true : (ok : Bool) (kept : Record) (old new : MemDeskState)
 changed_true true kept old new is done = λ stock holds. subst (HoldsTrue stock) (sym is) (done stock holds)
 changed_true false kept old new is done = λ stock holds. subst (HoldsTrue stock) (sym is) holds
 
--- a file is created
 pub created_true : (ok : Bool) (file : Writing) (old new : MemDeskState)
     → new ≡ (if ok then record old { kept = record old.kept { uses = all_uses old.kept ++ []; current = ToWrite file } }
     else old) → Stays HoldsTrue old new
@@ -89,7 +88,6 @@ used_true ok last old new true_then is = changed_true ok _ old new is (λ stock 
   current = tt;
 })
 
--- there is no file of this name
 pub absent_true : (ok : Bool) (name own : Bytes) (old new : MemDeskState) → own ≡ name → None ≡ contents name old
     → new ≡ (if ok then record old {
       kept = record old.kept
@@ -159,7 +157,6 @@ module _ (old new : MemDeskState) (ends : Bool) (n room : ℕ) (whole gave next 
       → Stays HoldsTrue old new
   read_true ok uses current same = search (rules, stock_same, prefix_on)
 
--- bytes are written to the open file
 pub written_true : (bytes : Bytes) (old new : MemDeskState) → new.input ≡ old.input → new.stored ≡ old.stored
     → new.opened ≡ old.opened
     → new.kept.uses ≡ old.kept.uses → new.kept.current ≡ written_on bytes old.kept.current → Stays HoldsTrue old new

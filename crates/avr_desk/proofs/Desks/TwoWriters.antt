@@ -1,4 +1,4 @@
--- A desk over two writers and the files of a system, call after call: what it keeps of them stays true.
+-- A desk over two writers and the files of a system: its record stays true, call after call.
 use Rattle.std.proofs.Common.{◌≡◌, ◌⊎◌, ◌∙◌, inl, inr, sym, ap, subst, refl, arith, ℕ, ◌==◌, ◌&&◌, ◌||◌, not, true, false, List, [], ◌∷◌, ◌++◌, append_assoc, append-nil, length, take, Option, None, Some, rules}
 use Rattle.std.specs.Prelude.{IfErr, Result}
 use Rattle.std.proofs.KnownBytes.{Appends-nil, Consumes-nil}
@@ -47,7 +47,7 @@ no_dash_behind [] back none = none
 no_dash_behind (file ∷ prefix) back none =
     no_dash_behind prefix back (or_parts (is_dash file.name) (has_dash (prefix ++ back)) none).1
 
--- more bytes don't make a file the output
+-- writing bytes doesn't make a file the output
 same_dash_behind : (files one other : List Writing) → has_dash one ≡ has_dash other
     → has_dash (files ++ one) ≡ has_dash (files ++ other)
 same_dash_behind [] one other same = same
@@ -56,7 +56,7 @@ same_dash_behind (file ∷ files) one other same = grind (arith, nat_tests, same
 written_dashes : (bytes : Bytes) (r : Record) → has_dash (all_files (after_write bytes r)) ≡ has_dash (all_files r)
 written_dashes bytes r = grind (arith, nat_tests, same_dash_behind)
 
--- ---- a handle that gives
+-- ---- reading from a handle
 
 module _ {H : Type 0} (reads : Reads H) where
   given_none : (h : H) (name : Bytes) → HasGiven reads h h (record { name = name; bytes = []; ended = false })
@@ -68,7 +68,7 @@ module _ {H : Type 0} (reads : Reads H) where
       (record x { bytes = x.bytes ++ take n buf; ended = x.ended || (n == 0 && not (length buf == 0)) })
   given_more first old new x buf n given gives = grind (arith, common_steps, nat_tests)
 
--- ---- what a call says
+-- ---- what a call records
 
 pub is_call : {D S T : Type 0} {view : D → DeskState} {comes_of : S → D → Type 0}
     {Counted : DeskState → DeskState → Result T DeskFault → Type 0} {old new : D} {r : Result T DeskFault}
@@ -119,12 +119,12 @@ module _ {S F I H O E : Type 0} (system : Ghosts S F I H) (reads : Reads F) (wri
       → Did one held now
   did_as held now same did = subst (λ (calls : List FileCall). Did calls held now) (sym same) did
 
-  -- a held file is left
+  -- the held file is released
   left_none : {old new : S} (hold : Option H) (held : Option Bytes) (calls : List FileCall)
       → IsHeldBy system hold held → Leaves system.did hold old new → Did calls held old → Did calls None new
   left_none hold held calls is leaves did = search rules
 
-  -- another one is held, and then it is left
+  -- another file is held, then released
   left_one : {old new : S} (hold : Option H) (held : Option Bytes) (calls : List FileCall) (name : Bytes)
       → IsHeldBy system hold held → Leaves system.did hold old new
       → system.did (holding (record { calls = calls; holds = count_of held })) old → Did calls (Some name) new
@@ -208,7 +208,7 @@ module _ {S F I H O E : Type 0} (system : Ghosts S F I H) (reads : Reads F) (wri
   pub true_now : (a : Desk) → Since a a
   true_now a = quiet refl refl (λ none. none) (λ none was. was) (λ are. are)
 
-  -- a call failed, which did nothing
+  -- a failed call did nothing
   pub failed_true : {b : Desk} {s : S} {f u : ℕ} {e : Option ErrorKind} (held : Option H) → held ≡ b.hold
       → Stays system.did b.system s → (Counts system.did (count_of held) b.system → NoMore b.system s)
       → Since b (Next b s f u e b.opened b.hold b.kept)
@@ -229,7 +229,7 @@ module _ {S F I H O E : Type 0} (system : Ghosts S F I H) (reads : Reads F) (wri
       → Files t p h (record r { uses = uses; current = current })
   files_now are uses current did keeps = search rules
 
-  -- it was opened
+  -- a file was opened
   opened_true : {b : Desk} {s : S} {f u : ℕ} {e : Option ErrorKind} {o : OpenFile F I} {k : Record} (x : Reading)
       → k ≡ with_open (ToRead x) b.kept → is_output o ≡ false → (Holds b → TrueOpen o (ToRead x)) → Closed b.opened
       → Does system.did (calling (opened x.name ∷ [])) b.system s → NoMore b.system s
@@ -280,7 +280,7 @@ module _ {S F I H O E : Type 0} (system : Ghosts S F I H) (reads : Reads F) (wri
       search (rules, more_true, did_as, append-nil, calls_append, left_on) in
       search (rules, quiet, files_absent, append-nil)
 
-  -- it was created
+  -- a file was created
   create_true : {b : Desk} {s : S} {f u : ℕ} {e : Option ErrorKind} {o : OpenFile F I} {k : Record} (x : Writing)
       → k ≡ with_open (ToWrite x) b.kept → is_output o ≡ is_dash x.name → TrueOpen o (ToWrite x) → Closed b.opened
       → Does system.did (calling (made x.name)) b.system s
@@ -359,7 +359,7 @@ module _ {S F I H O E : Type 0} (system : Ghosts S F I H) (reads : Reads F) (wri
         crash = crash_tried _ same also are.crash;
       }))
 
-  -- a file is held, and the one held before is left
+  -- a file is held, and the one held before is released
   pub held_true : {b c : Desk} {s t : S} {h : H} {name own : Bytes} → own ≡ name → c.output ≡ b.output
       → c.messages ≡ b.messages → c.opened ≡ b.opened → c.hold ≡ Some h → c.kept ≡ record b.kept { held = Some own }
       → c.system ≡ t → system.holds h name → Does system.did holding b.system s → Leaves system.did b.hold s t
@@ -383,7 +383,7 @@ module _ {S F I H O E : Type 0} (system : Ghosts S F I H) (reads : Reads F) (wri
   denied_true {b = b} {own = own} same denies kept stays also =
       rw kept (quiet refl refl (λ none. none) (λ none was. was) (grind (arith, common_steps)))
 
-  -- it was not held
+  -- the file was not held
   pub unheld_true : {b : Desk} {s : S} {f u : ℕ} {e : Option ErrorKind} {name : Bytes} → Stays system.did b.system s
       → LeavesAlso system.left name (system.began name) b.system s → Since b (Next b s f u e b.opened b.hold b.kept)
   unheld_true stays also = search (rules, quiet)
@@ -453,7 +453,7 @@ module _ {S F I H : Type 0} (system : Ghosts S F I H) (reads : Reads F) (writes 
       → IsTrueRecord system reads writes input fresh open_file.Nothing None nothing_kept
   none_kept_true fresh did unheld = search rules
 
--- what it has come to
+-- the record of a desk that was new
 module _ {S F I H O E : Type 0} (system : Ghosts S F I H) (reads : Reads F) (writes : Writes F) (input : Reads I)
     (output_of : Writes O) (messages_of : Writes E) where
   pub told_all : {old new : Shown S F H I O E}

@@ -3,7 +3,6 @@ use Rattle.std.proofs.Common.{◌≡◌, ℕ, [], take, Option, rules}
 use Rattle.std.specs.Io.KnownBytes.{Keeps, Appends}
 use Rattle.avr_desk.specs.Record.{Bytes}
 
--- nothing was written
 pub keeps : (a : Option Bytes) → Keeps a a
 keeps a = search rules
 

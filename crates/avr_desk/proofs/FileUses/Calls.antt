@@ -1,4 +1,4 @@
--- The calls that uses of files tell of.
+-- The system calls that uses of files show.
 use Rattle.std.proofs.Common.{◌≡◌, ap, refl, Bool, true, false, List, [], ◌∷◌, ◌++◌, if◌then◌else◌, rules}
 use Rattle.avr_desk.specs.Journal.{Gives, Makes, Opens, FileCall, all_calls, calls_of, made}
 use Rattle.avr_desk.specs.Named.{is_dash}

@@ -1,4 +1,4 @@
--- Files by their names, in lists that are joined.
+-- Files by their names, in two lists of files.
 use Rattle.std.proofs.Common.{◌≡◌, refl, List, [], ◌∷◌, ◌++◌, Option}
 use Rattle.avr_desk.specs.Record.{Bytes}
 use Rattle.avr_desk.specs.Named.{newest, or_older}

@@ -1,4 +1,4 @@
--- The openings and files among uses that are joined, and when the open file is put by.
+-- The openings and files among two lists of uses, and after the open file is closed.
 use Rattle.std.proofs.lemmas.Bool.Decides.{nat_tests}
 use Rattle.std.proofs.Common.{arith, ◌≡◌, ◌∙◌, ap, refl, List, [], ◌∷◌, ◌++◌, append-nil, rules}
 use Rattle.avr_desk.specs.Record.{Bytes, Record, all_files, all_openings, all_uses, file_of, files_among, openings_among, with_absent, with_open, with_replaced}
@@ -28,7 +28,7 @@ files_used r = grind (arith, nat_tests, files_append)
 pub openings_used : (r : Record) → openings_among (all_uses r) ≡ all_openings r
 openings_used r = search (rules, openings_append)
 
--- ---- it is put by
+-- ---- the open file is closed
 
 pub files_opened : (o : Open) (r : Record) → all_files (with_open o r) ≡ all_files r ++ file_of o
 files_opened o r = ap (λ (fs : List Writing). fs ++ file_of o) (files_used r)

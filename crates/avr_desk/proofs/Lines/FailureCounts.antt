@@ -4,7 +4,6 @@ use Rattle.avr_desk.specs.Fault.{HasSameCounts, WriteCounts}
 use Rattle.avr_desk.specs.Record.{Bytes, DeskState}
 use Rattle.avr_desk.specs.declared.stream.Stream.{Stream}
 
--- bytes were taken
 pub taken_uncounted : (stream : Stream) (bytes : Bytes) (old new : DeskState) (n : ℕ) → (n ≡ 0 → ⊥)
     → WriteCounts stream bytes old new (Ok n) → HasSameCounts old new
 taken_uncounted stream bytes old new n some counts = search rules

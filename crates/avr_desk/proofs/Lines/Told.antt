@@ -1,4 +1,4 @@
--- Lines that were reported, whole or in part.
+-- Lines that were reported, completely or in part.
 use Rattle.std.proofs.lemmas.Bool.Decides.{nat_tests}
 use Rattle.std.proofs.Common.{◌≡◌, ℕ, arith, List, refl, ◌∙◌, Result, Ok, Err, IfErr, rules}
 use Rattle.std.proofs.lemmas.List.{take-append-drop}
@@ -10,11 +10,11 @@ use Rattle.avr_desk.specs.declared.stream.Stream.{Stream}
 use Rattle.avr_desk.specs.declared.stream.Stream.TheVariants.{File, Messages}
 use Rattle.avr_desk.specs.Said.{IsPrinted, Tells, TellsFailure}
 
--- a desk follows itself
+-- counts don't fall from a state to itself
 pub follows_here : (a : DeskState) → Follows a a
 follows_here a = (omega arith, omega arith)
 
--- and follows each desk that the one before it follows
+-- nor over two steps in which they don't fall
 pub follows_on : (a b c : DeskState) → Follows a b → Follows b c → Follows a c
 follows_on a b c first then = (omega (arith, first.0, then.0), omega (arith, first.1, then.1))
 
@@ -25,7 +25,7 @@ same_here a = (refl, refl)
 pub same_on : (a b c : DeskState) → HasSameCounts a b → HasSameCounts b c → HasSameCounts a c
 same_on a b c first then = (then.0 ∙ first.0, then.1 ∙ first.1)
 
--- without a counted failure a desk follows
+-- equal counts don't fall
 pub follows_same : (a b : DeskState) → HasSameCounts a b → Follows a b
 follows_same a b same = (omega (arith, same.0), omega (arith, same.1))
 
@@ -46,7 +46,7 @@ tells_line old new line (Ok done) is counts only = grind (arith, nat_tests)
 tells_line old new line (Err NotFound) is counts only = cc
 tells_line old new line (Err Failed) is counts only = grind (arith, nat_tests, take-append-drop is.0 line)
 
--- The desk failed, and this was reported from then on.
+-- The desk failed, and the line about it was reported after that.
 pub failure_told : (old mid new : DeskState) (line : List ℕ) → Follows old mid → HasFailedAt File old mid
     → (told : Tells mid new line)
     → TellsFailure line told.told old new

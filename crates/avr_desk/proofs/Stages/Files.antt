@@ -1,4 +1,4 @@
--- Files that a stage reads and judges.
+-- Files that a stage reads and checks.
 use Rattle.std.proofs.Common.{◌≡◌, refl, ℕ, Bool, true, false, List, Result, Ok, Err}
 use Rattle.avr_desk.specs.Fault.{Follows, HasSameCounts}
 use Rattle.avr_desk.specs.Files.{IsWhole, with_read, FileBreaks, IsCounted}
@@ -20,7 +20,7 @@ pub taken_never : (passed : List Opening) (said : List OutputEvent) → AtStart 
 taken_never passed said never = let clash : false ≡ true = never.0 in cc
 
 module _ {A : Type 0} (taking : Taking) (name : Bytes) (limit : ℕ) (judge : Bytes → Result A Bytes) where
-  -- the judgement of the file's bytes
+  -- the check of the file's bytes
   pub goes_whole : (bytes : Bytes) (ended : Bool) (old mid new : DeskState) (result : Result A ℕ)
       → Passes (with_read name bytes ended) old mid → IsWhole limit (record { bytes = bytes; ended = ended })
       → HasSameCounts old mid

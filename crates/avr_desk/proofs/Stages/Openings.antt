@@ -40,7 +40,7 @@ goes_opened inner taking name next opening old mid new result is kept same behin
       sound = same;
     }) behind goes
 
--- it was read to its end or past the limit, and judged
+-- the file was read to its end or past the limit, and checked
 pub goes_judged : {A : Type 0} (taking : Taking) (name : Bytes) (limit : ℕ) (judge : Bytes → Result A Bytes)
     (reading : Reading)
     (old new : DeskState) (result : Result A ℕ)
@@ -107,15 +107,15 @@ goes_broken taking name next file_fault.Absent old mid new status there breaks r
 goes_broken taking name next fault old mid new status there breaks rose counted one told =
     search (rules, goes_unopened, goes_unread, goes_unheld)
 
--- ---- a file that is kept whole as it is read
+-- ---- a whole file in memory
 
--- without the counts
+-- its record
 pub breaks_as : (name : Bytes) (old mid : Record) (fault : FileFault)
     → ReadsFile name (showing old 0 0) (showing mid 0 0) (Err fault)
     → FileBreaks name (showing old 0 0) (showing mid 0 0) fault
 breaks_as name old mid fault reads = search rules
 
--- without the record
+-- its counts
 pub counted_as : (k l m n : ℕ) (fault : FileFault)
     → FaultCounts (showing nothing_kept k m) (showing nothing_kept l n) (Err fault)
     → IsCounted (showing nothing_kept k m) (showing nothing_kept l n) fault

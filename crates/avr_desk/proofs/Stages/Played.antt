@@ -54,7 +54,7 @@ went_went stage go_on old mid new a answer first then = record {
   sound = same_on old mid new first.sound then.sound;
 }
 
--- what allocates after a stage that succeeded
+-- allocation points after a stage that succeeded
 abbrev pub TakesBehind : {A : Type 0} (inner taking : Taking) (stage : Stage A) (old mid : DeskState) (a : A)
     → Went stage old mid (Made a) → Type 0
 TakesBehind inner taking stage old mid a first = (passed : List Opening) (said : List OutputEvent) → inner passed said
@@ -76,7 +76,7 @@ went_broke inner taking stage go_on old mid new a first behind then = record {
   follows = follows_on old mid new (follows_same old mid first.sound) then.follows;
 }
 
--- a stage that succeeded, and how the next one goes
+-- a stage that succeeded, and the run of the next one
 pub goes_on : {A B : Type 0} (inner taking : Taking) (stage : Stage A) (go_on : A → Stage B) (old mid new : DeskState)
     (a : A) (result : Result B ℕ) (went : Went stage old mid (Made a))
     → TakesBehind inner taking stage old mid a went
@@ -86,13 +86,13 @@ goes_on inner taking stage go_on old mid new a (Err status) went behind (one, in
 goes_on inner taking stage go_on old mid new a (Err status) went behind (one, inr then) =
     (one, inr (went_broke inner taking stage go_on old mid new a went behind then))
 
--- a stage that didn't succeed
+-- a stage that was refused or broke off
 pub goes_no_further : {A B : Type 0} (taking : Taking) (stage : Stage A) (go_on : A → Stage B) (old new : DeskState)
     (status : ℕ) → Goes taking stage old new (Err status) → Goes taking (stage >>= go_on) old new (Err status)
 goes_no_further taking stage go_on old new status (one, inl went) = grind (arith, nat_tests)
 goes_no_further taking stage go_on old new status (one, inr broke) = grind (arith, nat_tests, rest_more)
 
--- if allocation may fail in more places
+-- more allocation points
 pub goes_within : {A : Type 0} (inner taking : Taking) (stage : Stage A) (old new : DeskState) (result : Result A ℕ)
     → ((passed : List Opening) (said : List OutputEvent) → inner passed said → taking passed said)
     → Goes inner stage old new result → Goes taking stage old new result
@@ -148,7 +148,7 @@ pub goes_without_memory : {A : Type 0} (taking : Taking) (stage : Stage A) (old 
 goes_without_memory taking stage old new status takes one told =
     (one, inr (broke_here taking stage old new NoMemory told.told takes (λ more. tt) told.tells told.kept told.follows))
 
--- ---- judgements, and output
+-- ---- results and output
 
 pub went_settled : {A : Type 0} (r : Result A (List ℕ)) (a : A) (d : DeskState) → r ≡ Ok a
     → Went (verdict_stage r) d d (Made a)
@@ -178,7 +178,7 @@ goes_output_part taking old new line fault part is counts = (
       ((drop part.0 line, take-append-drop part.0 line), search rules) part.2 counts.0),
 )
 
--- however a stage goes, the counts of failures never fall
+-- the counts of failures never fall, whatever the outcome
 pub goes_follows : {A : Type 0} (taking : Taking) (stage : Stage A) (old new : DeskState) (result : Result A ℕ)
     → Goes taking stage old new result → Follows old new
 goes_follows taking stage old new result went = search rules

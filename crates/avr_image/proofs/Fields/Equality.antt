@@ -1,4 +1,4 @@
--- Images that are equal are one.
+-- `==` on stored images is equality of their lists.
 use Rattle.std.proofs.lemmas.Bool.Decides.{nat_tests}
 use Rattle.std.proofs.Common.{◌≡◌, ℕ, Bool, List, Option, nat_eq, IsTrue, ◌↔◌, rules}
 use Rattle.std.specs.Option.{option_eq}

@@ -45,11 +45,9 @@ next_is n from fits f = elim (cases_eq (above n from) 0) [
       next_of_some n from _ f found.0 found.1 found.2
 ]
 
--- the other bits
 pub other_bit : (n i : ℕ) → n < 2 ^ 64 → i < 64 → eqb (bit_at (2 ^ 64 - 1 - n) i) 1 ≡ not (eqb (bit_at n i) 1)
 other_bit n i fits l = grind (arith, nat_tests, bit_at_not w64 n i fits l)
 
--- a run of ones
 pub ones_are : (low high i : ℕ) → low < 64 → high ≤ 64 → i < 64
     → eqb (bit_at (bit_and ((2 ^ 64 - 1) * 2 ^ low % 2 ^ 64) ((2 ^ 64 - 1) / 2 ^ (64 - high))) i) 1
     ≡ is_within low high i
@@ -80,7 +78,7 @@ ones_are low high i a b l =
       ]
     ]
 
--- a bit of two words laid over each other
+-- a bit of two words joined by `|`
 one_of_two : (a b i : ℕ) → eqb (bit_at (bit_or a b) i) 1 ≡ (eqb (bit_at b i) 1 || eqb (bit_at a i) 1)
 one_of_two a b i = grind (arith, nat_tests, bit_at_or)
 

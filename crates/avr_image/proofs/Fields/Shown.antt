@@ -1,4 +1,4 @@
--- The fields of an image, as an image.
+-- The stored fields of an image give its list: bytes, presence bits, runs and changes.
 use Rattle.std.proofs.lemmas.Bool.Decides.{nat_tests}
 use Rattle.std.proofs.Common.{◌≡◌, ◌≢◌, ◌∙◌, sym, ap, ap₂, refl, arith, ℕ, suc, zero, ◌+◌, ◌*◌, ◌/◌, ◌%◌, ◌^◌, ◌<◌, ◌≤◌, List, [], ◌∷◌, length, get_or, set, Bool, true, false, Option, Some, None, replicate, bit_or, is_some, inl, inr, nat_lt, w64, min, take, drop, ◌++◌, ◌-◌, rules}
 use Rattle.std.proofs.Math.ListN.{get_or-eq_default}
@@ -107,7 +107,7 @@ pub past : (words bytes : List ℕ) {image : List (Option ℕ)} (i : ℕ) → de
     → None ≡ byte_at image i
 past words bytes {image} i seen l = grind (arith, nat_tests, byte_at-past, length_shown)
 
--- when a byte is laid down, FF stays at addresses without a byte
+-- when a byte is put, FF stays at addresses without a byte
 pub blank-marked : (words bytes : List ℕ) (a b : ℕ) → a < length bytes → a / 64 < length words
     → ((i : ℕ) → i < length bytes → is_present words i ≡ false → get_or bytes i 0 ≡ 255)
     → (i : ℕ) → i < length (set bytes a b) → is_present (with_mark words a) i ≡ false → get_or (set bytes a b) i 0 ≡ 255
@@ -167,7 +167,6 @@ first_none words bytes {image} addr from seen le found =
     ∙ presence words bytes (addr + k) seen (omega (arith, j, left, size))
     ∙ found.others (addr + k) (omega (arith, le)) (omega (arith, j, left, size)))
 
--- whether some addresses hold a byte
 none_held : (bytes : List (Option ℕ)) → ((k : ℕ) → k < length bytes → is_some (get_or bytes k None) ≡ false)
     → list_any is_some bytes ≡ false
 none_held [] none = refl
@@ -193,7 +192,6 @@ any_is words bytes {image} start count from end place seen from_is end_is found 
       | inr past ↦ rw (le-ltb place end past) (sym (none_held row (search rules)))
     ]
 
--- the end of a run
 pub run_is : (words bytes : List ℕ) {image : List (Option ℕ)} (addr end place : ℕ) → dense_image words bytes ≡ image
     → FirstPlace words false addr (min (length bytes) end) place → addr < length bytes → place ≡ run_end image addr end
 run_is words bytes {image} addr end place seen found l =

@@ -1,4 +1,4 @@
--- Bytes laid down at addresses: place by place, in parts, and as a span.
+-- Bytes put at addresses: address by address, in parts, and as a span.
 use Rattle.std.proofs.Common.{rules, append_assoc, ◌≡◌, ◌≢◌, ◌∙◌, sym, ap, ap₂, refl, arith, ℕ, suc, zero, ◌+◌, ◌-◌, ◌<◌, ◌≤◌, List, [], ◌∷◌, ◌++◌, length, get_or, set, Bool, true, cond, ◌||◌, Option, Some, None, inl, inr, ◌⊎◌}
 use Rattle.std.proofs.lemmas.Bool.{cases_lt}
 use Rattle.std.proofs.lemmas.List.{get_or-set_same, get_or-set_other, length-set, length-drop, length-take, length-append, length-replicate, get_or_append_left, get_or-append_right, get_or-take, get_or-drop, length-map, map-append, set_at, append-nil}
@@ -63,7 +63,7 @@ over_over (x ∷ a) (y ∷ b) (Some z ∷ c) l = grind (arith, nat_tests, over_o
 over_over (x ∷ a) (y ∷ b) (None ∷ c) l = grind (arith, nat_tests, over_over a b c (omega (arith, l)))
 over_over y z w l = refl
 
--- ---- a span, place by place
+-- ---- a span, address by address
 
 pub span_low : (image : List (Option ℕ)) (addr : ℕ) (span : List ℕ) (i : ℕ) → i < addr
     → byte_at (laid_over image (enumerate_from addr span)) i ≡ byte_at image i
@@ -88,7 +88,7 @@ span_in image addr (b ∷ span) (suc j) l room =
       span_in (set image addr (Some b)) (addr + 1) span j (omega (arith, l)) (omega (arith, room, length-set image addr (Some b))),
     )
 
--- ---- a byte, place by place
+-- ---- a byte, address by address
 
 pub byte_here : (image : List (Option ℕ)) (addr byte : ℕ) → addr < length image
     → byte_at (with_byte image addr byte) addr ≡ Some byte
@@ -176,7 +176,7 @@ from_zero-laid text (byte ∷ span) size addr here l =
     (omega (arith, l, length-append text (byte ∷ [])))
     ∙ ap (λ (xs : List ℕ). from_zero xs size) (append_assoc text (byte ∷ []) span)
 
--- onto nothing
+-- a span put into an empty image
 pub from_zero-span : (text : List ℕ) (size : ℕ) → length text ≤ size
     → from_zero text size ≡ image_of_pairs size (enumerate_from 0 text)
 from_zero-span text size l = grind (arith, nat_tests, from_zero-laid [] text size 0 refl (omega (arith, l)))

@@ -1,4 +1,4 @@
--- A byte that is taken away.
+-- What removing a byte does to the stored fields.
 use Rattle.std.proofs.lemmas.Bool.Decides.{nat_tests}
 use Rattle.std.proofs.Common.{◌≡◌, ◌≢◌, ◌∙◌, sym, ap, refl, arith, ℕ, suc, zero, ◌*◌, ◌/◌, ◌%◌, ◌^◌, ◌-◌, ◌<◌, ◌≤◌, List, [], ◌∷◌, length, get_or, set, false, eqb, Option, None, bit_and, inl, inr, w64, rules}
 use Rattle.std.proofs.lemmas.Bool.{cases_eq}
@@ -39,7 +39,7 @@ shown-removed words bytes a l within =
     (omega (arith, in-bytes, length-set bytes a 255)) in
     search (rules, cleared-same, length_shown, cleared-other, get_or-set_other, byte_at-shown))
 
--- when a byte is taken away, FF is at addresses without a byte
+-- FF stays at addresses without a byte
 pub blank-removed : (words bytes : List ℕ) (a : ℕ) → a < length bytes → a / 64 < length words
     → ((i : ℕ) → i < length bytes → is_present words i ≡ false → get_or bytes i 0 ≡ 255)
     → (i : ℕ) → i < length (set bytes a 255) → is_present (without_mark words a) i ≡ false
@@ -47,7 +47,7 @@ pub blank-removed : (words bytes : List ℕ) (a : ℕ) → a < length bytes → 
 blank-removed words bytes a l within blank i j none =
     grind (arith, nat_tests, get_or-set_same, get_or-set_other, length-set, cleared-other)
 
--- outside the memory nothing is taken away
+-- outside the memory nothing is removed
 pub removed-past : (image : List (Option ℕ)) (a : ℕ) → length image ≤ a → image ≡ set image a None
 removed-past [] a l = refl
 removed-past (b ∷ bs) zero l = absurd (omega (arith, l))

@@ -45,7 +45,7 @@ written-step radix rest at next glyph buffer step l here =
 pub digit_left : (radix rest at next : ℕ) → 2 ≤ radix → at ≡ next + 1 → rest < 2 ^ at → rest / radix < 2 ^ next
 digit_left radix rest at next low step l = grind (arith, common_steps, nat_tests)
 
--- the digits of a byte below `at` are still to be written, and the others are in place from there on
+-- the digits of a byte are in place from `at` on, and those before are not written yet
 pub record IsWritten (radix byte rest at : ℕ) (buffer : List ℕ) : Type 0 where
   pub joined : digits_onto (56 + at) radix false rest (drop at buffer) ≡ digits radix false byte
 

@@ -1,4 +1,4 @@
--- A text that is put together, or written, piece by piece.
+-- A text that is collected, or written, piece by piece.
 use Rattle.std.proofs.lemmas.Grind.{common_steps}
 use Rattle.std.proofs.lemmas.Bool.Decides.{nat_tests}
 use Rattle.std.proofs.Common.{◌≡◌, arith, ℕ, List, [], ◌++◌, length, append_assoc, Option}
@@ -6,7 +6,7 @@ use Rattle.std.proofs.KnownBytes.{Appends-trans}
 use Rattle.std.proofs.lemmas.List.{append-nil, length-append, nil_from_length}
 use Rattle.std.specs.Io.KnownBytes.{Appends}
 
--- what came and what is left are the whole
+-- the text so far, the next piece and what is left are the whole text
 pub goes_on : (text piece old left whole : List ℕ) → text ++ old ≡ whole → old ≡ piece ++ left
     → (text ++ piece) ++ left ≡ whole
 goes_on text piece old left whole so_far split = grind (arith, nat_tests, append_assoc)
@@ -18,7 +18,7 @@ is_whole text left whole so_far none = grind (arith, nat_tests, append-nil, nil_
 pub none_left : (old piece left : List ℕ) → old ≡ piece ++ left → length old ≡ 0 → left ≡ []
 none_left old piece left split none = grind (arith, nat_tests, nil_from_length, length-append)
 
--- a writer took a prefix of the whole, and this is left
+-- a prefix of the whole text is written, and this is left
 pub record Written (old now : Option (List ℕ)) (left whole : List ℕ) : Type 0 where
   pub prefix : List ℕ
   pub appended : Appends old now prefix
@@ -36,7 +36,7 @@ pub all_written : (old now : Option (List ℕ)) (left whole : List ℕ) → Writ
     → Appends old now whole
 all_written old now left whole written none = grind (arith, common_steps)
 
--- what the loops that join or write pieces need
+-- the lemmas for the loops of `Pieces::to_vec` and `Pieces::write_to`
 pub ruleset joins = (goes_on, is_whole, none_left)
 
 pub ruleset writes = (piece_written, all_written, none_left)

@@ -1,4 +1,4 @@
--- A raw reader takes a piece.
+-- What a raw reader holds once it was fed one more piece.
 use Rattle.std.proofs.lemmas.Bool.Decides.{nat_tests}
 use Rattle.std.proofs.Common.{◌≡◌, arith, ℕ, ◌+◌, ◌++◌, List, length, Bool, cond, Option, Result, Ok, Err}
 use Rattle.std.proofs.lemmas.List.{length-append}

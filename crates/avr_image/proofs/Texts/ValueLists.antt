@@ -24,7 +24,7 @@ is_solid text = nat_lt 0 (length text) && list_all (λ c. not (is_separator c)) 
 abbrev is_good : Base → ℕ → Bool
 is_good base n = is_value (value_of (number_text base n)) n && is_solid (number_text base n)
 
--- a test of all numbers below one
+-- whether all numbers below this one pass the test
 abbrev all_below : ℕ → (ℕ → Bool) → Bool
 all_below zero test = true
 all_below (suc n) test = test n && all_below n test

@@ -1,4 +1,4 @@
--- Values laid down one after another are the values of the text.
+-- The loop of `parse_immediate`, value by value, gives the image of the text's values.
 use Rattle.std.proofs.lemmas.Grind.{common_steps}
 use Rattle.std.proofs.Common.{◌≡◌, ◌∙◌, sym, ap, refl, arith, ℕ, suc, zero, ◌+◌, ◌<◌, ◌≤◌, List, [], ◌∷◌, ◌++◌, length, map, filter, take, drop, replicate, eqb, Bool, cond, nat_lt, Option, None, Result, Ok, Err, inl, inr, rules}
 use Rattle.std.proofs.lemmas.List.{length-append, append_assoc, append-nil, length-take}
@@ -11,7 +11,6 @@ use Rattle.avr_image.specs.Values.{is_separator, fitting, fitting_value, value_o
 use Rattle.avr_image.specs.declared.fault.ImageFault.{ImageFault}
 use Rattle.avr_image.proofs.Places.Laid.{from_zero-next, length-from_zero}
 
--- what follows a byte, if it is good
 abbrev pub on_ok : Result ℕ ImageFault → (ℕ → Result (List (Option ℕ)) ImageFault) → Result (List (Option ℕ)) ImageFault
 on_ok (Ok byte) more = more byte
 on_ok (Err fault) more = Err fault
@@ -22,7 +21,6 @@ with_pieces image addr [] = Ok image
 with_pieces image addr (piece ∷ more) =
     on_ok (fitting_value (length image) (addr, piece)) (λ b. with_pieces (with_byte image addr b) (addr + 1) more)
 
--- bytes before those that follow
 abbrev pub before : List ℕ → Result (List ℕ) ImageFault → Result (List ℕ) ImageFault
 before bytes (Ok more) = Ok (bytes ++ more)
 before bytes (Err fault) = Err fault
@@ -72,7 +70,7 @@ values_of_some size (piece ∷ parts) one some =
 
 -- ---- the first piece
 
--- what is cut after an element that cuts
+-- the pieces after a separator
 abbrev tails : (ℕ → Bool) → List ℕ → List (List ℕ)
 tails p [] = []
 tails p (x ∷ xs) = slice_split p xs
@@ -107,7 +105,7 @@ pub pieces_prefix : (xs : List ℕ) (n : ℕ) → n ≡ position_or_len is_separ
     → pieces xs ≡ take n xs ∷ pieces (drop n xs)
 pieces_prefix xs n here some = grind (arith, nat_tests, prefix_len-le-length, length-take, filter, prefix, pieces_tails)
 
--- one more piece, with a fault or without
+-- one more piece, bad or good
 pub piece_bad : (image : List (Option ℕ)) (addr : ℕ) (piece : List ℕ) (more : List (List ℕ)) (fault : ImageFault)
     → fitting_value (length image) (addr, piece) ≡ Err fault → with_pieces image addr (piece ∷ more) ≡ Err fault
 piece_bad image addr piece more fault e = grind (arith, nat_tests)

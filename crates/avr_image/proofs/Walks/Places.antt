@@ -1,4 +1,4 @@
--- The walks over an image return what their definitions give, place by place.
+-- What a walk over an image finds, address by address.
 use Rattle.std.proofs.lemmas.Bool.Decides.{nat_tests}
 use Rattle.std.proofs.Common.{◌≡◌, ◌∙◌, refl, arith, ℕ, suc, zero, ◌+◌, ◌-◌, ◌<◌, ◌≤◌, List, [], ◌∷◌, length, get_or, take, drop, Bool, true, false, Option, Some, None, is_some, inl, inr, rules}
 use Rattle.std.proofs.lemmas.Bool.{cases_Bool, cases_lt}

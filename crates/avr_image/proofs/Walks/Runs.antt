@@ -42,7 +42,7 @@ runs-first image addr some = search (rules, runs-lead)
 
 -- ---- as the walk finds them
 
--- nothing from here on
+-- there is no run if no byte follows
 walk-none : (addr : ℕ) (image : List (Option ℕ)) → position_from is_some addr image ≡ None → runs addr image ≡ []
 walk-none addr [] is = refl
 walk-none addr (None ∷ image) is = walk-none (addr + 1) image is
@@ -61,7 +61,6 @@ walk-next addr place (None ∷ image) is =
     let one : place - addr ≡ suc (place - (addr + 1)) = omega (arith, more.from) in search rules
 walk-next addr place (Some b ∷ image) is = grind (arith, nat_tests)
 
--- in the whole image
 pub runs-none : (image : List (Option ℕ)) (addr : ℕ) → first_from image addr ≡ None → runs addr (drop addr image) ≡ []
 runs-none image addr none = walk-none addr (drop addr image) none
 
@@ -131,11 +130,11 @@ laid-held prefix (Some b ∷ image) addr at =
     ∙ laid-held (prefix ++ Some b ∷ []) image (addr + 1) next
     ∙ append_assoc prefix (Some b ∷ []) image
 
--- an image is that of its bytes
+-- an image is made of its bytes
 laid-image : (image : List (Option ℕ)) → image_of_pairs (length image) (held_places 0 image) ≡ image
 laid-image image = laid-held [] image 0 refl
 
--- ---- its runs hold them
+-- ---- the runs of an image have its bytes at their addresses
 
 runs-hold : (addr : ℕ) (image : List (Option ℕ)) → flat_map places_of (runs addr image) ≡ held_places addr image
 runs-hold addr [] = refl
@@ -284,7 +283,6 @@ runs-longest image = longest-from (length image) 0 image (omega arith) (inl refl
 
 -- ---- how many bytes there are
 
--- address by address
 abbrev held_in : List (Option ℕ) → ℕ
 held_in [] = 0
 held_in (None ∷ image) = held_in image

@@ -59,7 +59,7 @@ take_short zero x few = absurd (omega (arith, few))
 take_short (suc n) [] few = refl
 take_short (suc n) (b ∷ x) few = let more = take_short n x (omega (arith, few)) in omega (arith, more)
 
--- ---- what listening for one answer takes of a tape
+-- ---- what listening for one reply takes of a tape
 
 record Costs (tape left : Tape) : Type 0 where
   silent : silences tape ≤ suc (silences left)
@@ -150,7 +150,7 @@ answer_waits_for : (seq : ℕ) (tape : Tape) → answer seq tape ≡ None → (s
 unfolding answer
 answer_waits_for seq tape e = read_waits tape (first_answer seq (cut (take limit (bytes_in tape)))) e
 
--- Listening once for an answer. If it waits for more, the tape had little; if it is done, that cost no more.
+-- Listening once for a reply. If it waits for more, the tape had little; if it is done, that cost no more.
 record ListensOnce (tape : Tape) (got : Option (Reading × Tape)) : Type 0 where
   waiting : got ≡ None → (silences tape ≡ 0) × (bytes_on tape < limit)
   done : (reading : Reading) (left : Tape) → got ≡ Some (reading, left) → Costs tape left

@@ -44,7 +44,7 @@ module _ (plan : Plan) (w v : WiredState) (d e : Record) (a b : ℕ × ℕ) (sta
     | inr broke ↦ absurd (search rules)
   ]
 
--- the same plan over what any first page writes of it left
+-- the same plan over what any first write operations of it left
 done_further : (plan : Plan) (before begun after : Memories) → IsPart plan.part → All (IsFitted plan.part) plan.tasks
     → FitsPart plan.part before → has_erase (items plan) ≡ true → AgreesAnyway plan
     → (erase_keeps_eeprom plan.part before ≡ true → AreKeeping plan.part (items plan))

@@ -14,7 +14,7 @@ use Rattle.avr_tool.specs.ServedNet.{ServesNet}
 use Rattle.avr_laws.specs.Killed.{chip_of_service}
 use Rattle.stk_host.specs.Transcript.{LinkState}
 
--- judging a part and a chip file replaces nothing
+-- checking a part and a chip file replaces nothing
 judged_tried : (settings : Settings) (file : Bytes) (old new : DeskState) (part : Part)
     → JudgesPart settings file old new (Ok part) → tried_at new ≡ tried_at old
 judged_tried settings file old new part with =

@@ -129,7 +129,7 @@ module _ (settings : Settings) (file : Bytes) (stock : Stock) (old mid new : Mem
   left = subst (FitsPart plan.part) (sym one.line.line.page_writes.memories)
       (effects_sizes plan.part is_part (take one.line.line.page_writes.count (page_writes plan)) before fits)
 
-  -- the second run begins after some first page writes of the first one
+  -- the second run begins after some first write operations of the first one
   touched : IsTouched plan before (memories_of two.chip)
   touched = elim (saved_held file stock no_dash (sent one.after.transcript) one.played_desk (memory_state mid)
       (chip_file one.after.wire.programmer.chip) one.ran status one.saved) [

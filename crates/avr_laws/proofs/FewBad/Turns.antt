@@ -1,4 +1,4 @@
--- Over few bad turns each step gives its data.
+-- Over few bad exchanges each step gives its data.
 use Rattle.std.proofs.Common.{◌≡◌, ℕ, zero, suc, ◌+◌, ◌*◌, ◌≤◌, List, [], ◌∷◌, ◌++◌, length, refl, sym, ap, ◌∙◌, subst, arith, inl, inr, ◌⊎◌, Ok, Err, rules}
 use Rattle.std.specs.Prelude.{⊤}
 use Rattle.avr_part.specs.Part.{Part, IsPart}
@@ -56,7 +56,7 @@ good_few [] good = tt
 good_few (turn ∷ turns) good = (let none = none_bad 7 (turn ∷ turns) good in omega (arith, none), good_few turns good.1)
 
 module _ {E R : Type 0} where
-  -- if few of the turns to come are bad, so are few of those that are left
+  -- if few of the exchanges to come are bad, so are few of those that are left
   pub few_left : (k : ℕ) (d : Dialog E R) (p : Programmer) (turns : List Turn) → AreFew turns
       → AreFew (along device k d p turns).turns
   few_left k (Done r) p turns few = few
@@ -74,7 +74,7 @@ module _ {E R : Type 0} where
   done_within (suc n) (suc k) (Ask bytes go_on) p turns asks le =
       done_within n k (go_on _) _ (other_turns turns) (asks _) (omega (arith, le))
 
--- the turns after the first `n`
+-- the exchanges after the first `n`
 abbrev behind : ℕ → List Turn → List Turn
 behind zero turns = turns
 behind (suc n) turns = behind n (other_turns turns)
@@ -136,12 +136,12 @@ clear_behind zero more turns rest le is wrong c = subst (Clear more) (sym is) (n
 clear_behind (suc zero) more turns rest le is wrong c = search (rules, next_clear)
 clear_behind (suc (suc place)) more turns rest le is wrong c = absurd (omega (arith, le))
 
--- ---- such turns are steady
+-- ---- such exchanges are steady
 
 not_four : (turn : Turn) → bad turn ≤ 3 → IsSteady turn
 not_four turn le = search rules
 
--- if few turns go wrong, none restarts the programmer
+-- if few exchanges go wrong, none restarts the programmer
 few_steady : (turns : List Turn) → AreFew turns → AreSteady turns
 few_steady [] few = tt
 few_steady (turn ∷ turns) few = (not_four turn (let le = few.0 in omega (arith, le)), few_steady turns few.1)
@@ -154,7 +154,7 @@ Tries size turns got d z = Runs steady (λ y. ⊤) (λ reply y. Tried size turns
 
 module _ (go_on : List ℕ → Dialog ⊥ Reply) (go : List ℕ → Reply) (size : ℕ) (turns : List Turn) (got : List ℕ)
     (few : AreFew (other_turns turns)) where
-  -- by the answer to a command that was obeyed
+  -- by the reply to a command that was obeyed
   answered : (q : Programmer) (reply : Reply)
       → ((bytes : List ℕ) → go bytes ≡ Data got
       → Tries size (other_turns turns) got (go_on bytes) (q, other_turns turns))

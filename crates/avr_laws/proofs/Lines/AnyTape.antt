@@ -1,4 +1,4 @@
--- A dialog over any tape goes along turns.
+-- A dialog over any tape goes along exchanges.
 use Rattle.std.proofs.Common.{◌≡◌, ◌≤◌, ℕ, zero, suc, List, [], ◌∷◌, ◌++◌, length, map, take, refl, sym, ap, ◌∙◌, arith, Option, Some, None, rules}
 use Rattle.std.proofs.lemmas.Bool.{cond-true}
 use Rattle.std.proofs.lemmas.Slice.Eq.{bytes_eq-Decides}
@@ -18,7 +18,7 @@ use Rattle.avr_tool.specs.Honest.{first_became, other_becames, on_answer, AreHon
 use Rattle.avr_tool.proofs.Given.LaterAnswers.{answer_extends}
 use Rattle.avr_tool.proofs.Lines.Plays.{played_along, said_played, done_played, waits_played}
 
--- every honest reading is a turn
+-- every authentic reading is an exchange
 abbrev IsTurn : {P : Type 0} → Device P → List ℕ → P → Became → Reading → Turn → Type 0
 IsTurn m bytes p became reading turn =
     (turn_reading turn (m.answer bytes p) ≡ reading)
@@ -38,8 +38,8 @@ none_asked m (Done r) p turns = refl
 none_asked m (Say e d) p turns = none_asked m d p turns
 none_asked m (Ask bytes go_on) p turns = refl
 
--- A run over a tape is the run along these turns, of which `answered` are read; if it is done, these are as many as its
--- frames. After any first frames the programmer is as the list of what happened to it gives.
+-- A run over a tape is the run along these exchanges, of which `answered` are read. If it is done, these are as many as
+-- its frames. After any first frames the programmer is as the list of what happened to it gives.
 record HeardAs {E R P : Type 0} (m : Device P) (d : Dialog E R) (n : ℕ) (tape : Tape) (p : P) (becames : List Became)
     (turns : List Turn) : Type 0 where
   answered : ℕ
@@ -66,11 +66,11 @@ module _ {P : Type 0} (m : Device P) where
     abbrev on_asking : Option (Reading × Tape) → Played E R
     on_asking o = behind (Frame (frame n bytes) ∷ []) (by_answer (λ reading. played (go_on reading) (next n)) o)
 
-    -- a question that waits for its answer
+    -- a question that waits for its reply
     waiting : answer n tape ≡ None → HeardAs m (Ask bytes go_on) n tape p becames (Wrong became Nothing ∷ [])
     waiting e = search (rules, none-some, none_asked, arrives)
 
-    -- a question that was answered, by its turn
+    -- a question that got its reply, by its exchange
     module _ (turn : Turn) (later : List Turn) (left : Tape)
         (read : answer n tape ≡ Some (turn_reading turn (m.answer bytes p), left))
         (leaves : after_turn turn (m.after bytes p) p m.reset ≡ on_time)
@@ -123,9 +123,9 @@ module _ {P : Type 0} (m : Device P) where
       → AreHonest m d n tape p becames → GoesAs m d n tape p becames
   goes_as {R = R} d n tape p becames asks h = search (rules, heard_as, said_played, done_played, waits_played)
 
--- ---- the first readings of an honest tape
+-- ---- the first readings of an authentic tape
 
--- what was read for this question is honest, and what is read after it too
+-- what was read for this question is authentic, and what is read after it too
 abbrev pub HonestOn : {E R P : Type 0} → Device P → List ℕ → (Reading → Dialog E R) → ℕ → P → List Became
     → Option (Reading × Tape) → Type 0
 HonestOn m bytes go_on n p becames = on_answer (λ reading left.

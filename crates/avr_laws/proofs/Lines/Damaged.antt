@@ -139,7 +139,7 @@ pub arrived_came : (sent : List (List ℕ)) (through : List Bool) (got : List �
     → Arrived sent through got → CameThrough got [] sent (became_by through)
 arrived_came sent through got whole good came = record { good = good_arrived sent through got whole good came }
 
--- ---- what the host hears: whose each piece is
+-- ---- what the host receives: whose each piece is
 
 abbrev IsReply : List ℕ → Type 0
 IsReply reply = (reply ≡ []) ⊎ ((n : ℕ) × (body : List ℕ) × IsBody body × (reply ≡ frame n body))

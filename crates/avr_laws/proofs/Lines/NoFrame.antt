@@ -1,4 +1,4 @@
--- On a link that forges no frame all that is read is honest.
+-- On a link that forges no frame all that is read is authentic.
 use Rattle.std.proofs.Common.{◌≡◌, ℕ, zero, suc, ◌+◌, ◌%◌, ◌≤◌, List, [], ◌∷◌, ◌++◌, length, take, refl, sym, ap, subst, ◌∙◌, arith, inl, inr, ◌⊎◌, true, Option, Some, None, rules}
 use Rattle.std.proofs.lemmas.Bool.{cases_Bool, and_parts, eqb-true, false≢true, cond-true, cond-false}
 use Rattle.std.specs.Prelude.{◌==◌, filter, replicate}
@@ -14,9 +14,9 @@ use Rattle.avr_tool.proofs.Lines.Plays.{tail_is}
 use Rattle.avr_laws.specs.NoFrame.{given, IsAmong, WasSent, WereSent, MakesNoFrame}
 use Rattle.avr_laws.proofs.Lines.AnyTape.{HonestOn}
 
--- ---- the numbers of the earlier answers
+-- ---- the numbers of the earlier replies
 
--- the answers `k` questions back and further: each is empty or has the number of its question
+-- the replies `k` questions back and further: each is empty or has the number of its question
 abbrev pub Past : ℕ → ℕ → List (List ℕ) → Type 0
 Past n k [] = Unit {0}
 Past n k (answer ∷ before) = ((answer ≡ []) ⊎ ((seq_of answer + k) % 256 ≡ n % 256)) × Past n (suc k) before
@@ -66,7 +66,7 @@ taken n sent (piece ∷ pieces) body used e were = elim (cases_Bool (is_answer n
       taken n sent pieces body rest.0 rest.1 (were.1 other)
 ]
 
--- a timeout or the end is never an answered body
+-- a timeout or the end is never the body of a reply
 no_answer : (tape left : Tape) (body : List ℕ) → silence_or_end tape ≡ Some (Answered body, left) → ⊥
 no_answer tape left body e = search (rules, false≢true)
 
@@ -81,7 +81,7 @@ unfolding answer
 found n tape left body e = search (rules, found_by)
 
 module _ {P : Type 0} (m : Device P) where
-  -- among the last 256 answers only the one to this question has its number
+  -- of the replies to the last 256 frames only the one to this question has its number
   own : (n : ℕ) (bytes : List ℕ) (p : P) (became : Became) (before : List (List ℕ)) (body : List ℕ) → Past n 1 before
       → Taken n (given m n bytes p became ∷ before) body → IsHonest m bytes p became (Answered body)
   own n bytes p became before body past t = by_sent became (t.3 good)

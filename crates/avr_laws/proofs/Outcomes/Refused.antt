@@ -1,4 +1,4 @@
--- Outcomes that the page refuses.
+-- Outcomes that no run over a wire has.
 use Rattle.std.proofs.Common.{◌≡◌, ◌<◌, ◌*◌, ℕ, List, [], ◌++◌, map, ap, sym, ◌∙◌, subst, refl, arith, Option, Some, rules}
 use Rattle.avr_desk.specs.Record.{DeskState, Passes}
 use Rattle.avr_desk.specs.declared.record.Opening.{Opening}

@@ -82,7 +82,7 @@ module _ (stock : Stock) where
 
   -- ---- a file
 
-  -- past its limit a file is judged by the bytes that were read
+  -- past its limit a file is checked by the bytes that were read
   abbrev pub IsLimited : {A : Type 0} → ℕ → (Bytes → Result A Bytes) → Type 0
   IsLimited limit judge = (bytes more : Bytes) → limit < length bytes → judge (bytes ++ more) ≡ judge bytes
 

@@ -1,4 +1,4 @@
--- Nothing comes before the erase of a plan, its items fit the part, and what its comparisons say together.
+-- Nothing comes before the erase of a plan, its items fit the part, and what its comparisons come to.
 use Rattle.std.proofs.Common.{◌≡◌, refl, sym, ◌∙◌, List, [], ◌∷◌, ◌++◌, Bool, true, false, rules}
 use Rattle.avr_part.specs.Part.{Part}
 use Rattle.avr_plan.specs.Plan.{Plan}

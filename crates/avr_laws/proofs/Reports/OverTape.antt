@@ -16,7 +16,7 @@ use Rattle.avr_tool.specs.Honest.{first_became, other_becames, on_answer, AreHon
 use Rattle.avr_laws.proofs.Lines.AnyTape.{honest_turn}
 use Rattle.avr_laws.specs.Told.{TellsTrue, SaidTrue}
 
--- ---- what happened to the programmer at the first frames, and their turns
+-- ---- what happened to the programmer at the first frames, and their exchanges
 
 abbrev pub ByTurns : ℕ → List Became → List Turn → Type 0
 ByTurns zero becames turns = Unit {0}
@@ -48,7 +48,7 @@ by_tape (Ask bytes go_on) n tape becames =
     (λ reading left. by_tape (go_on reading) (next n) left (other_becames becames))
 
 module _ {P : Type 0} (m : Device P) where
-  -- whatever turns its questions have, a dialog reports what is true
+  -- whatever exchanges its questions have, a dialog reports what is true
   abbrev AlwaysTrue : {E R : Type 0} → (P → E → Type 0) → Dialog E R → P → Type 0
   AlwaysTrue T d p = (k : ℕ) (turns : List Turn) → TellsTrue m T k d p turns
 

@@ -35,7 +35,7 @@ module _ (plan : Plan) (sound : IsPart plan.part) (fitted : All (IsFitted plan.p
       → EndsAsForetold plan m (said_along device k (session plan) p turns) status
   foretold_end k status p turns idle e = search (rules, session_along plan sound m f fitted p turns idle k)
 
-  -- and in a play over any tape that is honest
+  -- and in a play over any tape that is authentic
   pub foretold_on_tape : (p : Programmer) (tape : Tape) (becames : List Became) → Idle plan.part m p
       → AreHonest device (session plan) 1 tape p becames
       → IsForetold plan m (outputs (played (session plan) 1 tape).events)

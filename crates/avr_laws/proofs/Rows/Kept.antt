@@ -33,7 +33,7 @@ programmer = fresh_programmer (fresh_state m328p)
 abbrev obeyed : List Became
 obeyed = Obeyed ∷ Obeyed ∷ Obeyed ∷ Obeyed ∷ Obeyed ∷ Obeyed ∷ []
 
--- all its frames came through
+-- all its frames were received
 pub worked_came : CameThrough frames_due [] (frames frames_due) obeyed
 worked_came = record { good = refl }
 

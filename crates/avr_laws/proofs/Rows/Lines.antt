@@ -1,4 +1,4 @@
--- Worked links that aren't honest.
+-- Worked links that aren't authentic.
 use Rattle.std.proofs.Common.{ℕ, [], ◌∷◌, rules}
 use Rattle.stk_frame.specs.Frame.{frame}
 use Rattle.stk_host.specs.Tape.{on_tape, answer}
@@ -12,12 +12,12 @@ use Rattle.stk_emu.proofs.Rows.Answers.{start, told}
 abbrev asks : Dialog ⊥ ℕ
 asks = Ask (0x05 ∷ []) (λ reading. Done 0)
 
--- a forged answer, though all else is in order
+-- a forged reply, though all else is in order
 pub forged : AreHonest device asks 1 (on_tape (frame 1 (0x05 ∷ 0x00 ∷ []))) start (Obeyed ∷ []) → ⊥
 unfolding answer
 forged a' = search rules
 
--- and the programmer's own answer to a question that it didn't obey now, as an answer kept from before under the number
+-- and the programmer's own reply to a question that it didn't obey now, as a reply kept from before under the number
 pub unseen : AreHonest device asks 1 (on_tape (told 1)) start (Kept ∷ []) → ⊥
 unfolding answer
 unseen a' = search rules

@@ -1,5 +1,5 @@
 -- The limit of a chip file. Then worked outcomes that contracts refuse: of holding, of saving, and of
--- answers to a frame with a command that no programmer knows.
+-- replies to a frame with a command that no programmer knows.
 use Rattle.std.proofs.Common.{◌≡◌, refl, ap, ℕ, List, [], ◌∷◌, length, Ok, Err, arith, rules}
 use Rattle.avr_desk.specs.Record.{Bytes, DeskState, Record, after_err, nothing_kept, showing, with_held, with_replaced}
 use Rattle.avr_laws.proofs.Limits.{LARGEST_CHIP_FILE}
@@ -55,7 +55,7 @@ frame = 0x1B ∷ 0x09 ∷ 0x00 ∷ 0x01 ∷ 0x0E ∷ 0x05 ∷ 0x18 ∷ []
 abbrev answer : List ℕ
 answer = 0x1B ∷ 0x09 ∷ 0x00 ∷ 0x02 ∷ 0x0E ∷ 0x05 ∷ 0xC9 ∷ 0xD2 ∷ []
 
--- a programmer that listens before it answers isn't in turn, nor is one that keeps a byte of its answer
+-- a programmer that listens before it replies isn't in turn, nor is one that keeps a byte of its reply
 abbrev ahead : Transcript
 ahead = Got (on_tape frame) ∷ (Got (End ∷ []) ∷ (Sent answer ∷ []))
 

@@ -1,4 +1,4 @@
--- The page writes of a plan that erases: an erase and writes, which keep EEPROM if the plan's do.
+-- The write operations of a plan that erases: an erase and writes, which keep EEPROM if the plan's do.
 use Rattle.std.proofs.lemmas.Grind.{common_steps}
 use Rattle.std.proofs.Common.{◌≡◌, ℕ, zero, suc, ◌+◌, refl, sym, ◌∙◌, subst, List, [], ◌∷◌, ◌++◌, Bool, true, false, cond, Option, Some, rules, arith}
 use Rattle.std.proofs.lemmas.Bool.{true≢false}
@@ -72,7 +72,7 @@ module _ (part : Part) where
   first_keep want w (suc k) xs m f e = items_keep want w (take k xs) (effect part Erase m) (mild_take part want k xs f)
       e
 
-  -- ---- the page writes of writes
+  -- ---- the write operations of writes
 
   module _ (want : Type 0) where
     abbrev MildSteps : List (List Command) → Type 0

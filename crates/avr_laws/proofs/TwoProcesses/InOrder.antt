@@ -1,5 +1,5 @@
--- A dialog over a tape that carries a programmer's answers in their order, with timeouts between them. All that is read
--- is honest, and if all came the dialog doesn't wait.
+-- A dialog over a tape that carries a programmer's replies in their order, with timeouts between them. All that is read
+-- is authentic, and if all came the dialog doesn't wait.
 use Rattle.std.proofs.Common.{◌≡◌, ℕ, zero, suc, ◌+◌, ◌≤◌, List, [], ◌∷◌, ◌++◌, length, refl, sym, ap, ◌∙◌, subst, append_assoc, arith, inl, inr, ◌⊎◌, Option, Some, None, length-append, rules}
 use Rattle.std.specs.List.{concat}
 use Rattle.stk_frame.specs.Frame.{frame}
@@ -19,7 +19,7 @@ use Rattle.stk_emu.proofs.Wires.Arrivals.{none_skipped}
 use Rattle.avr_laws.specs.TwoProcesses.{obeyed}
 use Rattle.avr_laws.proofs.TwoProcesses.Slots.{Slot, slots_tape, came, IsStub, AreOld, IsOwn, all_older, old_and_own, Finds, FindsNone, Waits, Reads, reads}
 
--- From here on at most this many questions of a dialog go unanswered in a row, and never more than eight.
+-- From here on at most this many questions of a dialog get no reply in a row, and never more than eight.
 abbrev pub MissesFew : {E R : Type 0} → ℕ → Dialog E R → Type 0
 MissesFew k (Done r) = Unit {0}
 MissesFew k (Say e dialog) = MissesFew k dialog
@@ -37,13 +37,13 @@ abbrev pub one_less : ℕ → ℕ
 one_less zero = zero
 one_less (suc h) = h
 
--- the answers to frames, one by one
+-- the replies to frames, one by one
 abbrev pub answer_list : {P : Type 0} → Device P → List (List ℕ) → P → List (List ℕ)
 answer_list m [] p = []
 answer_list m (piece ∷ pieces) p = answer_frame m piece p ∷ answer_list m pieces (after_frame m piece p)
 
--- The tape carries the answers to the first `h` frames of the dialog's run over it, in their order, after some old
--- ones. The last of these answers may be missing.
+-- The tape carries the replies to the first `h` frames of the dialog's run over it, in their order, after some old
+-- ones. The last of these replies may be missing.
 pub record Brings {E R P : Type 0} (m : Device P) (d : Dialog E R) (n : ℕ) (tape : Tape) (p : P) (h left : ℕ)
     (more : List (List ℕ)) : Type 0 where
   pub slots : List Slot
@@ -101,7 +101,7 @@ module _ {P : Type 0} (m : Device P) (sound : AnswersBodies m) where
     abbrev frames_by : Option (Reading × Tape) → List (List ℕ)
     frames_by o = frames_in (by_answer (λ reading. played (go_on reading) (next n)) o).events
 
-    -- the answers that are due, by how many frames were received
+    -- the replies that are due, by how many frames were received
     abbrev due : ℕ → Option (Reading × Tape) → List (List ℕ)
     due h o = answer_list m (first_of h (frame n bytes ∷ frames_by o)) p
 
@@ -109,7 +109,7 @@ module _ {P : Type 0} (m : Device P) (sound : AnswersBodies m) where
         → IsOwn n piece
     own_due h o piece later e = search (rules, answer_is)
 
-    -- its own answer is found
+    -- its own reply is found
     finds : (h : ℕ) (tape : Tape) (last : List ℕ) (stub : IsStub last) (more : List (List ℕ)) (t : Tape) → t ≡ tape
         → Finds n t last more (due h (answer n tape)) → ComesOwn m bytes go_on n tape p h more
     finds zero tape last stub more t same f = absurd (cons_none _ f.later f.answers_are)

@@ -33,7 +33,7 @@ first_prefix : (xs ys : List (List ℕ)) → first_of (length xs) (xs ++ ys) ≡
 first_prefix [] ys = refl
 first_prefix (x ∷ xs) ys = ap (λ zs. x ∷ zs) (first_prefix xs ys)
 
--- each answer is a frame
+-- each reply is a frame
 body_answered : (piece : List ℕ) (p : Programmer) → IsBody (answer_body device piece p)
 body_answered piece p = grind (arith, common_steps, obey_body)
 
@@ -98,7 +98,7 @@ module _ {E R : Type 0} (d : Dialog E R) (asks : AsksBodies d) (p left : Program
   pub meet_leaves : after_pieces device (frames_in events) (obeyed arrived) p ≡ left
   meet_leaves = search (rules, after_first, answers_bodies, arrived_are)
 
-  -- if it stalls between answers alone
+  -- if it stalls between replies alone
   module _ (few : MissesFew 8 d) (endless : HasNoEnd (heard host)) (stalls : StallsBetweenAnswers (heard host)) where
     abbrev unheard : List ℕ
     unheard = joined.down.0 ++ serves.unsent
@@ -112,7 +112,7 @@ module _ {E R : Type 0} (d : Dialog E R) (asks : AsksBodies d) (p left : Program
     brings : Brings device d 1 (heard host) p arrived 8 slots.more
     brings = search (rules, arrived_are)
 
-    -- what the host reads is honest, by what arrived
+    -- what the host reads is authentic, by what arrived
     pub meet_honest : AreHonest device d 1 (heard host) p (obeyed arrived)
     meet_honest = in_order_honest device answers_bodies d 1 (heard host) p arrived 8 slots.more brings few asks
 

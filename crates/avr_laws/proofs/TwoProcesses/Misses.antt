@@ -1,4 +1,4 @@
--- At most eight of a session's questions in a row go unanswered: four attempts of a step, and four to leave.
+-- At most eight of a session's questions in a row get no reply: four attempts of a step, and four to leave.
 use Rattle.std.proofs.Common.{◌≡◌, ℕ, zero, suc, ◌+◌, ◌≤◌, List, [], ◌∷◌, ◌++◌, refl, arith, Bool, Ok, Err, Result, rules}
 use Rattle.avr_cli.specs.declared.settings.Switches.{Switches}
 use Rattle.avr_desk.specs.Said.{OutputEvent}
@@ -18,7 +18,7 @@ use Rattle.avr_session.specs.Actions.{Action, actions}
 use Rattle.avr_session.specs.Session.{says, standing, reported, unless_fault, action_dialog, actions_dialog, ending, playing, status_of, session}
 use Rattle.avr_laws.proofs.TwoProcesses.InOrder.{MissesFew}
 
--- how many more may go unanswered now, and how many at the end
+-- how many more may get no reply now, and how many at the end
 abbrev Misses : {E R : Type 0} → (ℕ → R → Type 0) → ℕ → Dialog E R → Type 0
 Misses Post k (Done r) = Post k r
 Misses Post k (Say e dialog) = Misses Post k dialog

@@ -1,4 +1,4 @@
--- Over a link without timeouts all turns are right.
+-- Over a link without timeouts all exchanges are right.
 use Rattle.std.proofs.Common.{◌≡◌, ℕ, zero, suc, List, [], ◌∷◌, ◌++◌, length, take, drop, refl, sym, ap, ◌∙◌, subst, Bool, true, false, inl, inr, Option, Some, None, rules}
 use Rattle.std.proofs.lemmas.Bool.{cases_Bool, cond-true, false≢true}
 use Rattle.std.proofs.lemmas.Option.{none-some}
@@ -26,7 +26,7 @@ no_silence tape before after prompt e = none before (subst IsPrompt e prompt)
     none (Silence ∷ prefix) p = p
     none (End ∷ prefix) p = none prefix p
 
--- it never stalls, within an answer or between two
+-- it never stalls, within a reply or between two
 pub prompt_stalls : (tape : Tape) → IsPrompt tape → StallsBetweenAnswers tape
 prompt_stalls tape prompt before after e = absurd (no_silence tape before after prompt e)
 

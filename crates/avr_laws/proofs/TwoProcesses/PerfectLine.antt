@@ -32,7 +32,7 @@ use Rattle.avr_tool.specs.ServedRun.{ServesChip, fresh_machine}
 use Rattle.avr_tool.specs.declared.answering.Served.TheVariants.{Ended}
 use Rattle.avr_laws.specs.TwoProcesses.{EndCall, HostSays, HostBreaks, HostHears, ServerSays, ServerBreaks, ServerHears, HasRun, IsOrdered, IsPrompt, of_host, of_server}
 
--- each frame is received and answered at once, and at last the server receives the end of the link
+-- each frame is received and replied to at once, and at last the server receives the end of the link
 abbrev asking : List ℕ → List ℕ → List EndCall → List EndCall
 asking question reply later = HostSays question ∷ ServerHears (on_tape question) ∷ ServerSays reply
     ∷ HostHears (on_tape reply) ∷ later
@@ -152,7 +152,7 @@ own_answer n bytes later b =
     let few : length (frame n bytes) ≤ limit = let f = b.few in rw (length_frame n bytes) (omega (arith, f)) in
     answer_found n (frame n bytes) later bytes found few
 
--- a question with this answer
+-- a question with this reply
 asked : {E R : Type 0} (bytes : List ℕ) (go_on : Reading → Dialog E R) (n : ℕ) (reply : List ℕ) (later : Tape)
     → IsBody reply
     → played (Ask bytes go_on) n (on_tape (frame n reply) ++ later)
@@ -259,7 +259,7 @@ left_of (Done r) n p = p
 left_of (Say e d) n p = left_of d n p
 left_of (Ask bytes go_on) n p = left_of (go_on (Answered (device.answer bytes p))) (next n) (device.after bytes p)
 
--- After any text of whole frames that it answered, it answers all that it receives.
+-- After any text of whole frames that it replied to, it replies to all that it receives.
 record ServesOn (p : Programmer) (text : List ℕ) (transcript : Transcript) (left : Programmer) : Type 0 where
   in_turn : AnswersInTurn p text (emulate p text) transcript
   none_taken : NoneTaken transcript

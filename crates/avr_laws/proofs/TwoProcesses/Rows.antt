@@ -1,10 +1,10 @@
--- Worked links that are refused, because they lose a byte, deliver it early, or time out within an answer.
+-- Worked links that are refused, because they lose a byte, deliver it early, or time out within a reply.
 use Rattle.std.proofs.Common.{◌≡◌, [], ◌∷◌, refl, sym, arith, rules}
 use Rattle.stk_host.specs.declared.link.Item.TheVariants.{Byte, Silence}
 use Rattle.avr_laws.specs.TwoProcesses.{HostSays, ServerHears, IsOrdered, StallsBetweenAnswers}
 use Rattle.avr_tool.proofs.Lines.Plays.{cons_none, head_is}
 
--- a timeout within an answer
+-- a timeout within a reply
 pub within_refused : StallsBetweenAnswers (Byte 27 ∷ Silence ∷ []) → ⊥
 within_refused stalls = cons_none 27 [] (sym (stalls (Byte 27 ∷ []) [] refl))
 

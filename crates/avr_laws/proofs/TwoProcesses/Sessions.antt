@@ -44,7 +44,7 @@ use Rattle.avr_laws.proofs.TwoProcesses.Misses.{session_few}
 use Rattle.avr_tool.proofs.WirePlays.{IsFirst, sent_first}
 use Rattle.avr_laws.proofs.AnyLink.{over_any_line, over_any_end}
 
--- whenever something is received, all earlier answers had been sent
+-- whenever something is received, all earlier replies had been sent
 answered_at : (p : Programmer) (text answered : List ℕ) (before after : Transcript) (items : Tape)
     → AnswersInTurn p text answered (before ++ Got items ∷ after)
     → answered ++ sent before ≡ emulate p (text ++ bytes_of (heard before))

@@ -1,4 +1,4 @@
--- A tape that carries answers in their order, with timeouts between them: what is read of it for one question.
+-- A tape that carries replies in their order, with timeouts between them: what is read of it for one question.
 use Rattle.std.proofs.Common.{◌≡◌, ℕ, suc, ◌+◌, ◌*◌, ◌%◌, ◌≤◌, List, [], ◌∷◌, ◌++◌, length, refl, sym, ap, ◌∙◌, append_assoc, arith, inl, inr, ◌⊎◌, Some, None, length-append, rules}
 use Rattle.std.proofs.lemmas.List.{append-nil}
 use Rattle.stk_frame.specs.Frame.{frame}
@@ -12,12 +12,12 @@ use Rattle.stk_emu.specs.Lawful.{IsBody}
 use Rattle.stk_emu.proofs.Wires.Arrivals.{found_frame, Skipped, frame_skipped, both_skipped}
 use Rattle.avr_tool.proofs.Lines.Plays.{head_is, tail_is}
 
--- a whole answer came, or nothing did
+-- a whole reply came, or nothing did
 pub data Slot : Type 0 where
   Came : List ℕ → Slot
   Quiet : Slot
 
--- so they are on a tape, and after them the prefix of one more answer
+-- so they are on a tape, and after them the prefix of one more reply
 abbrev pub slots_tape : List Slot → List ℕ → Tape
 slots_tape [] last = on_tape last
 slots_tape (Came piece ∷ slots) last = on_tape piece ++ slots_tape slots last
@@ -33,7 +33,7 @@ pub record IsStub (last : List ℕ) : Type 0 where
   pub none : cut last ≡ []
   pub few : length last ≤ 281
 
--- the answer to one of the last `c` frames before that of this number
+-- the reply to one of the last `c` frames before that of this number
 pub record IsOld (n c : ℕ) (piece : List ℕ) : Type 0 where
   pub seq : ℕ
   pub bytes : List ℕ
@@ -48,7 +48,7 @@ abbrev pub AreOld : ℕ → ℕ → List (List ℕ) → Type 0
 AreOld n c [] = Unit {0}
 AreOld n c (piece ∷ pieces) = IsOld n c piece × AreOld n c pieces
 
--- the answer to that very frame
+-- the reply to that very frame
 pub record IsOwn (n : ℕ) (piece : List ℕ) : Type 0 where
   pub bytes : List ℕ
   pub carried : IsBody bytes
@@ -84,7 +84,7 @@ passed_on n c prefix piece most f o = search (rules, both_skipped, frame_skipped
 
 -- ---- what is read
 
--- the answer to this very frame
+-- the reply to this very frame
 pub record Finds (n : ℕ) (t : Tape) (last : List ℕ) (more answers : List (List ℕ)) : Type 0 where
   pub bytes : List ℕ
   pub later : List (List ℕ)

@@ -19,7 +19,7 @@ use Rattle.avr_plan.specs.declared.intake.Intake.{Intake}
 
 -- ---- the rest of a file
 
--- the read came this far, and then gave n bytes: a turn of the loop of `read_rest`
+-- one pass of the loop of `read_rest`: a read gave n more bytes
 module _ (old now new : DeskState) (first last : Intake) (room left n : ℕ) (buf : Bytes)
     (going : Going old now first last room left) (then : Passes (after_read buf (Ok n)) now new) where
   pub going_on : (next : Intake) (rest : ℕ) → (n ≡ 0 → ⊥) → length (take n buf) + rest ≡ left

@@ -49,7 +49,7 @@ module _ (switches : Switches) (file : Bytes) (format : Format) (size : ℕ) whe
       (went_file file format size old mid image ending reads same)
       (search rules)
 
-  -- its warning broke off
+  -- its warning could not be printed
   pub goes_unwarned : (old mid new : DeskState) (image : Image) (ending : Ending) (status : ℕ)
       → ReadsImage LARGEST_IMAGE_FILE format size file old mid (Ok (image, ending)) → HasSameCounts old mid
       → Goes (AtStart false) (output_stage (warning_says switches file ending)) mid new (Err status)
@@ -61,7 +61,7 @@ module _ (switches : Switches) (file : Bytes) (format : Format) (size : ℕ) whe
       (λ passed said never. absurd (taken_never passed said never))
       (search (rules, goes_no_further))
 
-  -- a file that isn't one
+  -- a file that is no image
   goes_bad : (old mid new : DeskState) (bad : BadFile) (status : ℕ)
       → ReadsImage LARGEST_IMAGE_FILE format size file old mid (Err bad) → HasSameCounts old mid → status ≡ 1
       → Tells mid new (bad_file_line file bad)

@@ -61,7 +61,7 @@ at_due s old first mid parts part went found passed said due = search (rules, pl
     planned_so =
         search (rules, append-nil)
 
--- what allocates after the part file
+-- allocation points after the part file
 abbrev Behind : Settings → List Opening → List OutputEvent → Taking
 Behind s before says passed said = AtUpdate s (before ++ passed) (says ++ said)
 

@@ -1,4 +1,4 @@
--- The last report about a refused plan, from an earlier desk on.
+-- The last line about a refused plan, seen from an earlier state.
 use Rattle.std.proofs.Common.{rules}
 use Rattle.avr_cli.specs.declared.update.Update.{Update}
 use Rattle.avr_desk.specs.Fault.{HasSameCounts}

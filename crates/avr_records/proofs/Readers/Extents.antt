@@ -1,4 +1,4 @@
--- How far the bytes of a whole text reach.
+-- The loop of `needed_size`, line by line, gives the size that the text needs.
 use Rattle.std.proofs.lemmas.Grind.{common_steps}
 use Rattle.std.proofs.lemmas.Bool.Decides.{nat_tests}
 use Rattle.std.proofs.Common.{arith, ◌≡◌, ◌∙◌, sym, ap, refl, ℕ, ◌+◌, List, [], ◌∷◌, ◌++◌, length, map, true, false, Ok, Err, rules}
@@ -14,7 +14,7 @@ use Rattle.avr_records.specs.declared.fault.RecordFault.{RecordFault}
 use Rattle.avr_records.proofs.Readers.Fed.{line-first, says-nothing, said-prefix}
 use Rattle.avr_records.proofs.Readers.Held.{counts-next, counts-more, counts-bad}
 
--- These lines of a text are left, and the lines before them leave this extent.
+-- `left` are the text's remaining lines, and the extent is that of the lines before.
 pub record Walked (kind : Kind) (e : Extent) (text : List ℕ) (left : List (List ℕ)) : Type 0 where
   pub prefix : List (List ℕ)
   pub cut : lines text ≡ prefix ++ left
@@ -24,7 +24,7 @@ said-all : (kind : Kind) (prefix left : List (List ℕ)) (text : List ℕ) → l
     → map (said_by_line kind) (lines text) ≡ map (said_by_line kind) prefix ++ map (said_by_line kind) left
 said-all kind prefix left text cut = grind (arith, nat_tests, map-append)
 
--- the lines that are left, if one ends
+-- the lines that are left once one more has ended
 pub left-lines : (left line more : List ℕ) → lines line ≡ line ∷ [] → left ≡ line ++ 10 ∷ more
     → lines left ≡ line ∷ lines more
 left-lines left line more one end = ap lines end ∙ line-first line more one
@@ -57,7 +57,7 @@ pub walk-fault : (kind : Kind) (e : Extent) (text line : List ℕ) (left more : 
     → next_extent largest e (said_by_line kind line) ≡ Err fault → Err fault ≡ needed_in_text kind text
 walk-fault kind e text line left more fault is on w step = grind (arith, common_steps, counts-bad)
 
--- after the last line's end there is nothing
+-- an empty last line changes nothing
 pub walk-empty : (kind : Kind) (e : Extent) (text left : List ℕ) → e.ended ≡ false → Walked kind e text (lines left)
     → length left ≡ 0 → Ok e.end ≡ needed_in_text kind text
 walk-empty kind e text left on w zero-long =

@@ -1,4 +1,4 @@
--- How a reader's state changes with the lines of a text that it was fed.
+-- How the state of a reader follows the text that it was fed, piece by piece.
 use Rattle.std.proofs.lemmas.Grind.{common_steps}
 use Rattle.std.proofs.Common.{◌≡◌, ◌∙◌, sym, ap, refl, arith, ℕ, suc, ◌+◌, List, [], ◌∷◌, ◌++◌, length, map, take, true, false, nat_lt, Some, None, Ok, Err, inl, inr, rules}
 use Rattle.std.proofs.lemmas.Bool.{cases_Bool}
@@ -23,13 +23,12 @@ use Rattle.avr_records.specs.declared.progress.Progress.{Progress}
 
 -- ---- lines
 
--- what comes after a text continues its last line
+-- a further text continues the last line of a text
 pub goes-on : (text more : List ℕ) (prefix : List (List ℕ)) (last first : List ℕ) (rest : List (List ℕ))
     → lines text ≡ prefix ++ last ∷ []
     → lines more ≡ first ∷ rest → lines (text ++ more) ≡ prefix ++ (last ++ first) ∷ rest
 goes-on text more prefix last first rest cut next = grind (arith, nat_tests, slice_split-append, pasted-last)
 
--- a line, its end, and what follows
 pub line-first : (line more : List ℕ) → lines line ≡ line ∷ [] → lines (line ++ 10 ∷ more) ≡ line ∷ lines more
 line-first line more one = search (rules, goes-on line (10 ∷ more) [] line [] (lines more) one refl)
 
@@ -67,7 +66,7 @@ said-kept kind line =
       | inr f ↦ ap (said_by_line kind) (take_all (longest + 1) line (grind (arith, nat_tests, f)))
     ]
 
--- and continue as the line does
+-- the kept bytes, continued, mean what the line continued means
 said-on : (kind : Kind) (part last rest : List ℕ) → part ≡ kept last
     → said_by_line kind (part ++ rest) ≡ said_by_line kind (last ++ rest)
 said-on kind part last rest is =
@@ -75,7 +74,7 @@ said-on kind part last rest is =
 
 -- ---- a reader
 
--- more of the last line
+-- the piece continues the last line without an end
 keeps : (kind : Kind) (p : Progress) (part text more : List ℕ) → lines more ≡ more ∷ [] → p.extent.ended ≡ false
     → ReadsLines kind p part text → ReadsLines kind p (kept (part ++ more)) (text ++ more)
 keeps kind p part text more one on r = record {
@@ -102,7 +101,7 @@ keeps-done kind p part new text more done r =
       keeps = λ on. cc (done, on);
     }
 
--- the lines once the last one has ended
+-- the lines of the text once its last line has ended
 ends : (text rest more : List ℕ) (prefix : List (List ℕ)) (last : List ℕ) → lines rest ≡ rest ∷ []
     → lines text ≡ prefix ++ last ∷ []
     → lines (text ++ (rest ++ 10 ∷ more)) ≡ prefix ++ (last ++ rest) ∷ lines more
@@ -112,7 +111,7 @@ pub said-prefix : (kind : Kind) (prefix : List (List ℕ)) (line : List ℕ)
     → map (said_by_line kind) (prefix ++ line ∷ []) ≡ map (said_by_line kind) prefix ++ said_by_line kind line ∷ []
 said-prefix kind prefix line = map-append (said_by_line kind) prefix (line ∷ [])
 
--- the line is what is kept of the last one, with what ends it, if it counts
+-- the last line changes the state as its kept bytes do, with the bytes that end it
 line-step : (kind : Kind) (p : Progress) (part text rest : List ℕ) (r : ReadsLines kind p part text)
     → next_progress p (said_by_line kind (r.last ++ rest)) ≡ next_progress p (said_by_line kind (part ++ rest))
 line-step kind p part text rest r = elim (cases_Bool p.extent.ended) [
@@ -120,7 +119,7 @@ line-step kind p part text rest r = elim (cases_Bool p.extent.ended) [
   | inr on ↦ ap (next_progress p) (sym (said-on kind part r.last rest (r.keeps on)))
 ]
 
--- a line has ended, without a fault
+-- a good line has ended
 ends-good : (kind : Kind) (p new : Progress) (part next text rest : List ℕ) → lines rest ≡ rest ∷ []
     → next_progress p (said_by_line kind (part ++ rest)) ≡ Ok new → next ≡ [] → ReadsLines kind p part text
     → ReadsLines kind new next (text ++ (rest ++ 10 ∷ []))
@@ -132,7 +131,7 @@ ends-good kind p new part next text rest one is clear r = record {
   keeps = λ _. clear;
 }
 
--- a line has ended with a fault, whatever follows
+-- a line with a fault has ended: it is the fault of the ended lines, whatever follows
 ends-bad : (kind : Kind) (p : Progress) (part text rest more : List ℕ) (fault : RecordFault) → lines rest ≡ rest ∷ []
     → next_progress p (said_by_line kind (part ++ rest)) ≡ Err fault → ReadsLines kind p part text
     → closed_fault kind (text ++ (rest ++ 10 ∷ more)) (image_size p) ≡ Some fault
@@ -168,14 +167,14 @@ whole-next : (kind : Kind) (p new : Progress) (part text : List ℕ) (r : ReadsL
     → image_in_text kind text (image_size p) ≡ Ok (new.image, ending_of new.extent)
 whole-next kind p new part text r same is = grind (arith, common_steps, together-holds, holds-next)
 
--- the last line is good
+-- a text with a good last line reads as the state after that line
 pub whole-good : (kind : Kind) (p new : Progress) (part text : List ℕ) → image_size new ≡ image_size p
     → next_progress p (said_by_line kind (part ++ [])) ≡ Ok new → ReadsLines kind p part text
     → image_in_text kind text (image_size p) ≡ Ok (new.image, ending_of new.extent)
 whole-good kind p new part text same is r =
     whole-next kind p new part text r same (rw (append-nil r.last) at (line-step kind p part text [] r) ∙ is)
 
--- the last line has a fault
+-- a text whose last line has a fault has that fault
 pub whole-bad : (kind : Kind) (p : Progress) (part text : List ℕ) (fault : RecordFault)
     → next_progress p (said_by_line kind (part ++ [])) ≡ Err fault → ReadsLines kind p part text
     → image_in_text kind text (image_size p) ≡ Err fault
@@ -190,7 +189,7 @@ kept-nothing line is = search rules
 pub says-nothing : (kind : Kind) → said_by_line kind [] ≡ Ok Nothing
 says-nothing x = grind (arith, nat_tests)
 
--- the last line has no byte
+-- a text with an empty last line reads as the state before it
 pub whole-empty : (kind : Kind) (p : Progress) (part text : List ℕ) → part ≡ [] → ReadsLines kind p part text
     → image_in_text kind text (image_size p) ≡ Ok (p.image, ending_of p.extent)
 whole-empty kind p part text empty r = elim (cases_Bool p.extent.ended) [
@@ -207,7 +206,7 @@ whole-empty kind p part text empty r = elim (cases_Bool p.extent.ended) [
 rearranged : (used line rest : List ℕ) → used ++ (line ++ 10 ∷ rest) ≡ (used ++ (line ++ 10 ∷ [])) ++ rest
 rearranged used line rest = grind (arith, nat_tests, append_assoc)
 
--- the state of a reader of lines: what the ended lines leave, and what is kept of the last one
+-- the state of a reader of lines: what it knows of the ended lines, and what it keeps of the last one
 pub record LineState : Type 0 where
   pub progress : Progress
   pub part : List ℕ
@@ -215,7 +214,7 @@ pub record LineState : Type 0 where
 abbrev pub line_state : Progress → List ℕ → LineState
 line_state progress part = record { progress = progress; part = part }
 
--- This is left of a piece, and the part of it that was used led from one state to the other.
+-- `left` is what is left of a piece. The part before it leads from state `old` to state `now`.
 pub record Carries (kind : Kind) (old now : LineState) (piece left : List ℕ) : Type 0 where
   pub used : List ℕ
   pub cut : piece ≡ used ++ left

@@ -1,4 +1,4 @@
--- What the first bytes of a file show.
+-- The first line that isn't blank decides the format that `detect` returns.
 use Rattle.std.proofs.Common.{◌≡◌, refl, arith, ℕ, zero, suc, ◌≤◌, ◌<◌, List, [], ◌∷◌, ◌++◌, length, take, Bool, true, false, nat_le, not, find, Some}
 use Rattle.std.proofs.lemmas.Bool.Decides.{nat_tests}
 use Rattle.std.proofs.lemmas.List.Sums.{prefix_len-le-length}
@@ -18,7 +18,6 @@ all_of_prefix p zero xs len = grind (arith, nat_tests)
 all_of_prefix p (suc n) [] len = absurd (omega (arith, len))
 all_of_prefix p (suc n) (x ∷ xs) len = grind (arith, nat_tests, all_of_prefix p n xs (omega (arith, len)))
 
--- what the first line of a text that isn't blank shows
 abbrev pub first_of : List ℕ → Found
 first_of text = kind_of_line (find (λ line. not (list_all is_blank line)) (lines text))
 

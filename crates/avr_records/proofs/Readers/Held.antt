@@ -1,4 +1,4 @@
--- How a line changes a reader's state.
+-- How one more line changes extent and image.
 use Rattle.std.proofs.lemmas.Bool.Decides.{nat_tests}
 use Rattle.std.proofs.Common.{◌≡◌, ◌∙◌, sym, ap, refl, arith, ℕ, ◌+◌, List, [], ◌∷◌, ◌++◌, length, true, false, Result, Ok, Err, subst, Option, Some, None, count_by, inl, inr, rules}
 use Rattle.std.proofs.lemmas.Bool.{cases_Bool, cond-true, cond-false}
@@ -94,7 +94,7 @@ done-step : (p : Progress) (line : Said) (out : Result Progress RecordFault) →
     → next_progress p line ≡ out → Ok p ≡ out
 done-step p line out done is = sym (cond-true p.extent.ended (Ok p) _ done) ∙ is
 
--- what one more line leaves
+-- a good line changes the state as the definitions say
 pub holds-next : (p new : Progress) (said : List Said) (line : Said) → Holds p said → next_progress p line ≡ Ok new
     → Holds new (said ++ line ∷ [])
 holds-next p new said line h is = elim (cases_Bool p.extent.ended) [
@@ -104,12 +104,12 @@ holds-next p new said line h is = elim (cases_Bool p.extent.ended) [
   | inr on ↦ holds-on p new said line on h is
 ]
 
--- a line with a fault decides
+-- its fault is the fault of the file
 pub holds-bad : (p : Progress) (said more : List Said) (line : Said) (fault : RecordFault) → Holds p said
     → next_progress p line ≡ Err fault → fault_among (image_size p) (said ++ line ∷ more) ≡ Some fault
 holds-bad p said more line fault h is = grind (arith, nat_tests, counts-bad)
 
--- the file made of such lines
+-- a file of such lines has this image and ending
 pub together-holds : (p : Progress) (said : List Said) → Holds p said
     → together (image_size p) said ≡ Ok (p.image, ending_of p.extent)
 together-holds p said h = grind (arith, nat_tests, up_to_end-any)

@@ -1,4 +1,4 @@
--- How later lines change the meaning of the lines before them.
+-- Lines added after others: their faults, their end record and where a text is cut into lines.
 use Rattle.std.proofs.lemmas.Bool.Decides.{nat_tests}
 use Rattle.std.proofs.Common.{◌≡◌, ◌∙◌, sym, ap, refl, arith, ℕ, ◌+◌, List, [], ◌∷◌, ◌++◌, length, Bool, true, false, Option, None, inl, inr, rules}
 use Rattle.std.proofs.lemmas.Bool.{cases_Bool}
@@ -63,7 +63,7 @@ parts-some p (x ∷ xs) =
       )
     ]
 
--- the parts of a text and of what follows it: the last part continues with the first one after it
+-- splitting two texts joined: the last part of the first is continued by the first part of the second
 abbrev pub pasted : List (List ℕ) → List (List ℕ) → List (List ℕ)
 pasted [] more = more
 pasted (part ∷ []) [] = part ∷ []
@@ -74,7 +74,6 @@ pub pasted-nil : (more : List (List ℕ)) (first : List ℕ) (rest : List (List 
     → pasted ([] ∷ []) more ≡ more
 pasted-nil more first rest e = search rules
 
--- the lines of a text and what follows it
 pub slice_split-append : (p : ℕ → Bool) (xs ys : List ℕ)
     → slice_split p (xs ++ ys) ≡ pasted (slice_split p xs) (slice_split p ys)
 slice_split-append p [] ys = let some = parts-some p ys in sym (pasted-nil (slice_split p ys) some.0 some.1 some.2)

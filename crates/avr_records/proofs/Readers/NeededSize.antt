@@ -28,7 +28,7 @@ reaches size end (p ∷ ps) l none =
       | inr f ↦ cc (rw f at none)
     ]
 
--- a line that is good for one memory is good for each memory that contains its bytes
+-- a line without a fault in one memory has none in each memory that has its addresses
 good : (size other : ℕ) (base : AddressBase) (count : ℕ) (line : Said) → fault_under size base count line ≡ None
     → beyond other (placed_under base line) ≡ None → fault_under other base count line ≡ None
 good size other base count line none lies' = search rules

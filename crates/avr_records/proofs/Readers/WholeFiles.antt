@@ -1,4 +1,4 @@
--- A fault of the closed lines is that of the whole file.
+-- The first fault of the ended lines is that of the whole file.
 use Rattle.std.proofs.Common.{rules}
 use Rattle.std.proofs.lemmas.Bool.Decides.{nat_tests}
 use Rattle.std.proofs.Common.{arith, ◌≡◌, ◌∙◌, sym, ap, ℕ, List, [], ◌∷◌, ◌++◌, map, Option, Some, Err}
@@ -17,7 +17,7 @@ first_fault-stands : (size : ℕ) (ps qs : List (List Said × Said)) (told : Rec
 first_fault-stands size [] qs told is = absurd (cc is)
 first_fault-stands size (p ∷ ps) qs told is = grind (arith, nat_tests, first_fault-stands size ps qs told)
 
--- lines after a fault change nothing
+-- lines after the first fault don't change it
 pub among-stands : (size : ℕ) (said more : List Said) (told : RecordFault) → fault_among size said ≡ Some told
     → fault_among size (said ++ more) ≡ Some told
 among-stands size said more told is =

@@ -23,14 +23,12 @@ IsBytes-append (x ∷ xs) ys prefix back =
 
 -- ---- rows
 
--- a row of bytes that ends before the bytes do, or with them
 pub record IsRow (size : ℕ → ℕ) (end : ℕ) (row : ℕ × List ℕ) : Type 0 where
   pub some : 0 < length row.1
   pub few : length row.1 ≤ size row.0
   pub below : row.0 + length row.1 ≤ end
   pub bytes : IsBytes row.1
 
--- P holds of each row
 abbrev pub Every : (ℕ × List ℕ → Type 0) → List (ℕ × List ℕ) → Type 0
 Every P [] = Unit {0}
 Every P (row ∷ rows) = P row × Every P rows

@@ -10,7 +10,7 @@ use Rattle.hex.proofs.HexLemmas.{decode_of-ok, decode_of-digits}
 use Rattle.avr_records.specs.Record.{bytes_of_digits}
 use Rattle.avr_records.specs.declared.fault.LineFault.TheVariants.{Digit}
 
--- what a call of the decoder returned and wrote
+-- what a call of the decoder returns and writes
 abbrev pub Decoded : List ℕ → List ℕ → Result Unit FromHexError → Result (List ℕ) FromHexError → Type 0
 Decoded digits out answer of = MatchResult of (λ bytes. (answer ≡ Ok tt) × (out ≡ bytes)) (λ e. answer ≡ Err e)
 

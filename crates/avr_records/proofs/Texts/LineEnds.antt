@@ -1,4 +1,4 @@
--- Where a line ends.
+-- A text is cut at its first line end, or is one line without any.
 use Rattle.std.proofs.lemmas.Bool.Decides.{nat_tests}
 use Rattle.std.proofs.Common.{◌≡◌, ◌≢◌, ◌∙◌, ap, refl, arith, ℕ, zero, suc, ◌+◌, ◌<◌, ◌≤◌, List, [], ◌∷◌, ◌++◌, length, get_or, take, drop, true, Some, None, inl, inr, rules}
 use Rattle.std.proofs.lemmas.Bool.{cases_Bool}

@@ -1,4 +1,4 @@
--- The places of a data record's bytes.
+-- The addresses of a data record's bytes, and whether a memory has them.
 use Rattle.std.proofs.Common.{◌≡◌, ◌∙◌, ap, inl, inr, refl, sym, arith, ℕ, ◌+◌, ◌*◌, ◌%◌, ◌<◌, ◌≤◌, List, [], ◌∷◌, ◌++◌, length, map, take, drop, Option, Some, None, Result, Ok, Err, nat_lt, max, false, true, rules}
 use Rattle.std.proofs.lemmas.Bool.Decides.{nat_tests}
 use Rattle.std.proofs.lemmas.Bool.{cases_Bool}
@@ -30,7 +30,7 @@ linear-from upper offset i [] addr is = refl
 linear-from upper offset i (b ∷ bs) addr is =
     grind (arith, nat_tests, linear-from upper offset (i + 1) bs (addr + 1) (omega (arith, is)))
 
--- without a segment the addresses follow each other
+-- under a linear base the addresses follow each other
 pub places-linear : (upper offset : ℕ) (bytes : List ℕ)
     → places (Linear upper) offset bytes ≡ enumerate_from (upper * 65536 + offset) bytes
 places-linear upper offset bytes = linear-from upper offset 0 bytes (upper * 65536 + offset) (omega arith)
@@ -44,7 +44,7 @@ segment-from paragraph offset i (b ∷ c ∷ bs) addr is room =
     let next : (offset + (i + 1)) % 65536 ≡ (offset + i) % 65536 + 1 = omega (arith, room) in
     search (rules, segment-from paragraph offset (i + 1) (c ∷ bs) (addr + 1) (omega (arith, is, next)) (omega (arith, room, next)))
 
--- nor do they jump within a segment
+-- they do so within a segment too
 pub places-segment : (paragraph offset : ℕ) (bytes : List ℕ) → offset % 65536 + length bytes ≤ 65536
     → places (Segment paragraph) offset bytes ≡ enumerate_from (paragraph * 16 + offset % 65536) bytes
 places-segment paragraph offset bytes room = grind (arith, nat_tests, segment-from)
@@ -54,7 +54,7 @@ places_from-append : (base : AddressBase) (offset i : ℕ) (xs ys : List ℕ)
 places_from-append base offset i [] ys = ap (λ (n : ℕ). places_from base offset n ys) (omega arith)
 places_from-append base offset i (x ∷ xs) ys = grind (arith, nat_tests, places_from-append base offset (i + 1) xs ys)
 
--- past the end of a segment they continue at its beginning
+-- past the end of a segment they go on at its beginning
 pub places-wrapped : (paragraph offset : ℕ) (before behind : List ℕ) → offset % 65536 + length before ≡ 65536
     → length behind ≤ 65536
     → places (Segment paragraph) offset (before ++ behind)
@@ -73,7 +73,7 @@ places-wrapped-at paragraph offset n bytes full fits' short =
     ∙ places-wrapped paragraph offset (take n bytes) (drop n bytes) (omega (arith, before, full))
     (omega (arith, behind, short))
 
--- ---- the first outside
+-- ---- the first address out of range
 
 pub beyond-append : (size : ℕ) (xs ys : List (ℕ × ℕ)) → beyond size xs ≡ None → beyond size (xs ++ ys) ≡ beyond size ys
 beyond-append size [] ys none = refl
@@ -101,7 +101,7 @@ beyond-parts size (x ∷ xs) ys none =
       | inr f ↦ cc (rw f at none)
     ]
 
--- a span is inside
+-- a span inside the memory has no address out of range
 beyond-span : (size addr : ℕ) (bytes : List ℕ) → fits addr bytes size ≡ true
     → beyond size (enumerate_from addr bytes) ≡ None
 beyond-span size addr [] inside = refl
@@ -111,7 +111,7 @@ beyond-span size addr (b ∷ c ∷ bs) inside =
     let rest : fits (addr + 1) (c ∷ bs) size ≡ true = grind (arith, nat_tests) in
     rw here (beyond-span size (addr + 1) (c ∷ bs) rest)
 
--- or leaves the memory, at its first address or at the size
+-- a span that isn't inside is out of range at its first address, or at the size
 beyond-span-end : (size addr : ℕ) (bytes : List ℕ) → fits addr bytes size ≡ false
     → beyond size (enumerate_from addr bytes) ≡ Some (max addr size)
 beyond-span-end size addr [] outside = cc outside
@@ -142,9 +142,9 @@ pub extends-both : (limit end mid : ℕ) (xs ys : List (ℕ × ℕ)) (result : R
     → Extends limit mid ys result → Extends limit end (xs ++ ys) result
 extends-both limit end mid xs ys result first second = search (rules, beyond-append, fold-append)
 
--- ---- laid
+-- ---- bytes put into the image
 
--- what is judged to be inside is laid down
+-- bytes without an address out of range are put into the image
 pub lays-span : (old new : List (Option ℕ)) (addr : ℕ) (bytes : List ℕ) (result : Result ℕ ImageFault)
     → beyond (length old) (enumerate_from addr bytes) ≡ None
     → result ≡ (if fits addr bytes (length old) then Ok (addr + length bytes)
@@ -154,7 +154,7 @@ lays-span old new addr bytes result none is laid = grind (arith, nat_tests, beyo
 
 -- ---- addresses in range
 
--- the offset of Intel HEX is small, and S-records have no base
+-- an offset of Intel HEX has 16 bits, and S-records set no base
 pub near : (kind : Kind) (base : AddressBase) (offset : ℕ) (bytes : _) → FitsKind kind (Data offset bytes)
     → HasBase kind base
     → Near base offset

@@ -1,4 +1,4 @@
--- Records of Intel HEX, as they are written and read again.
+-- The written records of Intel HEX read back.
 use Rattle.std.proofs.lemmas.Grind.{common_steps}
 use Rattle.std.proofs.Common.{◌≡◌, ◌∙◌, ap, refl, arith, ℕ, ◌-◌, ◌/◌, ◌%◌, ◌^◌, ◌<◌, ◌≤◌, ◌==◌, true, false, List, [], ◌∷◌, ◌++◌, length, sum, map, Ok, inl, inr, rules}
 use Rattle.std.specs.Prelude.{if◌then◌else◌}
@@ -49,16 +49,15 @@ says-line type offset bytes known below short all =
     omega (arith, length-encode_with upper_digits (with_sum_checksum prefix), length-append bytes (check ∷ [])) in
     search (rules, says-plain, plain-line, bytes_of-encode, IsBytes-summed, fields-summed)
 
--- a record that sets the upper half of the address
 typed-upper : (upper : ℕ) → upper < 65536
     → record_meaning Ihex (typed_ihex 4 0 (two upper)) ≡ Ok (Rebase (Linear upper))
 typed-upper upper below = ap (λ (n : ℕ). Ok (Rebase (Linear n))) (omega arith)
 
--- the meaning of the record before a row, if there is one
+-- what the record before a row means, if the upper 16 bits change there
 abbrev upper_said : ℕ → ℕ → List Said
 upper_said old new = if new == old then [] else Ok (Rebase (Linear new)) ∷ []
 
--- the meaning of the rows while this upper half is in force
+-- what the lines of the rows mean while these upper 16 bits are in force
 abbrev pub rows_said : ℕ → List (ℕ × List ℕ) → List Said
 rows_said upper [] = []
 rows_said upper (row ∷ rows) = upper_said upper (row.0 / 65536) ++ Ok (Data (row.0 % 65536) row.1)
@@ -80,7 +79,7 @@ upper-lines old new rest below =
           search (rules, lines-written)
     ]
 
--- the lines of the rows, and of the end record
+-- the lines of the text mean the rows and the end
 pub lines-said : (upper end : ℕ) (rows : List (ℕ × List ℕ)) → end ≤ 2 ^ 32 → Every (IsRow ihex_row_size end) rows
     → map (said_by_line Ihex) (lines (ihex_rows upper rows)) ≡ rows_said upper rows ++ Ok End ∷ Ok Nothing ∷ []
 lines-said upper end [] fits all = search (rules, plain-line, lines-plain, says-line)

@@ -1,4 +1,4 @@
--- How a written line is read.
+-- A written line reads back as its record, and is the first line of the text.
 use Rattle.std.proofs.Common.{◌≡◌, ◌∙◌, ap, refl, arith, ℕ, ◌≤◌, nat_lt, Bool, true, false, not, ◌&&◌, List, [], ◌∷◌, ◌++◌, length, Ok, Err, rules}
 use Rattle.std.specs.Prelude.{if◌then◌else◌}
 use Rattle.std.specs.List.{list_all}
@@ -16,7 +16,7 @@ use Rattle.avr_records.specs.Reading.{said_by_line, bare_says, record_meaning}
 use Rattle.avr_records.specs.declared.kind.Kind.{Kind}
 use Rattle.avr_records.specs.declared.fault.LineFault.TheVariants.{TooLong}
 
--- neither a line end nor a blank
+-- the character is neither a line end nor a blank
 abbrev pub is_plain : ℕ → Bool
 is_plain c = not (is_line_end c) && not (is_blank c)
 

@@ -1,4 +1,4 @@
--- How the text of a record file begins.
+-- The first row and the first record of a record file's text.
 use Rattle.std.proofs.Common.{◌≡◌, ◌∙◌, sym, ap, refl, arith, ℕ, zero, suc, ◌+◌, ◌-◌, ◌/◌, ◌%◌, ◌<◌, ◌≤◌, List, [], ◌∷◌, ◌++◌, length, take, drop, min, map, add-zero, set, get_or, inl, inr, Some, rules}
 use Rattle.std.proofs.lemmas.Bool.{cases_lt}
 use Rattle.std.proofs.lemmas.Bool.Decides.{nat_tests}
@@ -11,7 +11,6 @@ use Rattle.avr_records.specs.Sparse.{file_rows, new_upper, row_size}
 use Rattle.avr_records.specs.declared.address_size.AddressSize.{AddressSize}
 use Rattle.avr_records.specs.declared.kind.Kind.{Kind}
 
--- a lower-case digit, raised
 raised-digit : (d : ℕ) → to_ascii_uppercase (slice_index lower_digits d) ≡ slice_index upper_digits d
 raised-digit d =
     elim (cases_lt d 16) [
@@ -24,7 +23,7 @@ unfolding encode_with
 raised_encode [] = refl
 raised_encode (b ∷ bs) = rw (raised-digit (b / 16), raised-digit (b % 16), raised_encode bs) refl
 
--- a list whose elements below i were changed, and the change of the next one
+-- one more element of a list is changed, after those below i
 pub changed_more : (f : ℕ → ℕ) (xs ys : List ℕ) (i : ℕ) → i < length xs → ys ≡ map f (take i xs) ++ drop i xs
     → set ys i (f (get_or ys i 0)) ≡ map f (take (i + 1) xs) ++ drop (i + 1) xs
 changed_more f xs ys i within is =
@@ -69,7 +68,7 @@ wide_row x addr = grind (arith, nat_tests)
 
 -- ---- the first record of the text of rows
 
--- a record that sets the upper half of the address
+-- the first record sets the upper 16 bits of the address
 pub rows-upper : (kind : Kind) (upper new addr : ℕ) (size : AddressSize) (row : List ℕ) (more : List (ℕ × List ℕ))
     → new_upper kind upper addr ≡ Some new
     → file_rows kind upper size ((addr, row) ∷ more)

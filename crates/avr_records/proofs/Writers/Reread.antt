@@ -1,4 +1,4 @@
--- Lines of data records that follow each other, and the image that they make.
+-- The image of data records that follow each other up to an end record.
 use Rattle.std.proofs.lemmas.Bool.Decides.{nat_tests}
 use Rattle.std.proofs.Common.{◌≡◌, ◌∙◌, ap, refl, arith, ℕ, ◌+◌, ◌*◌, nat_lt, Bool, true, List, [], ◌∷◌, ◌++◌, map, Option, Some, None, Ok, Err, inl, inr, rules}
 use Rattle.std.specs.Prelude.{if◌then◌else◌}
@@ -23,12 +23,12 @@ beyond-parts size (p ∷ xs) ys none =
 
 -- ---- lines, one after another
 
--- the bytes of a line while this base is in force
+-- the bytes of a line with their addresses, while this base is in force
 abbrev pub under : AddressBase → Said → List (ℕ × ℕ)
 under base (Ok (Data offset bytes)) = places base offset bytes
 under base said = []
 
--- the bytes of lines, from a base on
+-- the bytes of lines with their addresses, from a base on
 abbrev pub threaded : AddressBase → List Said → List (ℕ × ℕ)
 threaded base [] = []
 threaded base (said ∷ more) = under base said ++ threaded (next_base base said) more
@@ -38,7 +38,7 @@ placed-threaded : (before said : List Said)
 placed-threaded before [] = refl
 placed-threaded before (s ∷ more) = grind (arith, nat_tests, placed-threaded (before ++ s ∷ []) more, fold-append)
 
--- a line that isn't a fault, a count or an end
+-- the line is no fault, no count and no end record
 abbrev pub GoesOn : Said → Type 0
 GoesOn (Err fault) = ⊥
 GoesOn (Ok (Counted n)) = ⊥
@@ -51,7 +51,6 @@ abbrev pub AllGoOn : List Said → Type 0
 AllGoOn [] = Unit {0}
 AllGoOn (s ∷ more) = GoesOn s × AllGoOn more
 
--- the lines and the end record after them
 abbrev pub then_end : List Said → List Said
 then_end prefix = prefix ++ Ok End ∷ []
 
@@ -78,7 +77,8 @@ first_fault-none size before (s ∷ prefix) on inside =
     (flat_map placed_bytes (in_place (before ++ s ∷ []) (then_end prefix))) inside in
     search (rules, first_fault-none size (before ++ s ∷ []) prefix on.1 parts.1)
 
--- Lines of data, the end record and whatever comes after it: they read as the image of their bytes, if all are inside.
+-- Lines of data and the end record read as the image of their bytes, if all are inside. What comes after the end record
+-- doesn't matter.
 pub together-laid : (size : ℕ) (image : List (Option ℕ)) (places : List (ℕ × ℕ)) (prefix more : List Said)
     → AllGoOn prefix
     → threaded (Linear 0) (then_end prefix) ≡ places → beyond size places ≡ None → image_of_pairs size places ≡ image
@@ -86,7 +86,7 @@ pub together-laid : (size : ℕ) (image : List (Option ℕ)) (places : List (ℕ
 together-laid size image places prefix more on follow inside_is laid_is =
     grind (arith, nat_tests, placed-threaded, stops, first_fault-none, ended)
 
--- the places of a data record while a linear base is in force
+-- under a linear base the addresses of a data record's bytes follow each other
 pub places-linear : (upper offset addr : ℕ) (bytes : List ℕ) → upper * 65536 + offset ≡ addr
     → places (Linear upper) offset bytes ≡ enumerate_from addr bytes
 places-linear upper offset addr bytes is = search (rules, from)

@@ -1,4 +1,4 @@
--- A walk over bytes that follow each other in a memory.
+-- What a walk over the memory of a `Run` finds.
 use Rattle.std.proofs.lemmas.Bool.Decides.{nat_tests}
 use Rattle.std.proofs.Common.{◌≡◌, ◌∙◌, sym, ap, refl, arith, ℕ, zero, suc, ◌+◌, ◌-◌, ◌^◌, ◌<◌, ◌≤◌, List, [], ◌∷◌, ◌++◌, length, take, drop, min, map, Option, Some, is_some, rules}
 use Rattle.std.specs.List.{position_from}
@@ -47,7 +47,7 @@ pub gap-in : (base addr most : ℕ) (bytes : List ℕ) → addr < base → take 
 gap-in base addr most [] before = ap (λ (xs : List (Option ℕ)). take most (lead xs)) (drop-nil addr) ∙ take-nil most
 gap-in base addr most (b ∷ bytes) before = ap (take most) (gap-held base addr (b ∷ bytes) before) ∙ take-nil most
 
--- the row that is lent: the next bytes, as many as fit
+-- the row that `row_at` returns: the next bytes, as many as fit
 pub row-in : (base addr most past few : ℕ) (bytes : List ℕ) → base ≤ addr → past ≡ min (addr - base) (length bytes)
     → few ≡ min most (length (take (length bytes - past) (drop past bytes)))
     → take few (take (length bytes - past) (drop past bytes)) ≡ take most (lead (drop addr (run_at base bytes)))

@@ -1,4 +1,4 @@
--- A written image with gaps reads back as it was.
+-- The written file of an image with gaps reads back as the same image.
 use Rattle.std.proofs.Common.{◌≡◌, ◌∙◌, ap, refl, arith, ℕ, zero, suc, ◌+◌, ◌^◌, ◌<◌, ◌≤◌, All, List, [], ◌∷◌, ◌++◌, length, map, Option, Some, None, Ok, rules}
 use Rattle.std.specs.List.{flat_map, enumerate_from}
 use Rattle.std.proofs.lemmas.Bool.Decides.{nat_tests}
@@ -40,7 +40,7 @@ beyond-image : (image : List (Option ℕ)) (more : ℕ)
     → beyond (length image + more) (flat_map places_of (runs 0 image)) ≡ None
 beyond-image image more = grind (arith, nat_tests, beyond-cut, runs_inside)
 
--- cutting into rows keeps them
+-- the rows have the same bytes as the runs
 pub rows_of-hold : (size : ℕ → ℕ) (cut : List (ℕ × List ℕ)) → ((a : ℕ) → 0 < size a)
     → flat_map places_of (rows_of size cut) ≡ flat_map places_of cut
 rows_of-hold size [] wide = refl
@@ -142,7 +142,7 @@ reads-back Srec image more fits bytes =
     (srec.rows-threaded cut ∙ rows_of-hold (row_size Srec) (runs 0 image) (wide_row Srec))
     (beyond-image image more) (laid-padded image more)
 
--- for a memory of the same size
+-- the same into a memory of the same size
 pub reads-back-same : (kind : Kind) (image : List (Option ℕ)) → length image ≤ 2 ^ 32 → HoldsBytes image
     → image_in_text kind (image_text kind image) (length image) ≡ Ok (image, Ended)
 reads-back-same kind image fits bytes = search (rules, reads-back kind image 0 fits bytes)

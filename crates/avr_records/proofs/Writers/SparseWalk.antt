@@ -1,4 +1,4 @@
--- How the text of a memory with gaps begins, by the walk over it.
+-- The next line of a memory's file, by the walk over its runs.
 use Rattle.std.proofs.lemmas.Grind.{common_steps}
 use Rattle.std.proofs.lemmas.Bool.Decides.{nat_tests}
 use Rattle.std.proofs.Common.{◌≡◌, ◌∙◌, sym, ap, ap₂, refl, arith, ℕ, zero, suc, ◌+◌, ◌-◌, ◌<◌, ◌≤◌, List, [], ◌∷◌, ◌++◌, length, take, drop, min, Option, Some, None, is_some, rules}
@@ -78,7 +78,7 @@ rows-walk size addr place row image found wide is =
     ∙ ap₂ (λ (bytes : List ℕ) (xs : List (Option ℕ)). (place, bytes) ∷ rows_of size (runs (place + n) xs)) same
     (drop-drop n place image)
 
--- ---- the text still to come
+-- ---- the text that is not written yet
 
 pub text-end : (kind : Kind) (upper : ℕ) (size : AddressSize) (addr : ℕ) (image : List (Option ℕ))
     → first_from image addr ≡ None → text_from kind upper size addr image ≡ file_rows kind upper size []
@@ -134,7 +134,7 @@ pub last-done : (last addr : ℕ) (image : List (Option ℕ)) → first_from ima
     → last_held last addr (drop addr image) ≡ last
 last-done last addr image none = last-none last addr (drop addr image) none
 
--- over the row that is found
+-- the walk goes on after the row that was found
 pub record Walked (last addr end : ℕ) (image : List (Option ℕ)) : Type 0 where
   pub on : last_held last addr (drop addr image) ≡ last_held (end - 1) end (drop end image)
   pub rises : addr < end

@@ -1,4 +1,4 @@
--- S-records, as they are written and read again.
+-- The written S-records read back.
 use Rattle.std.proofs.lemmas.Grind.{common_steps}
 use Rattle.std.proofs.Common.{◌≡◌, ◌∙◌, ap, refl, arith, ℕ, zero, suc, ◌+◌, ◌-◌, ◌/◌, ◌^◌, ◌<◌, ◌≤◌, Bool, true, List, [], ◌∷◌, ◌++◌, length, map, Result, Ok, Err, rules}
 use Rattle.std.specs.Prelude.{if◌then◌else◌}
@@ -84,11 +84,11 @@ meant-data : (size : AddressSize) (addr : ℕ) (row : List ℕ)
     → record_meaning Srec (record_with (width_of size - 1) addr row) ≡ Ok (Data addr row)
 meant-data x addr row = grind (arith, nat_tests)
 
--- the meaning of a row of data
+-- what the line of a row means
 abbrev pub said_of : ℕ × List ℕ → Said
 said_of row = Ok (Data row.0 row.1)
 
--- the lines of the rows, and of the end record
+-- the lines of the text mean the rows and the end
 pub lines-said : (size : AddressSize) (end : ℕ) (rows : List (ℕ × List ℕ)) → end ≤ 256 ^ width_of size
     → Every (IsRow (λ _. 32) end) rows
     → map (said_by_line Srec) (lines (srec_rows size rows)) ≡ map said_of rows ++ Ok End ∷ Ok Nothing ∷ []
@@ -126,6 +126,6 @@ pub rows-threaded : (rows : List (ℕ × List ℕ))
 rows-threaded [] = refl
 rows-threaded (row ∷ rows) = grind (arith, nat_tests, rows-threaded rows, places-linear)
 
--- an address has as many bytes as it needs
+-- the size of addresses is enough for an address up to the last one
 pub wide_enough : (last : ℕ) → last < 2 ^ 32 → last < 256 ^ width_of (address_size last)
 wide_enough last below = grind (arith, nat_tests)

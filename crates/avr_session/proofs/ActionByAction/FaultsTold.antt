@@ -1,4 +1,4 @@
--- The state of a session after an action gives whether a fault was reported in it: laws of dialogs alone.
+-- A session's state records whether a fault was reported in it: laws of dialogs alone.
 use Rattle.std.proofs.Common.{◌≡◌, ℕ, true, false, List, [], ◌∷◌, ◌++◌, map, refl, ap, ◌∙◌, subst, append-nil, Option, Some, None, Result, rules}
 use Rattle.std.proofs.lemmas.Bool.{or_parts}
 use Rattle.std.proofs.lemmas.List.Folds.{list_any-append}
@@ -67,7 +67,7 @@ along_play {R = R} P (Ask body answered) seq tape f =
       | Some got ↦ along_play P (answered got.0) (next seq) got.1 (f got.0)
     ]
 
--- ---- the state gives it
+-- ---- the state of a session
 
 abbrev pub Foretold : List OutputEvent → Standing → Type 0
 Foretold said standing = tells_fault said ≡ is_told standing
@@ -81,12 +81,10 @@ foretold {dialog = dialog} {m = m} f ran =
     subst (λ (p : Played OutputEvent Standing). Ends Foretold (outputs p.events) p.outcome) (ran.plays.plays [])
     (along_play Foretold dialog m.next (on_tape m.unread ++ (heard ran.during ++ [])) f)
 
--- one action after another
 pub foretells_then : (first more : Dialog OutputEvent Standing) → Foretells first → Foretells more
     → Foretells (first >>= unless_fault more)
 foretells_then first more f g = search (rules, along_bind, list_any-append, append-nil)
 
--- an operation and its report
 foretells_reported : {A : Type 0} (operation : Dialog ⊥ (Result A HostFault))
     (outcome_says : Result A HostFault → List OutputEvent)
     → ((outcome : Result A HostFault) → tells_fault (outcome_says outcome) ≡ is_told (standing outcome))
@@ -97,7 +95,6 @@ foretells_reported operation outcome_says f =
     along_says (λ more after. Foretold (said ++ more) after) (outcome_says outcome) (Done (standing outcome))
     (search rules)
 
--- the output in place of an action
 foretells_says : (outputs : List OutputEvent) → tells_fault outputs ≡ false → Foretells (says outputs (Done Fine))
 foretells_says outputs f = along_says Foretold outputs (Done Fine) (ap tells_fault (append-nil outputs) ∙ f)
 

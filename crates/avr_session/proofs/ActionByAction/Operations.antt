@@ -52,12 +52,11 @@ Ended takes dialog m o p outcome n =
     (PlaysOver dialog m o p outcome n × (stands (after_outcome outcome) ≡ Ok (standing outcome)))
     ⊎ ((stop : Stop) × StopsAs outcome stop × StopsOver takes dialog m o p stop)
 
--- its line is that of its cause
 line_at : (part : Part) (stop : Stop) → fault_line part (fault_at stop) ≡ cause_line (cause_at stop)
 unfolding cause_line fault_line
 line_at part stop = search rules
 
--- and it is reported, if the line of such a fault is the whole output for it
+-- a stop is reported, if the line of such a fault is the whole output for it
 pub told_of : {A : Type 0} (part : Part) (tells : Result A HostFault → List OutputEvent)
     → ((stop : Stop) → tells (Err (fault_at stop)) ≡ Line (fault_line part (fault_at stop)) ∷ []) → {d e : DeskState}
     {outcome : Result A HostFault} {said : Result (Unit {0}) DeskFault} → Reports PrintStops d e (tells outcome) said

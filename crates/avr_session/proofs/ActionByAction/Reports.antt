@@ -28,7 +28,7 @@ pub reports_line : (old new : DeskState) (bytes : List ℕ) (printed : Result (U
     → Reports PrintStops old new (Line bytes ∷ []) printed
 reports_line old new bytes printed is counts only = search (rules, said_until, line_part)
 
--- a report and then a line; a cause that stops the line stops both
+-- a cause that stops the line after a report stops both
 said_then : (By : DeskState → DeskState → Cause → List ℕ
     → Type 0) (old mid new : DeskState) (first more : List OutputEvent)
     (result : Result (Unit {0}) DeskFault)
@@ -39,7 +39,6 @@ said_then By old mid new first more (Ok done) why was then = search (rules, kept
 said_then By old mid new first more (Err _) why was then = search (rules, prefix_behind)
 
 module _ {D : Type 0} (desk : Ghosts D) (first more : List OutputEvent) where
-  -- one report, then another
   pub reports_then : {old mid new : D} {done : Unit {0}} (result : Result (Unit {0}) DeskFault)
       → Prints desk first old mid (Ok done) → Prints desk more mid new result
       → Prints desk (first ++ more) old new result
@@ -48,7 +47,6 @@ module _ {D : Type 0} (desk : Ghosts D) (first more : List OutputEvent) where
     stays = λ start of. then.stays start (was.stays start of);
   }
 
-  -- something is saved, then a line is printed
   pub saves_then : {old mid new : D} (file : List ℕ) {done : Unit {0}} (result : Result (Unit {0}) DeskFault)
       → Outputs desk (SaveStops file) first old mid (Ok done) → Prints desk more mid new result
       → Outputs desk DeskStops (first ++ more) old new result

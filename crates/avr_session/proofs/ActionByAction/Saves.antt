@@ -68,7 +68,6 @@ pub failed_at_file : (stream : Stream) (old new : DeskState) → (stream ≡ Mes
     → HasFailedAt File old new
 failed_at_file stream old new written failed = search rules
 
--- the report about a file after a prefix of its bytes
 pub writes_some : (stream : Stream) (file text : List ℕ) (old mid new : DeskState) → SendsPart stream old mid text
     → HasFailedAt File old mid → Follows old mid → Tells mid new (cause_line (OfFile file NotWritten))
     → WritesSome stream file old new text

@@ -67,7 +67,6 @@ pub print_stops_report : (terms : Terms) (o : LinkState) {d e : DeskState} {outp
     → StopsReport terms o d e outputs PrintStops
 print_stops_report terms o {d = d} {e = e} reports mid cause prefix told stops = search (rules, print_stops_run)
 
--- a cause that was reported
 told_by : {R : Type 0} (takes : Bool) (dialog : Dialog ⊥ R) (m : Progress) (o p : LinkState) {d e : DeskState}
     (stop : Stop) → StopsOver takes dialog m o p stop → Tells d e (cause_line (cause_at stop))
     → ToldBy (untold takes) (cause_at stop) (devices o d) (devices p e)
@@ -104,7 +103,6 @@ left_out_runs : (takes : Bool) (outputs : List OutputEvent) (m : Progress) (o : 
 left_out_runs takes outputs m o d e (Ok done) reports = ran_from (came_said outputs (Done Fine) m o reports.says)
 left_out_runs takes outputs m o d e (Err _) reports = search (rules, broke_output, print_stops_report)
 
--- output in place of an action
 pub left_out_performs : (takes : Bool) (outputs : List OutputEvent) {host : HostState} {o : LinkState} {d e : DeskState}
     {told : Result (Unit {0}) DeskFault} (result : Result (Unit {0}) End) → host.broken ≡ None
     → Reports PrintStops d e outputs told → result ≡ conclusion {A = Unit {0}} (Ok tt) told
@@ -112,13 +110,12 @@ pub left_out_performs : (takes : Bool) (outputs : List OutputEvent) {host : Host
 left_out_performs takes outputs {host = host} {o = o} {d = d} {e = e} result sound reports is =
     search (rules, left_out_runs)
 
--- and its end reports no fault
+-- the output in place of an action reports no fault
 pub ends_untold : (part : Part) (view : DeskState) (told : Result (Unit {0}) DeskFault) {result : Result (Unit {0}) End}
     → result ≡ conclusion {A = Unit {0}} (Ok tt) told → EndsTold part view result
 ends_untold part view (Ok done) is = rw is tt
 ends_untold part view (Err _) is = rw is tt
 
--- nothing
 pub nothing_performs : {terms : Terms} {L : Lacking} (standing : Standing) (host : HostState) (o : Devices)
     → HostServes (Ok standing) host.broken → PerformsBehind terms L (Done standing) host host o o (Ok standing)
 nothing_performs standing host o serves = search (rules, ran_from, came_here, follows_here)
@@ -166,7 +163,6 @@ module _ (takes more_takes : Bool) where
 
 -- ---- actions that allocate
 
--- at once in the only action
 taking_one : (part : Part) (s : Switches) (action : Action) (m : Progress)
     → LacksLater (AtTaking part s (action ∷ [])) m [] [] (AtOnce (action_takes_memory action)) m
 taking_one part s action m during shown at = record {
@@ -180,12 +176,10 @@ taking_one part s action m during shown at = record {
   is_played = search rules;
 }
 
--- in the first of more
 taking_prefix : (part : Part) (s : Switches) (xs ys : List Action) (m : Progress)
     → LacksLater (AtTaking part s (xs ++ ys)) m [] [] (AtTaking part s xs) m
 taking_prefix part s xs ys m during shown at = search (rules, append_assoc)
 
--- after others that ran
 taking_then : (part : Part) (s : Switches) (xs ys : List Action) {m n : Progress} {o p : Devices}
     (ran : Ran (actions_dialog part s xs) m o p Fine n)
     → LacksLater (AtTaking part s (xs ++ ys)) m ran.during ran.events (AtTaking part s ys) n
@@ -206,7 +200,6 @@ taking_then part s xs ys {m = m} {n = n} ran during shown at =
 
 -- ---- the actions of a plan
 
--- none
 pub does_nothing : (plan : Plan) (host : HostState) (o : Devices) → host.broken ≡ None
     → PlanDoes plan [] host host o o (Ok Fine)
 does_nothing plan host o sound = nothing_performs Fine host o sound
@@ -222,7 +215,6 @@ performs_lacking lack (Ok standing) done = performs_as done done.runs done.serve
 performs_lacking {dialog = dialog} {x = x} {o = o} lack (Err stopped) done = performs_as done
     (broke_on (came_here dialog x.progress o) (λ said cause told stops. stops) lack done.runs) done.serves
 
--- one
 pub does_one : (plan : Plan) (action : Action) {x y : HostState} {o p : Devices} {result : Result Standing (Unit {0})}
     → Performs (action_takes_memory action) (action_dialog plan.part plan.switches action) x y o p result
     → PlanDoes plan (action ∷ []) x y o p result
@@ -248,7 +240,6 @@ does_printed plan action {b = b} outcome_says dialog line sound same calls repor
     does_one plan action (rw dialog (operation_performs b outcome_says reports (action_takes_memory action)
     (print_stops_report _ _ reports) (told_of plan.part outcome_says line reports) sound (calls_of same calls) is))
 
--- these, and others after them
 module _ (plan : Plan) (xs ys : List Action) where
   does_both : {x y : HostState} {o p : Devices} {result : Result Standing (Unit {0})}
       → PerformsBehind (untold (list_any action_takes_memory xs || list_any action_takes_memory ys))
@@ -259,7 +250,6 @@ module _ (plan : Plan) (xs ys : List Action) where
   does_both {x = x} {y = y} {o = o} {p = p} {result = result} done =
       search (rules, list_any-append, actions_dialog-append)
 
-  -- both
   pub does_then : {x y z : HostState} {o p q : Devices} (result : Result Standing (Unit {0}))
       → PlanDoes plan xs x y o p (Ok Fine) → PlanDoes plan ys y z p q result → PlanDoes plan (xs ++ ys) x z o q result
   does_then result done rest =
@@ -319,7 +309,6 @@ pub performs_until : {terms : Terms} {L : Lacking} {first : Dialog OutputEvent S
     → PerformsBehind terms L (first >>= go_on) x y o p (Err stopped)
 performs_until go_on stopped done = search (rules, broke_part)
 
--- after a fault that was reported
 abbrev told_before : Terms
 told_before = record { takes = false; was_told = true }
 

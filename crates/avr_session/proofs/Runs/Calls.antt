@@ -42,7 +42,7 @@ pub record Came {R : Type 0} (x y : Point R) : Type 0 where
   pub kept : Passes (after_all (outputs events)) x.devices.desk y.devices.desk
   pub sound : NoneFailed x.devices y.devices
 
--- no call failed, and none after that
+-- if no call failed until a moment and none after it, none failed
 pub none_failed_here : (o : Devices) → NoneFailed o o
 none_failed_here o = (refl, same_here o.desk)
 
@@ -187,7 +187,6 @@ module _ {R : Type 0} {dialog : Dialog OutputEvent R} {m : Progress} {o p : Devi
     kept = kept;
   }
 
-  -- before any output
   broke_silent : (during : Transcript) (shown : List (Event OutputEvent)) (cause : Cause) → outputs shown ≡ []
       → ToldBy terms cause o p → Grows o.link.transcript during p.link.transcript
       → Placed cause during shown (played_over dialog m during).events → bytes_sent shown ≡ sent during
@@ -219,7 +218,6 @@ broke_on {R = R} {x = x} {y = y} {q = q} {all = all} came why lack broke =
     (search (rules, kept_on, after_both))
     (λ is. lack broke.during broke.shown (broke.lacks is))
 
--- nothing is allocated
 abbrev pub Never : Lacking
 Never before during shown = ⊥
 
@@ -259,7 +257,6 @@ broke_raised _ f some = absurd f.breaks
 
 -- what follows a part of a dialog
 module _ {A R : Type 0} (go_on : A → Dialog OutputEvent R) where
-  -- an operation of the host, run whole
   unfoldable pub came_lifted : {dialog : Dialog ⊥ A} {m n : Progress} {o p : LinkState} {result : A} (d : DeskState)
       → PlaysOver dialog m o p result n → length n.unread ≤ 281
       → Came (point (lifted dialog >>= go_on) m (devices o d)) (point (go_on result) n (devices p d))
@@ -273,13 +270,11 @@ module _ {A R : Type 0} (go_on : A → Dialog OutputEvent R) where
     sound = (f.sound, same_here d);
   }
 
-  -- a part that was run whole
   unfoldable pub came_part : {a : Dialog OutputEvent A} {m n : Progress} {o p : Devices} {result : A}
       → Ran a m o p result n
       → Came (point (a >>= go_on) m o) (point (go_on result) n p)
   came_part f = came_of f (leads_bind go_on (leads_from f.plays))
 
-  -- a part that broke off
   pub broke_part : {a : Dialog OutputEvent A} {m : Progress} {o p : Devices} {some all : Terms} {L M : Lacking}
       → StopsWhole some all [] o o p → LacksLater L m [] [] M m → BrokeOff a m o p some M
       → BrokeOff (a >>= go_on) m o p all L
@@ -294,7 +289,6 @@ module _ {A R : Type 0} (go_on : A → Dialog OutputEvent R) where
       (search rules) (why (outputs f.shown) f.cause f.told f.stops) f.kept
       (λ is. lack f.during f.shown (f.lacks is))
 
-  -- an operation that broke off
   pub broke_operation : (by : HostFault) {dialog : Dialog ⊥ A} {m : Progress} {o p : Devices} {terms : Terms}
       {L : Lacking} → FailsOver by dialog m o.link p.link → ToldBy terms (broken_cause by) o p
       → BrokeOff (lifted dialog >>= go_on) m o p terms L
@@ -325,7 +319,6 @@ StopsReport terms o d e outputs By = (mid : DeskState) (cause : Cause) (prefix :
     (told : List ℕ) → By d e cause told → StopsBehind terms (devices o d) (devices o e) (prefix.whole ++ prefix.begun)
     cause told
 
--- and then the rest of a dialog
 module _ {R : Type 0} (xs : List OutputEvent) (dialog : Dialog OutputEvent R) (m : Progress) (o : LinkState) where
   pub came_said : {d e : DeskState} → Passes (after_all xs) d e × HasSameCounts d e
       → Came (point (says xs dialog) m (devices o d)) (point dialog m (devices o e))

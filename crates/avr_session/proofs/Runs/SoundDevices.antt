@@ -22,14 +22,14 @@ pub broke_lacks : {R : Type 0} {L : Lacking} (dialog : Dialog OutputEvent R) (m 
     → LacksMemory after.messages
 broke_lacks dialog m o p before after a b takes sound f = search rules
 
--- and a run is complete if no device failed and, by its messages, no allocation did
+-- a run is complete if no device failed and, by its messages, no allocation did
 pub sound_run : (plan : Plan) (o p : LinkState) (before after : Record) (a b : ℕ × ℕ) (status : ℕ)
     → IsSound (devices o (keeping before a)) (devices p (keeping after b)) → (LacksMemory after.messages → ⊥)
     → RunsSession plan (devices o (keeping before a)) (devices p (keeping after b)) status
     → IsPlayed (session plan) (devices o (keeping before a)) (devices p (keeping after b)) status
 sound_run plan o p before after a b status sound has_memory k' = search (rules, broke_lacks)
 
--- If nothing is allocated, it is complete, whatever the messages are.
+-- if nothing is allocated, the run is complete, whatever the messages are
 pub exact_run : (plan : Plan) (old new : Devices) (status : ℕ) → IsSound old new → takes_memory plan ≡ false
     → RunsSession plan old new status → IsPlayed (session plan) old new status
 exact_run plan old new status sound none g' = search rules

@@ -14,7 +14,7 @@ use Rattle.avr_session.specs.Reporting.{SaysPrefix}
 
 -- ---- events
 
--- more that happened before it
+-- more events happened before it
 pub place_behind : (cause : Cause) (first during : Transcript) (before whole begun later : List (Event OutputEvent))
     → NoneTaken first → StopsAt cause during whole begun later
     → StopsAt cause (first ++ during) (before ++ whole) begun later
@@ -26,7 +26,7 @@ place_behind (OfFile file NotWritten) first during before whole begun later none
 place_behind (OfFile file NotWritten) first during before whole begun later none (inr x) = inr x
 place_behind cause first during before whole begun later none x = x
 
--- a desk doesn't listen
+-- the same for output events, which need no transcript
 
 -- ---- output events
 

@@ -1,4 +1,4 @@
--- A run of steps, its judgement and the output about it: where they are along a link.
+-- A run of steps, the check of its data and the output about it: where they are along a link.
 use Rattle.std.proofs.Common.{◌≡◌, ℕ, zero, suc, List, [], ◌∷◌, refl, Ok, Err, Result, rules}
 use Rattle.avr_desk.specs.Said.{OutputEvent}
 use Rattle.stk_host.specs.declared.fault.HostFault.{HostFault}
@@ -28,7 +28,7 @@ module _ {P : Type 0} (m : Device P) where
     abbrev told : Dialog ⊥ StepOutcome → Dialog OutputEvent Standing
     told d = reported (d >>= (λ outcome. Done (judged_by judge outcome))) outcome_says
 
-    -- output moves nothing
+    -- output changes neither programmer nor link
     pub told_programmer : (k : ℕ) (d : Dialog ⊥ StepOutcome) (p : P) (turns : List Turn)
         → (along m k (told d) p turns).programmer ≡ (along m k d p turns).programmer
     told_programmer k (Done o) p turns = search (rules, says_programmer)

@@ -94,7 +94,7 @@ module _ (part : Part) (sound : IsPart part) (s : Switches) where
   ComesAnyhow action m p = Keeps device (Rests part (all_steps part (action_items action)) m) (AnyOutcome action m)
       (call_of part s action) p
 
-  -- an action that is a run of steps and its judgement
+  -- an action that is a run of steps and the check of their data
   pub operation_comes : (action : Action) (m : Memories) → FitsAction part action → FitsPart part m → (p : Programmer)
       → Settled part m p → ComesAnyhow action m p
   operation_comes action m fits f p settled =
@@ -163,7 +163,6 @@ module _ (part : Part) (sound : IsPart part) (s : Switches) (True : OutputEvent 
   none_done : (actions : List Action) (m : Memories) → SaysFirst part s actions m []
   none_done actions m = record { done = []; more = actions; actions_are = refl; fine = refl; says_are = refl }
 
-  -- these actions keep what is stated of them
   abbrev pub Goes : List Action → Memories → Spot → Type 0
   Goes actions m z =
       Prints True (Now part s At Fails actions m) (After part s At Fails actions m) (actions_dialog part s actions) z

@@ -41,7 +41,6 @@ module _ (plan : Plan) (sound : IsPart plan.part) (m0 : Memories) (f0 : FitsPart
       (anything (work plan) m0) z opened
 
   module _ (p : Programmer) (turns : List Turn) (idle : Idle plan.part m0 p) where
-    -- along any link
     pub session_along : (k : ℕ) → Printed (AtMoment plan m0) (AtEnd plan m0 ⊤) k (session plan) (p, turns)
     session_along k =
         at_moment Anything (at_last plan m0 ⊤) k
@@ -57,7 +56,6 @@ module _ (plan : Plan) (sound : IsPart plan.part) (m0 : Memories) (f0 : FitsPart
       | inr broke ↦ let one = broke.1.1 in absurd (omega (arith, zero, one))
     ]
 
-    -- what it leaves
     pub session_leaves : Leads device (session plan) p turns (λ q. IsTouched plan m0 (memories_of q.chip))
         (λ status q. status ≡ 0 → IsDone plan m0 (memories_of q.chip))
     session_leaves = record {

@@ -1,4 +1,4 @@
--- A session makes the page writes of its plan in order.
+-- A session makes the write operations of its plan in order.
 use Rattle.std.proofs.Common.{◌≡◌, ℕ, ◌+◌, ◌-◌, List, [], ◌∷◌, take, refl, ap, ◌∙◌, subst, arith, inl, inr, Result, rules}
 use Rattle.std.specs.Prelude.{All, ⊤}
 use Rattle.avr_cli.specs.declared.settings.Switches.{Switches}
@@ -38,7 +38,7 @@ use Rattle.avr_tool.proofs.Plans.Calls.{outcome_of, outcome_says, dialog_is, is_
 use Rattle.stk_emu.proofs.Answers.Commands.{settled_idle}
 use Rattle.avr_tool.proofs.AnyLine.PageWrites.{Changed, Makes, makes_none, makes_items, makes_then}
 
--- an action makes the page writes of these items, from a programmer in programming mode with these memories
+-- an action makes the write operations of these items, from a programmer in programming mode with these memories
 abbrev Strikes : Part → Memories → List Item → Count Programmer → Dialog OutputEvent Standing → Type 0
 Strikes part m items made d = (p : Programmer) (turns : List Turn) → Settled part m p
     → Makes part m items d made p turns
@@ -154,7 +154,7 @@ module _ (plan : Plan) (sound : IsPart plan.part) (fitted : All (IsFitted plan.p
         sharp = inr (λ l. refl);
       }
 
-  -- the first page writes of the plan, in order, counted
+  -- the first write operations of the plan, in order, counted
   pub session_makes : Tallies device (session plan) (made_by plan)
       (λ j q. memories_of q.chip ≡ effects plan.part (take j (page_writes plan)) m) p turns
   unfolding session

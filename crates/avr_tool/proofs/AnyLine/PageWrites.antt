@@ -1,4 +1,4 @@
--- The actions of a session, by the page writes that they make one after another.
+-- The actions of a session, by the write operations that they make one after another.
 use Rattle.std.proofs.lemmas.Grind.{common_steps}
 use Rattle.std.proofs.Common.{◌≡◌, ℕ, zero, suc, ◌+◌, ◌-◌, ◌≤◌, List, [], ◌∷◌, ◌++◌, length, refl, sym, ap, ◌∙◌, subst, arith, inl, inr, Result, rules}
 use Rattle.std.proofs.lemmas.List.{length-append}
@@ -35,7 +35,7 @@ pub record Changed (part : Part) (items : List Item) (m : Memories) (j : ℕ) (q
   pub few : j ≤ length (all_steps part items)
   pub stands : Idle part (changed_by part j (all_steps part items) m) q
 
--- an action that makes the page writes of these items in order; if it is fine, all were completed
+-- an action that makes the write operations of these items in order; if it is fine, all were completed
 pub record Makes (part : Part) (m : Memories) (items : List Item) (d : Dialog OutputEvent Standing)
     (made : Count Programmer)
     (p : Programmer) (turns : List Turn) : Type 0 where
@@ -64,7 +64,6 @@ steps_most (commands ∷ steps) k p turns =
     let s = along device k (step commands) p turns in search (rules, steps_most steps s.left s.programmer s.turns)
 
 module _ (part : Part) (sound : IsPart part) where
-  -- the steps of items
   module _ {A : Type 0} (m : Memories) (items : List Item) (judge : List ℕ → Result A HostFault)
       (outcome_says : Result A HostFault → List OutputEvent) (p : Programmer) (turns : List Turn)
       (are : AreSteps part (all_steps part items)) (settled : Settled part m p) where
@@ -124,7 +123,6 @@ module _ (part : Part) (sound : IsPart part) where
       let past : made + j ≡ j + length steps = omega (arith, whole) in
       search (rules, all_on, changed_behind, all_changed)
 
-  -- one action, then the next unless there was a fault
   module _ (m : Memories) (xs ys : List Item) (d next : Dialog OutputEvent Standing)
       (made later : Count Programmer) (p : Programmer) (turns : List Turn)
       (fits : AllFitItems part xs) (f : FitsPart part m)
@@ -139,7 +137,7 @@ module _ (part : Part) (sound : IsPart part) where
     abbrev At : ℕ → Programmer → Type 0
     At = Changed part (xs ++ ys) m
 
-    -- if it is fine, it made all its page writes before the last question of what follows
+    -- if it is fine, it made all its write operations before the last question of what follows
     whole : (k : ℕ) → (along device k d p turns).dialog ≡ Done Fine → first.tally.count k ≡ length (all_steps part xs)
     whole k e = search rules
 
@@ -152,7 +150,6 @@ module _ (part : Part) (sound : IsPart part) where
     GoesFrom k s = GoesOn device At (along device k d p turns) (first.tally.count k) (made (k - 1) p turns)
         (unless_fault next s) (after s)
 
-    -- the next one goes on
     goes_fine : (k : ℕ) → (along device k d p turns).dialog ≡ Done Fine
         → Settled part (effects part xs m) (along device k d p turns).programmer → GoesFrom k Fine
     goes_fine k e settled =
@@ -177,7 +174,7 @@ module _ (part : Part) (sound : IsPart part) where
           sharp = inr (λ l. refl);
         }
 
-    -- its page writes, as the first ones of both
+    -- the write operations of the second action, as the first ones of both
     abbrev among : Tallies device d made At p turns
     among = tallies_as device d d made made (Changed part xs m) At p turns (λ k. refl)
         (λ k j changed. changed_first xs ys m j (along device k d p turns).programmer changed) first.tally

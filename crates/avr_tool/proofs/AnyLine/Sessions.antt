@@ -31,7 +31,7 @@ use Rattle.avr_tool.specs.Foretold.{SaysFirst, SaysFault, IsForetold}
 use Rattle.avr_tool.specs.Items.{items}
 use Rattle.avr_tool.specs.Outcome.{IsTouched, IsExpectedRun}
 
--- any link: each step may fail
+-- over any link, where each step may fail
 pub anyhow : (part : Part) → IsPart part → (s : Switches) → Passes part s (λ m z. Settled part m z.0) ⊤
 anyhow part sound s = record {
   idle = λ m z t. settled_idle part m z.0 t;
@@ -84,7 +84,6 @@ module _ (plan : Plan) (sound : IsPart plan.part) (fitted : All (IsFitted plan.p
     says_are = is;
   }
 
-  -- if all went well
   module _ (said : List OutputEvent) (y : Spot) (rests : RestsIn part (items plan) m y)
       (own : Own part s At Fails w Fine said y) where
     left : (z : Spot) → Idle part w.memories z.0 → IsTouched plan m (memories_of z.0.chip)
@@ -118,7 +117,6 @@ module _ (plan : Plan) (sound : IsPart plan.part) (fitted : All (IsFitted plan.p
           ),
         )
 
-  -- after a fault
   with_fault : (at : Standing) (said : List OutputEvent) (y z : Spot) → ending_says plan at ≡ [] → status_of at ≡ 1
       → After part s At Fails (actions plan) m at said y → memories_of z.0.chip ≡ memories_of y.0.chip
       → AtEnd plan m Fails 1 said z

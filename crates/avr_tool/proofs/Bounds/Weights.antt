@@ -98,7 +98,6 @@ module _ (w : Weight) where
       settled more (Again fault) t e = e
       settled more (Stop fault) t e = omega (arith, e)
 
-  -- a step, then the dialog that its data choose
   then_spends : (commands : List Command) (steps : List (List Command)) (go_on : List ℕ → Dialog ⊥ StepOutcome)
       → ((bytes : List ℕ) → Spends (4 * total steps) (go_on bytes))
       → Spends (4 * total (commands ∷ steps)) (step commands >>= if_done go_on)

@@ -6,7 +6,6 @@ use Rattle.stk_host.specs.Operations.{difference_from, signature_judged}
 use Rattle.stk_emu.specs.Effect.{Image}
 use Rattle.stk_emu.specs.Given.{HoldsImage}
 
--- one byte that is equal
 same_byte : (addr want found : ℕ) (image : Image) (bytes : List ℕ)
     → difference_from addr (Some want ∷ image) (found ∷ bytes) ≡ None
     → (found ≡ want) × (difference_from (addr + 1) image bytes ≡ None)
@@ -39,7 +38,7 @@ held_same addr (Some want ∷ image) (found ∷ bytes) holds =
 
 -- ---- the part's own signature
 
--- it is taken, whether or not any is
+-- it is accepted, with or without `-F`
 pub signature_taken : (signature : List ℕ) (force : Bool)
     → signature_judged signature force (Ok signature) ≡ Ok signature
 signature_taken signature force = search rules

@@ -1,4 +1,4 @@
--- An answer that is found stays found if the tape grows, and what follows stays after it.
+-- A reply that was found stays found if the tape grows, and what follows stays after it.
 use Rattle.std.proofs.Common.{◌≡◌, ℕ, zero, suc, ◌+◌, ◌<◌, ◌≤◌, List, [], ◌∷◌, ◌++◌, length, take, drop, refl, sym, ap, ap₂, ◌∙◌, subst, append_assoc, arith, min, length-append, inl, inr, Option, Some, None, rules}
 use Rattle.std.proofs.lemmas.Bool.{leb-true, leb-false, cases_Bool, cond-true, cond-false}
 use Rattle.std.proofs.lemmas.List.{take_all, take-append-le, length-take}
@@ -11,7 +11,6 @@ use Rattle.stk_host.specs.declared.link.Item.TheVariants.{Byte}
 use Rattle.stk_host.specs.Tape.{Tape, on_tape, bytes_in, answer, read_to, silence_or_end, first_answer, is_answer, further, limit, Reading, Babbled}
 use Rattle.stk_host.proofs.Tapes.Answers.{answer_silent, answer_ended, first_answer_stays, drop_tape, answer_by}
 
--- a tape is its bytes, and then no byte
 pub record Split (tape : Tape) : Type 0 where
   pub tail : Tape
   pub is : tape ≡ on_tape (bytes_in tape) ++ tail
@@ -69,7 +68,6 @@ used_few seq x body used e =
     sym (length-append (concat (cut x)) (rest x)) ∙ ap length (cut_joined x) in
     let few = used_within seq (cut x) body used e in search rules
 
--- an answer that is given, by cases
 some_tape : (a b : Reading) (s t : Tape) → ◌≡◌ {A = Option (Reading × Tape)} (Some (a, s)) (Some (b, t))
     → (a ≡ b) × (s ≡ t)
 some_tape a b s t e = search rules

@@ -1,4 +1,4 @@
--- The programmer's answers to the commands that read, and its state after them.
+-- The programmer's replies to the commands that read, and its state after them.
 use Rattle.std.proofs.Common.{ℕ, ◌/◌, rules}
 use Rattle.avr_part.specs.declared.part.Mem.TheVariants.{Flash, Eeprom}
 use Rattle.avr_part.specs.Part.{Part, IsPart}

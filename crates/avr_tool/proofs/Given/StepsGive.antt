@@ -117,7 +117,6 @@ module _ (part : Part) (sound : IsPart part) where
       → reply_to device read_calibration p ≡ Data (given_by part (read_calibration ∷ []) m)
   calibration_given m p s = in_mode_reply read_calibration p _ _ s.mode
 
-  -- from the commands as they are written
   as_written : (written commands : List Command) (m : Memories) (p : Programmer) → commands ≡ written
       → joined_reply device written [] p ≡ Data (given_by part written m)
       → joined_reply device commands [] p ≡ Data (given_by part commands m)
@@ -131,7 +130,7 @@ module _ (part : Part) (sound : IsPart part) where
       → Ready part m p → joined_reply device (load_eeprom address ∷ program_eeprom_block bytes ∷ []) [] p ≡ Data []
   run_given address bytes m p is_run s = search rules
 
-  -- all commands of a step, each obeyed and answered
+  -- all commands of a step, each executed and replied to
   pub step_data : (commands : List Command) (m : Memories) (p : Programmer) → IsStep part commands → FitsPart part m
       → Ready part m p → joined_reply device commands [] p ≡ Data (given_by part commands m)
   step_data commands m p (Erases e) f s = search rules

@@ -12,7 +12,6 @@ use Rattle.stk_emu.specs.Effect.{Memories, memory_in}
 use Rattle.stk_emu.specs.Settled.{FitsPart}
 use Rattle.stk_emu.specs.Given.{all_given}
 
--- a block, then the rest
 block_join : (xs : List ℕ) (start size : ℕ) → length xs ≡ size
     → take (min 256 (size - start)) (drop start xs) ++ drop (start + 256) xs ≡ drop start xs
 block_join xs start size long =

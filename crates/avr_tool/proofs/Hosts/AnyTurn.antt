@@ -1,4 +1,5 @@
--- A device behind a line that may make any turn at any question, in the logic of dialogs: attempts and steps of a host.
+-- A device behind a link that may make any exchange of any question, in the logic of dialogs: attempts and steps of a
+-- host.
 use Rattle.std.proofs.Common.{◌≡◌, ℕ, zero, suc, List, [], ◌∷◌, ◌++◌, length, refl, ◌⊎◌, inl, inr, Ok, Err, rules}
 use Rattle.stk_frame.specs.declared.command.Command.{Command}
 use Rattle.stk_frame.specs.Commands.{body}
@@ -16,7 +17,7 @@ use Rattle.stk_emu.specs.Fits.{after_commands, Fits}
 use Rattle.stk_emu.specs.Given.{on_data, joined_reply, reply_to, Gives}
 use Rattle.avr_tool.proofs.Leads.{Leads}
 
--- What holds at each move holds along all links, so no list of turns and no count of questions is needed.
+-- What holds at each move holds along all links, so no list of exchanges and no count of questions is needed.
 abbrev pub any_turn : {P : Type 0} → Device P → World P Turn
 any_turn m = record {
   reads = λ bytes p turn. turn_reading turn (m.answer bytes p);
@@ -56,7 +57,7 @@ module _ {P : Type 0} (m : Device P) where
   Keeps During After d p = Upholds (any_turn m) (λ bytes q. During q) NoSays After d p
 
   -- An attempt. If a condition holds after each prefix of its commands, also after a restart, it holds throughout. Its
-  -- data are those of all commands, each obeyed and answered.
+  -- data are those of all commands, each executed and replied to.
   module _ (Stands : P → Type 0) (After : StepOutcome → P → Type 0) (anew : (q : P) → Stands q → Stands (m.reset q))
       (failed : (fault : StepFault) (q : P) → Stands q → After (Err fault) q) where
     abbrev Tries : Dialog ⊥ Reply → P → Type 0
@@ -129,7 +130,6 @@ module _ {P : Type 0} (m : Device P) where
         → Keeps During (OnOutcome (λ got q. After q × Gives m commands Before After got) Whole) (step commands) p
     step_leads During Whole p from to failed before = search (rules, wider, step_goes)
 
-    -- along each link
     pub step_along : (p : P) (turns : List Turn) → Before p → Leads m (step commands) p turns Either AfterStep
     step_along p turns before = leads at_end (step_goes p before)
       where

@@ -9,12 +9,12 @@ use Rattle.stk_host.proofs.Dialogs.Logic.{World, HoldsFrom, Upholds, NoSays}
 use Rattle.stk_host.specs.Dialog.{Dialog, Done, Say, Ask}
 use Rattle.avr_tool.proofs.Hosts.AnyTurn.{any_turn, Keeps}
 
--- the programmer, and the turns to come
+-- the programmer, and the exchanges to come
 abbrev pub Spot : Type 0
 Spot = Programmer × List Turn
 
 module _ (m : Device Programmer) where
-  -- each turn is the next of the list
+  -- each exchange is the next of the list
   abbrev pub this_link : World Spot ⊤
   this_link = record {
     reads = λ bytes z move. turn_reading (first_turn z.1) (m.answer bytes z.0);
@@ -25,11 +25,10 @@ module _ (m : Device Programmer) where
   abbrev pub Runs : {R : Type 0} → (Spot → Type 0) → (R → Spot → Type 0) → Dialog ⊥ R → Spot → Type 0
   Runs During After d z = Upholds this_link (λ bytes y. During y) NoSays After d z
 
-  -- the programmer and the turns after `k` questions
+  -- the programmer and the exchanges after `k` questions
   abbrev pub spot : {E R : Type 0} → ℕ → Dialog E R → Spot → Spot
   spot k d z = let s = along m k d z.0 z.1 in (s.programmer, s.turns)
 
-  -- what holds over any link holds over this one
   pub on_link : {R : Type 0} {During : Programmer → Type 0} {After : R → Programmer → Type 0} {d : Dialog ⊥ R}
       {z : Spot} → Keeps m During After d z.0 → Runs (λ y. During y.0) (λ r y. After r y.0) d z
   on_link {R = R} {During = During} {After = After} {d = d} {z = z} l = record { holds = on d z l.holds }
@@ -40,7 +39,6 @@ module _ (m : Device Programmer) where
       on (Say e d) z h = absurd e
       on (Ask bytes go_on) z h = (h.0, λ move. on (go_on _) (this_link.after bytes z tt) (h.1 (first_turn z.1)))
 
-  -- two facts of one call hold together
   pub both : {R : Type 0} {During : Spot → Type 0} {After Here : R → Spot → Type 0} {d : Dialog ⊥ R} {z : Spot}
       → Runs During After d z → Runs (λ y. ⊤) Here d z → Runs During (λ r y. After r y × Here r y) d z
   both {R = R} {During = During} {After = After} {Here = Here} {d = d} {z = z} l g = search (rules, on)

@@ -73,7 +73,7 @@ module _ (part : Part) (sound : IsPart part) where
             (before ++ bytes) q are.1 (changed_sizes part commands m sound f) x.0,
       )))
 
-  -- after an operation: its data, judged; or the fault of a step
+  -- after an operation: the check of its data, or the fault of a step
   abbrev pub AfterCall : {A : Type 0} → List (List Command) → Memories → (List ℕ → Result A HostFault)
       → Result A HostFault → Programmer → Type 0
   AfterCall steps m judge r q =
@@ -91,7 +91,6 @@ module _ (part : Part) (sound : IsPart part) where
       judged (Ok got) q a = inl (a.0, ap judge a.1)
       judged (Err fault) q a = inr (fault, refl, a)
 
-  -- the signature
   idle_reached : (m : Memories) (q : Programmer) → Reached part signature_steps m q → Idle part m q
   idle_reached m q r = settled_idle part m q (search (rules, quiet_stays, read_quiet))
 
@@ -143,7 +142,6 @@ reported tell s = record {
   left = s.left;
 }
 
--- it goes along as the dialog itself does
 module _ {E P : Type 0} (m : Device P) where
   pub along_told : {A B : Type 0} (k : ℕ) (d : Dialog E A) (tell : A → B) (p : P) (turns : List Turn)
       → along m k (d >>= (λ a. Done (tell a))) p turns ≡ reported tell (along m k d p turns)

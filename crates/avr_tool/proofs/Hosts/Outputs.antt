@@ -23,7 +23,6 @@ abbrev pub AllTrue : (OutputEvent → Programmer → Type 0) → List OutputEven
 AllTrue True [] q = ⊤
 AllTrue True (output ∷ outputs) q = True output q × AllTrue True outputs q
 
--- no condition on the output
 abbrev pub Anything : OutputEvent → Programmer → Type 0
 Anything output q = ⊤
 
@@ -57,7 +56,6 @@ module _ (True : OutputEvent → Programmer → Type 0) where
   pub record Prints {R : Type 0} (Now : Moment) (After : End R) (d : Dialog OutputEvent R) (z : Spot) : Type 0 where
     pub holds : PrintsFrom Now After d z
 
-  -- nothing more is printed
   pub stops : {R : Type 0} {Now : Moment} (After : End R) (r : R) (said : List OutputEvent) (z : Spot) → After r said z
       → Prints Now (λ b x. After b (said ++ x)) (Done r) z
   stops After r said z a = record { holds = subst (λ x. After r x z) (sym (append-nil said)) a }
@@ -68,7 +66,6 @@ module _ (True : OutputEvent → Programmer → Type 0) where
   on_outputs Now After (output ∷ outputs) r z all a =
       (all.0, on_outputs (λ x. Now (output ∷ x)) (λ r x. After r (output ∷ x)) outputs r z all.1 a)
 
-  -- a call and the output about its outcome
   pub prints_reported : {A : Type 0} {During : Spot → Type 0} {After : Result A HostFault → Spot → Type 0}
       {Now : Moment} {Then : End Standing} {d : Dialog ⊥ (Result A HostFault)} {z : Spot}
       (outcome_says : Result A HostFault → List OutputEvent) → Runs device During After d z
@@ -85,7 +82,6 @@ module _ (True : OutputEvent → Programmer → Type 0) where
       on (Say e d) z h = absurd e
       on (Ask bytes go_on) z h = (f z h.0, on (go_on _) (link.after bytes z tt) (h.1 tt))
 
-  -- a dialog, then the next one from its result
   on_bind : {A B : Type 0} (Now Now' : Moment) (Between : End A) (After : End B) (next : A → Dialog OutputEvent B)
       → ((said : List OutputEvent) (y : Spot) → Now said y → Now' said y)
       → ((a : A) (said : List OutputEvent) (y : Spot) → Between a said y
@@ -109,7 +105,6 @@ module _ (True : OutputEvent → Programmer → Type 0) where
   prints_then {Now = Now} {Now' = Now'} {Between = Between} {After = After} {next = next} {d = d} {z = z} f l more =
       record { holds = on_bind Now Now' Between After next f more d z l.holds }
 
-  -- conditions that follow
   pub prints_wider : {R : Type 0} {Now Now' : Moment} {After After' : End R} {d : Dialog OutputEvent R} {z : Spot}
       → ((said : List OutputEvent) (y : Spot) → Now said y → Now' said y)
       → ((r : R) (said : List OutputEvent) (y : Spot) → After r said y → After' r said y)

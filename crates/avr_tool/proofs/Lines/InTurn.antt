@@ -1,4 +1,4 @@
--- A transcript in turn over a wire: the tool listens only if something comes, and the programmer goes along with the
+-- A transcript in turn over a wire: the host listens only if something comes, and the programmer goes along with the
 -- dialog.
 use Rattle.std.proofs.Common.{◌≡◌, ℕ, ◌<◌, List, [], ◌∷◌, ◌++◌, length, take, drop, refl, sym, ap, ◌∙◌, subst, append_assoc, arith, inl, inr, true, Option, Some, None, length-append, rules}
 use Rattle.std.proofs.lemmas.Bool.{cases_lt, lt-leb, and_parts, cond-true}
@@ -25,7 +25,6 @@ use Rattle.avr_tool.proofs.Given.LaterAnswers.{answer_extends}
 use Rattle.avr_tool.proofs.Lines.Plays.{played_along, said_played, done_played, waits_played}
 use Rattle.avr_tool.proofs.Lines.WireTapes.{GoesOver, over_wire}
 
--- whole frames
 pub record IsWhole (f : List ℕ) : Type 0 where
   pub piece : IsPiece f
   pub frame : is_frame f ≡ true
@@ -60,7 +59,6 @@ frames_sent [] whole = refl
 frames_sent (Frame f ∷ events) whole = search (rules, frame_first, frames_sent events whole.1)
 frames_sent (Said e ∷ events) whole = frames_sent events whole
 
--- what is received was due
 pub due_at : {E R : Type 0} (d : Dialog E R) (n : ℕ) (tape : Tape) (bytes : List ℕ) (before after : Transcript)
     (items : Tape)
     → TurnsFrom d n tape bytes (before ++ Got items ∷ after) → IsDue d n (tape ++ heard before) (bytes ++ sent before)
@@ -71,8 +69,8 @@ due_at d n tape bytes (Taken more ∷ before) after items turns = absurd (not_be
 due_at d n tape bytes (Got got ∷ before) after items turns =
     search (rules, append_assoc, due_at d n (tape ++ got) bytes before after items turns.1)
 
--- A transcript in turn never listens while nothing waits, so in a run over all that was brought each question was
--- answered.
+-- A transcript in turn never listens while nothing waits, so in a run over all that was brought each question got its
+-- reply.
 pub never_idle : {E R : Type 0} (d : Dialog E R) (n : ℕ) (p : Programmer) (fates : List Fate) (transcript : Transcript)
     → AsksBodies d → AreLawful fates → InTurn d (progress_at n []) transcript → NeverIdle p fates transcript
 never_idle d n p fates transcript asks lawful turns before after items split same =
@@ -180,7 +178,6 @@ module _ {E R : Type 0} (d : Dialog E R) (n : ℕ) (p : Programmer) (fates : Lis
   -- a whole run has the same output and the same result there
   module _ (events : List (Event E)) (r : R) (after : Progress)
       (plays : Plays d (progress_at n []) w.transcript events r after) (prefix : SendsFirst) where
-    -- the run along the link
     over : played_along device count d n p (turns_of fates) []
         ≡ record { events = events; outcome = Some (r, after.next, on_tape after.unread ++ w.waits) }
     over = search (rules, goes_along, never_idle)

@@ -1,4 +1,4 @@
--- The run of a dialog along turns: its output, its end or wait, and the rest of the tape.
+-- The run of a dialog along exchanges: its output, its end or wait, and the rest of the tape.
 use Rattle.std.proofs.Common.{◌≡◌, ℕ, zero, suc, List, [], ◌∷◌, length, refl, sym, ap, Option, Some, None}
 use Rattle.std.proofs.lemmas.Option.{none-some}
 use Rattle.stk_frame.specs.Frame.{frame}
@@ -8,7 +8,7 @@ use Rattle.stk_emu.specs.Device.{Device}
 use Rattle.stk_emu.specs.Turn.{Turn, after_turn, turn_reading, first_turn, other_turns}
 use Rattle.stk_emu.specs.Along.{along, said_along}
 
--- The run reads some of the turns, and then waits; if it is done, this is left of the tape.
+-- The run reads some of the exchanges, and then waits; if it is done, this is left of the tape.
 abbrev pub played_along : {E R P : Type 0} → Device P → ℕ → Dialog E R → ℕ → P → List Turn → Tape → Played E R
 played_along m k (Done r) n p turns left = record { events = []; outcome = Some (r, n, left) }
 played_along m k (Say e d) n p turns left = behind (Said e ∷ []) (played_along m k d n p turns left)

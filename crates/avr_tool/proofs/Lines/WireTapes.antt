@@ -1,4 +1,4 @@
--- A dialog run over what a wire brings runs along the turns of its fates, and nothing of the tape is left.
+-- A dialog run over what a wire brings runs along the exchanges of its fates, and nothing of the tape is left.
 use Rattle.std.proofs.Common.{◌≡◌, ◌≤◌, ℕ, List, [], ◌∷◌, ◌++◌, length, refl, sym, ap, ◌∙◌, subst, arith, Some, None, rules}
 use Rattle.std.proofs.lemmas.List.Elements.{All-tail}
 use Rattle.stk_frame.specs.Frame.{frame}
@@ -23,8 +23,8 @@ others_lawful : (fates : List Fate) → AreLawful fates → AreLawful (other_fat
 others_lawful [] l = l
 others_lawful (fate ∷ fates) l = All-tail IsLawfulFate fate fates l
 
--- A dialog that sent frames over a wire: the programmer after it, and its run over all that they bring. That is honest,
--- by the fates of these frames and of any more.
+-- A dialog that sent frames over a wire: the programmer after it, and its run over all that they bring. Its replies are
+-- authentic, by the fates of these frames and of any more.
 pub record GoesOver {E R P : Type 0} (m : Device P) (d : Dialog E R) (n : ℕ) (w : Wire P) (sent : List (List ℕ)) (p : P)
     (turns : List Turn) : Type 0 where
   pub programmer : (wire_after m sent w).programmer ≡ (along m (length sent) d p turns).programmer
@@ -32,7 +32,7 @@ pub record GoesOver {E R P : Type 0} (m : Device P) (d : Dialog E R) (n : ℕ) (
   pub honest : (j : ℕ) → length sent ≤ j → AreHonest m d n (tape_of m sent w) p (becames_of j w.fates)
 
 module _ {P : Type 0} (m : Device P) (answers : AnswersBodies m) where
-  -- a question whose answer came, by its own turn
+  -- a question whose reply came, by its own exchange
   answered : {E R : Type 0} (bytes : List ℕ) (go_on : Reading → Dialog E R) (n : ℕ) (w : Wire P) (sent : List (List ℕ))
       (turns : List Turn)
       → answer n (tape_of m (frame n bytes ∷ sent) w)
@@ -46,7 +46,6 @@ module _ {P : Type 0} (m : Device P) (answers : AnswersBodies m) where
       → GoesOver m (Ask bytes go_on) n w (frame n bytes ∷ sent) w.programmer (turn_of (first_fate w.fates) ∷ turns)
   answered bytes go_on n w sent turns read goes = search rules
 
-  -- along the turns of fates the first fate's turn comes first
   by_fates : {E R : Type 0} (bytes : List ℕ) (go_on : Reading → Dialog E R) (n : ℕ) (w : Wire P) (f : List ℕ)
       (sent : List (List ℕ)) (p : P) (fates : List Fate)
       → GoesOver m (Ask bytes go_on) n w (f ∷ sent) p (turn_of (first_fate fates) ∷ turns_of (other_fates fates))

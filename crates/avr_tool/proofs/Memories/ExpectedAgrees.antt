@@ -21,7 +21,6 @@ record Turns (c : Expected) (Agree : Type 0) (left : Memories) : Type 0 where
   is_fine : Agree → c.standing ≡ Fine
   memories : c.standing ≡ Fine → c.memories ≡ left
 
--- one expected run after another
 turns_then : (first : Expected) (next : Memories → Expected) (A B : Type 0) (between left : Memories)
     → Turns first A between → Turns (next between) B left → Turns (first then next) (A × B) left
 turns_then first next A B between left turns more = search rules

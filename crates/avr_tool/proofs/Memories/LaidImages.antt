@@ -84,7 +84,6 @@ module _ (part : Part) where
       → Left part mem image m (write_effect mem image m)
   left_by_write mem image m shows = search (rules, write_keeps)
 
-  -- one image after another
   left_over : (mem : Mem) (first second : Image) (old between new : Memories) → length second ≤ length first
       → Left part mem first old between → Left part mem second between new → Left part mem (over first second) old new
   left_over mem first second old between new l a b = search (rules, byte_of_over)
@@ -98,7 +97,6 @@ module _ (part : Part) where
       search (rules, length-over, same_memory, length-written_to mem actions fit.1)
   length-written_to mem (action ∷ actions) fit = length-written_to mem actions fit.1
 
-  -- a write, and what follows it
   write_left : (mem other : Mem) (image more : Image) (m new : Memories) (same : Bool)
       → (memory_number other == memory_number mem) ≡ same
       → length image ≡ size_of other part → length more ≡ size_of mem part

@@ -36,7 +36,6 @@ eeprom_blanked : (keeps : Bool) (xs : List ℕ) (addr : ℕ) → addr < length x
     → get_or (if keeps then xs else blank xs) addr 0 ≡ (if not keeps then 255 else get_or xs addr 0)
 eeprom_blanked keeps xs addr l = search (rules, get_or-replicate)
 
--- an erase keeps a fuse
 fuse_kept : (part : Part) (fuse : Memories → ℕ) (due : Bool) (m : Memories) → fuse (effect part Erase m) ≡ fuse m
     → fuse (effects part (erase_if due) m) ≡ fuse m
 fuse_kept part fuse due m kept = search rules
@@ -84,11 +83,10 @@ module _ (plan : Plan) (before after : Memories) (all : All (IsFitted plan.part)
         lock = λ none. (memory_left Lock).rest 0 none ∙ lock_erased part due before;
       }
 
-  -- the same by what the tasks ask for
   pub run_written : IsPart plan.part → FitsPart plan.part before → IsWritten plan.part (asked_items plan) before after
   run_written sound fits = search (rules, items_by_tasks, items_written)
 
--- images that are shown agree once more
+-- a memory that holds an image agrees with it once more
 shown_agree : (part : Part) (s : Switches) (image_of : Mem → Image) (m : Memories) (mems : List Mem)
     → ((mem : Mem) → Shows part mem (image_of mem) m)
     → ActionsAgree part (tasks_actions s (map (λ mem. task.Verify mem (image_of mem)) mems)) m
@@ -101,7 +99,7 @@ none_writes : (image_of : Mem → Image) (mems : List Mem)
 none_writes image_of [] = refl
 none_writes image_of (mem ∷ mems) = none_writes image_of mems
 
--- so a run that only compares what is shown has status 0
+-- so a run that only compares images that the memories hold has status 0
 pub shown_succeeds : (part : Part) (s : Switches) (image_of : Mem → Image) (m : Memories) (mems : List Mem)
     → s.erase ≡ false → ((mem : Mem) → Shows part mem (image_of mem) m)
     → (expected_run (record { part = part; tasks = map (λ mem. task.Verify mem (image_of mem)) mems; switches = s })

@@ -1,4 +1,4 @@
--- A run of steps along a link: how many of their conditions it has climbed.
+-- A run of steps along a link: how many of their conditions it has passed.
 use Rattle.std.proofs.Common.{◌≡◌, ℕ, zero, suc, ◌≤◌, List, [], ◌∷◌, ◌++◌, length, refl, arith, Ok, rules}
 use Rattle.stk_frame.specs.declared.command.Command.{Command}
 use Rattle.stk_host.specs.Dialog.{Dialog, Done, Say, Ask}
@@ -72,7 +72,6 @@ module _ {P : Type 0} (m : Device P) where
         (rest bytes (stepped.whole bytes e))
     climbs_from k steps commands p turns go_on d e stepped rest = search rules
 
-    -- before the first question
     none_asked : (command : Command) (commands : List Command) (steps : List (List Command)) (before : List ℕ) (p : P)
         (turns : List Turn) → At 0 p
         → Climbs m At 0 ((command ∷ commands) ∷ steps) p turns

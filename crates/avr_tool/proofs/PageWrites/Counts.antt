@@ -1,4 +1,4 @@
--- Counts of page writes, composed.
+-- Counts of write operations, composed.
 use Rattle.std.proofs.Common.{◌≡◌, ℕ, zero, suc, ◌+◌, ◌-◌, ◌≤◌, List, [], ◌∷◌, ◌++◌, length, refl, ap, subst, arith, ◌⊎◌, inl, inr, Ok, rules}
 use Rattle.avr_part.specs.Part.{Part, IsPart}
 use Rattle.stk_frame.specs.declared.command.Command.{Command}
@@ -25,7 +25,6 @@ none_left m (Say s d) p turns = none_left m d p turns
 none_left m (Ask bytes go_on) p turns = refl
 
 module _ {P : Type 0} (m : Device P) where
-  -- if nothing is made
   abbrev pub tallies_none : {E R : Type 0} (d : Dialog E R) (At : ℕ → P → Type 0) (p : P) (turns : List Turn)
       → ((k : ℕ) → At 0 (along m k d p turns).programmer) → Tallies m d (λ k q fs. 0) At p turns
   tallies_none d At p turns at = record {
@@ -96,7 +95,6 @@ module _ {P : Type 0} (m : Device P) where
         → total k x e ≤ suc (then_count m d first more (k - 1) p turns)
     at_most_from k x e = search (rules, done_most)
 
-    -- a dialog, then the next one
     pub tallies_bind : Tallies m (d >>= next) (then_count m d first more) At p turns
     tallies_bind = record {
       count = λ k. total k (along m k d p turns).dialog refl;
@@ -131,7 +129,7 @@ module _ (part : Part) (steps : List (List Command)) (m : Memories) (before : Li
       (along device k (play steps before) p turns)
   climbs k = steps_climb part steps m k before p turns sound are s
 
-  -- if it was completed, all its page writes were, before the last question of what follows
+  -- if it was completed, all its write operations were, before the last question of what follows
   play_sharp : (k l : ℕ) (got : List ℕ) → (along device k (play steps before) p turns).dialog ≡ Done (Ok got)
       → (along device k (play steps before) p turns).left ≡ suc l
       → (climbs k).count ≤ steps_done device steps (k - 1) p turns
@@ -142,7 +140,7 @@ module _ (part : Part) (steps : List (List Command)) (m : Memories) (before : Li
       steps_all device steps k before p turns got (ap (λ (z : LineState ⊥ StepOutcome Programmer). z.dialog) then) in
       search rules
 
-  -- a run of steps; if it was completed, all its page writes were, before the last question of what follows
+  -- a run of steps; if it was completed, all its write operations were, before the last question of what follows
   pub tallies_play : (t : Tallies device (play steps before) (steps_done device steps)
       (λ j. Settled part (changed_by part j steps m)) p turns)
       × ((k l : ℕ) (got : List ℕ) → (along device k (play steps before) p turns).dialog ≡ Done (Ok got)

@@ -27,7 +27,6 @@ use Rattle.avr_tool.proofs.PageWrites.EachMemory.{size_stays}
 use Rattle.avr_tool.proofs.PageWrites.Pages.{page_writes_on, effects_on, pages_effect, AllBelow, below_and_in}
 use Rattle.avr_tool.proofs.PageWrites.Runs.{runs_effect}
 
--- a choice between equals
 either_way : {A : Type 0} (b : Bool) (x : A) → cond b x x ≡ x
 either_way b x = search rules
 
@@ -48,7 +47,6 @@ module _ (part : Part) (sound : IsPart part) where
     bytes = flash_bytes mem image m f.bytes;
   }
 
-  -- the steps of an item do what it does
   write_does : (mem : Mem) (image : Image) (m : Memories) → length image ≤ size_of mem part → FitsPart part m
       → effects part (page_writes_of (write_steps part mem image)) m ≡ effect part (Write mem image) m
   write_does mem image m fits f = search (rules, pages_effect, runs_effect, either_way)
@@ -65,7 +63,6 @@ module _ (part : Part) (sound : IsPart part) where
       ∙ (effects_on part (page_writes_of (steps_of part item)) (page_writes_of (all_steps part items)) m
       ∙ (search (rules, item_does, items_do items (effect part item m) fits.1 (effect_sizes item m f))))
 
--- the memories after all steps
 pub changed_all : (part : Part) (steps : List (List Command)) (m : Memories)
     → changed_by part (length steps) steps m ≡ effects part (page_writes_of steps) m
 changed_all part [] m = refl

@@ -108,7 +108,6 @@ one_idles part c fails = record {
     keeps m p (suc i) off s = subst (Settled part m)
         (sym (obeyed_none device i (device.after (body c) p) ∙ (fails p off).after)) s
 
--- an address is loaded in any mode
 loaded : (address : ℕ) (p : Programmer) → address < 2 ^ 32
     → device.after (body (LoadAddress address)) p ≡ (obey_command (LoadAddress address) p).1
 loaded address p few = ap (λ (z : Response). z.1) (obeys (LoadAddress address) p few)
@@ -141,7 +140,7 @@ two_idles part address c few fails = record {
         subst (Settled part m) (sym (obeyed_none device i (device.after (body c) q) ∙ (fails q (outside p off)).after))
         (kept m p s)
 
--- if nothing restarts, the commands obeyed and answered are the same
+-- if nothing restarts, the commands executed and replied to are the same
 obeyed_steady : (i : ℕ) (commands : List Command) (p : Programmer)
     → after_commands steady i commands p ≡ after_commands device i commands p
 obeyed_steady zero commands p = refl

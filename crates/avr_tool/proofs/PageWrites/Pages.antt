@@ -28,7 +28,6 @@ pub effects_on : (part : Part) (xs ys : List Item) (m : Memories)
 effects_on part [] ys m = refl
 effects_on part (x ∷ xs) ys m = effects_on part xs ys (effect part x m)
 
--- a byte AND FF is itself
 and_blank : (o : Option ℕ) (x : ℕ) → x < 256 → bit_and x (or_blank o) ≡ and_with o x
 and_blank o x l = search (rules, and_numeral)
 
@@ -51,20 +50,18 @@ unused_gap page image start unused i from to =
     ap (byte_at image) (let e : i ≡ start + (i - start) = omega arith in e)
     ∙ (search (rules, get_or-drop, get_or-take, none_any))
 
--- the page write of a page
 page_changed : (image : Image) (start page : ℕ) (old : List ℕ) → AllBelow old
     → Changed and_with image start (start + page) old (and_in (image_at start (filled_bytes image start page)) old)
 page_changed image start page old below =
     search (rules, filled_is, length-and_in, get_and_in, placed_before, in_part, some_at, and_blank, placed_behind)
 
 module _ (part : Part) (sound : IsPart part) (image : Image) where
-  -- flash after the page writes of these steps
+  -- flash after the write operations of these steps
   pub record Flashed (steps : List (List Command)) (m : Memories) (from : ℕ) (old : List ℕ) : Type 0 where
     pub new : List ℕ
     pub is : effects part (page_writes_of steps) (record m { flash = old }) ≡ record m { flash = new }
     pub written : Written and_with image from old new
 
-  -- one page more in front
   page_first : (n : ℕ) (others : List (List Command)) (m : Memories) (old : List ℕ) → are_locked m ≡ false
       → AllBelow old → n * part.flash_page < 4294967296
       → ((mid : List ℕ) → AllBelow mid → length mid ≡ length old → Flashed others m ((n + 1) * part.flash_page) mid)

@@ -16,7 +16,6 @@ use Rattle.stk_emu.specs.PageWrites.{image_at, page_writes_of}
 use Rattle.stk_emu.proofs.Memories.LaidImages.{get_laid, length-laid, in_part, some_at}
 use Rattle.avr_tool.proofs.PageWrites.Places.{Written, Changed, changed_first, gap_first, all_laid, placed_before, placed_behind}
 
--- the page write of a run
 run_changed : (image : Image) (start end : ℕ) (old : List ℕ) → start ≤ end
     → ((k : ℕ) → start ≤ k → k < end → is_some (byte_at image k) ≡ true)
     → Changed (λ b x. unwrap_or b x) image start end old
@@ -25,13 +24,12 @@ run_changed image start end old order held =
     search (rules, filled_is, length-laid, get_laid, placed_before, in_part, some_at, placed_behind)
 
 module _ (part : Part) (sound : IsPart part) (image : Image) where
-  -- EEPROM after the page writes of these steps
+  -- EEPROM after the write operations of these steps
   pub record Loaded (steps : List (List Command)) (m : Memories) (from : ℕ) (old : List ℕ) : Type 0 where
     pub new : List ℕ
     pub is : effects part (page_writes_of steps) (record m { eeprom = old }) ≡ record m { eeprom = new }
     pub written : Written (λ b x. unwrap_or b x) image from old new
 
-  -- one run more in front
   run_first : (next start end : ℕ) (steps others : List (List Command)) (m : Memories) (old : List ℕ)
       → are_locked m ≡ false → IsNextHeld image next start → start ≤ end
       → end ≡ run_end image start (page_end part.eeprom_page start)

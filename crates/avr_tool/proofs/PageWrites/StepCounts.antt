@@ -1,4 +1,4 @@
--- Each step of a write has one page write: steps are counted as page writes.
+-- Each step of a write has one write operation: steps are counted as write operations.
 use Rattle.std.proofs.lemmas.Grind.{common_steps}
 use Rattle.std.proofs.Common.{◌≡◌, ℕ, zero, suc, List, [], ◌∷◌, ◌++◌, length, take, refl, arith, Bool, cond, rules}
 use Rattle.avr_part.specs.declared.part.Mem.{Mem}
@@ -10,7 +10,6 @@ use Rattle.avr_tool.proofs.Each.{Each, each_on, each_of}
 use Rattle.stk_emu.specs.Effect.{Memories, Image, Item, Erase, Write, effects}
 use Rattle.stk_emu.specs.PageWrites.{page_write_of, page_writes_of, changed_by, all_steps}
 
--- each step has one page write
 abbrev IsPageWrite : List Command → Type 0
 IsPageWrite commands = length (page_write_of commands) ≡ 1
 
@@ -24,7 +23,7 @@ one_more : (part : Part) (items others : List Item) (steps : List (List Command)
 one_more part [] others steps count m e rest = absurd (omega arith)
 one_more part items others steps count m e rest = grind (arith, common_steps)
 
--- so the memories after the first `count` steps are those after the first `count` page writes
+-- so the memories after the first `count` steps are those after the first `count` write operations
 pub counted_page_writes : (part : Part) (count : ℕ) (steps : List (List Command)) (m : Memories) → ArePageWrites steps
     → changed_by part count steps m ≡ effects part (take count (page_writes_of steps)) m
 counted_page_writes part zero steps m are = refl

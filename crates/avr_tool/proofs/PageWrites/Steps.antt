@@ -22,7 +22,6 @@ use Rattle.stk_emu.proofs.Memories.Runs.{run_does}
 use Rattle.stk_emu.proofs.Memories.Pages.{page_does}
 use Rattle.avr_tool.proofs.Given.ReadAnswers.{flash_read_keeps, eeprom_read_keeps}
 
--- twice is once
 pub effect_twice : (part : Part) (item : Item) (m : Memories)
     → effect part item (effect part item m) ≡ effect part item m
 effect_twice part Erase m = search (rules, length-replicate)
@@ -48,7 +47,6 @@ module _ (part : Part) where
   pub leave_fits : (m : Memories) → Fits device (leave ∷ []) (Idle part m) (Idle part m)
   leave_fits m = search (rules, one_fits, leave_keeps, anew_idle)
 
-  -- the same if nothing restarts
   pub sign_on_steady : (m : Memories) → Fits steady (SignOn ∷ []) (Idle part m) (Idle part m)
   sign_on_steady m = search (rules, one_steady)
 
@@ -59,7 +57,6 @@ module _ (part : Part) where
   leave_steady m = search (rules, one_steady)
 
   module _ (sound : IsPart part) where
-    -- what is repeated
     again_of : (commands : List Command) (m : Memories) (q : Programmer)
         → changed part commands (changed part commands m) ≡ changed part commands m
         → Ready part (changed part commands (changed part commands m)) q → Ready part (changed part commands m) q
@@ -103,7 +100,6 @@ module _ (part : Part) where
     pub fuse_read_fits : (f : Fuse) (m : Memories) → Fits steady (read_fuse f ∷ []) (Ready part m) (Ready part m)
     fuse_read_fits f m = quiet (read_fuse f) m (λ p s. subst (Ready part m) (sym (fuse_read_after f p s.mode)) s)
 
-    -- from the commands as they are written
     by_commands : (written commands : List Command) (m : Memories) → commands ≡ written
         → Fits steady written (Ready part m) (Ready part (changed part written m))
         → Fits steady commands (Ready part m) (Ready part (changed part commands m))

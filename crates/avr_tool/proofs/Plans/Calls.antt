@@ -1,4 +1,5 @@
--- Each action is one call of the host and the output about its outcome. All but the opening are steps and a judgement.
+-- Each action is one call of the host and the output about its outcome. All but the opening are steps and a check of
+-- their data.
 use Rattle.std.proofs.Common.{◌≡◌, ℕ, List, [], length, refl, sym, ap, ◌∙◌, arith, Ok, Err, Result, rules}
 use Rattle.std.proofs.lemmas.Bool.{cond-true}
 use Rattle.std.proofs.lemmas.List.{append-nil}
@@ -35,7 +36,6 @@ Outcome (SaveMemory mem format file) = List ℕ
 Outcome action = ⊤
 
 module _ (part : Part) where
-  -- if no step fails
   abbrev pub outcome_of : (action : Action) → Memories → Result (Outcome action) HostFault
   outcome_of OpenSession m = Ok part.signature
   outcome_of EraseChip m = Ok tt
@@ -73,7 +73,7 @@ module _ (part : Part) where
     expected_is OpenSession m = refl
     expected_is action m = search rules
 
-    -- the judgement of a call, and what its steps give and leave
+    -- the check of a call's data, and what its steps give and leave
     pub record IsOperation (action : Action) (m : Memories) : Type 0 where
       pub judge : List ℕ → Result (Outcome action) HostFault
       pub call_is : operation (action_steps part action) judge ≡ call_of action

@@ -39,7 +39,6 @@ module _ (part : Part) where
       (task_fits s task (All-head (IsFitted part) task tasks fitted))
       (tasks_fit s tasks (All-tail (IsFitted part) task tasks fitted))
 
-  -- so their items do
   pub action_items_fit : (action : Action) → FitsAction part action → AllFitItems part (action_items action)
   action_items_fit action fits = search rules
 

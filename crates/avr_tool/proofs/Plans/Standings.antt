@@ -4,7 +4,6 @@ use Rattle.stk_host.specs.declared.fault.HostFault.{HostFault}
 use Rattle.avr_session.specs.Standing.{Standing, Fine, Faulty, Over}
 use Rattle.avr_session.specs.Session.{standing}
 
--- after a fault a session is faulty or over
 pub after_fault : (A : Type 0) (P : Standing → Type 0) (fault : HostFault) → P Faulty → P Over
     → P (standing {A = A} (Err fault))
 after_fault A P fault faulty over = search rules

@@ -39,7 +39,6 @@ after_planning p tape = behind (map Said p.says) (after_answer p.answer tape)
 answered : {p q : StageResult Plan} → p ≡ q → p.answer ≡ q.answer
 answered e = ap (λ (p : StageResult Plan). p.answer) e
 
--- the whole session of the plan that was made
 pub ran_whole : (settings : Settings) (plan : Plan) (x y : Devices) (between : DeskState) (status : ℕ)
     → Went (planned settings) x.desk between (Made plan) → IsPlayed (session plan) (devices x.link between) y status
     → IsRun settings x y status
@@ -156,7 +155,6 @@ break_part (NotRead name bytes) told x y tells = line_part (not_read_line name) 
 break_part NoMemory told x y tells = line_part memory_line told x y tells
 break_part (NoMemoryFor reading) told x y tells = line_part memory_line told x y tells
 
--- a stop in the session
 stopped_prefix : (settings : Settings) (x y : Devices) → StoppedPlaying settings x y → IsPrefixOfRun settings x y
 stopped_prefix settings x y stopped = record {
   openings = stopped.made.passed;
@@ -196,7 +194,6 @@ broken_kept whole break told r t kept =
     ∙ ap (λ done. after_err told (after_all (done ++ opened_at (InPlanning break)) r))
     (sym (said_outputs whole [] ∙ append-nil whole))
 
--- a stop in planning
 planned_prefix : (settings : Settings) (x y : Devices) → StoppedPlanning settings x y → IsPrefixOfRun settings x y
 planned_prefix settings x y stopped = record {
   openings = stopped.broke.passed;

@@ -1,4 +1,4 @@
--- The calls of a host over turns that are sure: each has all its data, and only the faults that these data give.
+-- The calls of a host over exchanges that are sure: each has all its data, and only the faults that these data give.
 use Rattle.std.proofs.Common.{ℕ, List, [], ◌∷◌, length, refl, subst, arith, inl, Bool, Ok, rules}
 use Rattle.avr_cli.specs.declared.settings.Switches.{Switches}
 use Rattle.avr_part.specs.declared.part.Mem.TheVariants.{Signature}
@@ -82,7 +82,7 @@ module _ (Such : List Turn → Type 0) (sure : IsSure Such) where
 
   -- ---- the calls of a session
 
-  -- the programmer is in programming mode, and few of the turns to come are bad
+  -- the programmer is in programming mode, and few of the exchanges to come are bad
   abbrev pub AtSure : Part → Memories → Spot → Type 0
   AtSure part m z = Ready part m z.0 × Such z.1
 

@@ -1,4 +1,4 @@
--- Over good turns each step gives its data, in its first attempt.
+-- Over good exchanges each step gives its data, in its first attempt.
 use Rattle.std.proofs.Common.{◌≡◌, ℕ, zero, suc, List, [], ◌∷◌, ◌++◌, sym, ap, ◌∙◌, subst, inl, ◌⊎◌, Ok, rules}
 use Rattle.std.specs.Prelude.{⊤}
 use Rattle.stk_frame.specs.declared.command.Command.{Command}
@@ -40,7 +40,7 @@ AreSteady (turn ∷ turns) = IsSteady turn × AreSteady turns
 others_steady : (turns : List Turn) → AreSteady turns → AreSteady (other_turns turns)
 others_steady turns s = search rules
 
--- over such turns no device restarts
+-- over such exchanges no device restarts
 pub on_steady : {R : Type 0} (After : R → Spot → Type 0) (d : Dialog ⊥ R) (z : Spot) → AreSteady z.1
     → HoldsFrom (this_link steady) (λ bytes y. ⊤) NoSays After d z
     → HoldsFrom (this_link device) (λ bytes y. ⊤) NoSays After d z
@@ -48,7 +48,7 @@ on_steady After (Done r) z s h = h
 on_steady After (Say e d) z s h = absurd e
 on_steady After (Ask bytes go_on) z s h = search (rules, on_steady After (go_on _) _ (others_steady z.1 s) (h.1 tt))
 
--- ---- good turns
+-- ---- good exchanges
 
 first_good : (turns : List Turn) → AreGood turns → first_turn turns ≡ Right
 first_good turns good = search rules

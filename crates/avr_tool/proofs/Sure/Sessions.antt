@@ -1,4 +1,4 @@
--- A session over turns that are sure goes as its expected run.
+-- A session over exchanges that are sure goes as its expected run.
 use Rattle.std.proofs.Common.{◌≡◌, ℕ, List, All, inl, inr}
 use Rattle.avr_part.specs.Part.{IsPart}
 use Rattle.avr_plan.specs.Plan.{Plan, IsFitted}

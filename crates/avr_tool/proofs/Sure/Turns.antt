@@ -1,4 +1,4 @@
--- Turns over which each step gives its data: then a run of steps gives all that they give.
+-- Exchanges over which each step gives its data: then a run of steps gives all that they give.
 use Rattle.std.proofs.Common.{◌≡◌, ℕ, ◌≤◌, List, [], ◌∷◌, ◌++◌, length, sym, ap, ◌∙◌, subst, append_assoc, inl, inr, ◌⊎◌, Ok, rules}
 use Rattle.std.proofs.lemmas.List.{append-nil}
 use Rattle.std.specs.Prelude.{⊤}
@@ -20,7 +20,7 @@ use Rattle.stk_emu.proofs.Answers.Commands.{steady}
 use Rattle.avr_tool.proofs.PageWrites.Steps.{step_ready}
 use Rattle.avr_tool.proofs.Given.StepsGive.{step_data, changed_sizes, given_same}
 
--- from each programmer under the first condition, over such turns, to this result and one under the second
+-- from each programmer under the first condition, over such exchanges, to this result and one under the second
 abbrev pub Brings : {R : Type 0} → (List Turn → Type 0) → (Programmer → Type 0) → Dialog ⊥ R → R
     → (Programmer → Type 0) → Type 0
 Brings Such Before d r After = (z : Spot) → Before z.0 → Such z.1
@@ -39,7 +39,6 @@ module _ (Such : List Turn → Type 0) where
       → Brings Such Before (d >>= next) b After
   brings_bind next a b Before Between After d first more z before such = search (rules, bind)
 
-  -- the result of a call, reported in another form
   pub brings_told : {A B : Type 0} (d : Dialog ⊥ A) (tell : A → B) (a : A) (Before After : Programmer → Type 0)
       → Brings Such Before d a After → Brings Such Before (d >>= (λ outcome. Done (tell outcome))) (tell a) After
   brings_told d tell a Before After l z before such =
@@ -64,7 +63,6 @@ module _ (part : Part) (sound : IsPart part) where
         → Brings Such (Ready part m) (step commands) (Ok (given_by part commands m)) (Ready part (changed part commands m))
     brings_one commands m is f = search (rules, sure, step_ready, step_short, data_either)
 
-    -- a run of steps gives all that they give
     pub brings_play : (steps : List (List Command)) (m : Memories) (before : List ℕ) → AreSteps part steps
         → FitsPart part m
         → Brings Such (Ready part m) (play steps before) (Ok (before ++ all_given part steps m))

@@ -1,4 +1,4 @@
--- Each answer of the programmer is a body that fits a frame.
+-- Each reply of the programmer fits a frame.
 use Rattle.std.proofs.lemmas.Grind.{common_steps}
 use Rattle.std.proofs.Common.{◌≡◌, ℕ, zero, suc, List, [], ◌∷◌, length, refl, ap, arith, Bool, true, if◌then◌else◌, length-append, rules}
 use Rattle.std.proofs.lemmas.Bool.{leb-true, and_parts}
@@ -9,14 +9,12 @@ use Rattle.stk_emu.specs.Programmer.{Programmer, Response, obey, obey_command, f
 use Rattle.stk_emu.specs.Device.{Device, device}
 use Rattle.stk_emu.specs.Lawful.{IsBody}
 
--- each answer to a body is a body that fits a frame
 abbrev pub AnswersBodies : {P : Type 0} → Device P → Type 0
 AnswersBodies {P} m = (bytes : List ℕ) (p : P) → IsBody bytes → IsBody (m.answer bytes p)
 
 two : (x y : ℕ) → IsBody (x ∷ y ∷ [])
 two x y = record { some = omega arith; few = omega arith }
 
--- a choice of answers
 when : (b : Bool) (x y : Response) → (b ≡ true → IsBody x.0) → IsBody y.0 → IsBody (if b then x else y).0
 when b x y f g = search rules
 

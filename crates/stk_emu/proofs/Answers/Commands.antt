@@ -17,7 +17,7 @@ use Rattle.stk_emu.specs.Effect.{Memories}
 use Rattle.stk_emu.specs.PageWrites.{changed}
 use Rattle.stk_emu.specs.Settled.{Idle, Settled, Ready}
 
--- a body is obeyed as its command
+-- executing a command's body is executing the command
 pub obeys : (c : Command) (p : Programmer) → decoding.FieldsFit c → obey (body c) p ≡ obey_command c p
 obeys c p fits = ap (λ o. read_as o (body c) p) (read_back c fits)
 
@@ -56,7 +56,6 @@ module _ {P : Type 0} (m : Device P) where
 abbrev pub steady : Device Programmer
 steady = record { answer = device.answer; after = device.after; reset = λ p. p }
 
--- its steps
 pub one_steady : (c : Command) (Before After : Programmer → Type 0)
     → ((p : Programmer) → Before p → After (device.after (body c) p))
     → ((p : Programmer) → After p → After (device.after (body c) p)) → Fits steady (c ∷ []) Before After
@@ -75,7 +74,6 @@ pub in_mode_is : (p : Programmer) (x y : Response) → p.mode ≡ true → (cond
 in_mode_is p x y e = ap (λ z. z.1) (cond-true p.mode x y e)
 
 module _ (part : Part) where
-  -- a settled programmer is idle
   pub settled_idle : (m : Memories) (p : Programmer) → Settled part m p → Idle part m p
   settled_idle m p s = search (rules, length-replicate)
 
@@ -96,7 +94,7 @@ module _ (part : Part) where
   pub anew_settled : (m : Memories) (p : Programmer) → Settled part m p → Settled part m (device.reset p)
   anew_settled m p s = search (rules, settled_idle)
 
-  -- ENTER puts the mode on, and empties the buffers
+  -- CMD_ENTER_PROGMODE_ISP sets programming mode and empties the buffers
   pub enter_does : (m : Memories) (p : Programmer) → Idle part m p → Ready part m (device.after (body enter) p)
   enter_does m p s = search rules
 
@@ -107,7 +105,6 @@ module _ (part : Part) where
       → Ready part m (device.after (body (LoadAddress address)) p)
   load_keeps address m p fits s = search rules
 
-  -- the fuses
   pub fuse_does : (f : Fuse) (v : ℕ) (m : Memories) (p : Programmer) → Ready part m p
       → Ready part (changed part (program_fuse f v ∷ []) m) (device.after (body (program_fuse f v)) p)
   fuse_does f v m p s = search rules

@@ -1,4 +1,4 @@
--- Answers to texts, piece by piece.
+-- Replies to a text that is fed piece by piece.
 use Rattle.std.proofs.lemmas.Grind.{common_steps}
 use Rattle.std.proofs.Common.{◌≡◌, ℕ, ◌+◌, List, [], ◌∷◌, ◌++◌, ◌<◌, ◌≤◌, length, take, drop, refl, sym, append_assoc, arith, length-drop, rules}
 use Rattle.std.specs.Prelude.{filter}
@@ -31,7 +31,7 @@ found_frames event held tells = search rules
 pub found_few : (event : Event) (held : List ℕ) → length (frames_of_event event held) ≤ 1
 found_few event held = search rules
 
--- an answer belongs to a frame that is held whole
+-- a reply belongs to a frame that has arrived whole
 pub answer_ends : (event : Event) (held out : List ℕ) (p : Programmer) → TellsEvent event held
     → out ≡ answers device (frames_of_event event held) p → 0 < length out → HoldsFrame held
 answer_ends event held out p tells e some = search rules
@@ -41,16 +41,15 @@ pub frames_fed : (old used new : List ℕ) (fs : List (List ℕ)) (text : List �
     → filter is_frame fs ≡ fs → MayHold old text → frames (text ++ used) ≡ frames text ++ fs
 frames_fed old used new fs text fed are stands = search (rules, filter-append)
 
--- without an answer no frame ended
+-- without a reply no frame ended
 pub none_found : (event : Event) (held : List ℕ) (p : Programmer) → answers device (frames_of_event event held) p ≡ []
     → event ≡ More
 none_found event held p e = search rules
 
--- no bytes bring no answers
 pub appends_none : (machine : Machine) (before : List ℕ) → AppendsAnswers machine [] machine before before
 appends_none machine before = search rules
 
--- the answers of one call, appended
+-- the replies of one call, appended
 pub appends_one : (old new : Machine) (used out before after : List ℕ) → Answers old used new out
     → after ≡ before ++ out → AppendsAnswers old used new before after
 appends_one old new used out before after a is = grind (arith, common_steps)
@@ -67,18 +66,16 @@ pub appends_prefix : (bytes : List ℕ) (n : ℕ) (old new : Machine) (a b : Lis
 appends_prefix bytes n old new a b appends some =
     search (rules, length-drop, drop n bytes, sym (take-append-drop n bytes))
 
--- it stays an emulator that was fed a text
 pub appends_fed : (old new : Machine) (bytes a b : List ℕ) (p : Programmer) (text : List ℕ)
     → AppendsAnswers old bytes new a b → IsFed p text old → IsFed p (text ++ bytes) new
 appends_fed old new bytes a b p text appends f = search (rules, after_more)
 
--- and a list of all answers stays one
+-- a list of all replies stays one
 pub appends_all : (old new : Machine) (bytes a b : List ℕ) (p : Programmer) (text given : List ℕ)
     → AppendsAnswers old bytes new a b → IsFed p text old → given ++ a ≡ emulate p text
     → given ++ b ≡ emulate p (text ++ bytes)
 appends_all old new bytes a b p text given appends f all = search (rules, append_assoc, answers_more)
 
--- the same of one call
 pub is_fed : (old new : Machine) (used out : List ℕ) (p : Programmer) (text : List ℕ) → Answers old used new out
     → IsFed p text old → IsFed p (text ++ used) new
 is_fed old new used out p text a f =

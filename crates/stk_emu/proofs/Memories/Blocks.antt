@@ -8,7 +8,6 @@ sent-append [] ys chip = refl
 sent-append (x ∷ xs) ys chip = sent-append xs ys ((spi_of x chip).1)
 
 module _ (wide : Bool) (cmd address i : ℕ) where
-  -- the byte i is loaded
   pub flash_load : (bytes out : List ℕ) (chip after whole : ChipState) → i < length bytes
       → sent_to (flash_loads wide cmd address i (drop i bytes)) chip ≡ whole
       → (out, after) ≡ spi_of (at_address (for_half cmd i) (word_at address i) (get_or bytes i 0))
@@ -28,14 +27,13 @@ pub record LooksOn (before : List ℕ) (whole : List ℕ × ChipState) (out : Li
   pub bytes : out ++ more.0 ≡ before ++ whole.0
   pub chip : more.1 ≡ whole.1
 
--- one more byte was read: an instruction was sent, and the fourth byte received was put after those so far
+-- one more byte was read: an instruction was sent, and its fourth output byte was appended
 pub record PutsLook (x : List ℕ) (chip after : ChipState) (out new : List ℕ) : Type 0 where
   pub answer : List ℕ
   pub obeyed : (answer, after) ≡ spi_of x chip
   pub put : new ≡ out ++ get_or answer 3 0 ∷ []
 
 module _ (before : List ℕ) (whole : List ℕ × ChipState) (cmd address i : ℕ) where
-  -- the byte i is read
   pub flash_look : (wide : Bool) (n m : ℕ) (chip after : ChipState) (out new : List ℕ) → n ≡ suc m
       → LooksOn before whole out (flash_looks wide cmd address i n chip)
       → PutsLook (at_address (for_half cmd i) (word_at address i) 0)

@@ -1,4 +1,4 @@
--- Blocks of flash at once are blocks instruction by instruction.
+-- Loading or reading a block of flash at once does the same as its instructions one by one.
 use Rattle.std.proofs.Common.{◌≡◌, ℕ, zero, suc, ◌+◌, ◌-◌, ◌*◌, ◌/◌, ◌%◌, ◌≤◌, ◌<◌, List, [], ◌∷◌, length, refl, sym, ap, ◌∙◌, arith, Bool, true, cond, Some, None, rules}
 use Rattle.avr_part.specs.State as chip
 use Rattle.avr_part.specs.State.{half_offset}
@@ -22,7 +22,6 @@ keeps_extended word i [] s = refl
 keeps_extended word i (d ∷ ds) s = keeps_extended word (suc i) ds
     (chip.after_instruction (LoadFlash (half_at i) ((word + i / 2) % 256) d) s)
 
--- one byte is loaded
 one_load : (wide : Bool) (a i d : ℕ) (ds : List ℕ) (s : chip.ChipState)
     → sent_to (flash_loads wide 0x40 a i (d ∷ ds)) s
     ≡ sent_to (flash_loads wide 0x40 a (suc i) ds)

@@ -8,13 +8,12 @@ use Rattle.avr_part.specs.State as chip
 use Rattle.stk_emu.specs.Programmer.{sent_to, extension, flash_looks, eeprom_looks, look, for_half, word_at, byte_address, at_address, high, low}
 use Rattle.stk_emu.proofs.Memories.Pages.{extended_is}
 
--- the bytes read after an instruction whose answer is known
+-- the bytes read after an instruction whose output is known
 pub look_by : (x : List ℕ) (s : chip.ChipState) {got : List ℕ × chip.ChipState}
     (more : chip.ChipState → List ℕ × chip.ChipState) → chip.spi_of x s ≡ got
     → look x s more ≡ (slice_index got.0 3 ∷ (more got.1).0, (more got.1).1)
 look_by x s more e = ap (λ (z : List ℕ × chip.ChipState). (slice_index z.0 3 ∷ (more z.1).0, (more z.1).1)) e
 
--- one byte of flash is read
 pub look_byte : (i h lo : ℕ) (s : chip.ChipState) → chip.spi_of (for_half 0x20 i ∷ h ∷ lo ∷ 0 ∷ []) s
     ≡ (
       0 ∷ for_half 0x20 i ∷ h ∷ get_or s.flash
@@ -75,7 +74,7 @@ eeprom_looked a i (suc n) size s is long most fits =
     let more = eeprom_looked a (suc i) n size s is long most (omega arith) in
     grind (arith, common_steps)
 
--- whatever is read, only the extended address changes
+-- reading changes only the extended address
 pub record Left (wide : Bool) (s t : chip.ChipState) : Type 0 where
   pub value : ℕ
   pub kept : wide ≡ false → value ≡ s.extended

@@ -48,7 +48,6 @@ pub extended_is : (wide : Bool) (a : ℕ) (s : chip.ChipState)
     → sent_to (extension wide a) s ≡ record s { extended = cond wide (a / 65536 % 256) s.extended }
 extended_is wide a s = search rules
 
--- one byte is loaded
 pub load_byte : (i h lo d : ℕ) (s : chip.ChipState)
     → (chip.spi_of (for_half 0x40 i ∷ h ∷ lo ∷ d ∷ []) s).1
     ≡ record s { flash_buffer = set s.flash_buffer (lo % (s.part.flash_page / 2) * 2 + i % 2) d }
@@ -107,7 +106,6 @@ flash_written : (wide : Bool) (s : chip.ChipState) (a start size page : ℕ) →
 flash_written wide s a start size page pe se few inside narrow at = search (rules, word_whole, mod-eq_of_lt)
 
 module _ (part : Part) (sound : IsPart part) where
-  -- the chip after a page
   record Paged (n : ℕ) (page : List ℕ) (s t : chip.ChipState) : Type 0 where
     value : ℕ
     kept : is_wide part ≡ false → value ≡ s.extended

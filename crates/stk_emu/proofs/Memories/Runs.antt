@@ -19,7 +19,7 @@ use Rattle.stk_emu.proofs.Memories.Blocks.{sent-append}
 use Rattle.stk_emu.proofs.Memories.LaidImages.{put, run_laid, length_put}
 use Rattle.stk_emu.proofs.Answers.Commands.{in_mode_is}
 
--- an address that needs no extended one
+-- a loaded address that needs no extended address
 pub narrow_loaded : (address : ℕ) (p : Programmer) → address < 2147483648
     → device.after (body (LoadAddress address)) p ≡ record p { address = address; wide = false }
 narrow_loaded address p few = search rules
@@ -31,7 +31,6 @@ place_in address page k whole some within few =
     let split : address + k ≡ address / page * page + (address % page + k) = search rules in
     search (rules, mod-eq_of_lt, mod-mod_of_dvd, dvd_of_mod-eq-zero, mod-mul-add)
 
--- the loads of a run
 eeprom_loaded : (a i off page : ℕ) (ds : List ℕ) (s : chip.ChipState) → s.part.eeprom_page ≡ page
     → ((k : ℕ) → k < length ds → byte_address a (i + k) % 256 % page ≡ off + k)
     → sent_to (eeprom_loads 0xC1 a i ds) s ≡ record s { eeprom_buffer = put Some off ds s.eeprom_buffer }

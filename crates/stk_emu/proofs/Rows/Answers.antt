@@ -11,7 +11,7 @@ use Rattle.stk_emu.specs.declared.programmer.TheConstants.{LARGEST_READ}
 use Rattle.stk_emu.specs.declared.arrival.TheConstants.{ROOM}
 
 -- the most bytes that a request reads, the most noise on a link at a time, and the room for all that one frame can
--- bring: three late answers, noise and a timeout
+-- bring: three late replies, noise and a timeout
 pub limits : (LARGEST_READ ≡ 272) × (LARGEST_NOISE ≡ 2048) × (ROOM ≡ 2891)
 limits = (refl, refl, refl)
 
@@ -53,6 +53,6 @@ pub load_is_lost : restarted_programmer (behind
     (0x13 ∷ 0x00 ∷ 0x02 ∷ 0x41 ∷ 0x0A ∷ 0x40 ∷ 0x4C ∷ 0x20 ∷ 0xFF ∷ 0xFF ∷ 0x12 ∷ 0x34 ∷ []) loaded) ≡ start
 load_is_lost = refl
 
--- the frame that answers a command that no programmer knows
+-- the reply's frame to an unknown command
 abbrev pub told : ℕ → List ℕ
 told n = frame n (0x05 ∷ 0xC9 ∷ [])

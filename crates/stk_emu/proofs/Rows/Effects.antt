@@ -1,4 +1,4 @@
--- Worked rows of an erase and of writes, on small memories.
+-- Worked examples of an erase and of writes, on small memories.
 use Rattle.std.proofs.Common.{◌≡◌, ℕ, [], ◌∷◌, Some, None, refl}
 use Rattle.avr_part.specs.BuiltIn.{m328p}
 use Rattle.avr_part.specs.declared.part.Mem.TheVariants.{Flash, Eeprom, Lock}

@@ -1,4 +1,4 @@
--- What a frame brings over the wire, as it is read.
+-- What a frame brings over the wire, and how the host reads it.
 use Rattle.std.proofs.lemmas.Grind.{common_steps}
 use Rattle.std.proofs.Common.{◌≡◌, ℕ, ◌*◌, ◌≤◌, ◌<◌, ◌≢◌, List, [], ◌∷◌, ◌++◌, length, refl, sym, ap, ◌∙◌, append_assoc, arith, inl, inr, Some, None, length-append, rules}
 use Rattle.std.proofs.lemmas.Bool.{cases_Bool}
@@ -18,7 +18,7 @@ use Rattle.stk_emu.specs.Wire.{IsLawfulFate, first_fate, turn_of, back, let_go, 
 use Rattle.stk_emu.specs.Lawful.{IsLawful, IsBody, Late, none_late, waiting, later, IsPast, IsClear}
 use Rattle.stk_emu.specs.Turn.{after_turn, turn_reading}
 
--- without a good frame there is no answer
+-- without a good frame there is no reply
 none_good : (n : ℕ) (pieces : List (List ℕ)) → filter is_good pieces ≡ [] → first_answer n pieces ≡ None
 none_good n [] e = refl
 none_good n (piece ∷ pieces) e = elim (cases_Bool (is_good piece)) [
@@ -29,7 +29,7 @@ none_good n (piece ∷ pieces) e = elim (cases_Bool (is_good piece)) [
 frame_cut : (n : ℕ) (bytes more : List ℕ) → IsBody bytes → cut (frame n bytes ++ more) ≡ frame n bytes ∷ cut more
 frame_cut n bytes more b = cut_first (frame n bytes) more (frame_is_piece n bytes b.some b.few)
 
--- Bytes that are skipped: those after them are judged as if alone.
+-- Skipped bytes don't change how those after them are read.
 pub record Skipped (n : ℕ) (prefix : List ℕ) : Type 0 where
   pub first : (more : List ℕ) → first_answer n (cut (prefix ++ more))
       ≡ further (length prefix) (first_answer n (cut more))
@@ -43,12 +43,11 @@ frame_skipped n seq bytes other carried = search (rules, frame_cut)
 pub both_skipped : (n : ℕ) (x y : List ℕ) → Skipped n x → Skipped n y → Skipped n (x ++ y)
 both_skipped n x y f g = search (rules, append_assoc, length-append)
 
--- an answer to a frame before this one
+-- a reply to a frame before this one
 late_skipped : (k n : ℕ) (late : List ℕ) → ((seq : ℕ) → later k seq ≡ n → seq ≢ n) → IsPast k n late → Skipped n late
 late_skipped k n late other (inl e) = rw e (none_skipped n)
 late_skipped k n late other (inr l) = rw l.is (frame_skipped n l.seq l.bytes (other l.seq l.before) l.carried)
 
--- all that wait
 clear_skipped : (n : ℕ) (late : Late) → IsClear n late → Skipped n (waiting late)
 clear_skipped n late c =
     both_skipped n late.first (late.second ++ late.third)
@@ -59,7 +58,6 @@ clear_skipped n late c =
 clear_length : (n : ℕ) (late : Late) → IsClear n late → length (waiting late) ≤ 3 * LARGEST_FRAME
 clear_length n late c = search (rules, length-append)
 
--- the answer itself
 pub found_frame : (n : ℕ) (bytes : List ℕ) → IsBody bytes
     → first_answer n (cut (frame n bytes)) ≡ Some (bytes, length (frame n bytes))
 found_frame n bytes b = grind (arith, common_steps)
@@ -104,8 +102,7 @@ reads_back n (AnswerSpoiled noise) late bytes more clear lawful b =
 reads_back n _ late bytes more clear lawful b =
     reads_silence n (waiting late) [] more (clear_skipped n late clear) (clear_length n late clear) no_noise
 
--- The arrival of a frame of sequence n is read whole, and nothing else. The answer is the programmer's, the refusal, or
--- a timeout.
+-- The arrival for frame n is read whole, and nothing after it: as the programmer's reply, the refusal or a timeout.
 pub arrival_read : {P : Type 0} (m : Device P) (n : ℕ) (bytes : List ℕ) (w : Wire P) (more : Tape) → IsBody bytes
     → IsBody (m.answer bytes w.programmer) → IsClear n w.late → IsLawfulFate (first_fate w.fates)
     → answer n (arrival m (frame n bytes) w ++ more)
@@ -118,11 +115,10 @@ pub arrival_leaves : {P : Type 0} (m : Device P) (n : ℕ) (bytes : List ℕ) (w
     ≡ after_turn (turn_of (first_fate w.fates)) (m.after bytes w.programmer) w.programmer m.reset
 arrival_leaves m n bytes w b = search (rules, frame_is_good, body_of_frame)
 
--- nothing waits
 pub none_clear : (n : ℕ) → IsClear n none_late
 none_clear n = record { first = inl refl; second = inl refl; third = inl refl }
 
--- what comes late has the sequence of its frame
+-- a late reply has the sequence number of its frame
 late_is : (n : ℕ) (fate : Fate) (bytes : List ℕ) (late : Late) → IsBody bytes → IsClear n late
     → IsClear (next n) (late_of fate (frame n bytes) late)
 late_is n fate bytes late b c = search rules

@@ -1,4 +1,4 @@
--- What a wire keeps, as frames pass and items are received.
+-- Sending and receiving keep a wire one that follows its fates.
 use Rattle.std.proofs.Common.{◌≡◌, ℕ, List, [], ◌∷◌, ◌++◌, length, drop, refl, ap, ◌∙◌, append_assoc, rules}
 use Rattle.std.proofs.lemmas.List.{append-nil, take-append-drop}
 use Rattle.stk_frame.specs.Cut.{frames}
@@ -38,7 +38,6 @@ pub keeps_hearing : (old : WiredState) (items : Tape) (p : Programmer) (fates : 
     → FollowsFates p fates old → FollowsFates p fates (after_hearing items old)
 keeps_hearing old items p fates next keeps = search (rules, sent_append, heard_append, append_assoc, take-append-drop)
 
--- a state with the items received, part by part
 pub heard_state : (w : WiredState) (transcript : Transcript) (waits items : Tape)
     → transcript ≡ w.transcript ++ Got items ∷ []
     → waits ≡ drop (length items) w.waits

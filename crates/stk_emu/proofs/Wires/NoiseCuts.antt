@@ -28,7 +28,6 @@ fed_rest : (old new noise : List ℕ) (at used : ℕ) (fs : List (List ℕ))
     → Fed old (take used (take (length noise - at) (drop at noise))) new fs → Fed old (take used (drop at noise)) new fs
 fed_rest old new noise at used fs fed = search (rules, take_all, length-drop)
 
--- no good frame was found
 pub noise_next : (old new noise : List ℕ) (at used : ℕ) (event : Event)
     → Fed old (take used (take (length noise - at) (drop at noise))) new (frames_of_event event new)
     → TellsEvent event new → event ≢ Frame
@@ -42,7 +41,6 @@ noise_next old new noise at used event part tells bad stands none =
       good_fed old (take used (drop at noise)) new fs (take at noise) fed stands none ∙ (search rules),
     )
 
--- a good frame was found
 pub good_next : (old new noise : List ℕ) (at used : ℕ)
     → Fed old (take used (take (length noise - at) (drop at noise))) new (new ∷ []) → is_good new ≡ true
     → MayHold old (take at noise) → filter is_good (cut (take at noise)) ≡ []

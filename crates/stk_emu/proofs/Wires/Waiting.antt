@@ -1,4 +1,4 @@
--- What waits, as it is kept.
+-- What waits to be received, as bytes and places of timeouts.
 use Rattle.std.proofs.Common.{◌≡◌, ℕ, zero, suc, ◌+◌, ◌-◌, ◌<◌, ◌≤◌, List, [], ◌∷◌, ◌++◌, length, take, drop, slice_index_or, refl, ap, sym, ◌∙◌, append_assoc, arith, rules, length-drop}
 use Rattle.std.proofs.lemmas.List.{length-take, map-append, drop-map, drop-append-le, take-append-le, drop-drop, drop-take, take_rest, length-map, drop_all}
 use Rattle.stk_host.specs.declared.link.Item.TheVariants.{Byte, Silence, End}
@@ -40,7 +40,6 @@ pub within_next : (at n : ℕ) (places : List ℕ) → AreWithin at places n →
 within_next at n [] w = w
 within_next at n (place ∷ places) w = within_from at place n places w.0 w.2
 
--- more bytes wait
 pub bytes_put : (at : ℕ) (bytes more places : List ℕ) → at ≤ length bytes → AreWithin at places (length bytes)
     → tape_in at (bytes ++ more) places ≡ tape_in at bytes places ++ on_tape more
 bytes_put at bytes more [] le w = search (rules, drop-append-le, map-append)
@@ -63,7 +62,6 @@ timeout_put at bytes (place ∷ places) w =
     rw (timeout_put place bytes places w.2)
     (sym (append_assoc next (Silence ∷ tape_in place bytes places) (Silence ∷ [])))
 
--- bytes are received
 pub bytes_dropped : (at count : ℕ) (bytes places : List ℕ) → count ≤ length (bytes_in (tape_in at bytes places))
     → tape_in (at + count) bytes places ≡ drop count (tape_in at bytes places)
 bytes_dropped at count bytes [] le = sym (drop-map Byte count (drop at bytes) ∙ ap on_tape (drop-drop count at bytes))
@@ -113,7 +111,6 @@ timeout_dropped at bytes (place ∷ places) w silent =
     omega (arith, w.0, w.1, ap length none, length-take (place - at) (drop at bytes), length-drop at bytes) in
     rw (none, is) refl
 
--- what is next
 pub next_place : (at place : ℕ) (bytes places : List ℕ) → 0 < length places → place ≡ slice_index_or places 0 place
     → bytes_in (tape_in at bytes places) ≡ take (place - at) (drop at bytes)
 next_place at place bytes [] some is = absurd (omega (arith, some))
@@ -130,7 +127,6 @@ pub no_place : (at : ℕ) (bytes places : List ℕ) → length places ≡ 0
 no_place at bytes [] none = bytes_all (drop at bytes)
 no_place at bytes (first ∷ places) none = absurd (omega (arith, none))
 
--- nothing waits
 pub none_wait : (at : ℕ) (bytes cleared places : List ℕ) → length places ≡ 0 → at ≡ length bytes → cleared ≡ []
     → tape_in 0 cleared places ≡ tape_in at bytes places
 none_wait at bytes cleared [] none is empty = rw (empty, drop_all at bytes (omega (arith, is))) refl
@@ -148,7 +144,6 @@ silence_next (Silence ∷ waits) silent = (omega arith, refl)
 silence_next (Byte b ∷ waits) silent = absurd silent
 silence_next (End ∷ waits) silent = absurd silent
 
--- bytes are next
 pub bytes_next : (waits items : Tape) (n : ℕ) → 0 < n → n ≤ length (bytes_in waits) → length items ≡ n
     → items ≡ take n waits → IsNext items waits
 bytes_next [] items n some le size is = absurd (omega (arith, some, le))

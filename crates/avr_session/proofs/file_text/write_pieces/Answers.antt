@@ -18,13 +18,13 @@ put_whole : {A E P : Type 0} (r : Result A E) → IsOk r → OnOk r P → P
 put_whole (Ok a) good put = put
 put_whole (Err e) good put = cc
 
--- a piece was put after what waits, of which a prefix may have gone before
+-- a piece was put after the waiting bytes, of which a prefix may have been written before
 behind : (all done waiting piece rest sent waits next more : List ℕ) → all ≡ done ++ (waiting ++ rest)
     → rest ≡ piece ++ more → waiting ≡ sent ++ waits → next ≡ waits ++ piece → all ≡ (done ++ sent) ++ (next ++ more)
 behind all done waiting piece rest sent waits next more first second third fourth =
     rw (first, third, second, fourth) (simp append_assoc)
 
--- what waits is the last
+-- the waiting bytes are written last
 all_sent : (s : Stream) (old now new : Record) (done waiting text : List ℕ) (r : Result (Unit {0}) DeskFault)
     → text ≡ done ++ waiting → now ≡ after_sent s done old → OnOk r (new ≡ after_sent s waiting now)
     → OnOk r (new ≡ after_sent s text old)
