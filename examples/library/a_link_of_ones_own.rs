@@ -37,7 +37,7 @@ impl Link for Bench {
 
     ghost Start = { Unit {0} };
 
-    ghost comes_of = { λ start bench. Unit {0} };
+    ghost started_as = { λ start bench. Unit {0} };
 
     fn send(&mut self, bytes: &[u8]) -> std::result::Result<usize, LinkFault> {
         let (Ok(()), Ok(())) = (self.passed.reserve(bytes.len()), self.answered.reserve(LARGEST_FRAME)) else {
@@ -47,7 +47,7 @@ impl Link for Bench {
         let mut answer: ArrayVec<u8, LARGEST_FRAME> = ArrayVec::new();
         let used = self.emulator.feed(bytes, &mut answer);
         let _there_is_room = self.answered.extend_from_slice(answer.as_slice());
-        self.passed.say(&bytes[..used]);
+        self.passed.add_sent(&bytes[..used]);
         Ok(used)
     }
 
@@ -56,7 +56,7 @@ impl Link for Bench {
         let count = buffer.len().min(waits.len()).min(AT_MOST);
         buffer[..count].copy_from_slice(&waits[..count]);
         let heard = if count == 0 { Heard::Silence } else { Heard::Bytes(count) };
-        let Ok(()) = self.passed.hear(heard, buffer) else {
+        let Ok(()) = self.passed.receive_piece(heard, buffer) else {
             self.failures = self.failures.saturating_add(1);
             return Err(LinkFault::Failed);
         };

@@ -25,7 +25,7 @@ impl Link for Loopback {
 
     ghost Start = { Unit {0} };
 
-    ghost comes_of = { λ start link. Unit {0} };
+    ghost started_as = { λ start link. Unit {0} };
 
     fn send(&mut self, bytes: &[u8]) -> Result<usize, LinkFault> {
         let sent = self.near.send(bytes);

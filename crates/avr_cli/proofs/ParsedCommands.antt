@@ -7,11 +7,11 @@ use Rattle.clap.specs.declared.builder.arg.Arg.{Arg}
 use Rattle.clap.specs.declared.builder.command.Command.{Command}
 use Rattle.clap.specs.declared.parser.matches.ArgMatches.{ArgMatches}
 use Rattle.clap.proofs.OnLiterals.{clap_on_literals}
-use Rattle.avr_cli.specs.Command.{IsOption, avrstk, target_rules, write_rules, run_rules, telling_rules, file_rules}
+use Rattle.avr_cli.specs.Command.{IsOption, avrstk, target_rules, write_rules, run_rules, message_rules, file_rules}
 
 -- what a proof unfolds to compute the command
 unfoldable pub whole_command : ⊤
-unfolding clap_on_literals avrstk target_rules write_rules run_rules telling_rules file_rules
+unfolding clap_on_literals avrstk target_rules write_rules run_rules message_rules file_rules
 whole_command = tt
 
 pub is_simple-avrstk : is_simple avrstk ≡ true

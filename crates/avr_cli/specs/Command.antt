@@ -57,8 +57,8 @@ run_rules =
     ∷ flag_rule (codes "all") 65 ∷ []
 
 -- -q, -b and -v
-unfoldable pub telling_rules : List Rule
-telling_rules =
+unfoldable pub message_rules : List Rule
+message_rules =
     count_rule (codes "quiet") 113
     ∷ number_rule (codes "baud") 98
     ∷ count_rule (codes "verbose") 118 ∷ []
@@ -86,7 +86,7 @@ pub record IsOption (arg : Arg) (rule : Rule) : Type 0 where
 unfoldable pub avrstk : App
 avrstk =
     with_rules (with_rules (with_rules (with_rules (with_rules (overriding (new_app (codes "avrstk")))
-    target_rules) write_rules) run_rules) telling_rules) file_rules
+    target_rules) write_rules) run_rules) message_rules) file_rules
 
 abbrev pub is_true : Option Bytes → Bool
 is_true None = false
@@ -120,5 +120,5 @@ entries_of rows = record {
 }
 
 -- the settings of a command line's arguments, the program's name first, or why there are none
-abbrev pub asked_by : List Bytes → Result Settings SettingsFault
-asked_by words = settings_of (entries_of (matches_of avrstk words))
+abbrev pub settings_from_arguments : List Bytes → Result Settings SettingsFault
+settings_from_arguments words = settings_of (entries_of (matches_of avrstk words))

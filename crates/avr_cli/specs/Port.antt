@@ -38,12 +38,12 @@ port_of text =
     if bytes_eq text (codes "stdio:") then Ok Stdio
     else port_after text (after_prefix (codes "emu:") text) (after_prefix (codes "net:") text)
 
-abbrev pub port_given_of : Option Bytes → Result Port SettingsFault
-port_given_of None = Err (BadPort None)
-port_given_of (Some text) = port_of text
+abbrev pub port_of_option : Option Bytes → Result Port SettingsFault
+port_of_option None = Err (BadPort None)
+port_of_option (Some text) = port_of text
 
 -- the port of `--serve`, by its number, with the file of `--chip`
-abbrev pub served_at : Bytes → Option ℕ → Option Bytes → Result Port SettingsFault
-served_at text None chip = Err (BadPort (Some text))
-served_at text (Some n) None = Err NoChip
-served_at text (Some n) (Some chip) = Ok (Served text chip)
+abbrev pub port_to_serve : Bytes → Option ℕ → Option Bytes → Result Port SettingsFault
+port_to_serve text None chip = Err (BadPort (Some text))
+port_to_serve text (Some n) None = Err NoChip
+port_to_serve text (Some n) (Some chip) = Ok (Served text chip)

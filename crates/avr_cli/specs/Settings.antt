@@ -3,7 +3,7 @@ use Rattle.std.specs.Prelude.{◌≡◌, ◌⊎◌, ◌+◌, ℕ, Bool, true, fa
 use Rattle.std.specs.Prelude.{if◌then◌else◌, ⊤}
 use Rattle.std.specs.Str.{bytes_eq}
 use Rattle.avr_part.specs.PartFile.{Bytes}
-use Rattle.avr_cli.specs.Port.{port_number, port_given_of, served_at}
+use Rattle.avr_cli.specs.Port.{port_number, port_of_option, port_to_serve}
 use Rattle.avr_cli.specs.Standard.{is_taken}
 use Rattle.avr_cli.specs.Update.{update_of}
 use Rattle.avr_cli.specs.declared.update.Update.{Update}
@@ -28,23 +28,23 @@ pub record Entries : Type 0 where
   pub chip : Option Bytes
 
 -- the contract of calls that make settings: the wanted result, or allocation failed
-abbrev pub GivesOrMemory : {T : Type 0} → Result T SettingsFault → Result T SettingsFault → Type 0
-GivesOrMemory want got = (got ≡ want) ⊎ (got ≡ Err Memory)
+abbrev pub GivesUnlessOutOfMemory : {T : Type 0} → Result T SettingsFault → Result T SettingsFault → Type 0
+GivesUnlessOutOfMemory want got = (got ≡ want) ⊎ (got ≡ Err Memory)
 
 -- the fault holds no text and comes before any text is copied
-abbrev pub keeps_nothing : SettingsFault → Bool
-keeps_nothing NoPart = true
-keeps_nothing (BadPort None) = true
-keeps_nothing NoChip = true
-keeps_nothing fault = false
+abbrev pub keeps_no_text : SettingsFault → Bool
+keeps_no_text NoPart = true
+keeps_no_text (BadPort None) = true
+keeps_no_text NoChip = true
+keeps_no_text fault = false
 
-abbrev pub is_told_anyway : {T : Type 0} → Result T SettingsFault → Bool
-is_told_anyway (Ok value) = false
-is_told_anyway (Err fault) = keeps_nothing fault
+abbrev pub is_reported_anyway : {T : Type 0} → Result T SettingsFault → Bool
+is_reported_anyway (Ok value) = false
+is_reported_anyway (Err fault) = keeps_no_text fault
 
 -- such a fault is returned even if allocation fails
-abbrev pub TellsAnyway : {T : Type 0} → Result T SettingsFault → Result T SettingsFault → Type 0
-TellsAnyway want got = is_told_anyway want ≡ true → got ≡ want
+abbrev pub ReportsAnyway : {T : Type 0} → Result T SettingsFault → Result T SettingsFault → Type 0
+ReportsAnyway want got = is_reported_anyway want ≡ true → got ≡ want
 
 infixl 10 ◌>>=◌
 abbrev pub ◌>>=◌ : {A B : Type 0} → Result A SettingsFault → (A → Result B SettingsFault) → Result B SettingsFault
@@ -80,7 +80,7 @@ checked_streams port updates parts chip =
 abbrev pub run_settings : Bytes → Entries → Result Settings SettingsFault
 run_settings part e = do
   programmer ← checked_programmer e.programmer
-  port ← port_given_of e.port
+  port ← port_of_option e.port
   updates ← updates_of e.updates
   streams ← checked_streams port updates e.parts e.chip
   Ok (record { part = part; port = port; parts = e.parts; updates = updates; switches = e.switches })
@@ -103,7 +103,7 @@ link_settings part = record { part = part; port = Stdio; parts = None; updates =
 -- the settings of an emulator that serves at a port; programmer, updates and switches don't count
 abbrev pub serve_settings : Bytes → Bytes → Entries → Result Settings SettingsFault
 serve_settings part text e = do
-  port ← served_at text (port_number text) e.chip
+  port ← port_to_serve text (port_number text) e.chip
   streams ← checked_streams port [] e.parts e.chip
   Ok (record { part = part; port = port; parts = e.parts; updates = []; switches = no_switches })
 

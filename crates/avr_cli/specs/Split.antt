@@ -11,12 +11,12 @@ after_prefix (p ∷ ps) (c ∷ cs) = if p == c then after_prefix ps cs else None
 abbrev pub colon : ℕ
 colon = 58
 
-abbrev pub onto_prefix : ℕ → Option (Bytes × Bytes) → Option (Bytes × Bytes)
-onto_prefix c = option_map (λ p. (c ∷ p.0, p.1))
+abbrev pub with_byte_before : ℕ → Option (Bytes × Bytes) → Option (Bytes × Bytes)
+with_byte_before c = option_map (λ p. (c ∷ p.0, p.1))
 
 abbrev pub split_first : Bytes → Option (Bytes × Bytes)
 split_first [] = None
-split_first (c ∷ cs) = if c == colon then Some ([], cs) else onto_prefix c (split_first cs)
+split_first (c ∷ cs) = if c == colon then Some ([], cs) else with_byte_before c (split_first cs)
 
 abbrev pub or_else : Option (Bytes × Bytes) → Option (Bytes × Bytes) → Option (Bytes × Bytes)
 or_else (Some p) other = Some p
@@ -25,4 +25,4 @@ or_else None other = other
 abbrev pub split_last : Bytes → Option (Bytes × Bytes)
 split_last [] = None
 split_last (c ∷ cs) =
-    or_else (onto_prefix c (split_last cs)) (if c == colon then Some ([], cs) else None)
+    or_else (with_byte_before c (split_last cs)) (if c == colon then Some ([], cs) else None)

@@ -15,9 +15,9 @@ use Rattle.avr_cli.specs.declared.settings.Port.TheVariants.{Stdio, Emulated, Ne
 abbrev pub is_standard : Bytes → Bool
 is_standard name = bytes_eq name (codes "-")
 
-abbrev pub is_values : Format → Bool
-is_values Immediate = true
-is_values format = false
+abbrev pub is_immediate : Format → Bool
+is_immediate Immediate = true
+is_immediate format = false
 
 abbrev pub is_read : Op → Bool
 is_read Read = true
@@ -25,7 +25,7 @@ is_read op = false
 
 -- the update's file is standard input or output; values are no file
 abbrev pub uses_standard : Update → Bool
-uses_standard u = is_standard u.file && not (is_values u.format)
+uses_standard u = is_standard u.file && not (is_immediate u.format)
 
 abbrev pub uses_input : Update → Bool
 uses_input u = uses_standard u && not (is_read u.op)

@@ -16,8 +16,8 @@ use Rattle.avr_cli.specs.declared.update.UpdateFault.{UpdateFault}
 use Rattle.avr_cli.specs.declared.update.UpdateFault.TheVariants.{BadMemory, BadOp, BadFormat, NoFile, Memory}
 
 -- the wanted result, or allocation failed for what is an update
-abbrev pub GivesUpdate : Result Update UpdateFault → Result Update UpdateFault → Type 0
-GivesUpdate want got = (got ≡ want) ⊎ (IsOk want × (got ≡ Err Memory))
+abbrev pub GivesUpdateUnlessOutOfMemory : Result Update UpdateFault → Result Update UpdateFault → Type 0
+GivesUpdateUnlessOutOfMemory want got = (got ≡ want) ⊎ (IsOk want × (got ≡ Err Memory))
 
 abbrev pub op_name : Op → Bytes
 op_name Read = codes "r"
@@ -89,12 +89,12 @@ with_memory (Some memory) after =
     let parts = op_and_rest after (split_first after) in with_op memory (op_named parts.0) parts.1
 
 -- a text without a colon is a file, written to flash in the format that its first bytes show
-abbrev pub update_cut : Bytes → Option (Bytes × Bytes) → Result Update UpdateFault
-update_cut text None = update_by Flash Write (text, None)
-update_cut text (Some parts) = with_memory (memory_named parts.0) parts.1
+abbrev pub update_of_parts : Bytes → Option (Bytes × Bytes) → Result Update UpdateFault
+update_of_parts text None = update_by Flash Write (text, None)
+update_of_parts text (Some parts) = with_memory (memory_named parts.0) parts.1
 
 abbrev pub update_of : Bytes → Result Update UpdateFault
-update_of text = update_cut text (split_first text)
+update_of text = update_of_parts text (split_first text)
 
 abbrev pub update_text : Mem → Op → Bytes → ℕ → Bytes
 update_text memory op file letter =

@@ -1,7 +1,7 @@
 //! The options of the command line, and how `clap` reads them.
 ghost use Rattle.std.specs.Prelude.{◌≡◌, IfOk, IfErr, true, codes, map, string_bytes};
 ghost use Rattle.clap.specs.Words.{App, Rule, with_rule, app_of, rows_of, found_of, matches_of, takes, kind_of, fault_of, FailsBy};
-ghost use Rattle.avr_cli.specs.Command.{Builds, IsOption, avrstk, with_rules, target_rules, write_rules, run_rules, telling_rules, file_rules};
+ghost use Rattle.avr_cli.specs.Command.{Builds, IsOption, avrstk, with_rules, target_rules, write_rules, run_rules, message_rules, file_rules};
 ghost use Rattle.avr_cli.specs.Command.{value_rule, list_rule, number_rule, flag_rule, count_rule, long_rule};
 
 use clap::error::ErrorKind;
@@ -194,11 +194,11 @@ fn with_run<'a>(
     add(command, all(alloc))
 }
 
-fn with_telling<'a>(
+fn with_message_options<'a>(
     alloc: Global,
     command: Result<Command<'a>, AllocError>,
 ) -> Result<Command<'a>, AllocError>
-    ensures app { (a : App) → Builds command.entry a → Builds result (with_rules a telling_rules) }
+    ensures app { (a : App) → Builds command.entry a → Builds result (with_rules a message_rules) }
 {
     let command = add(
         command,
@@ -261,7 +261,7 @@ fn with_options<'a>(alloc: Global) -> Result<Command<'a>, AllocError>
     let command = with_target(alloc, Ok(command));
     let command = with_write(alloc, command);
     let command = with_run(alloc, command);
-    let command = with_telling(alloc, command);
+    let command = with_message_options(alloc, command);
     with_files(alloc, command)
 }
 

@@ -2,7 +2,7 @@
 ghost use Rattle.std.specs.Prelude.{◌≡◌, Ok, option_map, map, IsOk, [], unwrap_or};
 ghost use Rattle.clap.specs.Words.{found_of, rows_of, first_of, all_of};
 ghost use Rattle.avr_cli.specs.Command.{is_on, switches_of, entries_of};
-ghost use Rattle.avr_cli.specs.Settings.{GivesOrMemory, TellsAnyway, settings_of, checked_programmer, updates_of, update_at, run_settings, serve_settings};
+ghost use Rattle.avr_cli.specs.Settings.{GivesUnlessOutOfMemory, ReportsAnyway, settings_of, checked_programmer, updates_of, update_at, run_settings, serve_settings};
 ghost use Rattle.avr_cli.specs.Update.{update_of};
 
 use crate::owned::{owned, owned_option};
@@ -53,7 +53,7 @@ pub(crate) fn switches_of(matches: &ArgMatches<'_>) -> Switches
 const MOST_UPDATES: usize = 16;
 
 fn check_programmer(alloc: Global, given: Option<&str>) -> Result<(), SettingsFault>
-    ensures gives { GivesOrMemory (checked_programmer (option_map (λ s. s.now) given.entry)) result }
+    ensures gives { GivesUnlessOutOfMemory (checked_programmer (option_map (λ s. s.now) given.entry)) result }
     ensures passes { IsOk (checked_programmer (option_map (λ s. s.now) given.entry)) → IsOk result }
 {
     let Some(name) = given else {
@@ -67,7 +67,7 @@ fn check_programmer(alloc: Global, given: Option<&str>) -> Result<(), SettingsFa
 
 /// Reads an update; a fault carries its 1-based number.
 fn update_at(alloc: Global, number: u8, text: &str) -> Result<Update, SettingsFault>
-    ensures { GivesOrMemory (update_at number (update_of text.now)) result }
+    ensures { GivesUnlessOutOfMemory (update_at number (update_of text.now)) result }
 {
     match parse_update(alloc, text) {
         Ok(update) => Ok(update),
@@ -77,7 +77,7 @@ fn update_at(alloc: Global, number: u8, text: &str) -> Result<Update, SettingsFa
 }
 
 fn updates_given(alloc: Global, texts: Option<&[&str]>) -> Result<Updates, SettingsFault>
-    ensures { GivesOrMemory (updates_of (unwrap_or (option_map (λ t. map (λ s. s.now) t.now) texts.entry) [])) result }
+    ensures { GivesUnlessOutOfMemory (updates_of (unwrap_or (option_map (λ t. map (λ s. s.now) t.now) texts.entry) [])) result }
 {
     let mut updates = Updates::new(alloc);
     let Some(texts) = texts else {
@@ -98,8 +98,8 @@ fn run_settings(
     part: &str,
     matches: &ArgMatches<'_>,
 ) -> Result<Settings, SettingsFault>
-    ensures gives { GivesOrMemory (run_settings part.now (entries_of (rows_of (found_of matches.now)))) result }
-    ensures tells { TellsAnyway (run_settings part.now (entries_of (rows_of (found_of matches.now)))) result }
+    ensures gives { GivesUnlessOutOfMemory (run_settings part.now (entries_of (rows_of (found_of matches.now)))) result }
+    ensures tells { ReportsAnyway (run_settings part.now (entries_of (rows_of (found_of matches.now)))) result }
 {
     check_programmer(alloc, text_of(matches, "programmer"))?;
     let port = port_given(alloc, text_of(matches, "port"))?;
@@ -121,8 +121,8 @@ fn serve_settings(
     at: &str,
     given: &ArgMatches<'_>,
 ) -> Result<Settings, SettingsFault>
-    ensures gives { GivesOrMemory (serve_settings part.now at.now (entries_of (rows_of (found_of given.now)))) result }
-    ensures tells { TellsAnyway (serve_settings part.now at.now (entries_of (rows_of (found_of given.now)))) result }
+    ensures gives { GivesUnlessOutOfMemory (serve_settings part.now at.now (entries_of (rows_of (found_of given.now)))) result }
+    ensures tells { ReportsAnyway (serve_settings part.now at.now (entries_of (rows_of (found_of given.now)))) result }
 {
     let parts = text_of(given, "parts");
     let chip = text_of(given, "chip");
@@ -155,8 +155,8 @@ fn serve_settings(
 /// assert_eq!(rt; settings.updates.as_slice().len(), 1);
 /// ```
 pub fn read_settings(alloc: Global, matches: &ArgMatches<'_>) -> Result<Settings, SettingsFault>
-    ensures gives { GivesOrMemory (settings_of (entries_of (rows_of (found_of matches.now)))) result }
-    ensures tells { TellsAnyway (settings_of (entries_of (rows_of (found_of matches.now)))) result }
+    ensures gives { GivesUnlessOutOfMemory (settings_of (entries_of (rows_of (found_of matches.now)))) result }
+    ensures tells { ReportsAnyway (settings_of (entries_of (rows_of (found_of matches.now)))) result }
 {
     let part = text_of(matches, "part").ok_or(SettingsFault::NoPart)?;
     match text_of(matches, "serve") {

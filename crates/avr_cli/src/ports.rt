@@ -2,8 +2,8 @@
 ghost use Rattle.std.specs.Prelude.{◌≡◌, ◌⊎◌, Some, None, option_map};
 ghost use Rattle.std.specs.List.{list_all};
 ghost use Rattle.std.specs.Char.{is_ascii_digit};
-ghost use Rattle.avr_cli.specs.Port.{port_number, is_address, port_of, port_given_of, served_at};
-ghost use Rattle.avr_cli.specs.Settings.{GivesOrMemory, TellsAnyway};
+ghost use Rattle.avr_cli.specs.Port.{port_number, is_address, port_of, port_of_option, port_to_serve};
+ghost use Rattle.avr_cli.specs.Settings.{GivesUnlessOutOfMemory, ReportsAnyway};
 
 use crate::owned::owned;
 use crate::settings::{Port, SettingsFault};
@@ -54,7 +54,7 @@ fn bad_port(alloc: Global, text: &str) -> SettingsFault
 }
 
 fn port_of(alloc: Global, text: &str) -> Result<Port, SettingsFault>
-    ensures { GivesOrMemory (port_of text.now) result }
+    ensures { GivesUnlessOutOfMemory (port_of text.now) result }
 {
     if text == "stdio:" {
         return Ok(Port::Stdio);
@@ -72,8 +72,8 @@ fn port_of(alloc: Global, text: &str) -> Result<Port, SettingsFault>
 }
 
 pub(crate) fn port_given(alloc: Global, text: Option<&str>) -> Result<Port, SettingsFault>
-    ensures gives { GivesOrMemory (port_given_of (option_map (λ s. s.now) text.entry)) result }
-    ensures tells { TellsAnyway (port_given_of (option_map (λ s. s.now) text.entry)) result }
+    ensures gives { GivesUnlessOutOfMemory (port_of_option (option_map (λ s. s.now) text.entry)) result }
+    ensures tells { ReportsAnyway (port_of_option (option_map (λ s. s.now) text.entry)) result }
 {
     match text {
         Some(text) => port_of(alloc, text),
@@ -83,8 +83,8 @@ pub(crate) fn port_given(alloc: Global, text: Option<&str>) -> Result<Port, Sett
 
 /// Reads the port of `--serve` and the file of `--chip`. A bad number is reported before a missing file.
 pub(crate) fn served(alloc: Global, at: &str, chip: Option<&str>) -> Result<Port, SettingsFault>
-    ensures gives { GivesOrMemory (served_at at.now (port_number at.now) (option_map (λ s. s.now) chip.entry)) result }
-    ensures tells { TellsAnyway (served_at at.now (port_number at.now) (option_map (λ s. s.now) chip.entry)) result }
+    ensures gives { GivesUnlessOutOfMemory (port_to_serve at.now (port_number at.now) (option_map (λ s. s.now) chip.entry)) result }
+    ensures tells { ReportsAnyway (port_to_serve at.now (port_number at.now) (option_map (λ s. s.now) chip.entry)) result }
 {
     if port_number(at).is_none() {
         return Err(bad_port(alloc, at));

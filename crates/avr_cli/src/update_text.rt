@@ -1,6 +1,6 @@
 //! Reads the text of `-U`.
 ghost use Rattle.std.specs.Prelude.{◌≡◌};
-ghost use Rattle.avr_cli.specs.Update.{op_named, format_named, format_of, file_and_letter, GivesUpdate, update_of, update_by};
+ghost use Rattle.avr_cli.specs.Update.{op_named, format_named, format_of, file_and_letter, GivesUpdateUnlessOutOfMemory, update_of, update_by};
 
 use crate::text::{Text, split_first};
 use crate::update::{Format, Op, Update, UpdateFault};
@@ -56,7 +56,7 @@ fn update_by(
     file: &str,
     letter: Option<u8>,
 ) -> Result<Update, UpdateFault>
-    ensures { GivesUpdate (update_by memory op (file.now, letter)) result }
+    ensures { GivesUpdateUnlessOutOfMemory (update_by memory op (file.now, letter)) result }
 {
     if file.is_empty() {
         return Err(UpdateFault::NoFile);
@@ -86,7 +86,7 @@ fn update_by(
 /// assert!(rt; matches!(parse_update(alloc, "boot:w:a.hex"), Err(UpdateFault::BadMemory)));
 /// ```
 pub fn parse_update(alloc: Global, text: &str) -> Result<Update, UpdateFault>
-    ensures { GivesUpdate (update_of text.now) result }
+    ensures { GivesUpdateUnlessOutOfMemory (update_of text.now) result }
 {
     let Some((name, after)) = split_first(text) else {
         return update_by(alloc, Mem::Flash, Op::Write, text, None);

@@ -2,14 +2,14 @@
 use Rattle.std.proofs.lemmas.Bool.Decides.{nat_tests}
 use Rattle.std.proofs.Common.{◌≡◌, ap, ℕ, zero, suc, true, List, [], ◌∷◌, Some, Result, Ok, Err, arith, rules}
 use Rattle.avr_desk.specs.Failing.{Failing, FailsWhenDue}
-use Rattle.avr_desk.specs.Fault.{Counts}
-use Rattle.avr_desk.specs.Files.{FaultCounts}
+use Rattle.avr_desk.specs.Fault.{CountsFailure}
+use Rattle.avr_desk.specs.Files.{CountsReadResult}
 use Rattle.avr_desk.specs.Memory.{Stock}
 use Rattle.avr_desk.specs.Record.{Bytes, DeskState, Record, showing, nothing_kept, after_out}
-use Rattle.avr_desk.specs.Said.{TellsLine}
+use Rattle.avr_desk.specs.OutputEvents.{ReportsLineAs}
 use Rattle.avr_desk.specs.Shown.{RecordsTaken}
 use Rattle.avr_desk.specs.Stream.{SendsTaken}
-use Rattle.avr_desk.specs.Truth.{AreTrue, IsTrueOpening}
+use Rattle.avr_desk.specs.Truth.{OpeningsAreTrue, IsTrueOpening}
 use Rattle.avr_desk.specs.declared.desk.DeskFault.{DeskFault}
 use Rattle.avr_desk.specs.declared.desk.DeskFault.TheVariants.{NotFound, Failed}
 use Rattle.avr_desk.specs.declared.files.Contents.{Contents}
@@ -30,45 +30,45 @@ done = Ok tt
 
 -- a failure that is counted after a success, after a file that isn't there, after a byte that was taken, or after a
 -- failed allocation
-pub no_count_behind_success : Counts File (silent 0) (silent 1) done → ⊥
+pub no_count_behind_success : CountsFailure File (silent 0) (silent 1) done → ⊥
 no_count_behind_success counts = let e : 1 ≡ 0 = counts.1.0 in omega (arith, e)
 
 abbrev absent : Result (Unit {0}) DeskFault
 absent = Err NotFound
 
-pub no_count_behind_absence : Counts File (silent 0) (silent 1) absent → ⊥
+pub no_count_behind_absence : CountsFailure File (silent 0) (silent 1) absent → ⊥
 no_count_behind_absence counts = let e : 1 ≡ 0 = counts.1.0 in omega (arith, e)
 
 abbrev short_of_memory : Result Contents FileFault
 short_of_memory = Err Memory
 
-pub no_count_behind_memory : FaultCounts (silent 0) (silent 1) short_of_memory → ⊥
+pub no_count_behind_memory : CountsReadResult (silent 0) (silent 1) short_of_memory → ⊥
 no_count_behind_memory counts = let e : 1 ≡ 0 = counts.1.0 in omega (arith, e)
 
 -- a failure that is not counted
 abbrev failed : Result (Unit {0}) DeskFault
 failed = Err Failed
 
-pub no_silent_failure : Counts File (silent 0) (silent 0) failed → ⊥
+pub no_silent_failure : CountsFailure File (silent 0) (silent 0) failed → ⊥
 no_silent_failure counts = let e : 0 ≡ 1 = counts.1.0 in omega (arith, e)
 
 -- one failure that is counted twice
-pub no_failure_twice : Counts File (silent 0) (silent 2) failed → ⊥
+pub no_failure_twice : CountsFailure File (silent 0) (silent 2) failed → ⊥
 no_failure_twice counts = let e : 2 ≡ 1 = counts.1.0 in omega (arith, e)
 
 -- a failure at the messages that only one count shows; one at a file, or at the output, that both show; and an
 -- unreported failure after a success
-pub no_message_unsaid_uncounted : Counts Messages (silent 0) (silent 1) failed → ⊥
-no_message_unsaid_uncounted counts = let e : 0 ≡ 1 = counts.1.1 in omega (arith, e)
+pub no_message_failure_uncounted : CountsFailure Messages (silent 0) (silent 1) failed → ⊥
+no_message_failure_uncounted counts = let e : 0 ≡ 1 = counts.1.1 in omega (arith, e)
 
-pub no_file_is_unsaid : Counts File (silent 0) (showing nothing_kept 1 1) failed → ⊥
-no_file_is_unsaid counts = let e : 1 ≡ 0 = counts.1.1 in omega (arith, e)
+pub no_file_is_a_message_failure : CountsFailure File (silent 0) (showing nothing_kept 1 1) failed → ⊥
+no_file_is_a_message_failure counts = let e : 1 ≡ 0 = counts.1.1 in omega (arith, e)
 
-pub no_output_is_unsaid : Counts Output (silent 0) (showing nothing_kept 1 1) failed → ⊥
-no_output_is_unsaid counts = let e : 1 ≡ 0 = counts.1.1 in omega (arith, e)
+pub no_output_is_a_message_failure : CountsFailure Output (silent 0) (showing nothing_kept 1 1) failed → ⊥
+no_output_is_a_message_failure counts = let e : 1 ≡ 0 = counts.1.1 in omega (arith, e)
 
-pub nothing_is_unsaid_behind_success : Counts Messages (silent 0) (showing nothing_kept 0 1) done → ⊥
-nothing_is_unsaid_behind_success counts = let e : 1 ≡ 0 = counts.1.1 in omega (arith, e)
+pub no_message_failure_behind_success : CountsFailure Messages (silent 0) (showing nothing_kept 0 1) done → ⊥
+no_message_failure_behind_success counts = let e : 1 ≡ 0 = counts.1.1 in omega (arith, e)
 
 -- before a fault a prefix of the bytes may have been written, but not their end
 abbrev end : List ℕ
@@ -85,7 +85,7 @@ pub no_end_before_a_fault : SendsTaken Output whole (showing nothing_kept 0 0)
 no_end_before_a_fault sent = search rules
 
 -- a line cut short though only a file failed
-pub no_line_cut_by_a_file : TellsLine whole [] (silent 0) (silent 1) → ⊥
+pub no_line_cut_by_a_file : ReportsLineAs whole [] (silent 0) (silent 1) → ⊥
 no_line_cut_by_a_file a' = search rules
 
 -- a message in the output
@@ -102,20 +102,20 @@ no_other_bytes (suc n) taken = search (rules, nat_tests)
 
 -- a planned failure at a call that isn't due
 abbrev sound : Failing ℕ
-sound = record { inner = 0; due = 0; planned = 0; unsaid = 0 }
+sound = record { inner = 0; due = 0; planned = 0; message_failures = 0 }
 
 pub no_plan_behind_success : FailsWhenDue File silent sound (record sound { planned = 1 }) (λ a b r. Unit {0}) done → ⊥
 no_plan_behind_success fails = let e : 1 ≡ 0 = fails.planned in omega (arith, e)
 
 -- and one at a file that is due, and is counted as unreported
 abbrev failing : Failing ℕ
-failing = record { inner = 0; due = 1; planned = 0; unsaid = 0 }
+failing = record { inner = 0; due = 1; planned = 0; message_failures = 0 }
 
 abbrev failed_unsaid : Failing ℕ
-failed_unsaid = record { inner = 0; due = 0; planned = 1; unsaid = 1 }
+failed_unsaid = record { inner = 0; due = 0; planned = 1; message_failures = 1 }
 
-pub no_file_is_unsaid_by_plan : FailsWhenDue File silent failing failed_unsaid (λ a b r. Unit {0}) failed → ⊥
-no_file_is_unsaid_by_plan fails = let e : 1 ≡ 0 = fails.unsaid in omega (arith, e)
+pub no_file_is_a_planned_message_failure : FailsWhenDue File silent failing failed_unsaid (λ a b r. Unit {0}) failed → ⊥
+no_file_is_a_planned_message_failure fails = let e : 1 ≡ 0 = fails.message_failures in omega (arith, e)
 
 -- ---- openings of a desk in memory that no file gives
 
@@ -135,10 +135,10 @@ abbrev found_as : Bytes → Opening
 found_as bytes = Found (record { name = name; bytes = bytes; ended = true })
 
 -- bytes that the file doesn't have, and an existing file that isn't found
-pub no_other_contents : AreTrue one_there [] (Opened (found_as end) ∷ []) → ⊥
+pub no_other_contents : OpeningsAreTrue one_there [] (Opened (found_as end) ∷ []) → ⊥
 no_other_contents are = grind (arith, nat_tests)
 
-pub no_file_overlooked : AreTrue one_there [] (Opened (Absent name) ∷ []) → ⊥
+pub no_file_overlooked : OpeningsAreTrue one_there [] (Opened (Absent name) ∷ []) → ⊥
 no_file_overlooked are = grind (arith, nat_tests)
 
 -- a file whose end was seen too early
@@ -146,12 +146,12 @@ pub no_end_before_the_end : IsTrueOpening one_there [] (Found (record { name = n
 no_end_before_the_end gave = grind (arith, nat_tests)
 
 -- a file that was found before it was made, and one that was made before but not found, or found with older bytes
-pub no_file_before_it_is_made : AreTrue nothing_there [] (Opened (found_as byte) ∷ Created file ∷ []) → ⊥
+pub no_file_before_it_is_made : OpeningsAreTrue nothing_there [] (Opened (found_as byte) ∷ Created file ∷ []) → ⊥
 no_file_before_it_is_made are = grind (arith, nat_tests)
 
-pub no_made_file_overlooked : AreTrue nothing_there [] (Created file ∷ Opened (Absent name) ∷ []) → ⊥
+pub no_made_file_overlooked : OpeningsAreTrue nothing_there [] (Created file ∷ Opened (Absent name) ∷ []) → ⊥
 no_made_file_overlooked are = grind (arith, nat_tests)
 
-pub no_older_contents : AreTrue one_there []
+pub no_older_contents : OpeningsAreTrue one_there []
     (Created (record { name = name; bytes = end }) ∷ Opened (found_as byte) ∷ []) → ⊥
 no_older_contents are = grind (arith, nat_tests)

@@ -7,31 +7,31 @@ use Rattle.avr_desk.specs.declared.desk.DeskFault.TheVariants.{Failed}
 use Rattle.avr_desk.specs.declared.stream.Stream.{Stream}
 use Rattle.avr_desk.specs.declared.stream.Stream.TheVariants.{Messages}
 
--- `due` numbers the call that fails: 1 is the next one, 0 none. `planned` counts the planned failures, and `unsaid`
+-- `due` numbers the call that fails: 1 is the next one, 0 none. `planned` counts the planned failures, and `message_failures`
 -- those at the messages.
 pub record Failing (D : Type 0) : Type 0 where
   pub inner : D
   pub due : ℕ
   pub planned : ℕ
-  pub unsaid : ℕ
+  pub message_failures : ℕ
 
 -- the state: the inner desk's record, and the sum of its counts and the planned ones, at most 2^64 - 1
 abbrev pub failing : {D : Type 0} → (D → DeskState) → Failing D → DeskState
 failing view d = record {
   kept = (view d.inner).kept;
   failures = counted ((view d.inner).failures + d.planned);
-  unsaid = counted ((view d.inner).unsaid + d.unsaid);
+  message_failures = counted ((view d.inner).message_failures + d.message_failures);
 }
 
 abbrev pub inner_comes_of : {D Start : Type 0} → (Start → D → Type 0) → Start → Failing D → Type 0
-inner_comes_of comes_of start d = comes_of start d.inner
+inner_comes_of started_as start d = started_as start d.inner
 
 abbrev pub count_after : {D : Type 0} → Failing D → ℕ → ℕ
 count_after d count = if d.due == 1 then counted (count + 1) else count
 
-abbrev pub unsaid_after : {D : Type 0} → Stream → Failing D → ℕ
-unsaid_after Messages d = count_after d d.unsaid
-unsaid_after stream d = d.unsaid
+abbrev pub message_failures_after : {D : Type 0} → Stream → Failing D → ℕ
+message_failures_after Messages d = count_after d d.message_failures
+message_failures_after stream d = d.message_failures
 
 -- The due call returns `Failed`, doesn't reach the inner desk, and is counted as planned. Any other call goes to the
 -- inner desk.
@@ -41,4 +41,4 @@ pub record FailsWhenDue {D T : Type 0} (stream : Stream) (view : D → DeskState
   pub passed_on : old.due ≢ 1 → PassedOn (view old.inner) (view new.inner) r
   pub counted_down : new.due ≡ old.due - 1
   pub planned : new.planned ≡ count_after old old.planned
-  pub unsaid : new.unsaid ≡ unsaid_after stream old
+  pub message_failures : new.message_failures ≡ message_failures_after stream old

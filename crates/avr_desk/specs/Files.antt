@@ -1,7 +1,7 @@
 -- What a desk records when a whole file is read, to its end or past a limit.
 use Rattle.std.specs.Prelude.{◌≡◌, ◌≤◌, ◌<◌, ◌+◌, ℕ, length, Bool, Result, Ok, Err, false, MatchBool}
-use Rattle.avr_desk.specs.Record.{DeskState, Record, Bytes, Passes, noted, with_open, with_absent}
-use Rattle.avr_desk.specs.Fault.{Follows, HasFailedAt, HasSameCounts}
+use Rattle.avr_desk.specs.Record.{DeskState, Record, Bytes, ChangesRecord, noted, with_open, with_absent}
+use Rattle.avr_desk.specs.Fault.{CountsNeverFall, HasFailedAt, HasSameCounts}
 use Rattle.avr_desk.specs.declared.record.Open.TheVariants.{ToRead}
 use Rattle.avr_desk.specs.declared.files.Contents.{Contents}
 use Rattle.avr_desk.specs.declared.files.FileFault.{FileFault}
@@ -23,29 +23,29 @@ with_read name bytes ended r = with_open (ToRead (record { name = name; bytes = 
 -- The file was opened and gave the returned bytes. The record notes that a file doesn't exist, and doesn't change if
 -- the file couldn't be opened. If reading broke off, the file gave some bytes.
 abbrev pub ReadsFile : Bytes → DeskState → DeskState → Result Contents FileFault → Type 0
-ReadsFile name old new (Ok c) = Passes (with_read name c.bytes c.ended) old new
-ReadsFile name old new (Err Absent) = Passes (with_absent name) old new
+ReadsFile name old new (Ok c) = ChangesRecord (with_read name c.bytes c.ended) old new
+ReadsFile name old new (Err Absent) = ChangesRecord (with_absent name) old new
 ReadsFile name old new (Err NotOpened) = new.kept ≡ old.kept
-ReadsFile name old new (Err fault) = (bytes : Bytes) × Passes (with_read name bytes false) old new
+ReadsFile name old new (Err fault) = (bytes : Bytes) × ChangesRecord (with_read name bytes false) old new
 
 -- The same for the faults alone. If allocation failed, the file may have given all its bytes.
 abbrev pub FileBreaks : Bytes → DeskState → DeskState → FileFault → Type 0
-FileBreaks name old new Absent = Passes (with_absent name) old new
+FileBreaks name old new Absent = ChangesRecord (with_absent name) old new
 FileBreaks name old new NotOpened = new.kept ≡ old.kept
-FileBreaks name old new NotRead = (bytes : Bytes) × Passes (with_read name bytes false) old new
-FileBreaks name old new Memory = (bytes : Bytes) × (ended : Bool) × Passes (with_read name bytes ended) old new
+FileBreaks name old new NotRead = (bytes : Bytes) × ChangesRecord (with_read name bytes false) old new
+FileBreaks name old new Memory = (bytes : Bytes) × (ended : Bool) × ChangesRecord (with_read name bytes ended) old new
 
-abbrev pub IsCounted : DeskState → DeskState → FileFault → Type 0
-IsCounted old new NotOpened = HasFailedAt File old new
-IsCounted old new NotRead = HasFailedAt File old new
-IsCounted old new fault = HasSameCounts old new
+abbrev pub CountsFileFault : DeskState → DeskState → FileFault → Type 0
+CountsFileFault old new NotOpened = HasFailedAt File old new
+CountsFileFault old new NotRead = HasFailedAt File old new
+CountsFileFault old new fault = HasSameCounts old new
 
 -- The end was seen within the limit; or more bytes came, at most 4,096 of them past the limit.
-abbrev pub IsWhole : ℕ → Contents → Type 0
-IsWhole limit c =
+abbrev pub EndsOrExceedsLimit : ℕ → Contents → Type 0
+EndsOrExceedsLimit limit c =
     MatchBool c.ended (length c.bytes ≤ limit) ((limit < length c.bytes) × (length c.bytes ≤ limit + 4096))
 
 -- The counts never fall, and show whether the desk failed. A failed allocation is no failure of the desk.
-abbrev pub FaultCounts : DeskState → DeskState → Result Contents FileFault → Type 0
-FaultCounts old new (Ok c) = Follows old new × HasSameCounts old new
-FaultCounts old new (Err fault) = Follows old new × IsCounted old new fault
+abbrev pub CountsReadResult : DeskState → DeskState → Result Contents FileFault → Type 0
+CountsReadResult old new (Ok c) = CountsNeverFall old new × HasSameCounts old new
+CountsReadResult old new (Err fault) = CountsNeverFall old new × CountsFileFault old new fault

@@ -5,7 +5,7 @@ use Rattle.std.specs.Io.KnownBytes.{Appends, Consumes}
 use Rattle.std.specs.List.{All, Contains}
 use Rattle.std.specs.declared.io.Read.{Ghosts as Reads}
 use Rattle.std.specs.declared.io.Write.{Ghosts as Writes}
-use Rattle.avr_desk.specs.Journal.{done_by}
+use Rattle.avr_desk.specs.Journal.{calls_of_record}
 use Rattle.avr_desk.specs.Named.{is_dash}
 use Rattle.avr_desk.specs.Record.{Bytes, Record}
 use Rattle.avr_desk.specs.declared.file_system.FileSystem.{Ghosts}
@@ -20,18 +20,18 @@ use Rattle.avr_desk.specs.declared.system.OpenFile.{OpenFile}
 use Rattle.avr_desk.specs.declared.system.OpenFile.TheVariants.{Nothing, Input, ToRead, ToWrite, Output}
 
 -- Between `first` and `now` the handle gave these bytes. None are left if its end was seen.
-pub record HasGiven {H : Type 0} (reads : Reads H) (first now : H) (reading : Reading) : Type 0 where
+pub record HandleGave {H : Type 0} (reads : Reads H) (first now : H) (reading : Reading) : Type 0 where
   pub gave : Consumes (reads.remaining first) (reads.remaining now) reading.bytes
   pub ends : reading.ended ≡ true → IfSome (reads.remaining first) (λ bytes. length bytes ≤ length reading.bytes)
 
 -- `-` is standard input as the system gave it; any other name is a file that was opened by this name
 abbrev pub GaveInput : {S F I H : Type 0} → Ghosts S F I H → Reads I → I → Reading → Type 0
 GaveInput {I = I} system input now reading =
-    (is_dash reading.name ≡ true) × (first : I) × system.is_input first × HasGiven input first now reading
+    (is_dash reading.name ≡ true) × (first : I) × system.is_input first × HandleGave input first now reading
 
 abbrev pub GaveFile : {S F I H : Type 0} → Ghosts S F I H → Reads F → F → Reading → Type 0
 GaveFile {F = F} system reads now reading =
-    (first : F) × system.is_of first reading.name × HasGiven reads first now reading
+    (first : F) × system.is_of first reading.name × HandleGave reads first now reading
 
 -- the file was created by this name, and has taken these bytes since
 abbrev pub TookFile : {S F I H : Type 0} → Ghosts S F I H → Writes F → F → Writing → Type 0
@@ -80,5 +80,5 @@ pub record IsTrueRecord {S F I H : Type 0} (system : Ghosts S F I H) (reads : Re
   pub current : IsTrueOpen system reads writes input opened kept.current
   pub denied : All system.denies kept.denied
   pub held : IsHeldBy system hold kept.held
-  pub did : system.did (done_by kept) now
+  pub has_done : system.has_done (calls_of_record kept) now
   pub crash : CrashLeaves system now kept.tried

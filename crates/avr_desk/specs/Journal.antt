@@ -5,7 +5,7 @@ use Rattle.avr_desk.specs.Record.{Bytes, Record, all_uses}
 use Rattle.avr_desk.specs.declared.record.FileUse.{FileUse}
 use Rattle.avr_desk.specs.declared.record.FileUse.TheVariants.{Opened, Created}
 use Rattle.avr_desk.specs.declared.record.Opening.TheVariants.{Absent, Found}
-use Rattle.ghosts.specs.Stays.{Stays}
+use Rattle.ghosts.specs.Preserves.{Preserves}
 
 -- Standard input was given; a file was opened to read; or a file was created or replaced.
 pub data FileCall : Type 0 where
@@ -14,54 +14,54 @@ pub data FileCall : Type 0 where
   Makes : Bytes → FileCall
 
 -- the calls in order, and how many files the system holds
-pub record Done : Type 0 where
+pub record SystemCalls : Type 0 where
   pub calls : List FileCall
   pub holds : ℕ
 
-abbrev pub none_done : Done
-none_done = record { calls = []; holds = 0 }
+abbrev pub no_calls : SystemCalls
+no_calls = record { calls = []; holds = 0 }
 
 -- `-` makes no file: the record has the output under this name
 abbrev pub made : Bytes → List FileCall
 made name = if is_dash name then [] else Makes name ∷ []
 
-abbrev pub calling : List FileCall → Done → Done
-calling calls done = record done { calls = done.calls ++ calls }
+abbrev pub with_calls : List FileCall → SystemCalls → SystemCalls
+with_calls calls done = record done { calls = done.calls ++ calls }
 
-abbrev pub holding : Done → Done
-holding done = record done { holds = done.holds + 1 }
+abbrev pub with_one_more_held : SystemCalls → SystemCalls
+with_one_more_held done = record done { holds = done.holds + 1 }
 
 -- Whatever the system had done, it has now done `change` of it.
-abbrev pub Does : {S : Type 0} → (Done → S → Type 0) → (Done → Done) → S → S → Type 0
-Does did change old new = (done : Done) → did done old → did (change done) new
+abbrev pub ChangesCalls : {S : Type 0} → (SystemCalls → S → Type 0) → (SystemCalls → SystemCalls) → S → S → Type 0
+ChangesCalls has_done change old new = (done : SystemCalls) → has_done done old → has_done (change done) new
 
 -- the held file was released, if there was one
-abbrev pub Leaves : {S H : Type 0} → (Done → S → Type 0) → Option H → S → S → Type 0
-Leaves did None old new = Stays did old new
-Leaves did (Some hold) old new = (done : Done) → did (holding done) old → did done new
+abbrev pub ReleasesHeld : {S H : Type 0} → (SystemCalls → S → Type 0) → Option H → S → S → Type 0
+ReleasesHeld has_done None old new = Preserves has_done old new
+ReleasesHeld has_done (Some hold) old new = (done : SystemCalls) → has_done (with_one_more_held done) old → has_done done new
 
 -- A crash may leave nothing that it could not leave before.
-abbrev pub LeavesNoMore : {S : Type 0} → (S → Bytes → Option Bytes → Type 0) → S → S → Type 0
-LeavesNoMore left old new = (name : Bytes) (found : Option Bytes) → left new name found → left old name found
+abbrev pub CrashLeavesNoMore : {S : Type 0} → (S → Bytes → Option Bytes → Type 0) → S → S → Type 0
+CrashLeavesNoMore left old new = (name : Bytes) (found : Option Bytes) → left new name found → left old name found
 
 -- the same, but under this name a crash may also leave what `More` allows
-abbrev pub LeavesAlso : {S : Type 0} → (S → Bytes → Option Bytes → Type 0) → Bytes → (Option Bytes → Type 0) → S → S
+abbrev pub CrashMayAlsoLeave : {S : Type 0} → (S → Bytes → Option Bytes → Type 0) → Bytes → (Option Bytes → Type 0) → S → S
     → Type 0
-LeavesAlso left name More old new = (other : Bytes) (found : Option Bytes) → left new other found
+CrashMayAlsoLeave left name More old new = (other : Bytes) (found : Option Bytes) → left new other found
     → left old other found ⊎ ((other ≡ name) × More found)
 
 -- The call adds nothing to what the system has done, nor to what a crash may leave.
-pub record Still {S : Type 0} (did : Done → S → Type 0) (left : S → Bytes → Option Bytes → Type 0) (old new : S)
+pub record IsUncounted {S : Type 0} (has_done : SystemCalls → S → Type 0) (left : S → Bytes → Option Bytes → Type 0) (old new : S)
     : Type 0 where
-  pub done : Stays did old new
-  pub kept : LeavesNoMore left old new
+  pub done : Preserves has_done old new
+  pub kept : CrashLeavesNoMore left old new
 
 abbrev pub count_of : {A : Type 0} → Option A → ℕ
 count_of None = 0
 count_of (Some it) = 1
 
-abbrev pub Counts : {S : Type 0} → (Done → S → Type 0) → ℕ → S → Type 0
-Counts did holds now = (done : Done) × did done now × (done.holds ≡ holds)
+abbrev pub Counts : {S : Type 0} → (SystemCalls → S → Type 0) → ℕ → S → Type 0
+Counts has_done holds now = (done : SystemCalls) × has_done done now × (done.holds ≡ holds)
 
 -- ---- the calls that a record shows
 
@@ -74,5 +74,5 @@ abbrev pub all_calls : List FileUse → List FileCall
 all_calls [] = []
 all_calls (used ∷ uses) = calls_of used ++ all_calls uses
 
-abbrev pub done_by : Record → Done
-done_by r = record { calls = all_calls (all_uses r); holds = count_of r.held }
+abbrev pub calls_of_record : Record → SystemCalls
+calls_of_record r = record { calls = all_calls (all_uses r); holds = count_of r.held }

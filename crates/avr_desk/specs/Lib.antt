@@ -14,11 +14,11 @@ pub mod Handles
 pub mod Shown
 pub mod Calls
 pub mod Lines
-pub mod Said
+pub mod OutputEvents
 pub mod Stage
 pub mod Playing
 -- inside: how things are stored, and contracts of private functions
 pub mod Standing
 -- names from the crates below that public contracts use
 pub use Rattle.ghosts.specs.Failures
-pub use Rattle.ghosts.specs.Stays
+pub use Rattle.ghosts.specs.Preserves

@@ -8,22 +8,22 @@ use Rattle.avr_desk.specs.declared.record.Writing.{Writing}
 pub record MemDeskState : Type 0 where
   pub kept : Record
   pub failures : ℕ
-  pub unsaid : ℕ
+  pub message_failures : ℕ
   pub input : Bytes
   pub stored : List Writing
   pub opened : Bytes
 
 abbrev pub fresh_desk : Bytes → MemDeskState
 fresh_desk input =
-    record { kept = nothing_kept; failures = 0; unsaid = 0; input = input; stored = []; opened = [] }
+    record { kept = nothing_kept; failures = 0; message_failures = 0; input = input; stored = []; opened = [] }
 
 -- the state as of any desk
 abbrev pub memory_state : MemDeskState → DeskState
-memory_state m = showing m.kept m.failures m.unsaid
+memory_state m = showing m.kept m.failures m.message_failures
 
 -- `old` with this record and the failures of `new`
-abbrev pub updated : Record → MemDeskState → MemDeskState → MemDeskState
-updated kept old new = record old { kept = kept; failures = new.failures }
+abbrev pub with_record_and_failures : Record → MemDeskState → MemDeskState → MemDeskState
+with_record_and_failures kept old new = record old { kept = kept; failures = new.failures }
 
 -- what the desk began with
 pub record Stock : Type 0 where
@@ -34,12 +34,12 @@ abbrev pub stock_of : MemDeskState → Stock
 stock_of m = record { input = m.input; files = m.stored }
 
 -- The bytes that a name means after these files were made: those of the newest file of this name. `-` is the input.
-abbrev pub stood_for : Stock → List Writing → Bytes → Option Bytes
-stood_for stock made name = if is_dash name then Some stock.input else newest name None (stock.files ++ made)
+abbrev pub content_of_name : Stock → List Writing → Bytes → Option Bytes
+content_of_name stock made name = if is_dash name then Some stock.input else newest name None (stock.files ++ made)
 
 -- the same for the desk's own files
 abbrev pub contents : Bytes → MemDeskState → Option Bytes
-contents name m = stood_for (stock_of m) (all_files m.kept) name
+contents name m = content_of_name (stock_of m) (all_files m.kept) name
 
 abbrev pub unread_bytes : MemDeskState → Bytes
 unread_bytes m = drop (length (bytes_given m.kept.current)) m.opened

@@ -29,14 +29,14 @@ pub record Record : Type 0 where
 pub record DeskState : Type 0 where
   pub kept : Record
   pub failures : ℕ
-  pub unsaid : ℕ
+  pub message_failures : ℕ
 
 abbrev pub showing : Record → ℕ → ℕ → DeskState
-showing kept failures unsaid = record { kept = kept; failures = failures; unsaid = unsaid }
+showing kept failures message_failures = record { kept = kept; failures = failures; message_failures = message_failures }
 
 -- The record of the desk changed like this. Most contracts over a desk cite it.
-abbrev pub Passes : (Record → Record) → DeskState → DeskState → Type 0
-Passes change old new = new.kept ≡ change old.kept
+abbrev pub ChangesRecord : (Record → Record) → DeskState → DeskState → Type 0
+ChangesRecord change old new = new.kept ≡ change old.kept
 
 abbrev pub opening_of : Open → List Opening
 opening_of (ToRead x) = Found x ∷ []
@@ -118,8 +118,8 @@ with_replaced name bytes r = record (with_tried name bytes r) {
 
 -- The file was replaced. A failed call may be in the record as tried.
 abbrev pub Replaces : Bytes → Bytes → Result ⊤ DeskFault → DeskState → DeskState → Type 0
-Replaces name bytes (Ok done) old new = Passes (with_replaced name bytes) old new
-Replaces name bytes (Err fault) old new = (new.kept ≡ old.kept) ⊎ Passes (with_tried name bytes) old new
+Replaces name bytes (Ok done) old new = ChangesRecord (with_replaced name bytes) old new
+Replaces name bytes (Err fault) old new = (new.kept ≡ old.kept) ⊎ ChangesRecord (with_tried name bytes) old new
 
 -- these bytes were read; `ends` if the end was seen
 abbrev pub noted : Bytes → Bool → Open → Open

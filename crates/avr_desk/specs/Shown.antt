@@ -6,7 +6,7 @@ use Rattle.std.specs.declared.io.ErrorKind.{ErrorKind}
 use Rattle.std.specs.declared.io.Read.{Ghosts as Reads}
 use Rattle.std.specs.declared.io.Write.{Ghosts as Writes}
 use Rattle.avr_desk.specs.Handles.{IsTrueRecord}
-use Rattle.avr_desk.specs.Journal.{none_done}
+use Rattle.avr_desk.specs.Journal.{no_calls}
 use Rattle.avr_desk.specs.Named.{is_dash}
 use Rattle.avr_desk.specs.Record.{Bytes, Record, DeskState, all_files, nothing_kept, showing}
 use Rattle.avr_desk.specs.Standing.{is_output}
@@ -25,31 +25,31 @@ pub record Shown (S F H I O E : Type 0) : Type 0 where
   pub output : O
   pub messages : E
   pub failures : ℕ
-  pub unsaid : ℕ
+  pub message_failures : ℕ
   pub last_error : Option ErrorKind
   pub opened : OpenFile F I
   pub hold : Option H
   pub kept : Record
 
-abbrev pub shown_state : {S F H I O E : Type 0} → Shown S F H I O E → DeskState
-shown_state d = showing d.kept d.failures d.unsaid
+abbrev pub system_desk_view : {S F H I O E : Type 0} → Shown S F H I O E → DeskState
+system_desk_view d = showing d.kept d.failures d.message_failures
 
--- `old` with the failures, the last error and the record of `new`; `moved` also with its open file
-abbrev pub logged : {S F H I O E : Type 0} → Shown S F H I O E → Shown S F H I O E → Shown S F H I O E
-logged old new = record old { failures = new.failures; last_error = new.last_error; kept = new.kept }
+-- `old` with the failures, the last error and the record of `new`; `with_open_of` also with its open file
+abbrev pub with_log_of : {S F H I O E : Type 0} → Shown S F H I O E → Shown S F H I O E → Shown S F H I O E
+with_log_of old new = record old { failures = new.failures; last_error = new.last_error; kept = new.kept }
 
-abbrev pub moved : {S F H I O E : Type 0} → Shown S F H I O E → Shown S F H I O E → Shown S F H I O E
-moved old new = record (logged old new) { opened = new.opened }
+abbrev pub with_open_of : {S F H I O E : Type 0} → Shown S F H I O E → Shown S F H I O E → Shown S F H I O E
+with_open_of old new = record (with_log_of old new) { opened = new.opened }
 
 -- whether the created file is the output
-abbrev pub to_output : {S F H I O E : Type 0} → Shown S F H I O E → Bool
-to_output d = is_output d.opened
+abbrev pub writes_to_output : {S F H I O E : Type 0} → Shown S F H I O E → Bool
+writes_to_output d = is_output d.opened
 
 -- A failure sets the last error. Any other result keeps it.
-abbrev pub KeepsError : {A : Type 0} → Option ErrorKind → Option ErrorKind → Result A DeskFault → Type 0
-KeepsError old new (Err Failed) = IsSome new
-KeepsError old new (Err NotFound) = new ≡ old
-KeepsError old new (Ok done) = new ≡ old
+abbrev pub KeepsLastError : {A : Type 0} → Option ErrorKind → Option ErrorKind → Result A DeskFault → Type 0
+KeepsLastError old new (Err Failed) = IsSome new
+KeepsLastError old new (Err NotFound) = new ≡ old
+KeepsLastError old new (Ok done) = new ≡ old
 
 -- A writer with known bytes took n bytes, and the record has the same n.
 abbrev pub RecordsTaken : Stream → Bytes → Option Bytes → Option Bytes → Record → Record → ℕ → Type 0
@@ -57,16 +57,16 @@ RecordsTaken stream bytes old new before now n =
     (now ≡ after_sent stream (take n bytes) before) × Appends old new (take n bytes)
 
 -- The record has the bytes that the writer took: the returned count, or after a fault a prefix.
-abbrev pub TakesTruly : {F : Type 0} → Stream → Bytes → Option Bytes → Option Bytes → Record → Record → Result ℕ F
+abbrev pub RecordsTruly : {F : Type 0} → Stream → Bytes → Option Bytes → Option Bytes → Record → Record → Result ℕ F
     → Type 0
-TakesTruly stream bytes old new before now (Ok n) = RecordsTaken stream bytes old new before now n
-TakesTruly stream bytes old new before now (Err fault) =
+RecordsTruly stream bytes old new before now (Ok n) = RecordsTaken stream bytes old new before now n
+RecordsTruly stream bytes old new before now (Err fault) =
     (n : ℕ) × (n ≤ length bytes) × RecordsTaken stream bytes old new before now n
 
 -- the same after opening a file; a failed call changes nothing
-abbrev pub to_output_opened : Result (Unit {0}) DeskFault → Bool → Bool
-to_output_opened (Err Failed) before = before
-to_output_opened result before = false
+abbrev pub writes_to_output_after_open : Result (Unit {0}) DeskFault → Bool → Bool
+writes_to_output_after_open (Err Failed) before = before
+writes_to_output_after_open result before = false
 
 abbrev pub has_dash : List Writing → Bool
 has_dash = list_any (λ file. is_dash file.name)
@@ -82,22 +82,22 @@ pub record IsTrueSince {S F I H O E : Type 0} (system : Ghosts S F I H) (reads :
   pub put : Bytes
   pub output : new.kept.output ≡ old.kept.output ++ put
   pub dashes : has_dash (all_files new.kept) ≡ false → has_dash (all_files old.kept) ≡ false
-  pub out : has_dash (all_files new.kept) ≡ false → to_output old ≡ false
-      → (to_output new ≡ false) × Appends (output_of.contents old.output) (output_of.contents new.output) put
+  pub out : has_dash (all_files new.kept) ≡ false → writes_to_output old ≡ false
+      → (writes_to_output new ≡ false) × Appends (output_of.contents old.output) (output_of.contents new.output) put
   pub files : IsTrueRecord system reads writes input old.system old.opened old.hold old.kept
       → IsTrueRecord system reads writes input new.system new.opened new.hold new.kept
 
 -- A desk with an empty record and nothing open or held, over a system that has done nothing.
 pub record IsNewDesk {S F I H O E : Type 0} (system : Ghosts S F I H) (d : Shown S F H I O E) : Type 0 where
-  pub fresh : system.did none_done d.system
+  pub fresh : system.has_done no_calls d.system
   pub unheld : (name : Bytes) (found : Option Bytes) → system.left d.system name found → ⊥
   pub opened : d.opened ≡ Nothing
   pub hold : d.hold ≡ None
   pub kept : d.kept ≡ nothing_kept
 
 -- If the desk was new, its record is true and has all that the system did.
-abbrev pub TellsAll : {S F I H O E : Type 0} → Ghosts S F I H → Reads F → Writes F → Reads I → Shown S F H I O E
+abbrev pub RecordsAll : {S F I H O E : Type 0} → Ghosts S F I H → Reads F → Writes F → Reads I → Shown S F H I O E
     → Shown S F H I O E
     → Type 0
-TellsAll system reads writes input old new =
+RecordsAll system reads writes input old new =
     IsNewDesk system old → IsTrueRecord system reads writes input new.system new.opened new.hold new.kept

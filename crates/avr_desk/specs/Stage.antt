@@ -4,78 +4,78 @@ use Rattle.avr_desk.specs.Record.{Bytes}
 use Rattle.avr_desk.specs.declared.record.Opening.{Opening}
 use Rattle.avr_desk.specs.declared.record.Opening.TheVariants.{Absent, Found}
 use Rattle.avr_desk.specs.Lines.{not_opened_line}
-use Rattle.avr_desk.specs.Said.{OutputEvent, Opens, Line}
+use Rattle.avr_desk.specs.OutputEvents.{OutputEvent, Opens, PrintsLine}
 
 -- How a stage ends: with a result; with a refusal, whose line this is; or without a result, because a file was not
 -- read to its end or past its limit.
-pub data StageAnswer (A : Type 0) : Type 0 where
-  Made : A → StageAnswer A
-  Refused : Bytes → StageAnswer A
-  Unread : StageAnswer A
+pub data StageOutcome (A : Type 0) : Type 0 where
+  Produced : A → StageOutcome A
+  Refused : Bytes → StageOutcome A
+  NotReadToEnd : StageOutcome A
 
 -- the events before the end, the end, and the openings that the stage didn't use
 pub record StageResult (A : Type 0) : Type 0 where
-  pub says : List OutputEvent
-  pub answer : StageAnswer A
-  pub left : List Opening
+  pub emits : List OutputEvent
+  pub stage_outcome : StageOutcome A
+  pub openings_left : List Opening
 
 -- all events, the line of a refusal last
-abbrev pub all_told : {A : Type 0} → List OutputEvent → StageAnswer A → List OutputEvent
-all_told says (Made a) = says
-all_told says (Refused line) = says ++ Line line ∷ []
-all_told says Unread = says
+abbrev pub events_with_refusal : {A : Type 0} → List OutputEvent → StageOutcome A → List OutputEvent
+events_with_refusal emits (Produced a) = emits
+events_with_refusal emits (Refused line) = emits ++ PrintsLine line ∷ []
+events_with_refusal emits NotReadToEnd = emits
 
-abbrev pub told_in : {A : Type 0} → StageResult A → List OutputEvent
-told_in p = all_told p.says p.answer
+abbrev pub all_events_of : {A : Type 0} → StageResult A → List OutputEvent
+all_events_of p = events_with_refusal p.emits p.stage_outcome
 
 abbrev pub Stage : Type 0 → Type 0
 Stage A = List Opening → StageResult A
 
-abbrev pub behind_outputs : {A : Type 0} → List OutputEvent → StageResult A → StageResult A
-behind_outputs says p = record { says = says ++ p.says; answer = p.answer; left = p.left }
+abbrev pub with_events_before : {A : Type 0} → List OutputEvent → StageResult A → StageResult A
+with_events_before emits p = record { emits = emits ++ p.emits; stage_outcome = p.stage_outcome; openings_left = p.openings_left }
 
-abbrev pub going_on : {A B : Type 0} → List OutputEvent → List Opening → (A → Stage B) → StageAnswer A → StageResult B
-going_on says left go_on (Made a) = behind_outputs says (go_on a left)
-going_on says left go_on (Refused line) = record { says = says; answer = Refused line; left = left }
-going_on says left go_on Unread = record { says = says; answer = Unread; left = left }
+abbrev pub continued_stage : {A B : Type 0} → List OutputEvent → List Opening → (A → Stage B) → StageOutcome A → StageResult B
+continued_stage emits openings_left go_on (Produced a) = with_events_before emits (go_on a openings_left)
+continued_stage emits openings_left go_on (Refused line) = record { emits = emits; stage_outcome = Refused line; openings_left = openings_left }
+continued_stage emits openings_left go_on NotReadToEnd = record { emits = emits; stage_outcome = NotReadToEnd; openings_left = openings_left }
 
 -- one stage, then the one that its result chooses
 infixl 10 ◌>>=◌
 abbrev pub ◌>>=◌ : {A B : Type 0} → Stage A → (A → Stage B) → Stage B
 ◌>>=◌ stage go_on openings =
     let p = stage openings in
-    going_on p.says p.left go_on p.answer
+    continued_stage p.emits p.openings_left go_on p.stage_outcome
 
 abbrev pub output_stage : List OutputEvent → Stage ⊤
-output_stage says openings = record { says = says; answer = Made tt; left = openings }
+output_stage emits openings = record { emits = emits; stage_outcome = Produced tt; openings_left = openings }
 
 -- a stage without events: a result, or the line of its refusal
-abbrev pub verdict_stage : {A : Type 0} → Result A Bytes → Stage A
-verdict_stage (Ok a) openings = record { says = []; answer = Made a; left = openings }
-verdict_stage (Err line) openings = record { says = []; answer = Refused line; left = openings }
+abbrev pub result_stage : {A : Type 0} → Result A Bytes → Stage A
+result_stage (Ok a) openings = record { emits = []; stage_outcome = Produced a; openings_left = openings }
+result_stage (Err line) openings = record { emits = []; stage_outcome = Refused line; openings_left = openings }
 
 -- the same opening under another name
-abbrev pub under_name : Bytes → Opening → Opening
-under_name name (Absent other) = Absent name
-under_name name (Found reading) = Found (record reading { name = name })
+abbrev pub renamed_opening : Bytes → Opening → Opening
+renamed_opening name (Absent other) = Absent name
+renamed_opening name (Found reading) = Found (record reading { name = name })
 
 -- The file of this name gives what the next opening gives. If no opening is left, the file is absent.
 abbrev pub next_opening : Bytes → List Opening → Opening
 next_opening name [] = Absent name
-next_opening name (opening ∷ openings) = under_name name opening
+next_opening name (opening ∷ openings) = renamed_opening name opening
 
 abbrev pub open_stage : Bytes → Stage Opening
 open_stage name openings = record {
-  says = Opens (next_opening name openings) ∷ [];
-  answer = Made (next_opening name openings);
-  left = drop 1 openings;
+  emits = Opens (next_opening name openings) ∷ [];
+  stage_outcome = Produced (next_opening name openings);
+  openings_left = drop 1 openings;
 }
 
 abbrev pub content_stage : {A : Type 0} → Bytes → ℕ → (Bytes → Result A Bytes) → Opening → Stage A
-content_stage name limit judge (Absent other) = verdict_stage (Err (not_opened_line name))
+content_stage name limit judge (Absent other) = result_stage (Err (not_opened_line name))
 content_stage name limit judge (Found reading) =
-    if reading.ended || nat_lt limit (length reading.bytes) then verdict_stage (judge reading.bytes)
-    else (λ openings. record { says = []; answer = Unread; left = openings })
+    if reading.ended || nat_lt limit (length reading.bytes) then result_stage (judge reading.bytes)
+    else (λ openings. record { emits = []; stage_outcome = NotReadToEnd; openings_left = openings })
 
 -- the stage that opens a file, reads it to its end or past `limit`, and checks its bytes
 abbrev pub file_stage : {A : Type 0} → Bytes → ℕ → (Bytes → Result A Bytes) → Stage A

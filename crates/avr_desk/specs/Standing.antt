@@ -21,7 +21,7 @@ takes (ToWrite f) = true
 takes Output = true
 takes opened = false
 
-pub record Stands {F I : Type 0} (opened : OpenFile F I) (current : Open) : Type 0 where
+pub record IsOpenAsRecorded {F I : Type 0} (opened : OpenFile F I) (current : Open) : Type 0 where
   pub reads : is_to_read current ≡ gives opened
   pub writes : is_to_write current ≡ takes opened
 
@@ -30,18 +30,18 @@ pub record GivesBytes {H : Type 0} (reads : Reads H) (old new : H) (buf : Bytes)
   pub gave : Consumes (reads.remaining old) (reads.remaining new) (take n buf)
   pub ends : n ≡ 0 → 0 < length buf → IsAtEnd (reads.remaining new)
 
-abbrev pub FileGives : {F I : Type 0} → Reads F → Reads I → OpenFile F I → OpenFile F I → Bytes → ℕ → Type 0
-FileGives {I = I} reads input (Input old) new buf n = (now : I) × (new ≡ Input now) × GivesBytes input old now buf n
-FileGives {F = F} reads input (ToRead old) new buf n = (now : F) × (new ≡ ToRead now) × GivesBytes reads old now buf n
-FileGives reads input old new buf n = ⊥
+abbrev pub OpenFileGives : {F I : Type 0} → Reads F → Reads I → OpenFile F I → OpenFile F I → Bytes → ℕ → Type 0
+OpenFileGives {I = I} reads input (Input old) new buf n = (now : I) × (new ≡ Input now) × GivesBytes input old now buf n
+OpenFileGives {F = F} reads input (ToRead old) new buf n = (now : F) × (new ≡ ToRead now) × GivesBytes reads old now buf n
+OpenFileGives reads input old new buf n = ⊥
 
 -- the open file gave nothing, and stays open
-abbrev pub FileGivesNone : {F I : Type 0} → Reads F → Reads I → OpenFile F I → OpenFile F I → Type 0
-FileGivesNone {I = I} reads input (Input old) new =
+abbrev pub OpenFileGivesNothing : {F I : Type 0} → Reads F → Reads I → OpenFile F I → OpenFile F I → Type 0
+OpenFileGivesNothing {I = I} reads input (Input old) new =
     (now : I) × (new ≡ Input now) × Keeps (input.remaining old) (input.remaining now)
-FileGivesNone {F = F} reads input (ToRead old) new =
+OpenFileGivesNothing {F = F} reads input (ToRead old) new =
     (now : F) × (new ≡ ToRead now) × Keeps (reads.remaining old) (reads.remaining now)
-FileGivesNone reads input old new = new ≡ old
+OpenFileGivesNothing reads input old new = new ≡ old
 
 abbrev pub IsClosed : {F I : Type 0} → (F → Type 0) → OpenFile F I → Type 0
 IsClosed closed (ToWrite f) = closed f

@@ -1,10 +1,10 @@
 ghost use Rattle.std.specs.Prelude.{◌≡◌, ◌≤◌, ◌-◌, ◌==◌, length, IfOk};
 ghost use Rattle.avr_desk.specs.Failing.{FailsWhenDue, count_after, failing, inner_comes_of};
-ghost use Rattle.avr_desk.specs.Record.{Passes, after_open, after_create, after_hold, after_read, Replaces, released, HasOpen, is_to_read, is_to_write};
-ghost use Rattle.avr_desk.specs.Fault.{Counts, WriteCounts, IsCall};
+ghost use Rattle.avr_desk.specs.Record.{ChangesRecord, after_open, after_create, after_hold, after_read, Replaces, released, HasOpen, is_to_read, is_to_write};
+ghost use Rattle.avr_desk.specs.Fault.{CountsFailure, WriteCounts, IsCall};
 ghost use Rattle.avr_desk.specs.Stream.{IsWrite};
 ghost use Rattle.avr_desk.specs.declared.stream.Stream.TheVariants.{File, Output, Messages};
-ghost use Rattle.ghosts.specs.Stays.{Stays};
+ghost use Rattle.ghosts.specs.Preserves.{Preserves};
 
 use crate::desk::{ChipDesk, Desk, DeskFault};
 use std::marker::Model;
@@ -15,7 +15,7 @@ pub struct FailingDesk<D> {
     inner: D,
     due: u64,
     planned: u64,
-    unsaid: u64,
+    message_failures: u64,
 }
 
 impl<D> Model for FailingDesk<D> {
@@ -23,19 +23,19 @@ impl<D> Model for FailingDesk<D> {
 
     ghost Value = { Failing D };
 
-    ghost view = { λ d. record { inner = d.inner; due = d.due; planned = d.planned; unsaid = d.unsaid } };
+    ghost view = { λ d. record { inner = d.inner; due = d.due; planned = d.planned; message_failures = d.message_failures } };
 }
 
 impl<D> FailingDesk<D> {
     /// Creates a desk over `inner` whose call `n`, counted from 1, fails; 0 for none.
     pub fn new(inner: D, n: u64) -> FailingDesk<D>
-        ensures { result ≡ record { inner = inner; due = n; planned = 0; unsaid = 0 } }
+        ensures { result ≡ record { inner = inner; due = n; planned = 0; message_failures = 0 } }
     {
         FailingDesk {
             inner,
             due: n,
             planned: 0,
-            unsaid: 0,
+            message_failures: 0,
         }
     }
 
@@ -67,13 +67,13 @@ impl<D: Desk> Desk for FailingDesk<D> {
 
     ghost Start = { D.Start };
 
-    ghost comes_of = { inner_comes_of D.comes_of };
+    ghost started_as = { inner_comes_of D.started_as };
 
     fn open(&mut self, name: &str) -> Result<(), DeskFault>
-        ensures kept { Passes (after_open name.now result) (D.view self.old.inner) (D.view self.new.inner) }
-        ensures counts { Counts File (failing D.view self.old) (failing D.view self.new) result }
-        ensures when_due { FailsWhenDue File D.view self.old self.new (Counts File) result }
-        ensures stays { Stays D.comes_of self.old.inner self.new.inner }
+        ensures kept { ChangesRecord (after_open name.now result) (D.view self.old.inner) (D.view self.new.inner) }
+        ensures counts { CountsFailure File (failing D.view self.old) (failing D.view self.new) result }
+        ensures when_due { FailsWhenDue File D.view self.old self.new (CountsFailure File) result }
+        ensures stays { Preserves D.started_as self.old.inner self.new.inner }
     {
         if self.is_due() {
             return Err(DeskFault::Failed);
@@ -82,9 +82,9 @@ impl<D: Desk> Desk for FailingDesk<D> {
     }
 
     fn create(&mut self, name: &str) -> Result<(), DeskFault>
-        ensures kept { Passes (after_create name.now result) (D.view self.old.inner) (D.view self.new.inner) }
-        ensures call { IsCall (failing D.view) (inner_comes_of D.comes_of) (Counts File) self.old self.new result }
-        ensures when_due { FailsWhenDue File D.view self.old self.new (Counts File) result }
+        ensures kept { ChangesRecord (after_create name.now result) (D.view self.old.inner) (D.view self.new.inner) }
+        ensures call { IsCall (failing D.view) (inner_comes_of D.started_as) (CountsFailure File) self.old self.new result }
+        ensures when_due { FailsWhenDue File D.view self.old self.new (CountsFailure File) result }
     {
         if self.is_due() {
             return Err(DeskFault::Failed);
@@ -94,10 +94,10 @@ impl<D: Desk> Desk for FailingDesk<D> {
 
     fn read(&mut self, buf: &mut [u8]) -> Result<usize, DeskFault>
         ensures bound { IfOk result (λ n. n ≤ length buf.new) }
-        ensures kept { Passes (after_read buf.new result) (D.view self.old.inner) (D.view self.new.inner) }
+        ensures kept { ChangesRecord (after_read buf.new result) (D.view self.old.inner) (D.view self.new.inner) }
         ensures has_file { HasOpen is_to_read (D.view self.old.inner) result }
-        ensures call { IsCall (failing D.view) (inner_comes_of D.comes_of) (Counts File) self.old self.new result }
-        ensures when_due { FailsWhenDue File D.view self.old self.new (Counts File) result }
+        ensures call { IsCall (failing D.view) (inner_comes_of D.started_as) (CountsFailure File) self.old self.new result }
+        ensures when_due { FailsWhenDue File D.view self.old self.new (CountsFailure File) result }
     {
         if self.is_due() {
             return Err(DeskFault::Failed);
@@ -106,7 +106,7 @@ impl<D: Desk> Desk for FailingDesk<D> {
     }
 
     fn write(&mut self, bytes: &[u8]) -> Result<usize, DeskFault>
-        ensures write { IsWrite (failing D.view) (inner_comes_of D.comes_of) File bytes.now self.old self.new result }
+        ensures write { IsWrite (failing D.view) (inner_comes_of D.started_as) File bytes.now self.old self.new result }
         ensures has_file { HasOpen is_to_write (D.view self.old.inner) result }
         ensures when_due { FailsWhenDue File D.view self.old self.new (WriteCounts File bytes.now) result }
     {
@@ -117,7 +117,7 @@ impl<D: Desk> Desk for FailingDesk<D> {
     }
 
     fn out(&mut self, bytes: &[u8]) -> Result<usize, DeskFault>
-        ensures write { IsWrite (failing D.view) (inner_comes_of D.comes_of) Output bytes.now self.old self.new result }
+        ensures write { IsWrite (failing D.view) (inner_comes_of D.started_as) Output bytes.now self.old self.new result }
         ensures when_due { FailsWhenDue Output D.view self.old self.new (WriteCounts Output bytes.now) result }
     {
         if self.is_due() {
@@ -127,11 +127,11 @@ impl<D: Desk> Desk for FailingDesk<D> {
     }
 
     fn err(&mut self, bytes: &[u8]) -> Result<usize, DeskFault>
-        ensures write { IsWrite (failing D.view) (inner_comes_of D.comes_of) Messages bytes.now self.old self.new result }
+        ensures write { IsWrite (failing D.view) (inner_comes_of D.started_as) Messages bytes.now self.old self.new result }
         ensures when_due { FailsWhenDue Messages D.view self.old self.new (WriteCounts Messages bytes.now) result }
     {
         if self.is_due() {
-            self.unsaid = self.unsaid.saturating_add(1);
+            self.message_failures = self.message_failures.saturating_add(1);
             return Err(DeskFault::Failed);
         }
         self.inner.err(bytes)
@@ -140,9 +140,9 @@ impl<D: Desk> Desk for FailingDesk<D> {
 
 impl<D: ChipDesk> ChipDesk for FailingDesk<D> {
     fn hold(&mut self, name: &str) -> Result<bool, DeskFault>
-        ensures kept { Passes (after_hold name.now result) (D.view self.old.inner) (D.view self.new.inner) }
-        ensures call { IsCall (failing D.view) (inner_comes_of D.comes_of) (Counts File) self.old self.new result }
-        ensures when_due { FailsWhenDue File D.view self.old self.new (Counts File) result }
+        ensures kept { ChangesRecord (after_hold name.now result) (D.view self.old.inner) (D.view self.new.inner) }
+        ensures call { IsCall (failing D.view) (inner_comes_of D.started_as) (CountsFailure File) self.old self.new result }
+        ensures when_due { FailsWhenDue File D.view self.old self.new (CountsFailure File) result }
     {
         if self.is_due() {
             return Err(DeskFault::Failed);
@@ -153,15 +153,15 @@ impl<D: ChipDesk> ChipDesk for FailingDesk<D> {
     fn release(&mut self)
         ensures released { D.view self.new.inner ≡ released (D.view self.old.inner) }
         ensures quiet { self.new ≡ record self.old { inner = self.new.inner } }
-        ensures stays { Stays D.comes_of self.old.inner self.new.inner }
+        ensures stays { Preserves D.started_as self.old.inner self.new.inner }
     {
         self.inner.release();
     }
 
     fn replace(&mut self, name: &str, bytes: &[u8]) -> Result<(), DeskFault>
         ensures kept { Replaces name.now bytes.now result (D.view self.old.inner) (D.view self.new.inner) }
-        ensures call { IsCall (failing D.view) (inner_comes_of D.comes_of) (Counts File) self.old self.new result }
-        ensures when_due { FailsWhenDue File D.view self.old self.new (Counts File) result }
+        ensures call { IsCall (failing D.view) (inner_comes_of D.started_as) (CountsFailure File) self.old self.new result }
+        ensures when_due { FailsWhenDue File D.view self.old self.new (CountsFailure File) result }
     {
         if self.is_due() {
             return Err(DeskFault::Failed);

@@ -2,9 +2,9 @@
 ghost use Rattle.std.specs.Prelude.{◌≡◌, ◌∷◌, [], IfOk, IfErr, OnOk, OnErr, MatchOption, Option, Some, true};
 ghost use Rattle.std.specs.IoError.{error_kind};
 ghost use Rattle.std.specs.Option.{option_copied};
-ghost use Rattle.avr_desk.specs.Journal.{Counts, Does, Done, Gives, LeavesAlso, LeavesNoMore, Opens, Still, calling, count_of, holding, made};
+ghost use Rattle.avr_desk.specs.Journal.{Counts, ChangesCalls, SystemCalls, Gives, CrashMayAlsoLeave, CrashLeavesNoMore, Opens, IsUncounted, with_calls, count_of, with_one_more_held, made};
 ghost use Rattle.avr_desk.specs.Record.{Bytes};
-ghost use Rattle.ghosts.specs.Stays.{Stays};
+ghost use Rattle.ghosts.specs.Preserves.{Preserves};
 
 use std::io;
 use std::io::{ErrorKind, Read, Write};
@@ -26,7 +26,7 @@ pub trait FileSystem {
     type Hold: Drop;
 
     /// All calls that succeeded since the system was new.
-    ghost did: { Done → Self → Type 0 };
+    ghost has_done: { SystemCalls → Self → Type 0 };
 
     /// The reader is standard input as the system gives it.
     ghost is_input: { Self.Input → Type 0 };
@@ -61,8 +61,8 @@ pub trait FileSystem {
     /// Returns a reader of standard input.
     fn input(&mut self) -> Self::Input
         ensures begins { is_input result }
-        ensures keeps { LeavesNoMore left self.old self.new }
-        ensures gives { Does did (calling (Gives ∷ [])) self.old self.new };
+        ensures keeps { CrashLeavesNoMore left self.old self.new }
+        ensures gives { ChangesCalls has_done (with_calls (Gives ∷ [])) self.old self.new };
 
     /// Opens a file for reading. `hold` is what this run holds.
     ///
@@ -71,13 +71,13 @@ pub trait FileSystem {
     /// The system's error, `NotFound` if there is no such file, and `ResourceBusy` if the file is held and another one
     /// has its name by now, or none.
     fn open_named(&mut self, name: &str, hold: Option<&Self::Hold>) -> io::Result<Self::File>
-        ensures named { Counts did (count_of (option_copied hold.entry)) self.old
+        ensures named { Counts has_done (count_of (option_copied hold.entry)) self.old
             → IfOk result (λ file. is_of file name.now) }
-        ensures absent { Counts did (count_of (option_copied hold.entry)) self.old
+        ensures absent { Counts has_done (count_of (option_copied hold.entry)) self.old
             → IfErr result (λ error. error_kind error ≡ ErrorKind.NotFound → lacks name.now) }
-        ensures opens { OnOk result (Does did (calling (Opens name.now ∷ [])) self.old self.new) }
-        ensures fails { OnErr result (Stays did self.old self.new) }
-        ensures keeps { LeavesNoMore left self.old self.new };
+        ensures opens { OnOk result (ChangesCalls has_done (with_calls (Opens name.now ∷ [])) self.old self.new) }
+        ensures fails { OnErr result (Preserves has_done self.old self.new) }
+        ensures keeps { CrashLeavesNoMore left self.old self.new };
 
     /// Creates a file, or empties an existing one, but never the held one. `hold` is what this run holds.
     ///
@@ -86,15 +86,15 @@ pub trait FileSystem {
     /// The system's error, `ResourceBusy` if the file is held.
     fn create_named(&mut self, name: &str, hold: Option<&Self::Hold>) -> io::Result<Self::File>
         ensures named { IfOk result (λ file. is_of file name.now) }
-        ensures creates { OnOk result (Does did (calling (made name.now)) self.old self.new) }
-        ensures fails { OnErr result (Stays did self.old self.new) }
-        ensures keeps { Counts did (count_of (option_copied hold.entry)) self.old
-            → LeavesNoMore left self.old self.new };
+        ensures creates { OnOk result (ChangesCalls has_done (with_calls (made name.now)) self.old self.new) }
+        ensures fails { OnErr result (Preserves has_done self.old self.new) }
+        ensures keeps { Counts has_done (count_of (option_copied hold.entry)) self.old
+            → CrashLeavesNoMore left self.old self.new };
 
     /// Closes a file that was written.
     fn close_file(&mut self, file: Self::File)
         ensures closes { closed file }
-        ensures stays { Still did left self.old self.new };
+        ensures stays { IsUncounted has_done left self.old self.new };
 
     /// Locks the file of this name, to replace it later. Returns `None` if another process has locked it.
     ///
@@ -103,10 +103,10 @@ pub trait FileSystem {
     /// The system's error.
     fn hold_named(&mut self, name: &str) -> io::Result<Option<Self::Hold>>
         ensures held { IfOk result (λ answer. MatchOption answer (denies name.now) (λ hold. holds hold name.now)) }
-        ensures locks { IfOk result (λ answer. MatchOption answer (Stays did self.old self.new)
-            (λ hold. Does did holding self.old self.new)) }
-        ensures fails { OnErr result (Stays did self.old self.new) }
-        ensures leaves { LeavesAlso left name.now (began name.now) self.old self.new };
+        ensures locks { IfOk result (λ answer. MatchOption answer (Preserves has_done self.old self.new)
+            (λ hold. ChangesCalls has_done with_one_more_held self.old self.new)) }
+        ensures fails { OnErr result (Preserves has_done self.old self.new) }
+        ensures leaves { CrashMayAlsoLeave left name.now (began name.now) self.old self.new };
 
     /// Returns whether `hold` is the lock on the file of this name.
     fn is_held(&self, hold: &Self::Hold, name: &str) -> bool
@@ -120,14 +120,14 @@ pub trait FileSystem {
     fn put_held(&mut self, hold: &mut Self::Hold, bytes: &[u8]) -> io::Result<()>
         ensures put { OnOk result ((name : Bytes) → holds hold.old name → replaced name bytes.now) }
         ensures makes { OnOk result ((name : Bytes) → holds hold.old name
-            → Does did (calling (made name)) self.old self.new) }
-        ensures fails { OnErr result (Stays did self.old self.new) }
+            → ChangesCalls has_done (with_calls (made name)) self.old self.new) }
+        ensures fails { OnErr result (Preserves has_done self.old self.new) }
         ensures stays { (name : Bytes) → holds hold.old name → holds hold.new name }
         ensures leaves { (name : Bytes) → holds hold.old name
-            → LeavesAlso left name (λ found. found ≡ Some bytes.now) self.old self.new };
+            → CrashMayAlsoLeave left name (λ found. found ≡ Some bytes.now) self.old self.new };
 
     /// Unlocks a held file.
     fn leave_held(&mut self, hold: Self::Hold)
-        ensures leaves { (done : Done) → did (holding done) self.old → did done self.new }
-        ensures keeps { LeavesNoMore left self.old self.new };
+        ensures leaves { (done : SystemCalls) → has_done (with_one_more_held done) self.old → has_done done self.new }
+        ensures keeps { CrashLeavesNoMore left self.old self.new };
 }

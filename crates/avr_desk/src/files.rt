@@ -1,6 +1,6 @@
 ghost use Rattle.std.specs.Prelude.{◌≡◌, IfOk};
-ghost use Rattle.avr_desk.specs.Files.{file_fault_number, FaultCounts, IsWhole, ReadsFile};
-ghost use Rattle.ghosts.specs.Stays.{Stays};
+ghost use Rattle.avr_desk.specs.Files.{file_fault_number, CountsReadResult, EndsOrExceedsLimit, ReadsFile};
+ghost use Rattle.ghosts.specs.Preserves.{Preserves};
 
 use crate::bytes::Bytes;
 use crate::desk::{Desk, DeskFault};
@@ -70,9 +70,9 @@ pub fn read_file<D: Desk>(
     limit: usize,
 ) -> Result<Contents, FileFault>
     ensures kept { ReadsFile name.now (D.view desk.old) (D.view desk.new) result }
-    ensures whole { IfOk result (IsWhole limit) }
-    ensures counts { FaultCounts (D.view desk.old) (D.view desk.new) result }
-    ensures stays { Stays D.comes_of desk.old desk.new }
+    ensures whole { IfOk result (EndsOrExceedsLimit limit) }
+    ensures counts { CountsReadResult (D.view desk.old) (D.view desk.new) result }
+    ensures stays { Preserves D.started_as desk.old desk.new }
 {
     match desk.open(name) {
         Ok(()) => {}

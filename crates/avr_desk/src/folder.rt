@@ -1,8 +1,8 @@
 ghost use Rattle.std.specs.Prelude.{◌≡◌, ◌⊎◌, ◌++◌, ◌∷◌, [], true, false, IfErr, IfOk, MatchOption, None, OnErr, OnOk, Option, Some};
 ghost use Rattle.std.specs.IoError.{error_kind};
-ghost use Rattle.avr_desk.specs.Journal.{Counts, Does, Done, Gives, LeavesAlso, LeavesNoMore, Opens, Still, calling, holding, made};
+ghost use Rattle.avr_desk.specs.Journal.{Counts, ChangesCalls, SystemCalls, Gives, CrashMayAlsoLeave, CrashLeavesNoMore, Opens, IsUncounted, with_calls, with_one_more_held, made};
 ghost use Rattle.avr_desk.specs.Record.{Bytes};
-ghost use Rattle.ghosts.specs.Stays.{Stays};
+ghost use Rattle.ghosts.specs.Preserves.{Preserves};
 
 use std::io;
 use std::io::{ErrorKind, Read, Write};
@@ -42,7 +42,7 @@ pub trait Folder {
 
     /// All calls that succeeded since the system was new. A file counts as held from [`Folder::confirm`] to
     /// [`Folder::unlock`].
-    ghost did: { Done → Self → Type 0 };
+    ghost has_done: { SystemCalls → Self → Type 0 };
 
     /// While this run held the file of this name, a crash until now might have left a file of these bytes, or none. A
     /// place where another file is mounted doesn't count.
@@ -58,10 +58,10 @@ pub trait Folder {
     ghost finds: { Self → Bytes → Bytes → Type 0 };
 
     /// What was seen at the place is still there, a file or none, and the new file still has its first name.
-    ghost finds_both: { Self → Option Self.Seen → Self.New → Type 0 };
+    ghost finds_seen_and_new: { Self → Option Self.Seen → Self.New → Type 0 };
 
     /// The name doesn't lead to a file that this run holds.
-    ghost is_apart: { Self → Bytes → Type 0 };
+    ghost leads_to_no_held_file: { Self → Bytes → Type 0 };
 
     /// This run holds no file by this name.
     ghost is_free: { Self → Bytes → Type 0 };
@@ -100,155 +100,155 @@ pub trait Folder {
     /// Returns a reader of standard input.
     fn input(&mut self) -> Self::Input
         ensures begins { is_input result }
-        ensures keeps { LeavesNoMore left self.old self.new }
-        ensures gives { Does did (calling (Gives ∷ [])) self.old self.new };
+        ensures keeps { CrashLeavesNoMore left self.old self.new }
+        ensures gives { ChangesCalls has_done (with_calls (Gives ∷ [])) self.old self.new };
 
     /// Opens a file for reading.
     fn open(&mut self, name: &str) -> io::Result<Self::File>
-        ensures named { Counts did 0 self.old ⊎ is_free self.old name.now → IfOk result (λ file. is_of file name.now) }
-        ensures absent { Counts did 0 self.old ⊎ is_free self.old name.now
+        ensures named { Counts has_done 0 self.old ⊎ is_free self.old name.now → IfOk result (λ file. is_of file name.now) }
+        ensures absent { Counts has_done 0 self.old ⊎ is_free self.old name.now
             → IfErr result (λ error. error_kind error ≡ ErrorKind.NotFound → lacks name.now) }
-        ensures opens { OnOk result (Does did (calling (Opens name.now ∷ [])) self.old self.new) }
-        ensures fails { OnErr result (Stays did self.old self.new) }
-        ensures keeps { LeavesNoMore left self.old self.new };
+        ensures opens { OnOk result (ChangesCalls has_done (with_calls (Opens name.now ∷ [])) self.old self.new) }
+        ensures fails { OnErr result (Preserves has_done self.old self.new) }
+        ensures keeps { CrashLeavesNoMore left self.old self.new };
 
     /// Creates a file, or empties an existing one.
     fn create(&mut self, name: &str) -> io::Result<Self::File>
         ensures named { IfOk result (λ file. is_of file name.now) }
-        ensures creates { OnOk result (Does did (calling (made name.now)) self.old self.new) }
-        ensures fails { OnErr result (Stays did self.old self.new) }
-        ensures alone { Counts did 0 self.old → LeavesNoMore left self.old self.new }
-        ensures keeps { is_apart self.old name.now → LeavesNoMore left self.old self.new };
+        ensures creates { OnOk result (ChangesCalls has_done (with_calls (made name.now)) self.old self.new) }
+        ensures fails { OnErr result (Preserves has_done self.old self.new) }
+        ensures alone { Counts has_done 0 self.old → CrashLeavesNoMore left self.old self.new }
+        ensures keeps { leads_to_no_held_file self.old name.now → CrashLeavesNoMore left self.old self.new };
 
     /// Closes a file that was written.
     fn close(&mut self, file: Self::File)
         ensures closes { closed file }
-        ensures stays { Still did left self.old self.new };
+        ensures stays { IsUncounted has_done left self.old self.new };
 
     /// Finds where a name leads.
     fn find(&mut self, name: &str) -> io::Result<Self::Place>
         ensures named { IfOk result (λ place. name_of place ≡ name.now) }
-        ensures stays { Still did left self.old self.new };
+        ensures stays { IsUncounted has_done left self.old self.new };
 
     /// Opens the folder of a place. A folder that may not be read counts as opened.
     fn open_parent(&mut self, place: &Self::Place) -> io::Result<Self::Parent>
-        ensures stays { Still did left self.old self.new };
+        ensures stays { IsUncounted has_done left self.old self.new };
 
     /// Opens the lock file of a place, or creates it. Returns `None` if another run just removed it.
     fn open_lock(&mut self, place: &Self::Place) -> io::Result<Option<Self::LockFile>>
         ensures denied { IfOk result (λ file. MatchOption file (denies (name_of place.now)) (λ file. Unit {0})) }
-        ensures stays { Still did left self.old self.new };
+        ensures stays { IsUncounted has_done left self.old self.new };
 
     /// Locks the lock file. Returns `None` if another process has locked it.
     fn lock(&mut self, place: &Self::Place, file: Self::LockFile) -> io::Result<Option<Self::Lock>>
         ensures denied { IfOk result (λ lock. MatchOption lock (denies (name_of place.now)) (λ lock. Unit {0})) }
-        ensures stays { Still did left self.old self.new };
+        ensures stays { IsUncounted has_done left self.old self.new };
 
     /// Holds the place if the lock file still has its name. Returns `None` if another run removed it since it was
     /// opened.
     fn confirm(&mut self, place: Self::Place, lock: Self::Lock) -> io::Result<Option<Self::Held>>
         ensures named { IfOk result (λ held. MatchOption held (denies (name_of place))
             (λ held. held_name held ≡ name_of place)) }
-        ensures holds { IfOk result (λ held. MatchOption held (Stays did self.old self.new)
-            (λ held. Does did holding self.old self.new)) }
-        ensures fails { OnErr result (Stays did self.old self.new) }
-        ensures leaves { LeavesAlso left (name_of place) (began (name_of place)) self.old self.new };
+        ensures holds { IfOk result (λ held. MatchOption held (Preserves has_done self.old self.new)
+            (λ held. ChangesCalls has_done with_one_more_held self.old self.new)) }
+        ensures fails { OnErr result (Preserves has_done self.old self.new) }
+        ensures leaves { CrashMayAlsoLeave left (name_of place) (began (name_of place)) self.old self.new };
 
     /// Returns whether the held file has this name.
     fn is_named(&self, held: &Self::Held, name: &str) -> bool
         ensures same { result ≡ true → held_name held.now ≡ name.now }
-        ensures other { result ≡ false → Counts did 1 self.now → is_free self.now name.now };
+        ensures other { result ≡ false → Counts has_done 1 self.now → is_free self.now name.now };
 
     /// Returns which file is at a place, if any. Fails if the file may not be written.
     fn see(&mut self, held: &Self::Held) -> io::Result<Option<Self::Seen>>
-        ensures stays { Still did left self.old self.new };
+        ensures stays { IsUncounted has_done left self.old self.new };
 
     /// Opens the file at a place for reading. Fails if it isn't the one that was seen. `NotFound` means that none was
     /// seen and none is there.
     fn open_seen(&mut self, held: &Self::Held, seen: &Option<Self::Seen>) -> io::Result<Self::File>
         ensures named { IfOk result (λ file. is_of file (held_name held.now)) }
         ensures absent { IfErr result (λ error. error_kind error ≡ ErrorKind.NotFound → lacks (held_name held.now)) }
-        ensures opens { OnOk result (Does did (calling (Opens (held_name held.now) ∷ [])) self.old self.new) }
-        ensures fails { OnErr result (Stays did self.old self.new) }
-        ensures keeps { LeavesNoMore left self.old self.new };
+        ensures opens { OnOk result (ChangesCalls has_done (with_calls (Opens (held_name held.now) ∷ [])) self.old self.new) }
+        ensures fails { OnErr result (Preserves has_done self.old self.new) }
+        ensures keeps { CrashLeavesNoMore left self.old self.new };
 
     /// Fails with `ResourceBusy` if a name leads to the held place, or to the file that was seen there.
-    fn keep_apart(
+    fn check_not_held(
         &mut self,
         name: &str,
         held: &Self::Held,
         seen: &Option<Self::Seen>,
     ) -> io::Result<()>
-        ensures apart { OnOk result (Counts did 1 self.new → is_apart self.new name.now) }
-        ensures stays { Still did left self.old self.new };
+        ensures apart { OnOk result (Counts has_done 1 self.new → leads_to_no_held_file self.new name.now) }
+        ensures stays { IsUncounted has_done left self.old self.new };
 
     /// Creates an empty new file with the owner and the permissions of the file that was seen.
     fn make(&mut self, held: &Self::Held, seen: &Option<Self::Seen>) -> io::Result<Self::New>
         ensures empty { IfOk result (λ file. has file []) }
-        ensures stays { Still did left self.old self.new };
+        ensures stays { IsUncounted has_done left self.old self.new };
 
     /// Appends to the new file.
     fn write(&mut self, file: &mut Self::New, bytes: &[u8]) -> io::Result<()>
         ensures written { OnOk result ((before : Bytes) → has file.old before → has file.new (before ++ bytes.now)) }
-        ensures stays { Still did left self.old self.new };
+        ensures stays { IsUncounted has_done left self.old self.new };
 
     /// Waits until the new file is on the disk.
     fn sync(&mut self, file: &mut Self::New) -> io::Result<()>
         ensures synced { OnOk result ((bytes : Bytes) → has file.old bytes → keeps file.new bytes) }
-        ensures stays { Still did left self.old self.new };
+        ensures stays { IsUncounted has_done left self.old self.new };
 
     /// Fails with `AlreadyExists` unless what was seen is still at the place, and the new file still has its name.
-    fn look_again(
+    fn check_unchanged(
         &mut self,
         held: &Self::Held,
         seen: &Option<Self::Seen>,
         file: &Self::New,
     ) -> io::Result<()>
-        ensures found { OnOk result (finds_both self.new seen.now file.now) }
-        ensures stays { Still did left self.old self.new };
+        ensures found { OnOk result (finds_seen_and_new self.new seen.now file.now) }
+        ensures stays { IsUncounted has_done left self.old self.new };
 
     /// Gives the place to the new file, only if nothing is there. The new file may keep its first name too.
     fn place_new(&mut self, held: &Self::Held, file: Self::New) -> io::Result<()>
-        requires { finds_both self.old None file }
+        requires { finds_seen_and_new self.old None file }
         ensures only { OnOk result (lacks (held_name held.now)) }
         ensures whole { (bytes : Bytes) → keeps file bytes
-            → LeavesAlso left (held_name held.now) (λ found. found ≡ Some bytes) self.old self.new }
+            → CrashMayAlsoLeave left (held_name held.now) (λ found. found ≡ Some bytes) self.old self.new }
         ensures placed { OnOk result ((bytes : Bytes) → keeps file bytes → finds self.new (held_name held.now) bytes) }
-        ensures stays { Stays did self.old self.new };
+        ensures stays { Preserves has_done self.old self.new };
 
     /// Renames the new file over the one that was seen.
     fn rename(&mut self, held: &Self::Held, seen: &Self::Seen, file: Self::New) -> io::Result<()>
-        requires { finds_both self.old (Some seen.now) file }
+        requires { finds_seen_and_new self.old (Some seen.now) file }
         ensures whole { (bytes : Bytes) → keeps file bytes
-            → LeavesAlso left (held_name held.now) (λ found. found ≡ Some bytes) self.old self.new }
+            → CrashMayAlsoLeave left (held_name held.now) (λ found. found ≡ Some bytes) self.old self.new }
         ensures placed { OnOk result ((bytes : Bytes) → keeps file bytes → finds self.new (held_name held.now) bytes) }
         ensures busy { IfErr result (λ error. error_kind error ≡ ErrorKind.ResourceBusy
             → is_mounted (held_name held.now)) }
-        ensures stays { Stays did self.old self.new };
+        ensures stays { Preserves has_done self.old self.new };
 
     /// Waits until the names in the folder are on the disk. A folder that can't be read or synced counts as synced.
     fn sync_name(&mut self, held: &Self::Held, parent: &Self::Parent) -> io::Result<()>
         ensures lasts { OnOk result ((bytes : Bytes) → finds self.old (held_name held.now) bytes
             → lasts (held_name held.now) bytes) }
         ensures makes { OnOk result ((bytes : Bytes) → finds self.old (held_name held.now) bytes
-            → Does did (calling (made (held_name held.now))) self.old self.new) }
-        ensures fails { OnErr result (Stays did self.old self.new) }
-        ensures keeps { LeavesNoMore left self.old self.new };
+            → ChangesCalls has_done (with_calls (made (held_name held.now))) self.old self.new) }
+        ensures fails { OnErr result (Preserves has_done self.old self.new) }
+        ensures keeps { CrashLeavesNoMore left self.old self.new };
 
     /// Overwrites the file in place and waits until it is on the disk. A crash before that may leave any part.
     fn write_over(&mut self, held: &Self::Held, bytes: &[u8]) -> io::Result<()>
         requires { is_mounted (held_name held.now) }
         ensures lasts { OnOk result (lasts (held_name held.now) bytes.now) }
-        ensures makes { OnOk result (Does did (calling (made (held_name held.now))) self.old self.new) }
-        ensures fails { OnErr result (Stays did self.old self.new) }
-        ensures keeps { LeavesNoMore left self.old self.new };
+        ensures makes { OnOk result (ChangesCalls has_done (with_calls (made (held_name held.now))) self.old self.new) }
+        ensures fails { OnErr result (Preserves has_done self.old self.new) }
+        ensures keeps { CrashLeavesNoMore left self.old self.new };
 
     /// Removes the new file, if there is one.
     fn remove_new(&mut self, held: &Self::Held)
-        ensures stays { Still did left self.old self.new };
+        ensures stays { IsUncounted has_done left self.old self.new };
 
     /// Removes the lock file and unlocks it.
     fn unlock(&mut self, held: Self::Held)
-        ensures leaves { (done : Done) → did (holding done) self.old → did done self.new }
-        ensures keeps { LeavesNoMore left self.old self.new };
+        ensures leaves { (done : SystemCalls) → has_done (with_one_more_held done) self.old → has_done done self.new }
+        ensures keeps { CrashLeavesNoMore left self.old self.new };
 }

@@ -1,12 +1,12 @@
 //! Laws of desks: their records are true.
 ghost use Rattle.std.specs.Prelude.{◌≡◌, [], Option, None};
-ghost use Rattle.ghosts.specs.Stays.{Stays};
+ghost use Rattle.ghosts.specs.Preserves.{Preserves};
 ghost use Rattle.avr_desk.specs.Handles.{IsTrueRecord};
-ghost use Rattle.avr_desk.specs.Journal.{none_done};
+ghost use Rattle.avr_desk.specs.Journal.{no_calls};
 ghost use Rattle.avr_desk.specs.Memory.{MemDeskState, Stock, stock_of};
 ghost use Rattle.avr_desk.specs.Record.{Bytes, all_uses, nothing_kept};
-ghost use Rattle.avr_desk.specs.Shown.{IsTrueSince, TellsAll};
-ghost use Rattle.avr_desk.specs.Truth.{AreTrue, HoldsTrue};
+ghost use Rattle.avr_desk.specs.Shown.{IsTrueSince, RecordsAll};
+ghost use Rattle.avr_desk.specs.Truth.{OpeningsAreTrue, HoldsTrue};
 ghost use Rattle.avr_desk.specs.declared.system.OpenFile.TheVariants.{Nothing};
 
 use crate::file_system::FileSystem;
@@ -19,9 +19,9 @@ use std::io::Write;
 ///
 /// Every call over a [`crate::Desk`] promises the precondition, and so does all code made of such calls.
 pub fn what_a_desk_in_memory_gives_is_true(before: &MemDesk, after: &MemDesk)
-    requires { Stays HoldsTrue before.now after.now }
+    requires { Preserves HoldsTrue before.now after.now }
     ensures begins { (fresh : MemDeskState) → fresh.kept ≡ nothing_kept → HoldsTrue (stock_of fresh) fresh }
-    ensures gives { (stock : Stock) → HoldsTrue stock before.now → AreTrue stock [] (all_uses after.now.kept) }
+    ensures gives { (stock : Stock) → HoldsTrue stock before.now → OpeningsAreTrue stock [] (all_uses after.now.kept) }
 {}
 
 /// Whatever was done with a program's desk, its record is true. A writer's known bytes grew by what was sent to the
@@ -32,12 +32,12 @@ pub fn what_a_desk_of_a_program_keeps_is_true<
     O: Write + Drop,
     E: Write + Drop,
 >(before: &SystemDesk<R, O, E>, after: &SystemDesk<R, O, E>)
-    requires { Stays (IsTrueSince R.FileSystem R.File.Read R.File.Write R.Input.Read O.Write E.Write)
+    requires { Preserves (IsTrueSince R.FileSystem R.File.Read R.File.Write R.Input.Read O.Write E.Write)
         before.now after.now }
     ensures since { IsTrueSince R.FileSystem R.File.Read R.File.Write R.Input.Read O.Write E.Write
         before.now after.now }
-    ensures begins { (fresh : R) → R.did none_done fresh
+    ensures begins { (fresh : R) → R.has_done no_calls fresh
         → ((name : Bytes) (found : Option Bytes) → R.left fresh name found → ⊥)
         → IsTrueRecord R.FileSystem R.File.Read R.File.Write R.Input.Read fresh Nothing None nothing_kept }
-    ensures all { TellsAll R.FileSystem R.File.Read R.File.Write R.Input.Read before.now after.now }
+    ensures all { RecordsAll R.FileSystem R.File.Read R.File.Write R.Input.Read before.now after.now }
 {}

@@ -1,8 +1,8 @@
 ghost use Rattle.std.specs.Prelude.{◌≡◌, ◌<◌, ◌+◌, ◌∷◌, ◌++◌, [], length, OnOk, OnErr, IfOk, map};
 ghost use Rattle.byteorder.specs.Endian.{big_bytes};
-ghost use Rattle.avr_desk.specs.Fault.{Counts, IsCall};
+ghost use Rattle.avr_desk.specs.Fault.{CountsFailure, IsCall};
 ghost use Rattle.avr_desk.specs.Lines.{digits, spaced_digits, text_of, line, information, warning, error};
-ghost use Rattle.avr_desk.specs.Said.{IsPrinted};
+ghost use Rattle.avr_desk.specs.OutputEvents.{IsPrinted};
 
 use crate::desk::{Desk, DeskFault};
 use crate::stream::{Stream, write_all};
@@ -64,7 +64,7 @@ fn spaced(signature: [u8; 3]) -> [u8; 8]
 
 fn write_piece<D: Desk>(desk: &mut D, piece: &Piece<'_>) -> Result<(), DeskFault>
     ensures printed { IsPrinted (D.view desk.old) (D.view desk.new) (text_of piece.now) result }
-    ensures call { IsCall D.view D.comes_of (Counts Stream.Messages) desk.old desk.new result }
+    ensures call { IsCall D.view D.started_as (CountsFailure Stream.Messages) desk.old desk.new result }
 {
     match piece {
         Piece::Text(text) => write_all(desk, Stream::Messages, text.as_bytes()),
@@ -109,7 +109,7 @@ fn gathered(mark: &str, pieces: &[Piece<'_>]) -> Result<Gathered, CapacityError>
 /// Prints a line in one write, so that other programs' lines don't come in between. A longer line is written in pieces.
 fn print_line<D: Desk>(desk: &mut D, mark: &str, pieces: &[Piece<'_>]) -> Result<(), DeskFault>
     ensures printed { IsPrinted (D.view desk.old) (D.view desk.new) (line mark.now (map text_of pieces.now)) result }
-    ensures call { IsCall D.view D.comes_of (Counts Stream.Messages) desk.old desk.new result }
+    ensures call { IsCall D.view D.started_as (CountsFailure Stream.Messages) desk.old desk.new result }
 {
     if let Ok(line) = gathered(mark, pieces) {
         return write_all(desk, Stream::Messages, line.as_slice());
@@ -135,7 +135,7 @@ fn print_line<D: Desk>(desk: &mut D, mark: &str, pieces: &[Piece<'_>]) -> Result
 /// ```
 pub fn print_information<D: Desk>(desk: &mut D, pieces: &[Piece<'_>]) -> Result<(), DeskFault>
     ensures printed { IsPrinted (D.view desk.old) (D.view desk.new) (information (map text_of pieces.now)) result }
-    ensures call { IsCall D.view D.comes_of (Counts Stream.Messages) desk.old desk.new result }
+    ensures call { IsCall D.view D.started_as (CountsFailure Stream.Messages) desk.old desk.new result }
 {
     print_line(desk, "avrstk: ", pieces)
 }
@@ -153,7 +153,7 @@ pub fn print_information<D: Desk>(desk: &mut D, pieces: &[Piece<'_>]) -> Result<
 /// ```
 pub fn print_warning<D: Desk>(desk: &mut D, pieces: &[Piece<'_>]) -> Result<(), DeskFault>
     ensures printed { IsPrinted (D.view desk.old) (D.view desk.new) (warning (map text_of pieces.now)) result }
-    ensures call { IsCall D.view D.comes_of (Counts Stream.Messages) desk.old desk.new result }
+    ensures call { IsCall D.view D.started_as (CountsFailure Stream.Messages) desk.old desk.new result }
 {
     print_line(desk, "avrstk: warning: ", pieces)
 }
@@ -172,7 +172,7 @@ pub fn print_warning<D: Desk>(desk: &mut D, pieces: &[Piece<'_>]) -> Result<(), 
 /// ```
 pub fn print_error<D: Desk>(desk: &mut D, pieces: &[Piece<'_>]) -> Result<(), DeskFault>
     ensures printed { IsPrinted (D.view desk.old) (D.view desk.new) (error (map text_of pieces.now)) result }
-    ensures call { IsCall D.view D.comes_of (Counts Stream.Messages) desk.old desk.new result }
+    ensures call { IsCall D.view D.started_as (CountsFailure Stream.Messages) desk.old desk.new result }
 {
     print_line(desk, "avrstk: error: ", pieces)
 }

@@ -27,7 +27,7 @@ pub struct MemDesk {
     messages: Bytes,
     journal: Journal,
     failures: u64,
-    unsaid: u64,
+    message_failures: u64,
 }
 
 impl Model for MemDesk {
@@ -47,7 +47,7 @@ impl Model for MemDesk {
         messages = d.messages;
       };
       failures = d.failures;
-      unsaid = d.unsaid;
+      message_failures = d.message_failures;
       input = d.input;
       stored = d.stored.items;
       opened = d.opened;
@@ -75,7 +75,7 @@ fn is_end(count: usize, room: usize) -> bool
 }
 
 impl MemDesk {
-    ghost use Rattle.ghosts.specs.Failures.{HasRisen};
+    ghost use Rattle.ghosts.specs.Failures.{OneFailureCounted};
     ghost use Rattle.avr_desk.specs.Memory.{contents, fresh_desk};
     ghost use Rattle.avr_desk.specs.Named.{holds, newest};
     ghost use Rattle.avr_desk.specs.Record.{all_files, all_uses};
@@ -97,7 +97,7 @@ impl MemDesk {
             messages: Bytes::new(alloc),
             journal: Journal::new(),
             failures: 0,
-            unsaid: 0,
+            message_failures: 0,
         }
     }
 
@@ -209,7 +209,7 @@ impl MemDesk {
         ensures fault { result ≡ DeskFault.Failed }
         ensures same { self.new ≡ record self.old { failures = self.new.failures } }
         ensures rises { self.old.failures ≤ self.new.failures }
-        ensures counts { HasRisen self.old.failures self.new.failures }
+        ensures counts { OneFailureCounted self.old.failures self.new.failures }
     {
         self.failures = self.failures.saturating_add(1);
         DeskFault::Failed
@@ -218,27 +218,27 @@ impl MemDesk {
 
 impl Desk for MemDesk {
     ghost use Rattle.avr_desk.specs.Record.{after_open, after_create, after_read, after_write, after_out, after_err, bytes_taken, is_to_read, is_to_write};
-    ghost use Rattle.avr_desk.specs.Fault.{Counts, WriteCounts, IsCall};
-    ghost use Rattle.avr_desk.specs.Memory.{contents, updated, memory_state, Stock, unread_bytes};
+    ghost use Rattle.avr_desk.specs.Fault.{CountsFailure, WriteCounts, IsCall};
+    ghost use Rattle.avr_desk.specs.Memory.{contents, with_record_and_failures, memory_state, Stock, unread_bytes};
     ghost use Rattle.avr_desk.specs.Truth.{HoldsTrue};
-    ghost use Rattle.ghosts.specs.Stays.{Stays};
+    ghost use Rattle.ghosts.specs.Preserves.{Preserves};
     ghost use Rattle.avr_desk.specs.declared.stream.Stream.TheVariants.{File, Output, Messages};
 
     ghost view = { memory_state };
 
     ghost Start = { Stock };
 
-    ghost comes_of = { HoldsTrue };
+    ghost started_as = { HoldsTrue };
 
     #[tactic(auto, using(crate::proofs::Desks::InMemory::same_true))]
     fn open(&mut self, name: &str) -> Result<(), DeskFault>
-        ensures kept { self.new ≡ record (updated (after_open name.now result self.old.kept) self.old self.new)
+        ensures kept { self.new ≡ record (with_record_and_failures (after_open name.now result self.old.kept) self.old self.new)
             { opened = self.new.opened } }
         ensures found { OnOk result (contents name.now self.old ≡ Some self.new.opened) }
         ensures absent { result ≡ Err DeskFault.NotFound → contents name.now self.old ≡ None }
         ensures leaves { OnErr result (self.new.opened ≡ self.old.opened) }
-        ensures counts { Counts File (memory_state self.old) (memory_state self.new) result }
-        ensures stays { Stays HoldsTrue self.old self.new }
+        ensures counts { CountsFailure File (memory_state self.old) (memory_state self.new) result }
+        ensures stays { Preserves HoldsTrue self.old self.new }
     {
         let Ok(kept_name) = Bytes::copied(self.alloc, name.as_bytes()) else {
             return Err(self.fail());
@@ -267,8 +267,8 @@ impl Desk for MemDesk {
 
     #[tactic(auto, using(crate::proofs::Desks::InMemory::same_true))]
     fn create(&mut self, name: &str) -> Result<(), DeskFault>
-        ensures kept { self.new ≡ updated (after_create name.now result self.old.kept) self.old self.new }
-        ensures call { IsCall memory_state HoldsTrue (Counts File) self.old self.new result }
+        ensures kept { self.new ≡ with_record_and_failures (after_create name.now result self.old.kept) self.old self.new }
+        ensures call { IsCall memory_state HoldsTrue (CountsFailure File) self.old self.new result }
     {
         let Ok(name) = Bytes::copied(self.alloc, name.as_bytes()) else {
             return Err(self.fail());
@@ -285,9 +285,9 @@ impl Desk for MemDesk {
     fn read(&mut self, buf: &mut [u8]) -> Result<usize, DeskFault>
         ensures count { IfOk result (λ n. n ≡ min (length buf.old) (length (unread_bytes self.old))) }
         ensures gives { IfOk result (λ n. take n buf.new ≡ take n (unread_bytes self.old)) }
-        ensures kept { self.new ≡ updated (after_read buf.new result self.old.kept) self.old self.new }
+        ensures kept { self.new ≡ with_record_and_failures (after_read buf.new result self.old.kept) self.old self.new }
         ensures has_file { OnOk result (is_to_read self.old.kept.current ≡ true) }
-        ensures call { IsCall memory_state HoldsTrue (Counts File) self.old self.new result }
+        ensures call { IsCall memory_state HoldsTrue (CountsFailure File) self.old self.new result }
     {
         if !matches!(self.current, Open::ToRead(_)) {
             return Err(self.fail());
@@ -306,7 +306,7 @@ impl Desk for MemDesk {
     #[tactic(auto, using(crate::proofs::Desks::InMemory::same_true, crate::proofs::Desks::InMemory::written_true))]
     fn write(&mut self, bytes: &[u8]) -> Result<usize, DeskFault>
         ensures all { IfOk result (λ n. n ≡ length bytes.now) }
-        ensures kept { self.new ≡ updated (after_write (bytes_taken bytes.now result) self.old.kept) self.old self.new }
+        ensures kept { self.new ≡ with_record_and_failures (after_write (bytes_taken bytes.now result) self.old.kept) self.old self.new }
         ensures has_file { OnOk result (is_to_write self.old.kept.current ≡ true) }
         ensures call { IsCall memory_state HoldsTrue (WriteCounts File bytes.now) self.old self.new result }
     {
@@ -322,7 +322,7 @@ impl Desk for MemDesk {
     #[tactic(auto, using(crate::proofs::Desks::InMemory::same_true))]
     fn out(&mut self, bytes: &[u8]) -> Result<usize, DeskFault>
         ensures all { IfOk result (λ n. n ≡ length bytes.now) }
-        ensures kept { self.new ≡ updated (after_out (bytes_taken bytes.now result) self.old.kept) self.old self.new }
+        ensures kept { self.new ≡ with_record_and_failures (after_out (bytes_taken bytes.now result) self.old.kept) self.old self.new }
         ensures call { IsCall memory_state HoldsTrue (WriteCounts Output bytes.now) self.old self.new result }
     {
         if self.output.extend(bytes).is_err() {
@@ -334,12 +334,12 @@ impl Desk for MemDesk {
     #[tactic(auto, using(crate::proofs::Desks::InMemory::same_true))]
     fn err(&mut self, bytes: &[u8]) -> Result<usize, DeskFault>
         ensures all { IfOk result (λ n. n ≡ length bytes.now) }
-        ensures kept { self.new ≡ record (updated (after_err (bytes_taken bytes.now result) self.old.kept) self.old
-            self.new) { unsaid = self.new.unsaid } }
+        ensures kept { self.new ≡ record (with_record_and_failures (after_err (bytes_taken bytes.now result) self.old.kept) self.old
+            self.new) { message_failures = self.new.message_failures } }
         ensures call { IsCall memory_state HoldsTrue (WriteCounts Messages bytes.now) self.old self.new result }
     {
         if self.messages.extend(bytes).is_err() {
-            self.unsaid = self.unsaid.saturating_add(1);
+            self.message_failures = self.message_failures.saturating_add(1);
             return Err(self.fail());
         }
         Ok(bytes.len())
@@ -348,18 +348,18 @@ impl Desk for MemDesk {
 
 impl ChipDesk for MemDesk {
     ghost use Rattle.avr_desk.specs.Record.{Replaces, after_hold, with_none_held, with_replaced};
-    ghost use Rattle.avr_desk.specs.Fault.{Counts, IsCall};
-    ghost use Rattle.avr_desk.specs.Memory.{updated, memory_state};
+    ghost use Rattle.avr_desk.specs.Fault.{CountsFailure, IsCall};
+    ghost use Rattle.avr_desk.specs.Memory.{with_record_and_failures, memory_state};
     ghost use Rattle.avr_desk.specs.Named.{holds};
     ghost use Rattle.avr_desk.specs.Truth.{HoldsTrue};
-    ghost use Rattle.ghosts.specs.Stays.{Stays};
+    ghost use Rattle.ghosts.specs.Preserves.{Preserves};
     ghost use Rattle.avr_desk.specs.declared.stream.Stream.TheVariants.{File};
 
     #[tactic(auto, using(crate::proofs::Desks::InMemory::same_true))]
     fn hold(&mut self, name: &str) -> Result<bool, DeskFault>
         ensures free { IfOk result (λ b. b ≡ not (holds name.now self.old.kept)) }
-        ensures kept { self.new ≡ updated (after_hold name.now result self.old.kept) self.old self.new }
-        ensures call { IsCall memory_state HoldsTrue (Counts File) self.old self.new result }
+        ensures kept { self.new ≡ with_record_and_failures (after_hold name.now result self.old.kept) self.old self.new }
+        ensures call { IsCall memory_state HoldsTrue (CountsFailure File) self.old self.new result }
     {
         let Ok(own_name) = Bytes::copied(self.alloc, name.as_bytes()) else {
             return Err(self.fail());
@@ -377,7 +377,7 @@ impl ChipDesk for MemDesk {
     #[tactic(auto, using(crate::proofs::Desks::InMemory::same_true))]
     fn release(&mut self)
         ensures kept { self.new ≡ record self.old { kept = with_none_held self.old.kept } }
-        ensures stays { Stays HoldsTrue self.old self.new }
+        ensures stays { Preserves HoldsTrue self.old self.new }
     {
         self.held = None;
         self.journal = self.journal.then(&Call::Released);
@@ -385,10 +385,10 @@ impl ChipDesk for MemDesk {
 
     #[tactic(auto, using(crate::proofs::Desks::InMemory::same_true))]
     fn replace(&mut self, name: &str, bytes: &[u8]) -> Result<(), DeskFault>
-        ensures kept { self.new ≡ updated (if is_ok result then with_replaced name.now bytes.now self.old.kept
+        ensures kept { self.new ≡ with_record_and_failures (if is_ok result then with_replaced name.now bytes.now self.old.kept
             else self.old.kept) self.old self.new }
         ensures replaces { Replaces name.now bytes.now result (memory_state self.old) (memory_state self.new) }
-        ensures call { IsCall memory_state HoldsTrue (Counts File) self.old self.new result }
+        ensures call { IsCall memory_state HoldsTrue (CountsFailure File) self.old self.new result }
     {
         let Ok(own_name) = Bytes::copied(self.alloc, name.as_bytes()) else {
             return Err(self.fail());

@@ -1,8 +1,8 @@
 ghost use Rattle.std.specs.Prelude.{◌≡◌, ◌≤◌, ◌∷◌, [], length, map};
 ghost use Rattle.avr_desk.specs.Lines.{text_of, error, file_pieces, memory_pieces, not_created_pieces, not_written_pieces, too_long_pieces};
-ghost use Rattle.avr_desk.specs.Said.{Tells};
+ghost use Rattle.avr_desk.specs.OutputEvents.{ReportsLine};
 ghost use Rattle.avr_desk.specs.declared.message.TheConstants.{MOST_PIECES};
-ghost use Rattle.ghosts.specs.Stays.{Stays};
+ghost use Rattle.ghosts.specs.Preserves.{Preserves};
 
 use crate::desk::Desk;
 use crate::files::FileFault;
@@ -76,8 +76,8 @@ impl<'a> Message<'a> {
 /// Prints the message as an error line, as far as the desk takes it. Returns the status of a refusal, 1.
 pub fn refuse<D: Desk>(desk: &mut D, message: &Message<'_>) -> u8
     ensures status { result ≡ 1 }
-    ensures told { Tells (D.view desk.old) (D.view desk.new) (error message.now) }
-    ensures stays { Stays D.comes_of desk.old desk.new }
+    ensures told { ReportsLine (D.view desk.old) (D.view desk.new) (error message.now) }
+    ensures stays { Preserves D.started_as desk.old desk.new }
 {
     let _ = print_error(desk, message.pieces());
     1

@@ -5,8 +5,8 @@
 //! which only the lock holder touches. Once they are on the disk, that file is renamed to NAME. If there was no file to
 //! replace, it gets NAME as a second name, which never takes the place of another file.
 ghost use Rattle.std.specs.Prelude.{◌≡◌, IfOk, MatchOption, OnErr};
-ghost use Rattle.avr_desk.specs.Journal.{Does, LeavesAlso, Still, holding};
-ghost use Rattle.ghosts.specs.Stays.{Stays};
+ghost use Rattle.avr_desk.specs.Journal.{ChangesCalls, CrashMayAlsoLeave, IsUncounted, with_one_more_held};
+ghost use Rattle.ghosts.specs.Preserves.{Preserves};
 
 use crate::file_system::FileSystem;
 use crate::folder::Folder;
@@ -25,10 +25,10 @@ pub struct Replacement<F: Folder> {
 fn hold_place<F: Folder>(folder: &mut F, place: F::Place) -> io::Result<Option<F::Held>>
     ensures named { IfOk result (λ held. MatchOption held (F.denies (F.name_of place))
         (λ held. F.held_name held ≡ F.name_of place)) }
-    ensures holds { IfOk result (λ held. MatchOption held (Stays F.did folder.old folder.new)
-        (λ held. Does F.did holding folder.old folder.new)) }
-    ensures fails { OnErr result (Stays F.did folder.old folder.new) }
-    ensures leaves { LeavesAlso F.left (F.name_of place) (F.began (F.name_of place)) folder.old folder.new }
+    ensures holds { IfOk result (λ held. MatchOption held (Preserves F.has_done folder.old folder.new)
+        (λ held. ChangesCalls F.has_done with_one_more_held folder.old folder.new)) }
+    ensures fails { OnErr result (Preserves F.has_done folder.old folder.new) }
+    ensures leaves { CrashMayAlsoLeave F.left (F.name_of place) (F.began (F.name_of place)) folder.old folder.new }
 {
     let Some(file) = folder.open_lock(&place)? else {
         return Ok(None);
@@ -43,13 +43,13 @@ impl<F: Folder> Replacement<F> {
     /// Makes a new file with `bytes`, on the disk. Fails if the place has changed since it was locked.
     fn make_ready(&self, folder: &mut F, bytes: &[u8]) -> io::Result<F::New>
         ensures keeps { IfOk result (λ file. F.keeps file bytes.now) }
-        ensures found { IfOk result (λ file. F.finds_both folder.new self.now.seen file) }
-        ensures stays { Still F.did F.left folder.old folder.new }
+        ensures found { IfOk result (λ file. F.finds_seen_and_new folder.new self.now.seen file) }
+        ensures stays { IsUncounted F.has_done F.left folder.old folder.new }
     {
         let mut file = folder.make(&self.held, &self.seen)?;
         folder.write(&mut file, bytes)?;
         folder.sync(&mut file)?;
-        folder.look_again(&self.held, &self.seen, &file)?;
+        folder.check_unchanged(&self.held, &self.seen, &file)?;
         Ok(file)
     }
 }
@@ -61,7 +61,7 @@ impl<F: Folder> FileSystem for F {
 
     type Hold = Replacement<F>;
 
-    ghost did = { F.did };
+    ghost has_done = { F.has_done };
 
     ghost is_input = { F.is_input };
 
@@ -98,7 +98,7 @@ impl<F: Folder> FileSystem for F {
         let Some(hold) = hold else {
             return self.create(name);
         };
-        self.keep_apart(name, &hold.held, &hold.seen)?;
+        self.check_not_held(name, &hold.held, &hold.seen)?;
         self.create(name)
     }
 

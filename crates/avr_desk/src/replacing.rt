@@ -1,8 +1,8 @@
 ghost use Rattle.std.specs.Prelude.{◌≡◌, ◌⊎◌, Option, Some, OnErr, OnOk};
 ghost use Rattle.avr_desk.specs.Handles.{IsHeldBy};
-ghost use Rattle.avr_desk.specs.Journal.{Does, LeavesAlso, calling, made};
+ghost use Rattle.avr_desk.specs.Journal.{ChangesCalls, CrashMayAlsoLeave, with_calls, made};
 ghost use Rattle.avr_desk.specs.Record.{Bytes};
-ghost use Rattle.ghosts.specs.Stays.{Stays};
+ghost use Rattle.ghosts.specs.Preserves.{Preserves};
 
 use crate::file_system::FileSystem;
 use std::io;
@@ -16,10 +16,10 @@ pub(crate) fn replace_named<R: FileSystem>(
     bytes: &[u8],
 ) -> io::Result<()>
     ensures put { OnOk result (R.replaced name.now bytes.now) }
-    ensures makes { OnOk result (Does R.did (calling (made name.now)) system.old system.new) }
-    ensures fails { OnErr result (Stays R.did system.old system.new) }
+    ensures makes { OnOk result (ChangesCalls R.has_done (with_calls (made name.now)) system.old system.new) }
+    ensures fails { OnErr result (Preserves R.has_done system.old system.new) }
     ensures stays { (name : Option Bytes) → IsHeldBy R.FileSystem held.old name → IsHeldBy R.FileSystem held.new name }
-    ensures leaves { LeavesAlso R.left name.now (λ f. R.began name.now f ⊎ (f ≡ Some bytes.now)) system.old system.new }
+    ensures leaves { CrashMayAlsoLeave R.left name.now (λ f. R.began name.now f ⊎ (f ≡ Some bytes.now)) system.old system.new }
 {
     match held {
         Some(hold) if system.is_held(hold, name) => system.put_held(hold, bytes),

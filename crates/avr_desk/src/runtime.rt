@@ -110,7 +110,7 @@ fn is_at<R: Files<File = File>>(rt: &R, file: &File, path: &str) -> io::Result<b
 }
 
 /// Gives a new file the old one's group, owner and permissions, as far as the system allows.
-fn be_like(new: &File, old: &Metadata) -> io::Result<()> {
+fn copy_owner_and_mode(new: &File, old: &Metadata) -> io::Result<()> {
     let own = new.metadata()?;
     if let Some(group) = given(own.gid(), old.gid()) {
         let _ = fchown(new, None, Some(group));
@@ -141,7 +141,7 @@ impl<'a, R: Files<File = File> + Input + Alloc<A = Global>> Folder for &'a R {
 
     type New = File;
 
-    ghost did = { λ done system. ⊤ };
+    ghost has_done = { λ done system. ⊤ };
 
     ghost left = { λ system name found. ⊥ };
 
@@ -151,9 +151,9 @@ impl<'a, R: Files<File = File> + Input + Alloc<A = Global>> Folder for &'a R {
 
     ghost finds = { λ system name bytes. ⊤ };
 
-    ghost finds_both = { λ system seen file. ⊤ };
+    ghost finds_seen_and_new = { λ system seen file. ⊤ };
 
-    ghost is_apart = { λ system name. ⊤ };
+    ghost leads_to_no_held_file = { λ system name. ⊤ };
 
     ghost is_free = { λ system name. ⊤ };
 
@@ -253,7 +253,7 @@ impl<'a, R: Files<File = File> + Input + Alloc<A = Global>> Folder for &'a R {
         Ok(Synced::new(opened(identity_of(seen), file, there)?))
     }
 
-    fn keep_apart(&mut self, name: &str, held: &Held, seen: &Option<Metadata>) -> io::Result<()> {
+    fn check_not_held(&mut self, name: &str, held: &Held, seen: &Option<Metadata>) -> io::Result<()> {
         let there = unless(ErrorKind::NotFound, fs::metadata(*self, name))?;
         let is_link = is_link(*self, name)?;
         let is_place = is_one_place(*self, name, held.place.path.as_str())?;
@@ -270,7 +270,7 @@ impl<'a, R: Files<File = File> + Input + Alloc<A = Global>> Folder for &'a R {
             .mode(first_mode(seen.is_some()))
             .open(*self, held.place.new.as_str())?;
         if let Some(old) = seen {
-            be_like(&file, old)?;
+            copy_owner_and_mode(&file, old)?;
         }
         Ok(file)
     }
@@ -285,7 +285,7 @@ impl<'a, R: Files<File = File> + Input + Alloc<A = Global>> Folder for &'a R {
 
     // Renaming a file to its own name changes nothing, but waits for what others have begun in the folder. So the last
     // look, right before the new file gets the name, sees what they did.
-    fn look_again(&mut self, held: &Held, seen: &Option<Metadata>, file: &File) -> io::Result<()> {
+    fn check_unchanged(&mut self, held: &Held, seen: &Option<Metadata>, file: &File) -> io::Result<()> {
         let (new, path) = (held.place.new.as_str(), held.place.path.as_str());
         let is_own = is_at(*self, file, new)?;
         fs::rename(*self, new, new)?;

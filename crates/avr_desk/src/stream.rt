@@ -1,6 +1,6 @@
 ghost use Rattle.std.specs.Prelude.{OnOk, OnErr};
-ghost use Rattle.avr_desk.specs.Fault.{Counts, IsCall};
-ghost use Rattle.avr_desk.specs.Record.{Passes};
+ghost use Rattle.avr_desk.specs.Fault.{CountsFailure, IsCall};
+ghost use Rattle.avr_desk.specs.Record.{ChangesRecord};
 ghost use Rattle.avr_desk.specs.Stream.{IsWrite, SendsPart, after_sent};
 
 use crate::desk::{Desk, DeskFault};
@@ -17,7 +17,7 @@ pub enum Stream {
 }
 
 fn write_some<D: Desk>(desk: &mut D, stream: Stream, bytes: &[u8]) -> Result<usize, DeskFault>
-    ensures write { IsWrite D.view D.comes_of stream bytes.now desk.old desk.new result }
+    ensures write { IsWrite D.view D.started_as stream bytes.now desk.old desk.new result }
 {
     match stream {
         Stream::File => desk.write(bytes),
@@ -40,9 +40,9 @@ fn write_some<D: Desk>(desk: &mut D, stream: Stream, bytes: &[u8]) -> Result<usi
 /// assert!(rt; write_all(&mut desk, Stream::File, b"0xe2\n").is_err());
 /// ```
 pub fn write_all<D: Desk>(desk: &mut D, stream: Stream, bytes: &[u8]) -> Result<(), DeskFault>
-    ensures all { OnOk result (Passes (after_sent stream bytes.now) (D.view desk.old) (D.view desk.new)) }
+    ensures all { OnOk result (ChangesRecord (after_sent stream bytes.now) (D.view desk.old) (D.view desk.new)) }
     ensures part { OnErr result (SendsPart stream (D.view desk.old) (D.view desk.new) bytes.now) }
-    ensures call { IsCall D.view D.comes_of (Counts stream) desk.old desk.new result }
+    ensures call { IsCall D.view D.started_as (CountsFailure stream) desk.old desk.new result }
 {
     let mut at = 0;
     while at < bytes.len() {

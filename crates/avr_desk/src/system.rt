@@ -1,13 +1,13 @@
 ghost use Rattle.std.specs.Prelude.{◌≡◌, ◌≤◌, length, IfOk, OnOk, OnErr, true, false, [], None, Some, is_ok, if◌then◌else◌};
 ghost use Rattle.std.specs.IoError.{error_kind};
-ghost use Rattle.ghosts.specs.Failures.{HasRisen};
-ghost use Rattle.ghosts.specs.Stays.{Stays};
-ghost use Rattle.avr_desk.specs.Fault.{Counts, IsCall};
+ghost use Rattle.ghosts.specs.Failures.{OneFailureCounted};
+ghost use Rattle.ghosts.specs.Preserves.{Preserves};
+ghost use Rattle.avr_desk.specs.Fault.{CountsFailure, IsCall};
 ghost use Rattle.avr_desk.specs.Named.{is_dash};
-ghost use Rattle.avr_desk.specs.Journal.{Leaves, LeavesNoMore, Still};
-ghost use Rattle.avr_desk.specs.Record.{HasOpen, Passes, after_open, after_create, after_hold, after_read, Replaces, released, is_to_read, is_to_write, nothing_kept, with_tried};
-ghost use Rattle.avr_desk.specs.Shown.{IsTrueSince, KeepsError, Shown, TakesTruly, logged, moved, shown_state, to_output, to_output_opened};
-ghost use Rattle.avr_desk.specs.Standing.{FileGives, FileGivesNone, IsClosed};
+ghost use Rattle.avr_desk.specs.Journal.{ReleasesHeld, CrashLeavesNoMore, IsUncounted};
+ghost use Rattle.avr_desk.specs.Record.{HasOpen, ChangesRecord, after_open, after_create, after_hold, after_read, Replaces, released, is_to_read, is_to_write, nothing_kept, with_tried};
+ghost use Rattle.avr_desk.specs.Shown.{IsTrueSince, KeepsLastError, Shown, RecordsTruly, with_log_of, with_open_of, system_desk_view, writes_to_output, writes_to_output_after_open};
+ghost use Rattle.avr_desk.specs.Standing.{OpenFileGives, OpenFileGivesNothing, IsClosed};
 ghost use Rattle.avr_desk.specs.Stream.{IsWrite};
 ghost use Rattle.avr_desk.specs.declared.desk.DeskFault.TheVariants.{Failed};
 ghost use Rattle.avr_desk.specs.declared.stream.Stream.TheVariants.{File, Output, Messages};
@@ -50,14 +50,14 @@ pub struct SystemDesk<R: FileSystem + Drop, O: Write + Drop, E: Write + Drop> {
     opened: OpenFile<R::File, R::Input>,
     replacement: Option<R::Hold>,
     failures: u64,
-    unsaid: u64,
+    message_failures: u64,
     last_error: Option<ErrorKind>,
     journal: Journal,
 }
 
 impl<R: FileSystem + Drop, O: Write + Drop, E: Write + Drop> Model for SystemDesk<R, O, E> {
     ghost use Rattle.avr_desk.specs.Shown.{Shown};
-    ghost use Rattle.avr_desk.specs.Standing.{Stands};
+    ghost use Rattle.avr_desk.specs.Standing.{IsOpenAsRecorded};
 
     ghost Value = { Shown R R.File R.Hold R.Input O E };
 
@@ -66,20 +66,20 @@ impl<R: FileSystem + Drop, O: Write + Drop, E: Write + Drop> Model for SystemDes
       output = desk.output;
       messages = desk.messages;
       failures = desk.failures;
-      unsaid = desk.unsaid;
+      message_failures = desk.message_failures;
       last_error = desk.last_error;
       opened = desk.opened;
       hold = desk.replacement;
       kept = desk.journal.kept;
     } };
 
-    ghost invariant = { λ desk. Stands desk.opened desk.journal.kept.current };
+    ghost invariant = { λ desk. IsOpenAsRecorded desk.opened desk.journal.kept.current };
 }
 
 fn read_opened<F: Read, I: Read>(opened: &mut OpenFile<F, I>, buf: &mut [u8]) -> io::Result<usize>
     ensures bound { IfOk result (λ n. n ≤ length buf.new) }
-    ensures ok { IfOk result (λ n. FileGives F.Read I.Read opened.old opened.new buf.new n) }
-    ensures err { OnErr result (FileGivesNone F.Read I.Read opened.old opened.new) }
+    ensures ok { IfOk result (λ n. OpenFileGives F.Read I.Read opened.old opened.new buf.new n) }
+    ensures err { OnErr result (OpenFileGivesNothing F.Read I.Read opened.old opened.new) }
 {
     match opened {
         OpenFile::Input(input) => read_some(input, buf),
@@ -96,7 +96,7 @@ fn open_next<R: FileSystem>(
 )
     ensures opened { opened.new ≡ next }
     ensures closed { IsClosed R.closed opened.old }
-    ensures stays { Still R.did R.left system.old system.new }
+    ensures stays { IsUncounted R.has_done R.left system.old system.new }
 {
     if let OpenFile::ToWrite(file) = mem::replace(opened, next) {
         system.close_file(file);
@@ -112,9 +112,9 @@ fn write_through<W: Outlet>(
 ) -> io::Result<usize>
     ensures bound { IfOk result (λ n. n ≤ length bytes.now) }
     ensures some { IfOk result (λ n. n ≡ 0 → bytes.now ≡ []) }
-    ensures taken { TakesTruly stream bytes.now (W.contents to.old) (W.contents to.new) journal.old.kept
+    ensures taken { RecordsTruly stream bytes.now (W.contents to.old) (W.contents to.new) journal.old.kept
         journal.new.kept result }
-    ensures out { OnOk result (W.is_out to.new) }
+    ensures out { OnOk result (W.is_flushed to.new) }
 {
     let count = write_some(to, bytes)?;
     *journal = journal.then(&Call::Sent(stream, bytes, count));
@@ -125,7 +125,7 @@ fn write_through<W: Outlet>(
 fn fail(failures: &mut u64, last: &mut Option<ErrorKind>, error: &io::Error) -> DeskFault
     ensures fault { result ≡ Failed }
     ensures rises { failures.old ≤ failures.new }
-    ensures counts { HasRisen failures.old failures.new }
+    ensures counts { OneFailureCounted failures.old failures.new }
     ensures kind { last.new ≡ Some (error_kind error.now) }
 {
     *failures = failures.saturating_add(1);
@@ -141,7 +141,7 @@ impl<R: FileSystem + Drop, O: Write + Drop, E: Write + Drop> SystemDesk<R, O, E>
           output = output;
           messages = messages;
           failures = 0;
-          unsaid = 0;
+          message_failures = 0;
           last_error = None;
           opened = Nothing;
           hold = None;
@@ -155,7 +155,7 @@ impl<R: FileSystem + Drop, O: Write + Drop, E: Write + Drop> SystemDesk<R, O, E>
             opened: OpenFile::Nothing,
             replacement: None,
             failures: 0,
-            unsaid: 0,
+            message_failures: 0,
             last_error: None,
             journal: Journal::new(),
         }
@@ -172,8 +172,8 @@ impl<R: FileSystem + Drop, O: Write + Drop, E: Write + Drop> SystemDesk<R, O, E>
 
     fn leave_replacement(&mut self)
         ensures none { self.new ≡ record self.old { system = self.new.system; hold = None } }
-        ensures left { Leaves R.did self.old.hold self.old.system self.new.system }
-        ensures keeps { LeavesNoMore R.left self.old.system self.new.system }
+        ensures left { ReleasesHeld R.has_done self.old.hold self.old.system self.new.system }
+        ensures keeps { CrashLeavesNoMore R.left self.old.system self.new.system }
     {
         if let Some(hold) = self.replacement.take() {
             self.system.leave_held(hold);
@@ -182,19 +182,19 @@ impl<R: FileSystem + Drop, O: Write + Drop, E: Write + Drop> SystemDesk<R, O, E>
 }
 
 impl<R: FileSystem + Drop, O: Outlet + Drop, E: Outlet + Drop> Desk for SystemDesk<R, O, E> {
-    ghost view = { shown_state };
+    ghost view = { system_desk_view };
 
     ghost Start = { Shown R R.File R.Hold R.Input O E };
 
-    ghost comes_of = { IsTrueSince R.FileSystem R.File.Read R.File.Write R.Input.Read O.Write E.Write };
+    ghost started_as = { IsTrueSince R.FileSystem R.File.Read R.File.Write R.Input.Read O.Write E.Write };
 
     fn open(&mut self, name: &str) -> Result<(), DeskFault>
-        ensures kept { Passes (after_open name.now result) (shown_state self.old) (shown_state self.new) }
-        ensures counts { Counts File (shown_state self.old) (shown_state self.new) result }
-        ensures quiet { self.new ≡ record (moved self.old self.new) { system = self.new.system } }
-        ensures goes { to_output self.new ≡ to_output_opened result (to_output self.old) }
-        ensures error { KeepsError self.old.last_error self.new.last_error result }
-        ensures stays { Stays ⟦<SystemDesk<R, O, E> as Desk>⟧.comes_of self.old self.new }
+        ensures kept { ChangesRecord (after_open name.now result) (system_desk_view self.old) (system_desk_view self.new) }
+        ensures counts { CountsFailure File (system_desk_view self.old) (system_desk_view self.new) result }
+        ensures quiet { self.new ≡ record (with_open_of self.old self.new) { system = self.new.system } }
+        ensures goes { writes_to_output self.new ≡ writes_to_output_after_open result (writes_to_output self.old) }
+        ensures error { KeepsLastError self.old.last_error self.new.last_error result }
+        ensures stays { Preserves ⟦<SystemDesk<R, O, E> as Desk>⟧.started_as self.old self.new }
     {
         if name == "-" {
             let input = self.system.input();
@@ -218,12 +218,12 @@ impl<R: FileSystem + Drop, O: Outlet + Drop, E: Outlet + Drop> Desk for SystemDe
     }
 
     fn create(&mut self, name: &str) -> Result<(), DeskFault>
-        ensures kept { Passes (after_create name.now result) (shown_state self.old) (shown_state self.new) }
-        ensures call { IsCall shown_state ⟦<SystemDesk<R, O, E> as Desk>⟧.comes_of
-            (Counts File) self.old self.new result }
-        ensures quiet { self.new ≡ record (moved self.old self.new) { system = self.new.system } }
-        ensures goes { to_output self.new ≡ (if is_ok result then is_dash name.now else to_output self.old) }
-        ensures error { KeepsError self.old.last_error self.new.last_error result }
+        ensures kept { ChangesRecord (after_create name.now result) (system_desk_view self.old) (system_desk_view self.new) }
+        ensures call { IsCall system_desk_view ⟦<SystemDesk<R, O, E> as Desk>⟧.started_as
+            (CountsFailure File) self.old self.new result }
+        ensures quiet { self.new ≡ record (with_open_of self.old self.new) { system = self.new.system } }
+        ensures goes { writes_to_output self.new ≡ (if is_ok result then is_dash name.now else writes_to_output self.old) }
+        ensures error { KeepsLastError self.old.last_error self.new.last_error result }
     {
         if name == "-" {
             open_next(&mut self.system, &mut self.opened, OpenFile::Output);
@@ -242,13 +242,13 @@ impl<R: FileSystem + Drop, O: Outlet + Drop, E: Outlet + Drop> Desk for SystemDe
 
     fn read(&mut self, buf: &mut [u8]) -> Result<usize, DeskFault>
         ensures bound { IfOk result (λ n. n ≤ length buf.new) }
-        ensures kept { Passes (after_read buf.new result) (shown_state self.old) (shown_state self.new) }
-        ensures has_file { HasOpen is_to_read (shown_state self.old) result }
-        ensures call { IsCall shown_state ⟦<SystemDesk<R, O, E> as Desk>⟧.comes_of
-            (Counts File) self.old self.new result }
-        ensures quiet { self.new ≡ moved self.old self.new }
-        ensures goes { to_output self.new ≡ to_output self.old }
-        ensures error { KeepsError self.old.last_error self.new.last_error result }
+        ensures kept { ChangesRecord (after_read buf.new result) (system_desk_view self.old) (system_desk_view self.new) }
+        ensures has_file { HasOpen is_to_read (system_desk_view self.old) result }
+        ensures call { IsCall system_desk_view ⟦<SystemDesk<R, O, E> as Desk>⟧.started_as
+            (CountsFailure File) self.old self.new result }
+        ensures quiet { self.new ≡ with_open_of self.old self.new }
+        ensures goes { writes_to_output self.new ≡ writes_to_output self.old }
+        ensures error { KeepsLastError self.old.last_error self.new.last_error result }
     {
         match read_opened(&mut self.opened, buf) {
             Ok(count) => {
@@ -260,16 +260,16 @@ impl<R: FileSystem + Drop, O: Outlet + Drop, E: Outlet + Drop> Desk for SystemDe
     }
 
     fn write(&mut self, bytes: &[u8]) -> Result<usize, DeskFault>
-        ensures write { IsWrite shown_state ⟦<SystemDesk<R, O, E> as Desk>⟧.comes_of File bytes.now
+        ensures write { IsWrite system_desk_view ⟦<SystemDesk<R, O, E> as Desk>⟧.started_as File bytes.now
             self.old self.new result }
-        ensures has_file { HasOpen is_to_write (shown_state self.old) result }
-        ensures truly { to_output self.old ≡ true → TakesTruly File bytes.now (O.contents self.old.output)
+        ensures has_file { HasOpen is_to_write (system_desk_view self.old) result }
+        ensures truly { writes_to_output self.old ≡ true → RecordsTruly File bytes.now (O.contents self.old.output)
             (O.contents self.new.output) self.old.kept self.new.kept result }
-        ensures flushed { to_output self.old ≡ true → OnOk result (O.is_out self.new.output) }
-        ensures elsewhere { to_output self.old ≡ false → self.new.output ≡ self.old.output }
-        ensures quiet { self.new ≡ record (moved self.old self.new) { output = self.new.output } }
-        ensures goes { to_output self.new ≡ to_output self.old }
-        ensures error { KeepsError self.old.last_error self.new.last_error result }
+        ensures flushed { writes_to_output self.old ≡ true → OnOk result (O.is_flushed self.new.output) }
+        ensures elsewhere { writes_to_output self.old ≡ false → self.new.output ≡ self.old.output }
+        ensures quiet { self.new ≡ record (with_open_of self.old self.new) { output = self.new.output } }
+        ensures goes { writes_to_output self.new ≡ writes_to_output self.old }
+        ensures error { KeepsLastError self.old.last_error self.new.last_error result }
     {
         match &mut self.opened {
             OpenFile::ToWrite(file) => match write_some(file, bytes) {
@@ -296,13 +296,13 @@ impl<R: FileSystem + Drop, O: Outlet + Drop, E: Outlet + Drop> Desk for SystemDe
     }
 
     fn out(&mut self, bytes: &[u8]) -> Result<usize, DeskFault>
-        ensures write { IsWrite shown_state ⟦<SystemDesk<R, O, E> as Desk>⟧.comes_of Output bytes.now
+        ensures write { IsWrite system_desk_view ⟦<SystemDesk<R, O, E> as Desk>⟧.started_as Output bytes.now
             self.old self.new result }
-        ensures truly { TakesTruly Output bytes.now (O.contents self.old.output) (O.contents self.new.output)
+        ensures truly { RecordsTruly Output bytes.now (O.contents self.old.output) (O.contents self.new.output)
             self.old.kept self.new.kept result }
-        ensures flushed { OnOk result (O.is_out self.new.output) }
-        ensures quiet { self.new ≡ record (logged self.old self.new) { output = self.new.output } }
-        ensures error { KeepsError self.old.last_error self.new.last_error result }
+        ensures flushed { OnOk result (O.is_flushed self.new.output) }
+        ensures quiet { self.new ≡ record (with_log_of self.old self.new) { output = self.new.output } }
+        ensures error { KeepsLastError self.old.last_error self.new.last_error result }
     {
         match write_through(&mut self.output, Stream::Output, bytes, &mut self.journal) {
             Ok(count) => Ok(count),
@@ -311,14 +311,14 @@ impl<R: FileSystem + Drop, O: Outlet + Drop, E: Outlet + Drop> Desk for SystemDe
     }
 
     fn err(&mut self, bytes: &[u8]) -> Result<usize, DeskFault>
-        ensures write { IsWrite shown_state ⟦<SystemDesk<R, O, E> as Desk>⟧.comes_of Messages bytes.now
+        ensures write { IsWrite system_desk_view ⟦<SystemDesk<R, O, E> as Desk>⟧.started_as Messages bytes.now
             self.old self.new result }
-        ensures truly { TakesTruly Messages bytes.now (E.contents self.old.messages) (E.contents self.new.messages)
+        ensures truly { RecordsTruly Messages bytes.now (E.contents self.old.messages) (E.contents self.new.messages)
             self.old.kept self.new.kept result }
-        ensures flushed { OnOk result (E.is_out self.new.messages) }
-        ensures quiet { self.new ≡ record (logged self.old self.new)
-            { messages = self.new.messages; unsaid = self.new.unsaid } }
-        ensures error { KeepsError self.old.last_error self.new.last_error result }
+        ensures flushed { OnOk result (E.is_flushed self.new.messages) }
+        ensures quiet { self.new ≡ record (with_log_of self.old self.new)
+            { messages = self.new.messages; message_failures = self.new.message_failures } }
+        ensures error { KeepsLastError self.old.last_error self.new.last_error result }
     {
         match write_through(
             &mut self.messages,
@@ -328,7 +328,7 @@ impl<R: FileSystem + Drop, O: Outlet + Drop, E: Outlet + Drop> Desk for SystemDe
         ) {
             Ok(count) => Ok(count),
             Err(error) => {
-                self.unsaid = self.unsaid.saturating_add(1);
+                self.message_failures = self.message_failures.saturating_add(1);
                 Err(fail(&mut self.failures, &mut self.last_error, &error))
             }
         }
@@ -337,12 +337,12 @@ impl<R: FileSystem + Drop, O: Outlet + Drop, E: Outlet + Drop> Desk for SystemDe
 
 impl<R: FileSystem + Drop, O: Outlet + Drop, E: Outlet + Drop> ChipDesk for SystemDesk<R, O, E> {
     fn hold(&mut self, name: &str) -> Result<bool, DeskFault>
-        ensures kept { Passes (after_hold name.now result) (shown_state self.old) (shown_state self.new) }
-        ensures call { IsCall shown_state ⟦<SystemDesk<R, O, E> as Desk>⟧.comes_of
-            (Counts File) self.old self.new result }
-        ensures quiet { self.new ≡ record (logged self.old self.new)
+        ensures kept { ChangesRecord (after_hold name.now result) (system_desk_view self.old) (system_desk_view self.new) }
+        ensures call { IsCall system_desk_view ⟦<SystemDesk<R, O, E> as Desk>⟧.started_as
+            (CountsFailure File) self.old self.new result }
+        ensures quiet { self.new ≡ record (with_log_of self.old self.new)
             { system = self.new.system; hold = self.new.hold } }
-        ensures error { KeepsError self.old.last_error self.new.last_error result }
+        ensures error { KeepsLastError self.old.last_error self.new.last_error result }
     {
         match self.system.hold_named(name) {
             Ok(Some(hold)) => {
@@ -360,23 +360,23 @@ impl<R: FileSystem + Drop, O: Outlet + Drop, E: Outlet + Drop> ChipDesk for Syst
     }
 
     fn release(&mut self)
-        ensures released { shown_state self.new ≡ released (shown_state self.old) }
+        ensures released { system_desk_view self.new ≡ released (system_desk_view self.old) }
         ensures quiet { self.new ≡ record self.old { system = self.new.system; hold = None; kept = self.new.kept } }
-        ensures stays { Stays ⟦<SystemDesk<R, O, E> as Desk>⟧.comes_of self.old self.new }
+        ensures stays { Preserves ⟦<SystemDesk<R, O, E> as Desk>⟧.started_as self.old self.new }
     {
         self.leave_replacement();
         self.journal = self.journal.then(&Call::Released);
     }
 
     fn replace(&mut self, name: &str, bytes: &[u8]) -> Result<(), DeskFault>
-        ensures kept { Replaces name.now bytes.now result (shown_state self.old) (shown_state self.new) }
-        ensures tried { OnErr result (Passes (with_tried name.now bytes.now) (shown_state self.old)
-            (shown_state self.new)) }
-        ensures call { IsCall shown_state ⟦<SystemDesk<R, O, E> as Desk>⟧.comes_of
-            (Counts File) self.old self.new result }
-        ensures quiet { self.new ≡ record (moved self.old self.new) { system = self.new.system; hold = self.new.hold } }
-        ensures goes { to_output self.new ≡ (if is_ok result then false else to_output self.old) }
-        ensures error { KeepsError self.old.last_error self.new.last_error result }
+        ensures kept { Replaces name.now bytes.now result (system_desk_view self.old) (system_desk_view self.new) }
+        ensures tried { OnErr result (ChangesRecord (with_tried name.now bytes.now) (system_desk_view self.old)
+            (system_desk_view self.new)) }
+        ensures call { IsCall system_desk_view ⟦<SystemDesk<R, O, E> as Desk>⟧.started_as
+            (CountsFailure File) self.old self.new result }
+        ensures quiet { self.new ≡ record (with_open_of self.old self.new) { system = self.new.system; hold = self.new.hold } }
+        ensures goes { writes_to_output self.new ≡ (if is_ok result then false else writes_to_output self.old) }
+        ensures error { KeepsLastError self.old.last_error self.new.last_error result }
     {
         match replace_named(&mut self.system, &mut self.replacement, name, bytes) {
             Ok(()) => {
@@ -398,7 +398,7 @@ impl<R: FileSystem + Drop, O: Write + Drop, E: Write + Drop> fmt::Debug for Syst
     fn fmt<F: fmt::Write>(&self, f: &mut fmt::Formatter<F>) -> fmt::Result {
         f.debug_struct("SystemDesk")
             .field("failures", &self.failures)
-            .field("unsaid", &self.unsaid)
+            .field("unsaid", &self.message_failures)
             .field("last_error", &self.last_error)
             .finish_non_exhaustive()
     }

@@ -1,10 +1,10 @@
 ghost use Rattle.std.specs.Prelude.{◌≡◌, ◌≤◌, length, IfOk};
-ghost use Rattle.avr_desk.specs.Record.{Passes, after_open, after_create, after_hold, after_read, Replaces, released, HasOpen, is_to_read, is_to_write};
-ghost use Rattle.avr_desk.specs.Fault.{Counts, IsCall};
+ghost use Rattle.avr_desk.specs.Record.{ChangesRecord, after_open, after_create, after_hold, after_read, Replaces, released, HasOpen, is_to_read, is_to_write};
+ghost use Rattle.avr_desk.specs.Fault.{CountsFailure, IsCall};
 ghost use Rattle.avr_desk.specs.Stream.{IsWrite};
 ghost use Rattle.avr_desk.specs.declared.stream.Stream.TheVariants.{File, Output, Messages};
-ghost use Rattle.avr_desk.specs.Watching.{ToldOfDesk, Opened, Created, Held, Released, Replaced, Read, Wrote, desk_told};
-ghost use Rattle.ghosts.specs.Stays.{Stays};
+ghost use Rattle.avr_desk.specs.Watching.{ReportedDeskCall, Opened, Created, Held, Released, Replaced, Read, Wrote, reported_desk_call};
+ghost use Rattle.ghosts.specs.Preserves.{Preserves};
 
 use crate::desk::{ChipDesk, Desk, DeskFault};
 use crate::stream::Stream;
@@ -33,11 +33,11 @@ pub enum DeskCall<'a> {
 /// Proofs about a watcher's state use `after`; without proofs set it to `λ call old new. Unit {0}`.
 pub trait WatchDesk {
     /// A watcher in the state `old` that receives this call gets the state `new`.
-    ghost after: { ToldOfDesk → Self → Self → Type 0 };
+    ghost after: { ReportedDeskCall → Self → Self → Type 0 };
 
     /// Receives a finished call.
     fn on_call(&mut self, call: &DeskCall<'_>)
-        ensures { after (desk_told call.now) self.old self.new };
+        ensures { after (reported_desk_call call.now) self.old self.new };
 }
 
 /// A desk and its watcher, which receives each call once, after the desk has returned. The results and the state in
@@ -69,12 +69,12 @@ impl<D: Desk, W: WatchDesk> Desk for WatchedDesk<D, W> {
 
     ghost Start = { D.Start };
 
-    ghost comes_of = { λ start d. D.comes_of start d.desk };
+    ghost started_as = { λ start d. D.started_as start d.desk };
 
     fn open(&mut self, name: &str) -> Result<(), DeskFault>
-        ensures kept { Passes (after_open name.now result) (D.view self.old.desk) (D.view self.new.desk) }
-        ensures counts { Counts File (D.view self.old.desk) (D.view self.new.desk) result }
-        ensures stays { Stays D.comes_of self.old.desk self.new.desk }
+        ensures kept { ChangesRecord (after_open name.now result) (D.view self.old.desk) (D.view self.new.desk) }
+        ensures counts { CountsFailure File (D.view self.old.desk) (D.view self.new.desk) result }
+        ensures stays { Preserves D.started_as self.old.desk self.new.desk }
         ensures told { W.after (Opened name.now result) self.old.watcher self.new.watcher }
     {
         let answer = self.desk.open(name);
@@ -83,8 +83,8 @@ impl<D: Desk, W: WatchDesk> Desk for WatchedDesk<D, W> {
     }
 
     fn create(&mut self, name: &str) -> Result<(), DeskFault>
-        ensures kept { Passes (after_create name.now result) (D.view self.old.desk) (D.view self.new.desk) }
-        ensures call { IsCall D.view D.comes_of (Counts File) self.old.desk self.new.desk result }
+        ensures kept { ChangesRecord (after_create name.now result) (D.view self.old.desk) (D.view self.new.desk) }
+        ensures call { IsCall D.view D.started_as (CountsFailure File) self.old.desk self.new.desk result }
         ensures told { W.after (Created name.now result) self.old.watcher self.new.watcher }
     {
         let answer = self.desk.create(name);
@@ -94,9 +94,9 @@ impl<D: Desk, W: WatchDesk> Desk for WatchedDesk<D, W> {
 
     fn read(&mut self, buf: &mut [u8]) -> Result<usize, DeskFault>
         ensures bound { IfOk result (λ n. n ≤ length buf.new) }
-        ensures kept { Passes (after_read buf.new result) (D.view self.old.desk) (D.view self.new.desk) }
+        ensures kept { ChangesRecord (after_read buf.new result) (D.view self.old.desk) (D.view self.new.desk) }
         ensures has_file { HasOpen is_to_read (D.view self.old.desk) result }
-        ensures call { IsCall D.view D.comes_of (Counts File) self.old.desk self.new.desk result }
+        ensures call { IsCall D.view D.started_as (CountsFailure File) self.old.desk self.new.desk result }
         ensures told { W.after (Read buf.new result) self.old.watcher self.new.watcher }
     {
         let answer = self.desk.read(buf);
@@ -105,7 +105,7 @@ impl<D: Desk, W: WatchDesk> Desk for WatchedDesk<D, W> {
     }
 
     fn write(&mut self, bytes: &[u8]) -> Result<usize, DeskFault>
-        ensures write { IsWrite D.view D.comes_of File bytes.now self.old.desk self.new.desk result }
+        ensures write { IsWrite D.view D.started_as File bytes.now self.old.desk self.new.desk result }
         ensures has_file { HasOpen is_to_write (D.view self.old.desk) result }
         ensures told { W.after (Wrote File bytes.now result) self.old.watcher self.new.watcher }
     {
@@ -116,7 +116,7 @@ impl<D: Desk, W: WatchDesk> Desk for WatchedDesk<D, W> {
     }
 
     fn out(&mut self, bytes: &[u8]) -> Result<usize, DeskFault>
-        ensures write { IsWrite D.view D.comes_of Output bytes.now self.old.desk self.new.desk result }
+        ensures write { IsWrite D.view D.started_as Output bytes.now self.old.desk self.new.desk result }
         ensures told { W.after (Wrote Output bytes.now result) self.old.watcher self.new.watcher }
     {
         let answer = self.desk.out(bytes);
@@ -126,7 +126,7 @@ impl<D: Desk, W: WatchDesk> Desk for WatchedDesk<D, W> {
     }
 
     fn err(&mut self, bytes: &[u8]) -> Result<usize, DeskFault>
-        ensures write { IsWrite D.view D.comes_of Messages bytes.now self.old.desk self.new.desk result }
+        ensures write { IsWrite D.view D.started_as Messages bytes.now self.old.desk self.new.desk result }
         ensures told { W.after (Wrote Messages bytes.now result) self.old.watcher self.new.watcher }
     {
         let answer = self.desk.err(bytes);
@@ -138,8 +138,8 @@ impl<D: Desk, W: WatchDesk> Desk for WatchedDesk<D, W> {
 
 impl<D: ChipDesk, W: WatchDesk> ChipDesk for WatchedDesk<D, W> {
     fn hold(&mut self, name: &str) -> Result<bool, DeskFault>
-        ensures kept { Passes (after_hold name.now result) (D.view self.old.desk) (D.view self.new.desk) }
-        ensures call { IsCall D.view D.comes_of (Counts File) self.old.desk self.new.desk result }
+        ensures kept { ChangesRecord (after_hold name.now result) (D.view self.old.desk) (D.view self.new.desk) }
+        ensures call { IsCall D.view D.started_as (CountsFailure File) self.old.desk self.new.desk result }
         ensures told { W.after (Held name.now result) self.old.watcher self.new.watcher }
     {
         let answer = self.desk.hold(name);
@@ -149,7 +149,7 @@ impl<D: ChipDesk, W: WatchDesk> ChipDesk for WatchedDesk<D, W> {
 
     fn release(&mut self)
         ensures released { D.view self.new.desk ≡ released (D.view self.old.desk) }
-        ensures stays { Stays D.comes_of self.old.desk self.new.desk }
+        ensures stays { Preserves D.started_as self.old.desk self.new.desk }
         ensures told { W.after Released self.old.watcher self.new.watcher }
     {
         self.desk.release();
@@ -158,7 +158,7 @@ impl<D: ChipDesk, W: WatchDesk> ChipDesk for WatchedDesk<D, W> {
 
     fn replace(&mut self, name: &str, bytes: &[u8]) -> Result<(), DeskFault>
         ensures kept { Replaces name.now bytes.now result (D.view self.old.desk) (D.view self.new.desk) }
-        ensures call { IsCall D.view D.comes_of (Counts File) self.old.desk self.new.desk result }
+        ensures call { IsCall D.view D.started_as (CountsFailure File) self.old.desk self.new.desk result }
         ensures told { W.after (Replaced name.now bytes.now result) self.old.watcher self.new.watcher }
     {
         let answer = self.desk.replace(name, bytes);

@@ -3,11 +3,11 @@
 use Rattle.std.proofs.Common.{◌≡◌, ◌≢◌, refl, ℕ, ◌+◌, ◌-◌, ◌<◌, ◌≤◌, ◌⊎◌, ◌↔◌, List, [], ◌∷◌, ◌++◌, length, take, drop, min, All, true, Option, Some, None, Ok, Err, is_some}
 use Rattle.std.specs.Prelude.{slice_index_or, IsTrue}
 use Rattle.std.specs.List.{enumerate_from, flat_map, slice_range}
-use Rattle.avr_image.specs.Image.{byte_at, either, filled_bytes, first_from, fits, from_zero, image_of_pairs, is_same, laid_over, over, run_end, with_byte}
+use Rattle.avr_image.specs.Image.{byte_at, byte_or_else, filled_bytes, first_from, fits, from_zero, image_of_pairs, is_same, with_bytes_at, over, run_end, with_byte}
 use Rattle.avr_image.specs.ByAddress.{last_at}
-use Rattle.avr_image.specs.Runs.{runs, lead, places_of}
+use Rattle.avr_image.specs.Runs.{runs, leading_run, places_of}
 use Rattle.avr_image.specs.Walk.{IsNextHeld, IsByteRun, IsFilled, IsLongestRun}
-use Rattle.avr_image.specs.Values.{values}
+use Rattle.avr_image.specs.Values.{image_of_values}
 use Rattle.avr_image.specs.Lists.{list_line}
 use Rattle.avr_image.specs.declared.list.Base.{Base}
 use Rattle.avr_image.specs.declared.fault.ImageFault.TheVariants.{BadNumber}
@@ -53,22 +53,22 @@ byte_beside = laid.byte_beside
 -- a span that was put is at its addresses
 pub span_inside : (image : List (Option ℕ)) (addr : ℕ) (bytes : List ℕ) (place : ℕ)
     → addr + length bytes ≤ length image → place < length bytes
-    → byte_at (laid_over image (enumerate_from addr bytes)) (addr + place) ≡ Some (slice_index_or bytes place 0)
+    → byte_at (with_bytes_at image (enumerate_from addr bytes)) (addr + place) ≡ Some (slice_index_or bytes place 0)
 span_inside image addr bytes place room l = laid.span_in image addr bytes place l room
 
 -- each address below the span keeps its byte or gap
 pub span_below : (image : List (Option ℕ)) (addr : ℕ) (bytes : List ℕ) (other : ℕ) → other < addr
-    → byte_at (laid_over image (enumerate_from addr bytes)) other ≡ byte_at image other
+    → byte_at (with_bytes_at image (enumerate_from addr bytes)) other ≡ byte_at image other
 span_below = laid.span_low
 
 -- each address above the span keeps its byte or gap
 pub span_above : (image : List (Option ℕ)) (addr : ℕ) (bytes : List ℕ) (other : ℕ) → addr + length bytes ≤ other
-    → byte_at (laid_over image (enumerate_from addr bytes)) other ≡ byte_at image other
+    → byte_at (with_bytes_at image (enumerate_from addr bytes)) other ≡ byte_at image other
 span_above = laid.span_high
 
 -- the size is unchanged
-pub laid_size : (image : List (Option ℕ)) (places : List (ℕ × ℕ)) → length (laid_over image places) ≡ length image
-laid_size = laid.length-laid_over
+pub laid_size : (image : List (Option ℕ)) (places : List (ℕ × ℕ)) → length (with_bytes_at image places) ≡ length image
+laid_size = laid.length-with_bytes_at
 
 -- bytes from address 0 on are a span put there into an empty image
 pub from_zero_is_a_span : (bytes : List ℕ) (size : ℕ) → length bytes ≤ size
@@ -92,17 +92,17 @@ none_fit addr size = refl
 
 -- each address has the second's byte, if the second has one, else the first's
 pub over_at : (first second : List (Option ℕ)) (addr : ℕ) → length first ≡ length second
-    → byte_at (over first second) addr ≡ either (byte_at second addr) (byte_at first addr)
+    → byte_at (over first second) addr ≡ byte_or_else (byte_at second addr) (byte_at first addr)
 over_at = by_address.over-at
 
 -- each address has the last byte put there, else what it had
 pub laid_at : (image : List (Option ℕ)) (places : List (ℕ × ℕ)) (addr : ℕ) → addr < length image
-    → byte_at (laid_over image places) addr ≡ either (last_at addr places) (byte_at image addr)
+    → byte_at (with_bytes_at image places) addr ≡ byte_or_else (last_at addr places) (byte_at image addr)
 laid_at = by_address.laid-at
 
 -- putting bytes into an image gives the same as laying an image of them over it
 pub laid_is_over : (image : List (Option ℕ)) (places : List (ℕ × ℕ))
-    → laid_over image places ≡ over image (image_of_pairs (length image) places)
+    → with_bytes_at image places ≡ over image (image_of_pairs (length image) places)
 laid_is_over = laid.laid_over_laid
 
 -- an image of bytes in two parts is that of the second part over that of the first
@@ -165,37 +165,37 @@ pub runs_next : (image : List (Option ℕ)) (addr place : ℕ) → first_from im
 runs_next = walks.runs-next
 
 -- from a byte on: first the bytes before the next gap, then the runs after them
-pub runs_first : (image : List (Option ℕ)) (addr : ℕ) → 0 < length (lead image)
-    → runs addr image ≡ (addr, lead image) ∷ runs (addr + length (lead image)) (drop (length (lead image)) image)
+pub runs_first : (image : List (Option ℕ)) (addr : ℕ) → 0 < length (leading_run image)
+    → runs addr image ≡ (addr, leading_run image) ∷ runs (addr + length (leading_run image)) (drop (length (leading_run image)) image)
 runs_first = walks.runs-first
 
 -- ---- the bytes before the next gap
 
 -- they are not empty at the next byte
 pub lead_some : (image : List (Option ℕ)) (addr place : ℕ) → first_from image addr ≡ Some place
-    → 0 < length (lead (drop place image))
-lead_some = walks.lead-some
+    → 0 < length (leading_run (drop place image))
+lead_some = walks.leading_run-some
 
 -- they are as many as in the run from there on
 pub lead_is_run : (image : List (Option ℕ)) (addr end : ℕ)
-    → run_end image addr end ≡ addr + min (end - addr) (length (lead (drop addr image)))
-lead_is_run = walks.lead-run
+    → run_end image addr end ≡ addr + min (end - addr) (length (leading_run (drop addr image)))
+lead_is_run = walks.leading_run-run
 
 -- they are the first bytes of a filled page
-pub lead_is_filled : (image : List (Option ℕ)) (addr n : ℕ) → n ≤ length (lead (drop addr image))
-    → filled_bytes image addr n ≡ take n (lead (drop addr image))
-lead_is_filled image addr n = walks.filled-lead image (drop addr image) n addr refl
+pub lead_is_filled : (image : List (Option ℕ)) (addr n : ℕ) → n ≤ length (leading_run (drop addr image))
+    → filled_bytes image addr n ≡ take n (leading_run (drop addr image))
+lead_is_filled image addr n = walks.filled-leading_run image (drop addr image) n addr refl
 
 -- they are no more than the image has addresses
-pub lead_within : (image : List (Option ℕ)) → length (lead image) ≤ length image
-lead_within = walks.lead-short
+pub lead_within : (image : List (Option ℕ)) → length (leading_run image) ≤ length image
+lead_within = walks.leading_run-short
 
 -- ---- lists
 
 pub list_reads_back : (base : Base) (bytes : List ℕ) (size : ℕ) → 0 < length bytes → length bytes ≤ size
-    → All (λ byte. byte < 256) bytes → values (list_line base bytes) size ≡ Ok (from_zero bytes size)
+    → All (λ byte. byte < 256) bytes → image_of_values (list_line base bytes) size ≡ Ok (from_zero bytes size)
 list_reads_back = lists.list-reads-back
 
 -- an empty list is a bad first value
-pub empty_list_is_bad : (base : Base) (size : ℕ) → values (list_line base []) size ≡ Err (BadNumber 1)
+pub empty_list_is_bad : (base : Base) (size : ℕ) → image_of_values (list_line base []) size ≡ Err (BadNumber 1)
 empty_list_is_bad = lists.none-reads-back

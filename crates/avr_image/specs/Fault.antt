@@ -12,5 +12,5 @@ number_of Memory = 5
 number_of OtherSize = 6
 
 -- The call returns this result, or `Memory` because allocation failed.
-abbrev pub OrMemory : {T : Type 0} → Result T ImageFault → Result T ImageFault → Type 0
-OrMemory {T} result wanted = (result ≡ wanted) ⊎ (result ≡ Err Memory)
+abbrev pub OrOutOfMemory : {T : Type 0} → Result T ImageFault → Result T ImageFault → Type 0
+OrOutOfMemory {T} result wanted = (result ≡ wanted) ⊎ (result ≡ Err Memory)

@@ -22,23 +22,23 @@ abbrev pub without_byte : List (Option ℕ) → ℕ → List (Option ℕ)
 without_byte image addr = slice_set image addr None
 
 -- Returns the first byte if there is one, else the second.
-abbrev pub either : Option ℕ → Option ℕ → Option ℕ
-either (Some b) a = Some b
-either None a = a
+abbrev pub byte_or_else : Option ℕ → Option ℕ → Option ℕ
+byte_or_else (Some b) a = Some b
+byte_or_else None a = a
 
 -- The second image over the first, both of one size. If both hold a byte, the second's wins. `Image::lay_over` does it.
 abbrev pub over : List (Option ℕ) → List (Option ℕ) → List (Option ℕ)
 over [] bs = []
 over (a ∷ more) [] = a ∷ more
-over (a ∷ more) (b ∷ bs) = either b a ∷ over more bs
+over (a ∷ more) (b ∷ bs) = byte_or_else b a ∷ over more bs
 
 -- The image with these bytes put at their addresses, in the list's order. A later byte at an address wins.
-abbrev pub laid_over : List (Option ℕ) → List (ℕ × ℕ) → List (Option ℕ)
-laid_over image = fold (λ image place. with_byte image place.0 place.1) image
+abbrev pub with_bytes_at : List (Option ℕ) → List (ℕ × ℕ) → List (Option ℕ)
+with_bytes_at image = fold (λ image place. with_byte image place.0 place.1) image
 
 -- The image of a memory of this size that has only these bytes at their addresses.
 abbrev pub image_of_pairs : ℕ → List (ℕ × ℕ) → List (Option ℕ)
-image_of_pairs size = laid_over (empty size)
+image_of_pairs size = with_bytes_at (empty size)
 
 abbrev pub from_zero : List ℕ → ℕ → List (Option ℕ)
 from_zero bytes size = map (λ byte. Some byte) bytes ++ replicate (size - length bytes) None
@@ -64,13 +64,13 @@ holds_any image start count = list_any is_some (take count (drop start image))
 abbrev pub run_end : List (Option ℕ) → ℕ → ℕ → ℕ
 run_end image addr end = addr + prefix_len is_some (take (end - addr) (drop addr image))
 
-abbrev pub or_blank : Option ℕ → ℕ
-or_blank byte = unwrap_or byte 255
+abbrev pub byte_or_ff : Option ℕ → ℕ
+byte_or_ff byte = unwrap_or byte 255
 
 -- The n bytes from `start` on, FF in gaps and past the image: what a page is filled with.
 abbrev pub filled_bytes : List (Option ℕ) → ℕ → ℕ → List ℕ
 filled_bytes image start zero = []
-filled_bytes image start (suc n) = or_blank (byte_at image start) ∷ filled_bytes image (start + 1) n
+filled_bytes image start (suc n) = byte_or_ff (byte_at image start) ∷ filled_bytes image (start + 1) n
 
 -- Each value in the image is a byte, below 256.
 abbrev pub HoldsBytes : List (Option ℕ) → Type 0

@@ -15,10 +15,10 @@ runs addr (None ∷ image) = runs (addr + 1) image
 runs addr (Some b ∷ image) = onto_runs addr b (runs (addr + 1) image)
 
 -- The bytes before the first gap. `Sparse::row_at` of avr_records returns its first ones.
-abbrev pub lead : List (Option ℕ) → List ℕ
-lead [] = []
-lead (None ∷ image) = []
-lead (Some b ∷ image) = b ∷ lead image
+abbrev pub leading_run : List (Option ℕ) → List ℕ
+leading_run [] = []
+leading_run (None ∷ image) = []
+leading_run (Some b ∷ image) = b ∷ leading_run image
 
 abbrev pub places_of : ℕ × List ℕ → List (ℕ × ℕ)
 places_of run = enumerate_from run.0 run.1

@@ -48,8 +48,8 @@ fitting size addr (Some value) =
     else if not (nat_lt addr size) then Err (OutOfRange addr)
     else Ok value
 
-abbrev pub fitting_value : ℕ → ℕ × List ℕ → Result ℕ ImageFault
-fitting_value size piece = fitting size piece.0 (value_of piece.1)
+abbrev pub byte_of_value : ℕ → ℕ × List ℕ → Result ℕ ImageFault
+byte_of_value size piece = fitting size piece.0 (value_of piece.1)
 
 abbrev pub onto_ok : Result ℕ ImageFault → Result (List ℕ) ImageFault → Result (List ℕ) ImageFault
 onto_ok (Err fault) rest = Err fault
@@ -65,7 +65,7 @@ image_of_bytes size (Ok bytes) = Ok (from_zero bytes size)
 image_of_bytes size (Err fault) = Err fault
 
 -- The image of the values, from address 0 on, or the first value's fault. A text without values is `BadNumber 1`.
-abbrev pub values : List ℕ → ℕ → Result (List (Option ℕ)) ImageFault
-values text size =
+abbrev pub image_of_values : List ℕ → ℕ → Result (List (Option ℕ)) ImageFault
+image_of_values text size =
     if length (pieces text) == 0 then Err (BadNumber 1)
-    else image_of_bytes size (all_ok (map (fitting_value size) (enumerate_from 0 (pieces text))))
+    else image_of_bytes size (all_ok (map (byte_of_value size) (enumerate_from 0 (pieces text))))

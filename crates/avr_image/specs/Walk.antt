@@ -1,6 +1,6 @@
 -- What a walk over an image finds, stated address by address. Laws relate the definitions of Image and Runs to it.
 use Rattle.std.specs.Prelude.{◌≡◌, ℕ, ◌+◌, ◌<◌, ◌≤◌, true, List, length, slice_index, Option, Some, None, is_some}
-use Rattle.avr_image.specs.Image.{byte_at, or_blank}
+use Rattle.avr_image.specs.Image.{byte_at, byte_or_ff}
 
 -- `place` is the least address from `addr` on that holds a byte.
 pub record IsNextHeld (image : List (Option ℕ)) (addr place : ℕ) : Type 0 where
@@ -27,7 +27,7 @@ pub record IsByteRun (image : List (Option ℕ)) (addr end place : ℕ) : Type 0
 -- The list has n bytes, each that of its address, or FF in a gap.
 pub record IsFilled (image : List (Option ℕ)) (start n : ℕ) (bytes : List ℕ) : Type 0 where
   pub size : length bytes ≡ n
-  pub byte : (i : ℕ) → i < n → slice_index bytes i ≡ or_blank (byte_at image (start + i))
+  pub byte : (i : ℕ) → i < n → slice_index bytes i ≡ byte_or_ff (byte_at image (start + i))
 
 -- The run has the image's bytes, and no byte is right before or after it.
 pub record IsLongestRun (image : List (Option ℕ)) (run : ℕ × List ℕ) : Type 0 where

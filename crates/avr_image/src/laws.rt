@@ -2,10 +2,10 @@
 
 ghost use Rattle.std.specs.Prelude.{◌≡◌, ◌≢◌, ◌<◌, ◌≤◌, ◌↔◌, ◌+◌, ◌-◌, ◌++◌, ◌⊎◌, ℕ, true, List, [], ◌∷◌, All, length, take, drop, min, flat_map, slice_index_or, is_some, IsTrue, Ok, Err, Option, None, Some};
 ghost use Rattle.std.specs.List.{enumerate_from, slice_range};
-ghost use Rattle.avr_image.specs.Image.{byte_at, either, filled_bytes, first_from, fits, from_zero, image_of_pairs, is_same, laid_over, over, run_end, with_byte};
+ghost use Rattle.avr_image.specs.Image.{byte_at, byte_or_else, filled_bytes, first_from, fits, from_zero, image_of_pairs, is_same, with_bytes_at, over, run_end, with_byte};
 ghost use Rattle.avr_image.specs.Lists.{list_line};
-ghost use Rattle.avr_image.specs.Runs.{lead, places_of, runs};
-ghost use Rattle.avr_image.specs.Values.{values};
+ghost use Rattle.avr_image.specs.Runs.{leading_run, places_of, runs};
+ghost use Rattle.avr_image.specs.Values.{image_of_values};
 ghost use Rattle.avr_image.specs.declared.list.Base.{Base};
 ghost use Rattle.avr_image.specs.ByAddress.{last_at};
 ghost use Rattle.avr_image.specs.Walk.{IsFilled, IsLongestRun, IsNextHeld, IsByteRun};
@@ -30,7 +30,7 @@ pub fn parts_are_laid_over()
 #[tactic(auto, using(crate::proofs::Lemmas::laid_is_over))]
 pub fn laying_is_laying_over()
     ensures { (image : List (Option ℕ)) (places : List (ℕ × ℕ))
-        → laid_over image places ≡ over image (image_of_pairs (length image) places) }
+        → with_bytes_at image places ≡ over image (image_of_pairs (length image) places) }
 {}
 
 /// Images of one size may be laid over each other in any grouping.
@@ -44,9 +44,9 @@ pub fn laying_over_groups()
 /// an image, an address has the last one put there, else the image's.
 pub fn over_is_by_address()
     ensures over { (first second : List (Option ℕ)) (addr : ℕ) → length first ≡ length second
-        → byte_at (over first second) addr ≡ either (byte_at second addr) (byte_at first addr) }
+        → byte_at (over first second) addr ≡ byte_or_else (byte_at second addr) (byte_at first addr) }
     ensures laid { (image : List (Option ℕ)) (places : List (ℕ × ℕ)) (addr : ℕ) → addr < length image
-        → byte_at (laid_over image places) addr ≡ either (last_at addr places) (byte_at image addr) }
+        → byte_at (with_bytes_at image places) addr ≡ byte_or_else (last_at addr places) (byte_at image addr) }
 {}
 
 /// A byte or span put inside a memory is at its addresses. All other addresses and the size are unchanged.
@@ -57,13 +57,13 @@ pub fn a_span_is_by_address()
         → byte_at (with_byte image addr byte) other ≡ byte_at image other }
     ensures inside { (image : List (Option ℕ)) (addr : ℕ) (bytes : List ℕ) (place : ℕ)
         → addr + length bytes ≤ length image → place < length bytes
-        → byte_at (laid_over image (enumerate_from addr bytes)) (addr + place) ≡ Some (slice_index_or bytes place 0) }
+        → byte_at (with_bytes_at image (enumerate_from addr bytes)) (addr + place) ≡ Some (slice_index_or bytes place 0) }
     ensures below { (image : List (Option ℕ)) (addr : ℕ) (bytes : List ℕ) (other : ℕ) → other < addr
-        → byte_at (laid_over image (enumerate_from addr bytes)) other ≡ byte_at image other }
+        → byte_at (with_bytes_at image (enumerate_from addr bytes)) other ≡ byte_at image other }
     ensures above { (image : List (Option ℕ)) (addr : ℕ) (bytes : List ℕ) (other : ℕ) → addr + length bytes ≤ other
-        → byte_at (laid_over image (enumerate_from addr bytes)) other ≡ byte_at image other }
+        → byte_at (with_bytes_at image (enumerate_from addr bytes)) other ≡ byte_at image other }
     ensures size { (image : List (Option ℕ)) (places : List (ℕ × ℕ))
-        → length (laid_over image places) ≡ length image }
+        → length (with_bytes_at image places) ≡ length image }
 {}
 
 /// Bytes from address 0 on are a span put at 0 into an empty image.
@@ -133,26 +133,26 @@ pub fn runs_begin_at_the_next_byte()
         → runs addr (drop addr image) ≡ [] }
     ensures next { (image : List (Option ℕ)) (addr place : ℕ) → first_from image addr ≡ Some place
         → runs addr (drop addr image) ≡ runs place (drop place image) }
-    ensures first { (image : List (Option ℕ)) (addr : ℕ) → 0 < length (lead image) → runs addr image
-        ≡ (addr, lead image) ∷ runs (addr + length (lead image)) (drop (length (lead image)) image) }
+    ensures first { (image : List (Option ℕ)) (addr : ℕ) → 0 < length (leading_run image) → runs addr image
+        ≡ (addr, leading_run image) ∷ runs (addr + length (leading_run image)) (drop (length (leading_run image)) image) }
 {}
 
 /// The bytes before the next gap are not empty if there is a next byte. `run_end` and a filled page have these same
 /// bytes. The image has at least as many addresses.
 pub fn a_run_is_the_bytes_before_a_gap()
     ensures some { (image : List (Option ℕ)) (addr place : ℕ) → first_from image addr ≡ Some place
-        → 0 < length (lead (drop place image)) }
+        → 0 < length (leading_run (drop place image)) }
     ensures run { (image : List (Option ℕ)) (addr end : ℕ) → run_end image addr end
-        ≡ addr + min (end - addr) (length (lead (drop addr image))) }
-    ensures filled { (image : List (Option ℕ)) (addr n : ℕ) → n ≤ length (lead (drop addr image))
-        → filled_bytes image addr n ≡ take n (lead (drop addr image)) }
-    ensures within { (image : List (Option ℕ)) → length (lead image) ≤ length image }
+        ≡ addr + min (end - addr) (length (leading_run (drop addr image))) }
+    ensures filled { (image : List (Option ℕ)) (addr n : ℕ) → n ≤ length (leading_run (drop addr image))
+        → filled_bytes image addr n ≡ take n (leading_run (drop addr image)) }
+    ensures within { (image : List (Option ℕ)) → length (leading_run image) ≤ length image }
 {}
 
 /// A written list without its line end, in any base, reads back as values from address 0 on, if they fit. An empty
 /// list reads as a bad first value.
 pub fn a_list_reads_back()
     ensures some { (base : Base) (bytes : List ℕ) (size : ℕ) → 0 < length bytes → length bytes ≤ size
-        → All (λ byte. byte < 256) bytes → values (list_line base bytes) size ≡ Ok (from_zero bytes size) }
-    ensures none { (base : Base) (size : ℕ) → values (list_line base []) size ≡ Err (ImageFault.BadNumber 1) }
+        → All (λ byte. byte < 256) bytes → image_of_values (list_line base bytes) size ≡ Ok (from_zero bytes size) }
+    ensures none { (base : Base) (size : ℕ) → image_of_values (list_line base []) size ≡ Err (ImageFault.BadNumber 1) }
 {}

@@ -1,9 +1,9 @@
 //! Values given on the command line.
 
 ghost use Rattle.std.specs.Prelude.{◌≡◌, ◌+◌, ◌-◌, ◌<◌, ◌≤◌, ◌==◌, ◌||◌, length, min, option_map, IfOk};
-ghost use Rattle.avr_image.specs.Values.{is_separator, number_in_base, value_of, fitting_value, values};
+ghost use Rattle.avr_image.specs.Values.{is_separator, number_in_base, value_of, byte_of_value, image_of_values};
 ghost use Rattle.std.specs.List.{position_or_len};
-ghost use Rattle.avr_image.specs.Fault.{OrMemory};
+ghost use Rattle.avr_image.specs.Fault.{OrOutOfMemory};
 
 use crate::fault::ImageFault;
 use crate::image::Image;
@@ -57,7 +57,7 @@ fn read_value(piece: &[u8]) -> Option<u32>
 }
 
 fn judge(size: u32, addr: u32, piece: &[u8]) -> Result<u8, ImageFault>
-    ensures { result ≡ fitting_value size (addr, piece.now) }
+    ensures { result ≡ byte_of_value size (addr, piece.now) }
 {
     let Some(value) = read_value(piece) else {
         return Err(ImageFault::BadNumber(addr.saturating_add(1)));
@@ -87,7 +87,7 @@ fn judge(size: u32, addr: u32, piece: &[u8]) -> Result<u8, ImageFault>
 /// assert_eq!(rt; bytes, [0x12, 0x05, 0x0F, 0xFF]);
 /// ```
 pub fn parse_immediate(alloc: Global, text: &str, size: u32) -> Result<Image, ImageFault>
-    ensures value { OrMemory result (values text.now size) }
+    ensures value { OrOutOfMemory result (image_of_values text.now size) }
     ensures size { IfOk result (λ image. length image ≡ size) }
 {
     let mut image = Image::new(alloc, size)?;

@@ -1,65 +1,65 @@
 -- A session over a wire: its reports, and its end.
 use Rattle.std.proofs.Common.{◌≡◌, ◌≤◌, ℕ, [], List, All, length, sym, ap, ◌∙◌, subst, arith, inl, inr, length-append, rules}
 use Rattle.std.proofs.lemmas.List.{append-nil}
-use Rattle.ghosts.specs.Stays.{Stays}
+use Rattle.ghosts.specs.Preserves.{Preserves}
 use Rattle.avr_cli.specs.declared.settings.Settings.{Settings}
-use Rattle.avr_desk.specs.Record.{Bytes, DeskState, Passes}
-use Rattle.avr_desk.specs.Said.{OutputEvent, after_all}
+use Rattle.avr_desk.specs.Record.{Bytes, DeskState, ChangesRecord}
+use Rattle.avr_desk.specs.OutputEvents.{OutputEvent, after_events}
 use Rattle.avr_part.specs.Sound.{IsSoundChip}
 use Rattle.avr_plan.specs.Plan.{Plan, IsFitted}
 use Rattle.avr_session.specs.Run.{RunsSession}
 use Rattle.avr_session.specs.Runs.{devices}
 use Rattle.avr_session.specs.Session.{session}
-use Rattle.avr_session.specs.Stopping.{IsPlayed}
+use Rattle.avr_session.specs.Stopping.{RanToStatus}
 use Rattle.stk_frame.specs.Cut.{frames}
 use Rattle.stk_host.specs.Dialog.{Dialog, Event, bytes_sent, played, outputs, frames_in}
-use Rattle.stk_host.specs.Play.{InTurn, IsPrefixOf, progress_at}
+use Rattle.stk_host.specs.Play.{InTurn, IsBytePrefixOf, progress_at}
 use Rattle.stk_host.specs.Tape.{Tape}
 use Rattle.stk_host.specs.Transcript.{sent, heard}
-use Rattle.stk_emu.specs.Along.{AsksBodies}
+use Rattle.stk_emu.specs.DialogOverExchanges.{SendsValidBodies}
 use Rattle.stk_emu.specs.Device.{device}
 use Rattle.stk_emu.specs.Programmer.{Programmer, fresh_programmer}
-use Rattle.stk_emu.specs.Turn.{Turn}
-use Rattle.stk_emu.specs.Wire.{AreLawful, turns_of, becames_of}
+use Rattle.stk_emu.specs.Exchange.{Exchange}
+use Rattle.stk_emu.specs.Wire.{AreLawful, exchanges_of_fates, executions_of_fates}
 use Rattle.stk_emu.specs.Wired.{WiredState, FollowsFates, ComesOf, IsFresh, wired_link}
 use Rattle.stk_emu.specs.declared.fate.Fate.{Fate}
-use Rattle.avr_tool.specs.AnyLine.{ComesOverTurns, OverAnyLine, Stopped, events_over, memories}
+use Rattle.avr_tool.specs.OverFaultyLink.{EndsOverExchanges, SessionOverWire, SessionStopped, events_over, memories}
 use Rattle.avr_tool.specs.Emulated.{RunsOverEmulator, new_wire}
 use Rattle.avr_tool.proofs.Lines.InTurn.{frames_prefix, goes_along, never_idle, sends_whole}
 use Rattle.avr_tool.proofs.WirePlays.{asks_bodies, first, keeps, stands, whole_comes}
-use Rattle.avr_laws.specs.AnyLink.{OverAnyWire, ReportsOverTurns, WereTrue}
-use Rattle.avr_tool.specs.Honest.{AreHonest}
-use Rattle.avr_laws.proofs.Lines.AnyTape.{honest_prefix}
-use Rattle.avr_laws.proofs.ReportsOverTurns.{ends_over_turns, reports_over_turns}
-use Rattle.avr_laws.proofs.Reports.OverTape.{by_fates, said_prefix}
+use Rattle.avr_laws.specs.AnyLink.{OverAnyWire, ReportsOverExchanges, ReportsWereTrue}
+use Rattle.avr_tool.specs.Authentic.{RepliesAreAuthentic}
+use Rattle.avr_laws.proofs.Lines.AnyTape.{authentic_prefix}
+use Rattle.avr_laws.proofs.ReportsOverExchanges.{ends_and_reports_over_exchanges, reports_over_exchanges}
+use Rattle.avr_laws.proofs.Reports.OverTape.{by_fates, results_prefix}
 
 -- what was received is authentic, by the fates of all frames that the run over it sends
-pub honest_heard : {E R : Type 0} (d : Dialog E R) (n : ℕ) (p : Programmer) (fates : List Fate) (w : WiredState)
-    → AsksBodies d → AreLawful fates → FollowsFates p fates w → InTurn d (progress_at n []) w.transcript
-    → IsPrefixOf (sent w.transcript) (bytes_sent (played d n (heard w.transcript)).events)
-    → AreHonest device d n (heard w.transcript) p (becames_of (length (frames_in (played d n (heard w.transcript)).events)) fates)
-honest_heard d n p fates w asks lawful keeps turns prefix =
+pub authentic_heard : {E R : Type 0} (d : Dialog E R) (n : ℕ) (p : Programmer) (fates : List Fate) (w : WiredState)
+    → SendsValidBodies d → AreLawful fates → FollowsFates p fates w → InTurn d (progress_at n []) w.transcript
+    → IsBytePrefixOf (sent w.transcript) (bytes_sent (played d n (heard w.transcript)).events)
+    → RepliesAreAuthentic device d n (heard w.transcript) p (executions_of_fates (length (frames_in (played d n (heard w.transcript)).events)) fates)
+authentic_heard d n p fates w asks lawful keeps exchanges prefix =
     let events = (played d n (heard w.transcript)).events in
-    let becames = becames_of (length (frames_in events)) fates in
+    let executions = executions_of_fates (length (frames_in events)) fates in
     let some = frames_prefix events (sent w.transcript) prefix.0 (sends_whole d n (heard w.transcript) asks) prefix.1 in
     let le : length (frames (sent w.transcript)) ≤ length (frames_in events) =
     let all = ap length some.1 in omega (arith, all, length-append (frames (sent w.transcript)) some.0) in
-    let brings = keeps.brings (never_idle d n p fates w.transcript asks lawful turns) in
-    honest_prefix device d n (heard w.transcript) w.waits p becames
-    (subst (λ (t : Tape). AreHonest device d n t p becames) brings
-    ((goes_along d n p fates w asks lawful keeps turns prefix).honest (length (frames_in events)) le))
+    let brings = keeps.brings (never_idle d n p fates w.transcript asks lawful exchanges) in
+    authentic_prefix device d n (heard w.transcript) w.waits p executions
+    (subst (λ (t : Tape). RepliesAreAuthentic device d n t p executions) brings
+    ((goes_along d n p fates w asks lawful keeps exchanges prefix).honest (length (frames_in events)) le))
 
-module _ (plan : Plan) (w v : WiredState) (fresh : IsFresh w) (stays : Stays ComesOf w v)
+module _ (plan : Plan) (w v : WiredState) (fresh : IsFresh w) (stays : Preserves ComesOf w v)
     (is_sound : IsSoundChip w.wire.programmer.chip)
     (part_is : w.wire.programmer.chip.part ≡ plan.part) (fitted : All (IsFitted plan.part) plan.tasks)
     (old now : DeskState) (status : ℕ) where
   abbrev Runs : Type 0
   Runs = RunsSession plan (devices (wired_link w) old) (devices (wired_link v) now) status
 
-  abbrev turns : List Turn
-  turns = turns_of w.wire.fates
+  abbrev exchanges : List Exchange
+  exchanges = exchanges_of_fates w.wire.fates
 
-  reports : Runs → ReportsOverTurns plan (fresh_programmer w.wire.programmer.chip) v.wire.programmer turns
+  reports : Runs → ReportsOverExchanges plan (fresh_programmer w.wire.programmer.chip) v.wire.programmer exchanges
       (sent v.transcript) (events_over plan v)
   reports runs =
       let all = length (frames_in (events_over plan v)) in
@@ -67,10 +67,10 @@ module _ (plan : Plan) (w v : WiredState) (fresh : IsFresh w) (stays : Stays Com
       let asks = asks_bodies plan w v fresh stays is_sound part_is fitted old now status in
       let follows = keeps plan w v fresh stays is_sound part_is fitted old now status in
       let is_first = first plan w v fresh stays is_sound part_is fitted old now status runs in
-      reports_over_turns plan p is_sound part_is fitted turns v.wire.programmer (sent v.transcript)
+      reports_over_exchanges plan p is_sound part_is fitted exchanges v.wire.programmer (sent v.transcript)
       (stands plan w v fresh stays is_sound part_is fitted old now status runs) (heard v.transcript)
-      (becames_of all w.wire.fates) is_first.1
-      (honest_heard (session plan) 1 p w.wire.fates v asks fresh.lawful follows is_first.0 is_first.1)
+      (executions_of_fates all w.wire.fates) is_first.1
+      (authentic_heard (session plan) 1 p w.wire.fates v asks fresh.lawful follows is_first.0 is_first.1)
       (by_fates all w.wire.fates)
 
   pub over_any_wire : Runs → OverAnyWire plan w v old now status
@@ -79,7 +79,7 @@ module _ (plan : Plan) (w v : WiredState) (fresh : IsFresh w) (stays : Stays Com
       let stood = stands plan w v fresh stays is_sound part_is fitted old now status (inl whole) in record {
         line = reports (inl whole);
         end = inl (
-          ends_over_turns plan (fresh_programmer w.wire.programmer.chip) is_sound part_is fitted turns v.wire.programmer
+          ends_and_reports_over_exchanges plan (fresh_programmer w.wire.programmer.chip) is_sound part_is fitted exchanges v.wire.programmer
               (sent v.transcript) stood (outputs (events_over plan v)) status c.done c.said,
           c.kept,
         );
@@ -98,12 +98,12 @@ one_no : ◌≡◌ {A = ℕ} 1 0 → ⊥
 one_no e = cc
 
 -- a session with status 0, and one that sent no frame
-module _ (plan : Plan) (w v : WiredState) (d e : DeskState) (status : ℕ) (over : OverAnyLine plan w v d e status) where
+module _ (plan : Plan) (w v : WiredState) (d e : DeskState) (status : ℕ) (over : SessionOverWire plan w v d e status) where
   abbrev said : List OutputEvent
   said = outputs (events_over plan v)
 
-  pub came_to : status ≡ 0 → ComesOverTurns plan (memories w) (memories v) (turns_of w.wire.fates) said status
-      × Passes (after_all said) d e
+  pub came_to : status ≡ 0 → EndsOverExchanges plan (memories w) (memories v) (exchanges_of_fates w.wire.fates) said status
+      × ChangesRecord (after_events said) d e
   came_to zero = elim over.end [ inl came ↦ came | inr broke ↦ absurd (one_no (sym broke.1 ∙ zero)) ]
 
   pub untouched : frames (sent v.transcript) ≡ [] → memories v ≡ memories w
@@ -113,14 +113,14 @@ module _ (plan : Plan) (w v : WiredState) (d e : DeskState) (status : ℕ) (over
 module _ (plan : Plan) (w v : WiredState) (d e : DeskState) (status : ℕ) (silent : w.transcript ≡ [])
     (over : OverAnyWire plan w v d e status) where
   abbrev AreTrue : List (Event OutputEvent) → Type 0
-  AreTrue = WereTrue plan (fresh_programmer w.wire.programmer.chip) (turns_of w.wire.fates)
+  AreTrue = ReportsWereTrue plan (fresh_programmer w.wire.programmer.chip) (exchanges_of_fates w.wire.fates)
 
-  pub played_truly : (whole : IsPlayed (session plan) (devices (wired_link w) d) (devices (wired_link v) e) status)
+  pub played_truly : (whole : RanToStatus (session plan) (devices (wired_link w) d) (devices (wired_link v) e) status)
       → AreTrue whole.1.events
   played_truly whole =
       let over_heard = ap (λ t. (played (session plan) 1 t).events)
       (search (rules, append-nil)) in
-      subst AreTrue (over_heard ∙ ap (λ x. x.events) (whole.1.plays.plays [])) over.line.believable
+      subst AreTrue (over_heard ∙ ap (λ x. x.events) (whole.1.plays.plays [])) over.line.reports_are_true
 
-  pub stopped_truly : (stopped : Stopped plan w v d e) → AreTrue stopped.breaks.prefix.whole
-  stopped_truly stopped = search (rules, said_prefix, over)
+  pub stopped_truly : (stopped : SessionStopped plan w v d e) → AreTrue stopped.breaks.prefix.whole
+  stopped_truly stopped = search (rules, results_prefix, over)

@@ -6,7 +6,7 @@ pub mod FewBad
 pub mod Reports
 pub mod Memories
 pub mod SecondRun
-pub mod ReportsOverTurns
+pub mod ReportsOverExchanges
 pub mod AnyLink
 pub mod AnyWire
 pub mod Plans

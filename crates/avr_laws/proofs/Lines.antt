@@ -1,6 +1,6 @@
 -- Runs over any tape are runs along exchanges, and a link that forges a frame.
 pub mod Ends
 pub mod AnyTape
-pub mod NoFrame
+pub mod NoForgedFrame
 pub mod MadeFrame
 pub mod Damaged

@@ -3,95 +3,95 @@ use Rattle.std.specs.Prelude.{ℕ, suc, Bool, true, false, List, [], ◌∷◌, 
 use Rattle.std.specs.Str.{bytes_eq}
 use Rattle.stk_frame.specs.Cut.{frames, is_good}
 use Rattle.stk_host.specs.Tape.{Tape, Reading, Answered, Silent, Ended, Babbled, answer}
-use Rattle.stk_host.specs.Dialog.{Dialog, Done, Say, Ask, played, next, frames_in, outputs}
+use Rattle.stk_host.specs.Dialog.{Dialog, Done, Emit, Ask, played, next, frames_in, outputs}
 use Rattle.stk_emu.specs.Device.{Device, after_frame, after_frames, refusal}
-use Rattle.stk_emu.specs.Turn.{Became, Kept, Obeyed, Anew, after_became, Turn, Right, Wrong, Refusal, Nothing, Babble, Ending}
-use Rattle.stk_emu.specs.Along.{along, said_along}
-use Rattle.avr_tool.specs.Honest.{first_became, other_becames}
+use Rattle.stk_emu.specs.Exchange.{Execution, NotExecuted, Executed, ThenRestarted, after_execution, Exchange, AsIntended, Disturbed, Refusal, NoReply, Babble, Ending}
+use Rattle.stk_emu.specs.DialogOverExchanges.{state_after, outputs_after}
+use Rattle.avr_tool.specs.Authentic.{first_execution, later_executions}
 
 -- The device after these frames were sent, given what happened to it at each.
-abbrev pub after_pieces : {P : Type 0} → Device P → List (List ℕ) → List Became → P → P
-after_pieces m [] becames p = p
-after_pieces m (piece ∷ sent) becames p =
-    after_pieces m sent (other_becames becames) (after_became (first_became becames) (after_frame m piece p) p m.reset)
+abbrev pub after_sent_frames : {P : Type 0} → Device P → List (List ℕ) → List Execution → P → P
+after_sent_frames m [] executions p = p
+after_sent_frames m (piece ∷ sent) executions p =
+    after_sent_frames m sent (later_executions executions) (after_execution (first_execution executions) (after_frame m piece p) p m.reset)
 
 -- The exchange of a question with a reply. The reply to a command that was obeyed is its own, unless it is the refusal.
-abbrev pub answered_turn : Became → List ℕ → Turn
-answered_turn Obeyed body = if bytes_eq body refusal then Wrong Obeyed Refusal else Right
-answered_turn became body = Wrong became Refusal
+abbrev pub answered_exchange : Execution → List ℕ → Exchange
+answered_exchange Executed body = if bytes_eq body refusal then Disturbed Executed Refusal else AsIntended
+answered_exchange execution body = Disturbed execution Refusal
 
-abbrev pub turn_by : Became → Reading → Turn
-turn_by became (Answered body) = answered_turn became body
-turn_by became Silent = Wrong became Nothing
-turn_by became Ended = Wrong became Ending
-turn_by became Babbled = Wrong became Babble
+abbrev pub turn_by : Execution → Reading → Exchange
+turn_by execution (Answered body) = answered_exchange execution body
+turn_by execution Silent = Disturbed execution NoReply
+turn_by execution Ended = Disturbed execution Ending
+turn_by execution Babbled = Disturbed execution Babble
 
 -- If the reply is still awaited, nothing was read.
-abbrev pub turns_from : Became → (Reading → Tape → List Turn) → Option (Reading × Tape) → List Turn
-turns_from became more None = Wrong became Nothing ∷ []
-turns_from became more (Some (reading, tape)) = turn_by became reading ∷ more reading tape
+abbrev pub turns_from : Execution → (Reading → Tape → List Exchange) → Option (Reading × Tape) → List Exchange
+turns_from execution more None = Disturbed execution NoReply ∷ []
+turns_from execution more (Some (reading, tape)) = turn_by execution reading ∷ more reading tape
 
 -- THE EXCHANGES of a run over this tape, one for each frame sent.
-abbrev pub turns_heard : {E R : Type 0} → Dialog E R → ℕ → Tape → List Became → List Turn
-turns_heard (Done r) n tape becames = []
-turns_heard (Say e dialog) n tape becames = turns_heard dialog n tape becames
-turns_heard (Ask bytes go_on) n tape becames =
-    turns_from (first_became becames)
-    (λ reading left. turns_heard (go_on reading) (next n) left (other_becames becames)) (answer n tape)
+abbrev pub turns_heard : {E R : Type 0} → Dialog E R → ℕ → Tape → List Execution → List Exchange
+turns_heard (Done r) n tape executions = []
+turns_heard (Emit e dialog) n tape executions = turns_heard dialog n tape executions
+turns_heard (Ask bytes go_on) n tape executions =
+    turns_from (first_execution executions)
+    (λ reading left. turns_heard (go_on reading) (next n) left (later_executions executions)) (answer n tape)
 
 -- A run that waits for a reply: its output is that along the exchanges of all questions but the last.
-pub record WaitsAlong {E R P : Type 0} (m : Device P) (d : Dialog E R) (p : P) (turns : List Turn)
-    (sent : List (List ℕ)) (says : List E) : Type 0 where
+pub record WaitsAlongExchanges {E R P : Type 0} (m : Device P) (d : Dialog E R) (p : P) (exchanges : List Exchange)
+    (sent : List (List ℕ)) (emits : List E) : Type 0 where
   pub answered : ℕ
   pub one_more : length sent ≡ suc answered
-  pub said : says ≡ said_along m answered d p turns
+  pub said : emits ≡ outputs_after m answered d p exchanges
 
 -- The run of a dialog over a tape goes along its exchanges. After any first frames the programmer is the one along
 -- them. If the run is done, so is the dialog along them, with the same result and output.
-pub record GoesAs {E R P : Type 0} (m : Device P) (d : Dialog E R) (n : ℕ) (tape : Tape) (p : P)
-    (becames : List Became) : Type 0 where
+pub record GoesAlongExchanges {E R P : Type 0} (m : Device P) (d : Dialog E R) (n : ℕ) (tape : Tape) (p : P)
+    (executions : List Execution) : Type 0 where
   pub programmer : (k : ℕ) → k ≤ length (frames_in (played d n tape).events)
-      → (along m k d p (turns_heard d n tape becames)).programmer
-      ≡ after_pieces m (take k (frames_in (played d n tape).events)) becames p
+      → (state_after m k d p (turns_heard d n tape executions)).programmer
+      ≡ after_sent_frames m (take k (frames_in (played d n tape).events)) executions p
   pub outcome : (r : R) (seq : ℕ) (left : Tape) → (played d n tape).outcome ≡ Some (r, seq, left)
-      → ((along m (length (frames_in (played d n tape).events)) d p (turns_heard d n tape becames)).dialog ≡ Done r)
+      → ((state_after m (length (frames_in (played d n tape).events)) d p (turns_heard d n tape executions)).dialog ≡ Done r)
       × (outputs (played d n tape).events
-      ≡ said_along m (length (frames_in (played d n tape).events)) d p (turns_heard d n tape becames))
+      ≡ outputs_after m (length (frames_in (played d n tape).events)) d p (turns_heard d n tape executions))
   pub waits : (played d n tape).outcome ≡ None
-      → WaitsAlong m d p (turns_heard d n tape becames) (frames_in (played d n tape).events)
+      → WaitsAlongExchanges m d p (turns_heard d n tape executions) (frames_in (played d n tape).events)
       (outputs (played d n tape).events)
 
 -- Frames that the programmer receives: those up to its first restart, and those after each restart.
-abbrev pub Got : Type 0
-Got = List (List ℕ) × List (List (List ℕ))
+abbrev pub FramesByRestart : Type 0
+FramesByRestart = List (List ℕ) × List (List (List ℕ))
 
-abbrev pub getting : Became → List ℕ → Got → Got
-getting Kept piece got = got
-getting Obeyed piece got = (piece ∷ got.0, got.1)
-getting (Anew became) piece got = getting became piece ([], got.0 ∷ got.1)
+abbrev pub adding_received : Execution → List ℕ → FramesByRestart → FramesByRestart
+adding_received NotExecuted piece got = got
+adding_received Executed piece got = (piece ∷ got.0, got.1)
+adding_received (ThenRestarted execution) piece got = adding_received execution piece ([], got.0 ∷ got.1)
 
 -- The frames received of those sent, in order, each at most once, given what happened to the programmer at each.
-abbrev pub let_through : List Became → List (List ℕ) → Got
-let_through [] sent = ([], [])
-let_through (became ∷ more) [] = ([], [])
-let_through (became ∷ more) (piece ∷ sent) = getting became piece (let_through more sent)
+abbrev pub received_frames : List Execution → List (List ℕ) → FramesByRestart
+received_frames [] sent = ([], [])
+received_frames (execution ∷ more) [] = ([], [])
+received_frames (execution ∷ more) (piece ∷ sent) = adding_received execution piece (received_frames more sent)
 
 abbrev pub good_frames : List ℕ → List (List ℕ)
 good_frames bytes = filter is_good (frames bytes)
 
 -- A programmer received any bytes, and `later` after each restart. The good frames cut from them are some of those
 -- sent, in order, each at most once. Anything else may be between them.
-pub record CameThrough (got : List ℕ) (later : List (List ℕ)) (sent : List (List ℕ)) (becames : List Became)
+pub record ReceivedSentFrames (got : List ℕ) (later : List (List ℕ)) (sent : List (List ℕ)) (executions : List Execution)
     : Type 0 where
-  pub good : let_through becames sent ≡ (good_frames got, map good_frames later)
+  pub good : received_frames executions sent ≡ (good_frames got, map good_frames later)
 
 -- The device after it received these bytes, and these later ones after each restart.
-abbrev pub after_bytes : {P : Type 0} → Device P → List ℕ → List (List ℕ) → P → P
-after_bytes m got [] p = after_frames m (frames got) p
-after_bytes m got (first ∷ later) p = after_bytes m first later (m.reset (after_frames m (frames got) p))
+abbrev pub after_received_bytes : {P : Type 0} → Device P → List ℕ → List (List ℕ) → P → P
+after_received_bytes m got [] p = after_frames m (frames got) p
+after_received_bytes m got (first ∷ later) p = after_received_bytes m first later (m.reset (after_frames m (frames got) p))
 
 -- What happened at each frame if the programmer never restarts: true for a frame that arrived.
-abbrev pub became_by : List Bool → List Became
-became_by [] = []
-became_by (true ∷ more) = Obeyed ∷ became_by more
-became_by (false ∷ more) = Kept ∷ became_by more
+abbrev pub executions_by_arrival : List Bool → List Execution
+executions_by_arrival [] = []
+executions_by_arrival (true ∷ more) = Executed ∷ executions_by_arrival more
+executions_by_arrival (false ∷ more) = NotExecuted ∷ executions_by_arrival more

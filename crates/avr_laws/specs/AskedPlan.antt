@@ -7,11 +7,11 @@ use Rattle.avr_cli.specs.declared.update.Op.TheVariants as op
 use Rattle.avr_cli.specs.declared.update.Update.{Update}
 use Rattle.avr_desk.specs.Record.{Bytes, DeskState, all_openings}
 use Rattle.avr_desk.specs.declared.record.Opening.TheVariants.{Found}
-use Rattle.avr_image.specs.Values.{values}
+use Rattle.avr_image.specs.Values.{image_of_values}
 use Rattle.avr_part.specs.BuiltIn.{part_of_id}
 use Rattle.avr_part.specs.Part.{Part, size_of}
 use Rattle.avr_part.specs.PartFile.{parts_of}
-use Rattle.avr_plan.specs.ImageFile.{kind_of, whole_file}
+use Rattle.avr_plan.specs.ImageFile.{kind_of, image_of_file}
 use Rattle.avr_plan.specs.Plan.{Plan}
 use Rattle.avr_plan.specs.declared.planned.Task.{Task}
 use Rattle.avr_plan.specs.declared.planned.Task.TheVariants as task
@@ -22,27 +22,27 @@ abbrev pub Files : Type 0
 Files = Bytes → Option Bytes
 
 -- A relation: reading this name gives this whole text.
-abbrev pub Giving : Type 1
-Giving = Bytes → Bytes → Type 0
+abbrev pub GivesText : Type 1
+GivesText = Bytes → Bytes → Type 0
 
 -- Reading gives what the files hold.
-abbrev pub Holding : Files → Giving
-Holding files name text = files name ≡ Some text
+abbrev pub FileHolds : Files → GivesText
+FileHolds files name text = files name ≡ Some text
 
 -- Between these states of a desk the file of this name was opened and read to its end, and gave this text.
-abbrev pub Gave : DeskState → DeskState → Giving
-Gave old new name text =
+abbrev pub FileGave : DeskState → DeskState → GivesText
+FileGave old new name text =
     Contains (drop (length (all_openings old.kept)) (all_openings new.kept))
     (Found (record { name = name; bytes = text; ended = true }))
 
 -- The image of an update: the values on the command line, or what its file holds in its format, if that isn't too long.
-abbrev pub HasImage : Giving → Bytes → Format → ℕ → List (Option ℕ) → Type 0
-HasImage Gives name Immediate size image = values name size ≡ Ok image
+abbrev pub HasImage : GivesText → Bytes → Format → ℕ → List (Option ℕ) → Type 0
+HasImage Gives name Immediate size image = image_of_values name size ≡ Ok image
 HasImage Gives name format size image =
     (text : Bytes) × (ending : Ending) × Gives name text × (length text ≤ 4194304)
-    × (whole_file (kind_of format text) text size ≡ Ok (image, ending))
+    × (image_of_file (kind_of format text) text size ≡ Ok (image, ending))
 
-abbrev pub IsTaskOf : Giving → Part → Update → Task → Type 0
+abbrev pub IsTaskOf : GivesText → Part → Update → Task → Type 0
 IsTaskOf Gives part u (task.Write mem image) =
     (u.op ≡ op.Write) × (u.memory ≡ mem) × HasImage Gives u.file u.format (size_of mem part) image
 IsTaskOf Gives part u (task.Verify mem image) =
@@ -50,18 +50,18 @@ IsTaskOf Gives part u (task.Verify mem image) =
 IsTaskOf Gives part u (task.Read mem format name) =
     (u.op ≡ op.Read) × (u.memory ≡ mem) × (u.format ≡ format) × (u.file ≡ name)
 
-abbrev pub AreTasksOf : Giving → Part → List Update → List Task → Type 0
+abbrev pub AreTasksOf : GivesText → Part → List Update → List Task → Type 0
 AreTasksOf Gives part [] [] = Unit {0}
 AreTasksOf Gives part (u ∷ updates) (task ∷ tasks) = IsTaskOf Gives part u task × AreTasksOf Gives part updates tasks
 AreTasksOf Gives part updates tasks = ⊥
 
 -- The parts of a part file, if one is named.
-abbrev pub ArePartsOf : Giving → Option Bytes → List Part → Type 0
+abbrev pub ArePartsOf : GivesText → Option Bytes → List Part → Type 0
 ArePartsOf Gives None parts = parts ≡ []
 ArePartsOf Gives (Some name) parts = (text : Bytes) × Gives name text × (parts_of text ≡ Ok parts)
 
 -- THE PLAN that these settings and these files ask for.
-pub record IsAsked (settings : Settings) (Gives : Giving) (plan : Plan) : Type 0 where
+pub record IsAsked (settings : Settings) (Gives : GivesText) (plan : Plan) : Type 0 where
   pub parts : List Part
   pub are_parts : ArePartsOf Gives settings.parts parts
   pub part : part_of_id settings.part parts ≡ Ok plan.part

@@ -3,12 +3,12 @@ use Rattle.std.specs.Prelude.{ℕ, zero, suc, Bool, true, false, List, [], ◌�
 use Rattle.stk_frame.specs.Frame.{frame}
 use Rattle.stk_frame.specs.Cut.{body_of}
 use Rattle.stk_host.specs.declared.link.Item.TheVariants.{Silence, End}
-use Rattle.stk_host.specs.Tape.{Tape, on_tape, Reading, Answered, Silent, Ended, is_answer, limit}
-use Rattle.stk_host.specs.Dialog.{Dialog, Done, Say, Ask, next}
+use Rattle.stk_host.specs.Tape.{Tape, on_tape, Reading, Answered, Silent, Ended, is_answer, reply_byte_limit}
+use Rattle.stk_host.specs.Dialog.{Dialog, Done, Emit, Ask, next}
 use Rattle.stk_emu.specs.Device.{Device, refusal}
-use Rattle.stk_emu.specs.Turn.{Became, after_became}
-use Rattle.avr_tool.specs.Honest.{first_became, other_becames}
-use Rattle.avr_laws.specs.NoFrame.{given}
+use Rattle.stk_emu.specs.Exchange.{Execution, after_execution}
+use Rattle.avr_tool.specs.Authentic.{first_execution, later_executions}
+use Rattle.avr_laws.specs.NoForgedFrame.{frame_of_reply}
 
 -- These bytes are as many, and differ in one place.
 abbrev pub DifferInOne : List ℕ → List ℕ → Type 0
@@ -34,65 +34,65 @@ Arrived (piece ∷ sent) (false ∷ through) got = Arrived sent through got
 
 -- What comes of a link: a frame, a pause longer than the timeout, or its end.
 pub data Arrival : Type 0 where
-  Whole : List ℕ → Arrival
-  Pause : Arrival
-  Stop : Arrival
+  FrameArrives : List ℕ → Arrival
+  PauseArrives : Arrival
+  EndArrives : Arrival
 
-abbrev pub as_tape : List Arrival → Tape
-as_tape [] = []
-as_tape (Whole piece ∷ more) = on_tape piece ++ as_tape more
-as_tape (Pause ∷ more) = Silence ∷ as_tape more
-as_tape (Stop ∷ more) = End ∷ as_tape more
+abbrev pub tape_of_arrivals : List Arrival → Tape
+tape_of_arrivals [] = []
+tape_of_arrivals (FrameArrives piece ∷ more) = on_tape piece ++ tape_of_arrivals more
+tape_of_arrivals (PauseArrives ∷ more) = Silence ∷ tape_of_arrivals more
+tape_of_arrivals (EndArrives ∷ more) = End ∷ tape_of_arrivals more
 
 -- The frames before the first pause.
-abbrev pub burst : List Arrival → List (List ℕ)
-burst (Whole piece ∷ more) = piece ∷ burst more
-burst other = []
+abbrev pub frames_before_pause : List Arrival → List (List ℕ)
+frames_before_pause (FrameArrives piece ∷ more) = piece ∷ frames_before_pause more
+frames_before_pause other = []
 
 -- The piece is one of the first `k` of these replies, perhaps damaged.
-abbrev pub IsOf : ℕ → List (List ℕ) → List ℕ → Type 0
-IsOf zero sent piece = ⊥
-IsOf (suc k) [] piece = ⊥
-IsOf (suc k) (first ∷ sent) piece = (piece ≡ first) ⊎ (IsDamaged first piece ⊎ IsOf k sent piece)
+abbrev pub IsReplyOfFirst : ℕ → List (List ℕ) → List ℕ → Type 0
+IsReplyOfFirst zero sent piece = ⊥
+IsReplyOfFirst (suc k) [] piece = ⊥
+IsReplyOfFirst (suc k) (first ∷ sent) piece = (piece ≡ first) ⊎ (IsDamaged first piece ⊎ IsReplyOfFirst k sent piece)
 
 -- The piece is the refusal of a damaged frame, of any number, perhaps damaged too.
-abbrev pub Refuses : List ℕ → Type 0
-Refuses piece = (n : ℕ) × ((piece ≡ frame n refusal) ⊎ IsDamaged (frame n refusal) piece)
+abbrev pub IsSomeRefusal : List ℕ → Type 0
+IsSomeRefusal piece = (n : ℕ) × ((piece ≡ frame n refusal) ⊎ IsDamaged (frame n refusal) piece)
 
 -- Each piece up to the reply to frame `n` is a refusal, or the reply to one of the last 256 frames, perhaps damaged.
-abbrev pub AreReplies : ℕ → List (List ℕ) → List (List ℕ) → Type 0
-AreReplies n sent [] = Unit {0}
-AreReplies n sent (piece ∷ pieces) =
-    (IsOf 256 sent piece ⊎ Refuses piece) × (is_answer n piece ≡ false → AreReplies n sent pieces)
+abbrev pub AreRecentReplies : ℕ → List (List ℕ) → List (List ℕ) → Type 0
+AreRecentReplies n sent [] = Unit {0}
+AreRecentReplies n sent (piece ∷ pieces) =
+    (IsReplyOfFirst 256 sent piece ⊎ IsSomeRefusal piece) × (is_answer n piece ≡ false → AreRecentReplies n sent pieces)
 
 -- The bytes up to the end of that reply.
-abbrev pub up_to_reply : ℕ → List (List ℕ) → List ℕ
-up_to_reply n [] = []
-up_to_reply n (piece ∷ pieces) = piece ++ (if is_answer n piece then [] else up_to_reply n pieces)
+abbrev pub bytes_up_to_reply : ℕ → List (List ℕ) → List ℕ
+bytes_up_to_reply n [] = []
+bytes_up_to_reply n (piece ∷ pieces) = piece ++ (if is_answer n piece then [] else bytes_up_to_reply n pieces)
 
 -- What is read as the reply to frame `n`, and what is left.
-abbrev pub read_first : ℕ → List Arrival → Option (Reading × List Arrival)
-read_first n [] = None
-read_first n (Whole piece ∷ more) =
-    if is_answer n piece then Some (Answered (body_of piece), more) else read_first n more
-read_first n (Pause ∷ more) = Some (Silent, more)
-read_first n (Stop ∷ more) = Some (Ended, more)
+abbrev pub first_reading : ℕ → List Arrival → Option (Reading × List Arrival)
+first_reading n [] = None
+first_reading n (FrameArrives piece ∷ more) =
+    if is_answer n piece then Some (Answered (body_of piece), more) else first_reading n more
+first_reading n (PauseArrives ∷ more) = Some (Silent, more)
+first_reading n (EndArrives ∷ more) = Some (Ended, more)
 
-abbrev pub when_read : (Reading → List Arrival → Type 0) → Option (Reading × List Arrival) → Type 0
-when_read Claim None = Unit {0}
-when_read Claim (Some (reading, more)) = Claim reading more
+abbrev pub IfRead : (Reading → List Arrival → Type 0) → Option (Reading × List Arrival) → Type 0
+IfRead Claim None = Unit {0}
+IfRead Claim (Some (reading, more)) = Claim reading more
 
 -- AT EACH QUESTION of this dialog the link brings refusals and replies to the last 256 frames, in any order and number.
 -- Each is whole or has one byte changed. Up to the awaited reply they have fewer than 4,096 bytes.
-abbrev pub BringsReplies : {E R P : Type 0} → Device P → Dialog E R → ℕ → List Arrival → P → List Became → List (List ℕ)
+abbrev pub BringsReplies : {E R P : Type 0} → Device P → Dialog E R → ℕ → List Arrival → P → List Execution → List (List ℕ)
     → Type 0
-BringsReplies m (Done r) n come p becames before = Unit {0}
-BringsReplies m (Say e dialog) n come p becames before = BringsReplies m dialog n come p becames before
-BringsReplies m (Ask bytes go_on) n come p becames before =
-    (length (up_to_reply n (burst come)) < limit)
-    × AreReplies n (given m n bytes p (first_became becames) ∷ before) (burst come)
-    × when_read (λ reading left.
+BringsReplies m (Done r) n come p executions before = Unit {0}
+BringsReplies m (Emit e dialog) n come p executions before = BringsReplies m dialog n come p executions before
+BringsReplies m (Ask bytes go_on) n come p executions before =
+    (length (bytes_up_to_reply n (frames_before_pause come)) < reply_byte_limit)
+    × AreRecentReplies n (frame_of_reply m n bytes p (first_execution executions) ∷ before) (frames_before_pause come)
+    × IfRead (λ reading left.
     BringsReplies m (go_on reading) (next n) left
-    (after_became (first_became becames) (m.after bytes p) p m.reset) (other_becames becames)
-    (given m n bytes p (first_became becames) ∷ before))
-    (read_first n come)
+    (after_execution (first_execution executions) (m.after bytes p) p m.reset) (later_executions executions)
+    (frame_of_reply m n bytes p (first_execution executions) ∷ before))
+    (first_reading n come)

@@ -6,9 +6,9 @@ use Rattle.avr_cli.specs.declared.update.Format.TheVariants.{Immediate}
 use Rattle.avr_cli.specs.declared.update.Op.{Op}
 use Rattle.avr_cli.specs.declared.update.Op.TheVariants as op
 use Rattle.avr_cli.specs.declared.update.Update.{Update}
-use Rattle.avr_desk.specs.Memory.{Stock, stood_for}
+use Rattle.avr_desk.specs.Memory.{Stock, content_of_name}
 use Rattle.avr_desk.specs.Record.{Bytes}
-use Rattle.avr_desk.specs.Said.{OutputEvent, Opens, Line}
+use Rattle.avr_desk.specs.OutputEvents.{OutputEvent, Opens, PrintsLine}
 use Rattle.avr_desk.specs.Stage.{StageResult}
 use Rattle.avr_desk.specs.Truth.{IsTrueOpening}
 use Rattle.avr_desk.specs.declared.record.Opening.{Opening}
@@ -45,20 +45,20 @@ abbrev pub read_whole : Bytes → Option Bytes → Opening
 read_whole name None = Absent name
 read_whole name (Some bytes) = Found (record { name = name; bytes = bytes; ended = true })
 
-abbrev pub files_give : Stock → List Bytes → List Opening
-files_give stock names = map (λ name. read_whole name (stood_for stock [] name)) names
+abbrev pub openings_of_files : Stock → List Bytes → List Opening
+openings_of_files stock names = map (λ name. read_whole name (content_of_name stock [] name)) names
 
 -- Planning over these files, each read whole.
-abbrev pub planned_of : Settings → Stock → StageResult Plan
-planned_of s stock = planned s (files_give stock (files_read s))
+abbrev pub planned_from_files : Settings → Stock → StageResult Plan
+planned_from_files s stock = planned s (openings_of_files stock (files_read s))
 
 abbrev pub lines_in : List OutputEvent → List Bytes
 lines_in [] = []
-lines_in (Line bytes ∷ outputs) = bytes ∷ lines_in outputs
+lines_in (PrintsLine bytes ∷ outputs) = bytes ∷ lines_in outputs
 lines_in (output ∷ outputs) = lines_in outputs
 
 -- Each opening among these output events was true of these files.
-abbrev pub AreSeen : Stock → List OutputEvent → Type 0
-AreSeen stock [] = Unit {0}
-AreSeen stock (Opens opening ∷ outputs) = IsTrueOpening stock [] opening × AreSeen stock outputs
-AreSeen stock (output ∷ outputs) = AreSeen stock outputs
+abbrev pub AreTrueOpenings : Stock → List OutputEvent → Type 0
+AreTrueOpenings stock [] = Unit {0}
+AreTrueOpenings stock (Opens opening ∷ outputs) = IsTrueOpening stock [] opening × AreTrueOpenings stock outputs
+AreTrueOpenings stock (output ∷ outputs) = AreTrueOpenings stock outputs

@@ -5,37 +5,37 @@ use Rattle.avr_cli.specs.declared.settings.Switches.{Switches}
 use Rattle.avr_desk.specs.Named.{is_dash}
 use Rattle.avr_desk.specs.Record.{Bytes, DeskState, all_files}
 use Rattle.avr_desk.specs.declared.record.Writing.{Writing}
-use Rattle.avr_laws.specs.AnyTape.{CameThrough, after_bytes}
-use Rattle.avr_laws.specs.NoFrame.{WereSent, given}
+use Rattle.avr_laws.specs.AnyTape.{ReceivedSentFrames, after_received_bytes}
+use Rattle.avr_laws.specs.NoForgedFrame.{AreNotForged, frame_of_reply}
 use Rattle.avr_part.specs.Sound.{IsSoundChip}
 use Rattle.avr_part.specs.Part.{Part}
 use Rattle.avr_plan.specs.Plan.{Plan}
 use Rattle.avr_session.specs.Actions.{Action, SaveMemory, actions}
 use Rattle.avr_session.specs.FileText.{file_text}
-use Rattle.avr_session.specs.Session.{kept_of}
-use Rattle.avr_tool.specs.Honest.{first_became, other_becames, on_answer}
+use Rattle.avr_session.specs.Session.{bytes_to_save}
+use Rattle.avr_tool.specs.Authentic.{first_execution, later_executions, on_reading}
 use Rattle.avr_tool.specs.Items.{action_items, asked_items}
 use Rattle.avr_tool.specs.Outcome.{IsDone}
 use Rattle.avr_tool.specs.Written.{IsWritten}
 use Rattle.stk_emu.specs.Device.{Device, device}
 use Rattle.stk_emu.specs.Effect.{Memories, effects, memories_of, memory_in}
 use Rattle.stk_emu.specs.Programmer.{Programmer}
-use Rattle.stk_emu.specs.Turn.{Became, after_became}
+use Rattle.stk_emu.specs.Exchange.{Execution, after_execution}
 use Rattle.stk_frame.specs.Cut.{body_of, cut, frames, seq_of}
-use Rattle.stk_host.specs.Tape.{Tape, answer, bytes_in, limit}
+use Rattle.stk_host.specs.Tape.{Tape, answer, leading_bytes, reply_byte_limit}
 use Rattle.stk_host.specs.Transcript.{Transcript, heard, sent}
 
 -- THE LINK FORGES NO FRAME: these frames were sent, in order, and each waited for its reply on the tape. Each good
 -- frame cut from the tape until that came is a refusal, or the reply to one of the last 256 frames sent.
-abbrev pub NoneForged : {P : Type 0} → Device P → List (List ℕ) → Tape → P → List Became → List (List ℕ) → Type 0
-NoneForged m [] tape p becames before = Unit {0}
-NoneForged m (piece ∷ pieces) tape p becames before =
-    on_answer (λ reading left.
-    WereSent (seq_of piece) (given m (seq_of piece) (body_of piece) p (first_became becames) ∷ before)
-    (cut (take limit (bytes_in tape)))
+abbrev pub NoneForged : {P : Type 0} → Device P → List (List ℕ) → Tape → P → List Execution → List (List ℕ) → Type 0
+NoneForged m [] tape p executions before = Unit {0}
+NoneForged m (piece ∷ pieces) tape p executions before =
+    on_reading (λ reading left.
+    AreNotForged (seq_of piece) (frame_of_reply m (seq_of piece) (body_of piece) p (first_execution executions) ∷ before)
+    (cut (take reply_byte_limit (leading_bytes tape)))
     × NoneForged m pieces left
-    (after_became (first_became becames) (m.after (body_of piece) p) p m.reset) (other_becames becames)
-    (given m (seq_of piece) (body_of piece) p (first_became becames) ∷ before))
+    (after_execution (first_execution executions) (m.after (body_of piece) p) p m.reset) (later_executions executions)
+    (frame_of_reply m (seq_of piece) (body_of piece) p (first_execution executions) ∷ before))
     (answer (seq_of piece) tape)
 
 -- ---- what status 0 means
@@ -43,7 +43,7 @@ NoneForged m (piece ∷ pieces) tape p becames before =
 -- The files that an action reads a memory into: the text is of what the chip holds then, by `-A` with the trailing FF.
 abbrev pub action_files : Part → Switches → Action → Memories → List Writing
 action_files part s (SaveMemory mem format file) m =
-    record { name = file; bytes = file_text format (kept_of mem s.all (memory_in part mem m)) } ∷ []
+    record { name = file; bytes = file_text format (bytes_to_save mem s.all (memory_in part mem m)) } ∷ []
 action_files part s action m = []
 
 -- Each action in order, over the memories that those before it leave.
@@ -60,14 +60,14 @@ saved_files plan m = actions_files plan.part plan.switches (actions plan) m
 abbrev pub named_files : List Writing → List Writing
 named_files files = filter (λ file. not (is_dash file.name)) files
 
-abbrev pub put_out : List Writing → Bytes
-put_out [] = []
-put_out (file ∷ files) = if is_dash file.name then file.bytes ++ put_out files else put_out files
+abbrev pub dash_output : List Writing → Bytes
+dash_output [] = []
+dash_output (file ∷ files) = if is_dash file.name then file.bytes ++ dash_output files else dash_output files
 
 -- Between these states of a desk these files were created, in order, and no others; the output is that of `-`.
-pub record AreSaved (files : List Writing) (old now : DeskState) : Type 0 where
+pub record FilesAreSaved (files : List Writing) (old now : DeskState) : Type 0 where
   pub created : all_files now.kept ≡ all_files old.kept ++ named_files files
-  pub output : now.kept.output ≡ old.kept.output ++ put_out files
+  pub output : now.kept.output ≡ old.kept.output ++ dash_output files
 
 -- A run of this plan with status 0 led from these memories and this desk to those.
 pub record Keeps (plan : Plan) (before after : Memories) (old now : DeskState) : Type 0 where
@@ -76,13 +76,13 @@ pub record Keeps (plan : Plan) (before after : Memories) (old now : DeskState) :
   -- unless verifying was off, each memory holds its images, and elsewhere what it held, or an erase's FF
   pub images : plan.switches.no_verify ≡ false → IsWritten plan.part (asked_items plan) before after
   -- each file that a memory was read into has the text of what the chip held then
-  pub saved : AreSaved (saved_files plan before) old now
+  pub saved : FilesAreSaved (saved_files plan before) old now
 
 -- WHAT STATUS 0 MEANS, by what passed over the link. Whatever the programmer was, and whatever it received before and
 -- after its restarts, the plan was kept.
 abbrev pub IsKept : Plan → Transcript → DeskState → DeskState → Type 0
 IsKept plan passed old now =
-    (p : Programmer) (got : List ℕ) (later : List (List ℕ)) (becames : List Became) → IsSoundChip p.chip
-    → p.chip.part ≡ plan.part → CameThrough got later (frames (sent passed)) becames
-    → NoneForged device (frames (sent passed)) (heard passed) p becames []
-    → Keeps plan (memories_of p.chip) (memories_of (after_bytes device got later p).chip) old now
+    (p : Programmer) (got : List ℕ) (later : List (List ℕ)) (executions : List Execution) → IsSoundChip p.chip
+    → p.chip.part ≡ plan.part → ReceivedSentFrames got later (frames (sent passed)) executions
+    → NoneForged device (frames (sent passed)) (heard passed) p executions []
+    → Keeps plan (memories_of p.chip) (memories_of (after_received_bytes device got later p).chip) old now

@@ -1,14 +1,14 @@
 -- THE PROMISE OF THE PROGRAM: what status 0 means, by the port that the command line names.
 use Rattle.std.specs.Prelude.{◌≡◌, true, List, [], ◌∷◌, ◌++◌, Option, Some, Ok}
 use Rattle.clap.specs.Words.{takes}
-use Rattle.avr_cli.specs.Command.{asked_by, avrstk}
+use Rattle.avr_cli.specs.Command.{settings_from_arguments, avrstk}
 use Rattle.avr_cli.specs.declared.settings.Port.{Port}
 use Rattle.avr_cli.specs.declared.settings.Port.TheVariants.{Stdio, Emulated, Network, Served}
 use Rattle.avr_cli.specs.declared.settings.Settings.{Settings}
-use Rattle.avr_desk.specs.Record.{Bytes, DeskState, Passes, all_openings, with_replaced}
+use Rattle.avr_desk.specs.Record.{Bytes, DeskState, ChangesRecord, all_openings, with_replaced}
 use Rattle.avr_desk.specs.declared.record.Opening.{Opening}
-use Rattle.avr_laws.specs.AskedPlan.{Gave, IsAsked}
-use Rattle.avr_laws.specs.ChipFound.{IsChipOf}
+use Rattle.avr_laws.specs.AskedPlan.{FileGave, IsAsked}
+use Rattle.avr_laws.specs.ChipFound.{IsChipInFile}
 use Rattle.avr_laws.specs.FilesRead.{read_whole}
 use Rattle.avr_laws.specs.Kept.{IsKept, Keeps}
 use Rattle.avr_part.specs.ChipFile.{chip_file}
@@ -21,40 +21,40 @@ use Rattle.stk_host.specs.Transcript.{LinkState}
 -- The last file that was opened is the chip file. It held a chip of the plan's part; without a file the chip is a fresh
 -- one. The plan was kept for this chip. The last use in the record is this file, put there whole with the chip that was
 -- left. The record doesn't tell whether the file was created or replaced.
-pub record IsKeptIn (file : Bytes) (plan : Plan) (old new : DeskState) : Type 0 where
+pub record IsKeptInFile (file : Bytes) (plan : Plan) (old new : DeskState) : Type 0 where
   pub before : List Opening
   pub found : Option Bytes
   pub chip : Chip
   pub left : Chip
   pub ended : DeskState
   pub opened : all_openings new.kept ≡ before ++ read_whole file found ∷ []
-  pub was : IsChipOf plan.part found chip
+  pub was : IsChipInFile plan.part found chip
   pub keeps : Keeps plan (memories_of chip) (memories_of left) old ended
-  pub saved : Passes (with_replaced file (chip_file left)) ended new
+  pub saved : ChangesRecord (with_replaced file (chip_file left)) ended new
 
 -- The settings and the files that were opened ask for a plan, and this holds of it.
 abbrev pub KeepsPlan : Settings → DeskState → DeskState → (Plan → Type 0) → Type 0
-KeepsPlan settings old new IsSo = (plan : Plan) × (IsAsked settings (Gave old new) plan × IsSo plan)
+KeepsPlan settings old new IsSo = (plan : Plan) × (IsAsked settings (FileGave old new) plan × IsSo plan)
 
 -- What happened to the one connection to this address: a link over it has this state, or there was none.
-abbrev pub Connected : Type 1
-Connected = Bytes → Option LinkState → Type 0
+abbrev pub ConnectionState : Type 1
+ConnectionState = Bytes → Option LinkState → Type 0
 
 -- Over standard streams and over a connection to the address, by what passed over the link; over the emulator, by its
 -- chip file. A service has no plan.
-abbrev pub KeepsAt : Connected → Port → Settings → Devices → Devices → Type 0
-KeepsAt At Stdio settings old new =
+abbrev pub KeepsPlanAt : ConnectionState → Port → Settings → Devices → Devices → Type 0
+KeepsPlanAt At Stdio settings old new =
     KeepsPlan settings old.desk new.desk (λ plan. IsKept plan new.link.transcript old.desk new.desk)
-KeepsAt At (Network address) settings old new =
+KeepsPlanAt At (Network address) settings old new =
     (link : LinkState) × At address (Some link)
     × KeepsPlan settings old.desk new.desk (λ plan. IsKept plan link.transcript old.desk new.desk)
-KeepsAt At (Emulated file) settings old new =
-    KeepsPlan settings old.desk new.desk (λ plan. IsKeptIn file plan old.desk new.desk)
-KeepsAt At (Served port file) settings old new = Unit {0}
+KeepsPlanAt At (Emulated file) settings old new =
+    KeepsPlan settings old.desk new.desk (λ plan. IsKeptInFile file plan old.desk new.desk)
+KeepsPlanAt At (Served port file) settings old new = Unit {0}
 
 -- WHAT STATUS 0 MEANS. If the command line asks for a run, and not for help, its plan was kept.
-abbrev pub KeepsWords : (List Bytes → Type 0) → Connected → Devices → Devices → Type 0
-KeepsWords AreWords At old new =
+abbrev pub KeepsCommandLine : (List Bytes → Type 0) → ConnectionState → Devices → Devices → Type 0
+KeepsCommandLine AreWords At old new =
     (words : List Bytes) × AreWords words
     × (takes avrstk words ≡ true
-    → (settings : Settings) × (Ok settings ≡ asked_by words) × KeepsAt At settings.port settings old new)
+    → (settings : Settings) × (Ok settings ≡ settings_from_arguments words) × KeepsPlanAt At settings.port settings old new)

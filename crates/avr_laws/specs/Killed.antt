@@ -19,28 +19,28 @@ LeavesOldOrNew system now file chip = (found : Option Bytes) → system.left now
     → system.began file found ⊎ ((bytes : Bytes) × (chip ≡ Some bytes) × (found ≡ Some bytes))
 
 -- The file of the chip as a run over the emulator has left it, if one was loaded.
-abbrev pub chip_of_run : (settings : Settings) (file : Bytes) (old new : DeskState) (status : ℕ)
+abbrev pub chip_file_of_run : (settings : Settings) (file : Bytes) (old new : DeskState) (status : ℕ)
     → RunsEmulator settings file old new status → Option Bytes
-chip_of_run settings file old new status (inl r) = Some (chip_file r.after.wire.programmer.chip)
-chip_of_run settings file old new status (inr none) = None
+chip_file_of_run settings file old new status (inl r) = Some (chip_file r.after.wire.programmer.chip)
+chip_file_of_run settings file old new status (inr none) = None
 
 -- The same of a server, from its part on and from its settings on.
-abbrev pub chip_of_part : (part : Part) (file : Bytes) (turns : ℕ) (old new : Devices) (status : ℕ)
-    → ServesPart part file turns old new status → Option Bytes
-chip_of_part part file turns old new status (inl s) = Some (chip_file s.serves.left.programmer.chip)
-chip_of_part part file turns old new status (inr none) = None
+abbrev pub chip_file_of_part : (part : Part) (file : Bytes) (most_reads : ℕ) (old new : Devices) (status : ℕ)
+    → ServesPart part file most_reads old new status → Option Bytes
+chip_file_of_part part file most_reads old new status (inl s) = Some (chip_file s.serves.left.programmer.chip)
+chip_file_of_part part file most_reads old new status (inr none) = None
 
-abbrev pub chip_of_server : (settings : Settings) (file : Bytes) (turns : ℕ) (old new : Devices) (status : ℕ)
-    → RunsServedFor settings file turns old new status → Option Bytes
-chip_of_server settings file turns old new status (inl s) =
-    chip_of_part s.part file turns (devices old.link s.part_desk) new status s.then_is
-chip_of_server settings file turns old new status (inr none) = None
+abbrev pub chip_file_of_server : (settings : Settings) (file : Bytes) (most_reads : ℕ) (old new : Devices) (status : ℕ)
+    → RunsServedFor settings file most_reads old new status → Option Bytes
+chip_file_of_server settings file most_reads old new status (inl s) =
+    chip_file_of_part s.part file most_reads (devices old.link s.part_desk) new status s.then_is
+chip_file_of_server settings file most_reads old new status (inr none) = None
 
 -- The file of the chip as a service has left it, if there was a client and a chip was loaded for it.
-abbrev pub chip_of_service : (unused : Type 0) (over : Option LinkState → Type 0) (settings : Settings)
+abbrev pub chip_file_of_service : (unused : Type 0) (over : Option LinkState → Type 0) (settings : Settings)
     (port file : Bytes) (old new : DeskState) (status : ℕ) → ServesNet unused over settings port file old new status
     → Option Bytes
-chip_of_service unused over settings port file old new status (inl (part, judged, is, inl (link, on, serves))) =
-    chip_of_part part file 16777216 (devices new_link judged) (devices link new) status serves
-chip_of_service unused over settings port file old new status (inl (part, judged, is, inr none)) = None
-chip_of_service unused over settings port file old new status (inr refused) = None
+chip_file_of_service unused over settings port file old new status (inl (part, judged, is, inl (link, on, serves))) =
+    chip_file_of_part part file 16777216 (devices new_link judged) (devices link new) status serves
+chip_file_of_service unused over settings port file old new status (inl (part, judged, is, inr none)) = None
+chip_file_of_service unused over settings port file old new status (inr refused) = None

@@ -4,14 +4,14 @@ pub mod FilesRead
 pub mod AskedPlan
 -- what a link does to a conversation with the emulated programmer, and what holds along it
 pub mod AnyTape
-pub mod NoFrame
+pub mod NoForgedFrame
 pub mod Kept
 pub mod Damaged
-pub mod Few
+pub mod FewBadFrames
 pub mod Bound
 -- what a run reports and leaves, over any link
 pub mod WrittenBytes
-pub mod Told
+pub mod TrueReports
 pub mod Again
 pub mod AnyLink
 -- runs over known files, over the emulator and its chip file, and killed ones
@@ -30,7 +30,7 @@ pub use Rattle.avr_desk.specs.Memory
 pub use Rattle.avr_desk.specs.Named
 pub use Rattle.avr_desk.specs.Playing
 pub use Rattle.avr_desk.specs.Record
-pub use Rattle.avr_desk.specs.Said
+pub use Rattle.avr_desk.specs.OutputEvents
 pub use Rattle.avr_desk.specs.Shown
 pub use Rattle.avr_desk.specs.Stage
 pub use Rattle.avr_desk.specs.Truth
@@ -47,13 +47,13 @@ pub use Rattle.avr_session.specs.Run
 pub use Rattle.avr_session.specs.Runs
 pub use Rattle.avr_session.specs.Session
 pub use Rattle.avr_session.specs.Stopping
-pub use Rattle.avr_tool.specs.Agrees
-pub use Rattle.avr_tool.specs.AnyLine
+pub use Rattle.avr_tool.specs.ComparisonsAgree
+pub use Rattle.avr_tool.specs.OverFaultyLink
 pub use Rattle.avr_tool.specs.Emulated
 pub use Rattle.avr_tool.specs.ExpectedRun
-pub use Rattle.avr_tool.specs.Foretold
+pub use Rattle.avr_tool.specs.ExpectedOutput
 pub use Rattle.avr_tool.specs.Headline
-pub use Rattle.avr_tool.specs.Honest
+pub use Rattle.avr_tool.specs.Authentic
 pub use Rattle.avr_tool.specs.Items
 pub use Rattle.avr_tool.specs.Made
 pub use Rattle.avr_tool.specs.Outcome
@@ -65,18 +65,18 @@ pub use Rattle.avr_tool.specs.Sockets
 pub use Rattle.avr_tool.specs.Tallies
 pub use Rattle.avr_tool.specs.Written
 pub use Rattle.ghosts.specs.Failures
-pub use Rattle.ghosts.specs.Stays
-pub use Rattle.stk_emu.specs.Along
+pub use Rattle.ghosts.specs.Preserves
+pub use Rattle.stk_emu.specs.DialogOverExchanges
 pub use Rattle.stk_emu.specs.Device
 pub use Rattle.stk_emu.specs.Effect
 pub use Rattle.stk_emu.specs.Emulator
 pub use Rattle.stk_emu.specs.Fits
 pub use Rattle.stk_emu.specs.Given
 pub use Rattle.stk_emu.specs.Lawful
-pub use Rattle.stk_emu.specs.PageWrites
+pub use Rattle.stk_emu.specs.WriteOperations
 pub use Rattle.stk_emu.specs.Programmer
 pub use Rattle.stk_emu.specs.Settled
-pub use Rattle.stk_emu.specs.Turn
+pub use Rattle.stk_emu.specs.Exchange
 pub use Rattle.stk_emu.specs.Wire
 pub use Rattle.stk_emu.specs.Wired
 pub use Rattle.stk_frame.specs.Cut

@@ -4,14 +4,14 @@ use Rattle.std.specs.Prelude.{◌≡◌, false, Some}
 use Rattle.avr_cli.specs.declared.settings.Settings.{Settings}
 use Rattle.avr_desk.specs.Named.{newest}
 use Rattle.avr_desk.specs.Record.{Bytes}
-use Rattle.avr_tool.specs.Agrees.{Agrees}
+use Rattle.avr_tool.specs.ComparisonsAgree.{ComparisonsAgree}
 use Rattle.avr_tool.specs.Items.{asked_items}
 use Rattle.avr_tool.specs.Written.{IsWritten}
 use Rattle.avr_part.specs.ChipFile.{chip_file}
 use Rattle.avr_part.specs.State.{ChipState as Chip}
-use Rattle.avr_laws.specs.AskedPlan.{Files, Holding, IsAsked}
+use Rattle.avr_laws.specs.AskedPlan.{Files, FileHolds, IsAsked}
 use Rattle.avr_plan.specs.Plan.{Plan}
-use Rattle.avr_laws.specs.ChipFound.{IsChipOf}
+use Rattle.avr_laws.specs.ChipFound.{IsChipInFile}
 use Rattle.avr_laws.specs.Kept.{named_files, saved_files}
 use Rattle.stk_emu.specs.Effect.{effects, memories_of}
 
@@ -22,13 +22,13 @@ use Rattle.stk_emu.specs.Effect.{effects, memories_of}
 -- a memory was read into has the text of what the chip held then, of the last such read. No other file has changed.
 pub record Promised (settings : Settings) (file : Bytes) (files after : Files) : Type 0 where
   pub plan : Plan
-  pub asked : IsAsked settings (Holding files) plan
+  pub asked : IsAsked settings (FileHolds files) plan
   pub chip : Chip
   pub left : Chip
-  pub was : IsChipOf plan.part (files file) chip
+  pub was : IsChipInFile plan.part (files file) chip
   pub is : after file ≡ Some (chip_file left)
   pub made : memories_of left ≡ effects plan.part (asked_items plan) (memories_of chip)
-  pub agrees : Agrees plan (memories_of chip)
+  pub agrees : ComparisonsAgree plan (memories_of chip)
   pub images : plan.switches.no_verify ≡ false
       → IsWritten plan.part (asked_items plan) (memories_of chip) (memories_of left)
   pub others : (name : Bytes) → (name ≡ file → ⊥)

@@ -4,16 +4,16 @@ use Rattle.std.specs.Prelude.{ℕ, zero, suc, List, [], ◌∷◌, ◌++◌, ◌
 use Rattle.avr_desk.specs.Record.{Bytes, DeskState}
 use Rattle.avr_part.specs.State.{ChipState as Chip}
 use Rattle.avr_plan.specs.Plan.{Plan}
-use Rattle.avr_session.specs.Runs.{Ran, devices, start}
+use Rattle.avr_session.specs.Runs.{RanWhole, devices, start}
 use Rattle.avr_session.specs.Session.{session}
 use Rattle.stk_frame.specs.Cut.{frames, rest}
 use Rattle.stk_host.specs.declared.link.Item.TheVariants.{Byte, Silence, End}
-use Rattle.stk_host.specs.Play.{IsPrefixOf, Progress}
+use Rattle.stk_host.specs.Play.{IsBytePrefixOf, Progress}
 use Rattle.stk_host.specs.Transcript.{LinkState, Transcript, Sent, Taken, Got, sent, heard}
-use Rattle.stk_host.specs.Tape.{Tape, bytes_of}
+use Rattle.stk_host.specs.Tape.{Tape, bytes_on_tape}
 use Rattle.stk_emu.specs.Device.{device, answers, after_frames}
 use Rattle.stk_emu.specs.Programmer.{Programmer}
-use Rattle.stk_emu.specs.Turn.{Became, Obeyed}
+use Rattle.stk_emu.specs.Exchange.{Execution, Executed}
 use Rattle.avr_tool.specs.ServedRun.{ServesChip}
 use Rattle.avr_tool.specs.Serving.{HasNoEnd}
 
@@ -21,43 +21,43 @@ use Rattle.avr_tool.specs.Serving.{HasNoEnd}
 
 -- One call of one end: it sent bytes, it failed at sending after these, or it received a piece.
 pub data EndCall : Type 0 where
-  HostSays : List ℕ → EndCall
-  HostBreaks : List ℕ → EndCall
-  HostHears : Tape → EndCall
-  ServerSays : List ℕ → EndCall
-  ServerBreaks : List ℕ → EndCall
-  ServerHears : Tape → EndCall
+  HostSends : List ℕ → EndCall
+  HostSendFails : List ℕ → EndCall
+  HostReceives : Tape → EndCall
+  ServerSends : List ℕ → EndCall
+  ServerSendFails : List ℕ → EndCall
+  ServerReceives : Tape → EndCall
 
 -- The transcript of each end.
-abbrev pub of_host : List EndCall → Transcript
-of_host [] = []
-of_host (HostSays bytes ∷ calls) = Sent bytes ∷ of_host calls
-of_host (HostBreaks bytes ∷ calls) = Taken bytes ∷ of_host calls
-of_host (HostHears items ∷ calls) = Got items ∷ of_host calls
-of_host (other ∷ calls) = of_host calls
+abbrev pub host_transcript : List EndCall → Transcript
+host_transcript [] = []
+host_transcript (HostSends bytes ∷ calls) = Sent bytes ∷ host_transcript calls
+host_transcript (HostSendFails bytes ∷ calls) = Taken bytes ∷ host_transcript calls
+host_transcript (HostReceives items ∷ calls) = Got items ∷ host_transcript calls
+host_transcript (other ∷ calls) = host_transcript calls
 
-abbrev pub of_server : List EndCall → Transcript
-of_server [] = []
-of_server (ServerSays bytes ∷ calls) = Sent bytes ∷ of_server calls
-of_server (ServerBreaks bytes ∷ calls) = Taken bytes ∷ of_server calls
-of_server (ServerHears items ∷ calls) = Got items ∷ of_server calls
-of_server (other ∷ calls) = of_server calls
+abbrev pub server_transcript : List EndCall → Transcript
+server_transcript [] = []
+server_transcript (ServerSends bytes ∷ calls) = Sent bytes ∷ server_transcript calls
+server_transcript (ServerSendFails bytes ∷ calls) = Taken bytes ∷ server_transcript calls
+server_transcript (ServerReceives items ∷ calls) = Got items ∷ server_transcript calls
+server_transcript (other ∷ calls) = server_transcript calls
 
 -- What each end has received is a prefix of what the other has sent.
 pub record IsJoined (host server : Transcript) : Type 0 where
-  pub up : IsPrefixOf (bytes_of (heard server)) (sent host)
-  pub down : IsPrefixOf (bytes_of (heard host)) (sent server)
+  pub up : IsBytePrefixOf (bytes_on_tape (heard server)) (sent host)
+  pub down : IsBytePrefixOf (bytes_on_tape (heard host)) (sent server)
 
 -- THE LINK. At each moment what an end has received is a prefix of what the other has sent so far. So nothing is
 -- lost, repeated, changed or received before it was sent. Pieces may be cut, and timeouts may occur, anywhere. The
 -- host never meets the end of the link; the server may, at any time.
 pub record IsOrdered (calls : List EndCall) : Type 0 where
-  pub joined : (first later : List EndCall) → calls ≡ first ++ later → IsJoined (of_host first) (of_server first)
-  pub endless : HasNoEnd (heard (of_host calls))
+  pub joined : (first later : List EndCall) → calls ≡ first ++ later → IsJoined (host_transcript first) (server_transcript first)
+  pub endless : HasNoEnd (heard (host_transcript calls))
 
 -- Timeouts occur only between replies: at each timeout the host has received no part of a reply.
-abbrev pub StallsBetweenAnswers : Tape → Type 0
-StallsBetweenAnswers tape = (before after : Tape) → tape ≡ before ++ Silence ∷ after → rest (bytes_of before) ≡ []
+abbrev pub TimesOutBetweenReplies : Tape → Type 0
+TimesOutBetweenReplies tape = (before after : Tape) → tape ≡ before ++ Silence ∷ after → rest (bytes_on_tape before) ≡ []
 
 -- ---- 2. The server's end
 
@@ -66,7 +66,7 @@ StallsBetweenAnswers tape = (before after : Tape) → tape ≡ before ++ Silence
 pub record HasServed (p : Programmer) (transcript : Transcript) (left : Programmer) : Type 0 where
   pub used : List ℕ
   pub unused : List ℕ
-  pub heard_is : used ++ unused ≡ bytes_of (heard transcript)
+  pub heard_is : used ++ unused ≡ bytes_on_tape (heard transcript)
   pub unsent : List ℕ
   pub sent_is : sent transcript ++ unsent ≡ answers device (frames used) p
   pub left_is : left ≡ after_frames device (frames used) p
@@ -74,17 +74,17 @@ pub record HasServed (p : Programmer) (transcript : Transcript) (left : Programm
 -- ---- 3. What happened to the frames
 
 -- The first `h` frames were obeyed, and the others never arrived.
-abbrev pub obeyed : ℕ → List Became
-obeyed zero = []
-obeyed (suc h) = Obeyed ∷ obeyed h
+abbrev pub all_executed : ℕ → List Execution
+all_executed zero = []
+all_executed (suc h) = Executed ∷ all_executed h
 
 -- ---- 4. What the host receives
 
-abbrev pub IsPrompt : Tape → Type 0
-IsPrompt [] = Unit {0}
-IsPrompt (Byte byte ∷ tape) = IsPrompt tape
-IsPrompt (Silence ∷ tape) = ⊥
-IsPrompt (End ∷ tape) = IsPrompt tape
+abbrev pub HasNoTimeout : Tape → Type 0
+HasNoTimeout [] = Unit {0}
+HasNoTimeout (Byte byte ∷ tape) = HasNoTimeout tape
+HasNoTimeout (Silence ∷ tape) = ⊥
+HasNoTimeout (End ∷ tape) = HasNoTimeout tape
 
 -- ---- 5. Such a run exists
 
@@ -93,10 +93,10 @@ passed transcript = record { transcript = transcript; failures = 0 }
 
 -- A session of this plan that ran whole, and a server of status 0 with this chip, at the ends of an ordered link
 -- without timeouts. Nothing had passed before.
-pub record HasRun (plan : Plan) (chip : Chip) (file : Bytes) : Type 0 where
+pub record HasPromptRun (plan : Plan) (chip : Chip) (file : Bytes) : Type 0 where
   pub calls : List EndCall
   pub ordered : IsOrdered calls
-  pub prompt : IsPrompt (heard (of_host calls))
+  pub prompt : HasNoTimeout (heard (host_transcript calls))
   pub most : ℕ
   pub status : ℕ
   pub after : Progress
@@ -104,7 +104,7 @@ pub record HasRun (plan : Plan) (chip : Chip) (file : Bytes) : Type 0 where
   pub host_desk_then : DeskState
   pub server_desk : DeskState
   pub server_desk_then : DeskState
-  pub ran : Ran (session plan) start (devices (passed []) host_desk) (devices (passed (of_host calls)) host_desk_then)
+  pub ran : RanWhole (session plan) start (devices (passed []) host_desk) (devices (passed (host_transcript calls)) host_desk_then)
       status after
   pub serves : ServesChip chip file most (devices (passed []) server_desk)
-      (devices (passed (of_server calls)) server_desk_then) 0
+      (devices (passed (server_transcript calls)) server_desk_then) 0

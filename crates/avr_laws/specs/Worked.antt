@@ -5,7 +5,7 @@ use Rattle.avr_cli.specs.declared.settings.Settings.{Settings}
 use Rattle.avr_cli.specs.declared.settings.Port.TheVariants.{Stdio}
 use Rattle.avr_desk.specs.Lines.{information, not_opened_line, spaced_digits}
 use Rattle.avr_desk.specs.Memory.{Stock}
-use Rattle.avr_desk.specs.Said.{OutputEvent}
+use Rattle.avr_desk.specs.OutputEvents.{OutputEvent}
 use Rattle.avr_part.specs.BuiltIn.{m328p}
 use Rattle.avr_part.specs.declared.part.Mem.TheVariants.{Lfuse}
 use Rattle.avr_plan.specs.Plan.{Plan}
@@ -33,8 +33,8 @@ worked_settings = record {
 }
 
 -- The replies: a name, programming mode, the signature 1E 95 0F, and leaving.
-abbrev pub worked_answers : Tape
-worked_answers = on_tape (
+abbrev pub worked_replies : Tape
+worked_replies = on_tape (
     0x1B ∷ 0x01 ∷ 0x00 ∷ 0x0B ∷ 0x0E ∷ 0x01 ∷ 0x00 ∷ 0x08 ∷ 0x53 ∷ 0x54 ∷ 0x4B ∷ 0x35 ∷ 0x30 ∷ 0x30 ∷ 0x5F ∷ 0x32 ∷ 0x02
     ∷ 0x1B ∷ 0x02 ∷ 0x00 ∷ 0x02 ∷ 0x0E ∷ 0x10 ∷ 0x00 ∷ 0x05
     ∷ 0x1B ∷ 0x03 ∷ 0x00 ∷ 0x04 ∷ 0x0E ∷ 0x1B ∷ 0x00 ∷ 0x1E ∷ 0x00 ∷ 0x17
@@ -44,8 +44,8 @@ worked_answers = on_tape (
     )
 
 -- The frames: SIGN_ON, ENTER, three bytes of the signature, LEAVE.
-abbrev pub frames_due : List ℕ
-frames_due =
+abbrev pub worked_frames : List ℕ
+worked_frames =
     0x1B ∷ 0x01 ∷ 0x00 ∷ 0x01 ∷ 0x0E ∷ 0x01 ∷ 0x14
     ∷ 0x1B ∷ 0x02 ∷ 0x00 ∷ 0x0C ∷ 0x0E ∷ 0x10 ∷ 0xC8 ∷ 0x64 ∷ 0x19 ∷ 0x20 ∷ 0x00 ∷ 0x53 ∷ 0x03 ∷ 0xAC ∷ 0x53 ∷ 0x00
     ∷ 0x00 ∷ 0x31
@@ -55,8 +55,8 @@ frames_due =
     ∷ 0x1B ∷ 0x06 ∷ 0x00 ∷ 0x03 ∷ 0x0E ∷ 0x11 ∷ 0x01 ∷ 0x01 ∷ 0x01 ∷ []
 
 -- The lines: the signature, and the end.
-abbrev pub lines_due : List OutputEvent
-lines_due =
+abbrev pub worked_lines : List OutputEvent
+worked_lines =
     informs 0 (codes "device signature = " ∷ spaced_digits (0x1E ∷ 0x95 ∷ 0x0F ∷ []) ∷ [])
     ++ informs 0 (codes "done" ∷ [])
 
@@ -64,7 +64,7 @@ lines_due =
 abbrev pub worked_outcome : RunOutcome
 worked_outcome = record {
   status = 0;
-  sent = frames_due;
+  sent = worked_frames;
   messages = information (codes "device signature = " ∷ spaced_digits (0x1E ∷ 0x95 ∷ 0x0F ∷ []) ∷ [])
       ++ information (codes "done" ∷ []);
   output = [];
@@ -96,8 +96,8 @@ fuse_plan = record {
 }
 
 -- A tape for it with a forged frame: the reply for the fuse is E2, whatever the chip has.
-abbrev pub made_answers : Tape
-made_answers = on_tape (
+abbrev pub forged_replies : Tape
+forged_replies = on_tape (
     frame 1 (0x01 ∷ 0x00 ∷ 0x08 ∷ codes "STK500_2") ++ frame 2 (0x10 ∷ 0x00 ∷ [])
     ++ frame 3 (0x1B ∷ 0x00 ∷ 0x1E ∷ 0x00 ∷ []) ++ frame 4 (0x1B ∷ 0x00 ∷ 0x95 ∷ 0x00 ∷ [])
     ++ frame 5 (0x1B ∷ 0x00 ∷ 0x0F ∷ 0x00 ∷ [])

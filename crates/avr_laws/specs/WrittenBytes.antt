@@ -8,17 +8,17 @@ use Rattle.avr_tool.specs.Items.{has_erase}
 use Rattle.avr_tool.specs.Written.{memory_number}
 
 -- An item writes an image to flash with this byte at this address.
-abbrev pub Brings : Item → ℕ → ℕ → Type 0
-Brings (Write Flash image) addr byte = byte_at image addr ≡ Some byte
-Brings item addr byte = ⊥
+abbrev pub WritesFlashByte : Item → ℕ → ℕ → Type 0
+WritesFlashByte (Write Flash image) addr byte = byte_at image addr ≡ Some byte
+WritesFlashByte item addr byte = ⊥
 
-abbrev pub IsThere : List Item → ℕ → ℕ → Type 0
-IsThere [] addr byte = ⊥
-IsThere (item ∷ items) addr byte = Brings item addr byte ⊎ IsThere items addr byte
+abbrev pub IsWrittenAt : List Item → ℕ → ℕ → Type 0
+IsWrittenAt [] addr byte = ⊥
+IsWrittenAt (item ∷ items) addr byte = WritesFlashByte item addr byte ⊎ IsWrittenAt items addr byte
 
-abbrev pub AreThere : List Item → ℕ → List ℕ → Type 0
-AreThere items addr [] = ⊤
-AreThere items addr (byte ∷ bytes) = IsThere items addr byte × AreThere items addr bytes
+abbrev pub AreWrittenAt : List Item → ℕ → List ℕ → Type 0
+AreWrittenAt items addr [] = ⊤
+AreWrittenAt items addr (byte ∷ bytes) = IsWrittenAt items addr byte × AreWrittenAt items addr bytes
 
 abbrev pub and_all : ℕ → List ℕ → ℕ
 and_all first [] = first
@@ -26,34 +26,34 @@ and_all first (byte ∷ bytes) = and_all (bit_and first byte) bytes
 
 -- A byte of flash before and after some items. It is the byte before, or the FF of an erase, AND the bytes at this
 -- address of none, one or more images written to flash.
-pub record IsMade (items : List Item) (addr before after : ℕ) : Type 0 where
+pub record IsMadeByImages (items : List Item) (addr before after : ℕ) : Type 0 where
   pub first : ℕ
   pub bytes : List ℕ
   pub first_is : (first ≡ before) ⊎ ((first ≡ 255) × (has_erase items ≡ true))
-  pub are_there : AreThere items addr bytes
+  pub are_there : AreWrittenAt items addr bytes
   pub is : after ≡ and_all first bytes
 
 -- No image among these items has a byte of this memory at this address.
-abbrev pub LeaveFree : List Item → Mem → ℕ → Type 0
-LeaveFree [] mem addr = ⊤
-LeaveFree (Erase ∷ items) mem addr = LeaveFree items mem addr
-LeaveFree (Write other image ∷ items) mem addr =
-    (memory_number other ≡ memory_number mem → byte_at image addr ≡ None) × LeaveFree items mem addr
+abbrev pub LeaveUnwritten : List Item → Mem → ℕ → Type 0
+LeaveUnwritten [] mem addr = ⊤
+LeaveUnwritten (Erase ∷ items) mem addr = LeaveUnwritten items mem addr
+LeaveUnwritten (Write other image ∷ items) mem addr =
+    (memory_number other ≡ memory_number mem → byte_at image addr ≡ None) × LeaveUnwritten items mem addr
 
 -- These items erase the chip, and write no other image at the addresses of this one.
 abbrev pub IsErasedFor : Mem → Image → List Item → Type 0
 IsErasedFor mem image items = (has_erase items ≡ true)
-    × ((addr byte : ℕ) → byte_at image addr ≡ Some byte → LeaveFree items mem addr)
+    × ((addr byte : ℕ) → byte_at image addr ≡ Some byte → LeaveUnwritten items mem addr)
 
 -- When a memory takes an image after some items that left the chip like this. Flash, EEPROM and fuses must not be
 -- locked. Flash and the lock, in which a write only clears bits, must be erased for the image. A memory that can't be
 -- written takes none.
-abbrev pub IsTaken : Mem → Image → List Item → Memories → Type 0
-IsTaken Flash image items m = (are_locked m ≡ false) × IsErasedFor Flash image items
-IsTaken Eeprom image items m = are_locked m ≡ false
-IsTaken Lfuse image items m = are_locked m ≡ false
-IsTaken Hfuse image items m = are_locked m ≡ false
-IsTaken Efuse image items m = are_locked m ≡ false
-IsTaken Lock image items m = IsErasedFor Lock image items
-IsTaken Signature image items m = ⊥
-IsTaken Calibration image items m = ⊥
+abbrev pub WriteTakesEffect : Mem → Image → List Item → Memories → Type 0
+WriteTakesEffect Flash image items m = (are_locked m ≡ false) × IsErasedFor Flash image items
+WriteTakesEffect Eeprom image items m = are_locked m ≡ false
+WriteTakesEffect Lfuse image items m = are_locked m ≡ false
+WriteTakesEffect Hfuse image items m = are_locked m ≡ false
+WriteTakesEffect Efuse image items m = are_locked m ≡ false
+WriteTakesEffect Lock image items m = IsErasedFor Lock image items
+WriteTakesEffect Signature image items m = ⊥
+WriteTakesEffect Calibration image items m = ⊥

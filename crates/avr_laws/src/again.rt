@@ -6,21 +6,21 @@ ghost use Rattle.avr_part.specs.Part.{IsPart};
 ghost use Rattle.avr_plan.specs.Plan.{Plan, IsFitted};
 ghost use Rattle.stk_emu.specs.Effect.{Memories, erase_keeps_eeprom, effects};
 ghost use Rattle.stk_emu.specs.Settled.{FitsPart};
-ghost use Rattle.avr_laws.specs.Again.{AreKeeping, AgreesAnyway, Heals};
-ghost use Rattle.avr_tool.specs.Agrees.{Agrees};
+ghost use Rattle.avr_laws.specs.Again.{ItemsKeepEeprom, AgreesOnTwoChips, RunRepairs};
+ghost use Rattle.avr_tool.specs.ComparisonsAgree.{ComparisonsAgree};
 ghost use Rattle.avr_tool.specs.ExpectedRun.{expected_run};
 ghost use Rattle.avr_tool.specs.Items.{items, has_erase};
-ghost use Rattle.avr_tool.specs.Outcome.{page_writes, IsTouched, IsDone};
+ghost use Rattle.avr_tool.specs.Outcome.{write_operations, HasFirstOperations, IsDone};
 
 /// States that a plan leaves the same memories if some of its first write operations were done before, except for one
 /// case with a fuse. If the plan erases and the chip keeps EEPROM at an erase, each byte that the plan writes to the
 /// high fuse must keep it too.
-pub fn a_second_run_heals_the_first()
+pub fn a_second_run_repairs_the_first()
     ensures { (plan : Plan) (k : ℕ) (m : Memories) → IsPart plan.part → All (IsFitted plan.part) plan.tasks
         → FitsPart plan.part m
         → (has_erase (items plan) ≡ true → erase_keeps_eeprom plan.part m ≡ true
-        → AreKeeping plan.part (items plan))
-        → effects plan.part (items plan) (effects plan.part (take k (page_writes plan)) m)
+        → ItemsKeepEeprom plan.part (items plan))
+        → effects plan.part (items plan) (effects plan.part (take k (write_operations plan)) m)
         ≡ effects plan.part (items plan) m }
 {}
 
@@ -29,30 +29,30 @@ pub fn a_second_run_heals_the_first()
 /// these two.
 pub fn what_agrees_on_two_chips_agrees_on_all()
     ensures agrees { (plan : Plan) (m : Memories) → FitsPart plan.part m
-        → has_erase (items plan) ≡ true → AgreesAnyway plan → Agrees plan m }
+        → has_erase (items plan) ≡ true → AgreesOnTwoChips plan → ComparisonsAgree plan m }
     ensures status { (plan : Plan) (m : Memories) → FitsPart plan.part m
-        → has_erase (items plan) ≡ true → AgreesAnyway plan
+        → has_erase (items plan) ≡ true → AgreesOnTwoChips plan
         → (expected_run plan m).status ≡ 0 }
-    ensures needed { (plan : Plan) → ((m : Memories) → FitsPart plan.part m → Agrees plan m) → AgreesAnyway plan }
+    ensures needed { (plan : Plan) → ((m : Memories) → FitsPart plan.part m → ComparisonsAgree plan m) → AgreesOnTwoChips plan }
 {}
 
 /// States when the same run again repairs what a broken-off run left. The plan erases, and its comparisons agree on a
-/// chip of 00 and on one of FF. A write to the high fuse is as in [`a_second_run_heals_the_first`]. Then the expected
+/// chip of 00 and on one of FF. A write to the high fuse is as in [`a_second_run_repairs_the_first`]. Then the expected
 /// run has status 0, and leaves what one run would have left. `done`: every second run with status 0 leaves that.
-pub fn the_same_run_again_heals()
+pub fn the_same_run_again_repairs()
     ensures touched { (plan : Plan) (before after : Memories) → IsPart plan.part → All (IsFitted plan.part) plan.tasks
         → FitsPart plan.part before
-        → has_erase (items plan) ≡ true → AgreesAnyway plan
-        → (erase_keeps_eeprom plan.part before ≡ true → AreKeeping plan.part (items plan))
-        → IsTouched plan before after → Heals plan before after }
-    ensures page_writes { (plan : Plan) (k : ℕ) (m : Memories) → IsPart plan.part → All (IsFitted plan.part) plan.tasks
+        → has_erase (items plan) ≡ true → AgreesOnTwoChips plan
+        → (erase_keeps_eeprom plan.part before ≡ true → ItemsKeepEeprom plan.part (items plan))
+        → HasFirstOperations plan before after → RunRepairs plan before after }
+    ensures write_operations { (plan : Plan) (k : ℕ) (m : Memories) → IsPart plan.part → All (IsFitted plan.part) plan.tasks
         → FitsPart plan.part m
-        → has_erase (items plan) ≡ true → AgreesAnyway plan
-        → (erase_keeps_eeprom plan.part m ≡ true → AreKeeping plan.part (items plan))
-        → Heals plan m (effects plan.part (take k (page_writes plan)) m) }
+        → has_erase (items plan) ≡ true → AgreesOnTwoChips plan
+        → (erase_keeps_eeprom plan.part m ≡ true → ItemsKeepEeprom plan.part (items plan))
+        → RunRepairs plan m (effects plan.part (take k (write_operations plan)) m) }
     ensures done { (plan : Plan) (before left after : Memories) → IsPart plan.part → All (IsFitted plan.part) plan.tasks
         → FitsPart plan.part before
         → (has_erase (items plan) ≡ true → erase_keeps_eeprom plan.part before ≡ true
-        → AreKeeping plan.part (items plan))
-        → IsTouched plan before left → IsDone plan left after → after ≡ effects plan.part (items plan) before }
+        → ItemsKeepEeprom plan.part (items plan))
+        → HasFirstOperations plan before left → IsDone plan left after → after ≡ effects plan.part (items plan) before }
 {}

@@ -4,64 +4,64 @@
 ghost use Rattle.std.specs.Prelude.{◌≡◌, ◌*◌, ◌++◌, ℕ, List, [], All, Some, take};
 ghost use Rattle.avr_cli.specs.declared.settings.Settings.{Settings};
 ghost use Rattle.avr_desk.specs.Record.{Bytes, DeskState};
-ghost use Rattle.avr_desk.specs.Said.{OutputEvent, SaidPart};
+ghost use Rattle.avr_desk.specs.OutputEvents.{OutputEvent, IsPartOfEvent};
 ghost use Rattle.avr_part.specs.Part.{IsPart};
 ghost use Rattle.avr_plan.specs.Plan.{Plan, IsFitted};
 ghost use Rattle.avr_session.specs.Actions.{actions};
 ghost use Rattle.avr_session.specs.Runs.{Devices, devices};
 ghost use Rattle.avr_session.specs.Session.{session};
-ghost use Rattle.avr_session.specs.Stopping.{IsPlayed};
-ghost use Rattle.stk_emu.specs.Along.{along, said_along};
+ghost use Rattle.avr_session.specs.Stopping.{RanToStatus};
+ghost use Rattle.stk_emu.specs.DialogOverExchanges.{state_after, outputs_after};
 ghost use Rattle.stk_emu.specs.Device.{device};
 ghost use Rattle.stk_emu.specs.Effect.{Memories, effects, memories_of};
 ghost use Rattle.stk_emu.specs.Programmer.{Programmer, fresh_programmer};
-ghost use Rattle.stk_emu.specs.Settled.{Idle, FitsPart};
+ghost use Rattle.stk_emu.specs.Settled.{HasMemories, FitsPart};
 ghost use Rattle.avr_tool.specs.Tallies.{Tallies};
 ghost use Rattle.stk_emu.specs.Wired.{WiredState, ComesOf, IsFresh, wired_link};
 ghost use Rattle.avr_tool.specs.Emulated.{RunsOverEmulator, new_wire};
-ghost use Rattle.ghosts.specs.Stays.{Stays};
-ghost use Rattle.stk_emu.specs.Turn.{Turn, Became};
-ghost use Rattle.avr_laws.specs.AnyTape.{CameThrough, after_bytes, after_pieces, turns_heard};
-ghost use Rattle.avr_tool.specs.Honest.{AreHonest};
-ghost use Rattle.avr_laws.specs.NoFrame.{MakesNoFrame};
+ghost use Rattle.ghosts.specs.Preserves.{Preserves};
+ghost use Rattle.stk_emu.specs.Exchange.{Exchange, Execution};
+ghost use Rattle.avr_laws.specs.AnyTape.{ReceivedSentFrames, after_received_bytes, after_sent_frames, turns_heard};
+ghost use Rattle.avr_tool.specs.Authentic.{RepliesAreAuthentic};
+ghost use Rattle.avr_laws.specs.NoForgedFrame.{ForgesNoFrame};
 ghost use Rattle.avr_part.specs.Sound.{IsSoundChip};
 ghost use Rattle.avr_session.specs.Run.{RunsSession};
 ghost use Rattle.stk_frame.specs.Cut.{frames};
-ghost use Rattle.stk_host.specs.Play.{IsPrefixOf};
+ghost use Rattle.stk_host.specs.Play.{IsBytePrefixOf};
 ghost use Rattle.stk_host.specs.Transcript.{sent, heard};
-ghost use Rattle.stk_emu.specs.Wire.{turns_of};
+ghost use Rattle.stk_emu.specs.Wire.{exchanges_of_fates};
 ghost use Rattle.stk_host.specs.Tape.{Tape};
 ghost use Rattle.stk_host.specs.Dialog.{Done, Event, played, bytes_sent};
 ghost use Rattle.stk_host.specs.Bound.{SendsAtMost, commands_in};
-ghost use Rattle.avr_tool.specs.AnyLine.{Stopped};
-ghost use Rattle.avr_laws.specs.AnyLink.{OverAnyWire, ReportsOverTurns, WholeOverTurns, WereTrue};
+ghost use Rattle.avr_tool.specs.OverFaultyLink.{SessionStopped};
+ghost use Rattle.avr_laws.specs.AnyLink.{OverAnyWire, ReportsOverExchanges, WholeOverTurns, ReportsWereTrue};
 ghost use Rattle.avr_session.specs.PlanSteps.{run_steps};
 ghost use Rattle.avr_laws.specs.Bound.{ListensAtMost};
 ghost use Rattle.avr_tool.specs.ExpectedRun.{expected_run};
-ghost use Rattle.avr_tool.specs.Foretold.{SaysFirst, IsForetold, EndsAsForetold};
-ghost use Rattle.avr_tool.specs.Made.{made_by};
-ghost use Rattle.avr_laws.specs.Told.{TellsTrue, IsTrue};
-ghost use Rattle.avr_tool.specs.Outcome.{page_writes};
+ghost use Rattle.avr_tool.specs.ExpectedOutput.{FirstActionsOutput, IsExpectedOutput, EndsAsExpected};
+ghost use Rattle.avr_tool.specs.Made.{operations_completed};
+ghost use Rattle.avr_laws.specs.TrueReports.{ReportsTrue, IsTrueReport};
+ghost use Rattle.avr_tool.specs.Outcome.{write_operations};
 
 /// States that over any link that forges no frame the memories are at each moment those of the plan's first write
 /// operations, in order. These are the completed ones, and perhaps one more.
-// Proof: avr_tool's `session_makes` (AnyLine/PageWriteOrder), by `makes_items` (AnyLine/PageWrites).
+// Proof: avr_tool's `session_makes` (OverFaultyLink/WriteOperationOrder), by `makes_items` (OverFaultyLink/WriteOperations).
 pub fn a_run_makes_its_page_writes_in_order()
-    ensures { (plan : Plan) (m : Memories) (p : Programmer) (turns : List Turn)
-        → IsPart plan.part → All (IsFitted plan.part) plan.tasks → FitsPart plan.part m → Idle plan.part m p
-        → Tallies device (session plan) (made_by plan) (λ j q. memories_of q.chip
-        ≡ effects plan.part (take j (page_writes plan)) m) p turns }
+    ensures { (plan : Plan) (m : Memories) (p : Programmer) (exchanges : List Exchange)
+        → IsPart plan.part → All (IsFitted plan.part) plan.tasks → FitsPart plan.part m → HasMemories plan.part m p
+        → Tallies device (session plan) (operations_completed plan) (λ j q. memories_of q.chip
+        ≡ effects plan.part (take j (write_operations plan)) m) p exchanges }
 {}
 
 /// States that a run sends at most four frames for each command in the steps of its plan, counted over all steps.
 /// This holds whatever the link does, and also if the run breaks off.
 pub fn a_run_sends_at_most_four_times_its_commands()
-    ensures { (plan : Plan) → SendsAtMost SaidPart (4 * commands_in (run_steps plan)) (session plan) }
+    ensures { (plan : Plan) → SendsAtMost IsPartOfEvent (4 * commands_in (run_steps plan)) (session plan) }
 {}
 
 /// States that a session has at most one timeout for each frame sent, and reads at most 4,096 bytes for each, whatever
 /// the link does. So it has at most four timeouts for each command of its steps, also if it breaks off.
-pub fn a_run_listens_at_most_once_for_each_frame()
+pub fn a_run_times_out_at_most_once_for_each_frame()
     ensures { (plan : Plan) → IsPart plan.part → All (IsFitted plan.part) plan.tasks
         → ListensAtMost (4 * commands_in (run_steps plan)) (session plan) }
 {}
@@ -70,23 +70,23 @@ pub fn a_run_listens_at_most_once_for_each_frame()
 /// status. So each line of a run that failed later can be trusted. What was written is there as the plan's writes so
 /// far make it, and what was verified is held. What was read and saved is what the chip has, and a reported
 /// difference exists.
-pub fn what_a_run_tells_is_true()
-    ensures { (plan : Plan) (m : Memories) (k : ℕ) (p : Programmer) (turns : List Turn)
-        → IsPart plan.part → All (IsFitted plan.part) plan.tasks → FitsPart plan.part m → Idle plan.part m p
-        → TellsTrue device (λ q output. IsTrue plan m (memories_of q.chip) output) k (session plan) p turns }
+pub fn what_a_run_reports_is_true()
+    ensures { (plan : Plan) (m : Memories) (k : ℕ) (p : Programmer) (exchanges : List Exchange)
+        → IsPart plan.part → All (IsFitted plan.part) plan.tasks → FitsPart plan.part m → HasMemories plan.part m p
+        → ReportsTrue device (λ q output. IsTrueReport plan m (memories_of q.chip) output) k (session plan) p exchanges }
 {}
 
 /// States that everything reported over a wire was true of the chip at that moment, up to an output that was cut short.
 /// Only a session that stopped can have one.
-pub fn what_was_told_was_true()
+pub fn what_was_reported_was_true()
     ensures played { (plan : Plan) (w v : WiredState) (d e : DeskState) (status : ℕ)
         → w.transcript ≡ [] → OverAnyWire plan w v d e status
-        → (whole : IsPlayed (session plan) (devices (wired_link w) d) (devices (wired_link v) e) status)
-        → WereTrue plan (fresh_programmer w.wire.programmer.chip) (turns_of w.wire.fates) whole.1.events }
+        → (whole : RanToStatus (session plan) (devices (wired_link w) d) (devices (wired_link v) e) status)
+        → ReportsWereTrue plan (fresh_programmer w.wire.programmer.chip) (exchanges_of_fates w.wire.fates) whole.1.events }
     ensures stopped { (plan : Plan) (w v : WiredState) (d e : DeskState) (status : ℕ)
         → w.transcript ≡ [] → OverAnyWire plan w v d e status
-        → (stopped : Stopped plan w v d e)
-        → WereTrue plan (fresh_programmer w.wire.programmer.chip) (turns_of w.wire.fates) stopped.breaks.prefix.whole }
+        → (stopped : SessionStopped plan w v d e)
+        → ReportsWereTrue plan (fresh_programmer w.wire.programmer.chip) (exchanges_of_fates w.wire.fates) stopped.breaks.prefix.whole }
 {}
 
 /// States that a session outputs its expected run up to a fault, at each moment, over any link that forges no frame.
@@ -96,25 +96,25 @@ pub fn what_was_told_was_true()
 /// With a status the output is all of the expected run, with its status, or the output up to a failed step, with
 /// status 1. The output of first actions is a prefix of the expected run's.
 pub fn a_session_outputs_its_expected_run_up_to_a_fault()
-    ensures moment { (plan : Plan) (m : Memories) (k : ℕ) (p : Programmer) (turns : List Turn)
-        → IsPart plan.part → All (IsFitted plan.part) plan.tasks → FitsPart plan.part m → Idle plan.part m p
-        → IsForetold plan m (said_along device k (session plan) p turns) }
-    ensures end { (plan : Plan) (m : Memories) (k status : ℕ) (p : Programmer) (turns : List Turn)
-        → IsPart plan.part → All (IsFitted plan.part) plan.tasks → FitsPart plan.part m → Idle plan.part m p
-        → (along device k (session plan) p turns).dialog ≡ Done status
-        → EndsAsForetold plan m (said_along device k (session plan) p turns) status }
-    ensures prefix { (plan : Plan) (m : Memories) (says : List OutputEvent)
-        → SaysFirst plan.part plan.switches (actions plan) m says
-        → (later : List OutputEvent) × ((expected_run plan m).says ≡ says ++ later) }
+    ensures moment { (plan : Plan) (m : Memories) (k : ℕ) (p : Programmer) (exchanges : List Exchange)
+        → IsPart plan.part → All (IsFitted plan.part) plan.tasks → FitsPart plan.part m → HasMemories plan.part m p
+        → IsExpectedOutput plan m (outputs_after device k (session plan) p exchanges) }
+    ensures end { (plan : Plan) (m : Memories) (k status : ℕ) (p : Programmer) (exchanges : List Exchange)
+        → IsPart plan.part → All (IsFitted plan.part) plan.tasks → FitsPart plan.part m → HasMemories plan.part m p
+        → (state_after device k (session plan) p exchanges).dialog ≡ Done status
+        → EndsAsExpected plan m (outputs_after device k (session plan) p exchanges) status }
+    ensures prefix { (plan : Plan) (m : Memories) (emits : List OutputEvent)
+        → FirstActionsOutput plan.part plan.switches (actions plan) m emits
+        → (later : List OutputEvent) × ((expected_run plan m).emits ≡ emits ++ later) }
 {}
 
 /// States that a session over a new wire reports what is true, and what its expected run reports up to a fault. The
 /// chip is of the plan's part, and the frames have any lawful fates. The premises are what avr_tool's `drive_wired` and
 /// `run_emu` state of a call.
-// Proof: `over_any_wire` and `emulated_wire` (AnyWire), by `ends_over_turns` (ReportsOverTurns).
+// Proof: `over_any_wire` and `emulated_wire` (AnyWire), by `ends_and_reports_over_exchanges` (ReportsOverExchanges).
 pub fn a_session_over_a_wire_can_be_believed()
     ensures wire { (plan : Plan) (w v : WiredState) (d e : DeskState) (status : ℕ)
-        → IsFresh w → Stays ComesOf w v
+        → IsFresh w → Preserves ComesOf w v
         → IsSoundChip w.wire.programmer.chip → w.wire.programmer.chip.part ≡ plan.part
         → All (IsFitted plan.part) plan.tasks
         → RunsSession plan (devices (wired_link w) d) (devices (wired_link v) e) status
@@ -134,44 +134,44 @@ pub fn a_session_over_a_wire_can_be_believed()
 ///
 /// `end` holds however a session ends, so that any prefix of its bytes was sent. The memories are those of its first
 /// write operations. Its output is the expected run's, up to the line of a failed step.
-// Proof: `over_any_line`, `over_bytes` and `over_any_end` (AnyLink), by `ends_over_turns` (ReportsOverTurns).
-pub fn a_session_over_any_line()
-    ensures turns { (plan : Plan) (p : Programmer) (becames : List Became) (bytes : List ℕ)
+// Proof: `over_any_line`, `over_bytes` and `over_any_end` (AnyLink), by `ends_and_reports_over_exchanges` (ReportsOverExchanges).
+pub fn a_session_over_any_link()
+    ensures exchanges { (plan : Plan) (p : Programmer) (executions : List Execution) (bytes : List ℕ)
         (tape left : Tape) (events : List (Event OutputEvent)) (status next : ℕ)
         → IsSoundChip p.chip → p.chip.part ≡ plan.part → All (IsFitted plan.part) plan.tasks
-        → AreHonest device (session plan) 1 tape p becames
+        → RepliesAreAuthentic device (session plan) 1 tape p executions
         → played (session plan) 1 tape ≡ record { events = events; outcome = Some (status, next, left) }
         → bytes_sent events ≡ bytes
-        → WholeOverTurns plan p (after_pieces device (frames bytes) becames p)
-        (turns_heard (session plan) 1 tape becames) bytes events status }
-    ensures bytes { (plan : Plan) (p : Programmer) (got bytes : List ℕ) (later : List (List ℕ)) (becames : List Became)
+        → WholeOverTurns plan p (after_sent_frames device (frames bytes) executions p)
+        (turns_heard (session plan) 1 tape executions) bytes events status }
+    ensures bytes { (plan : Plan) (p : Programmer) (got bytes : List ℕ) (later : List (List ℕ)) (executions : List Execution)
         (tape left : Tape) (events : List (Event OutputEvent)) (status next : ℕ)
         → IsSoundChip p.chip → p.chip.part ≡ plan.part → All (IsFitted plan.part) plan.tasks
-        → CameThrough got later (frames bytes) becames → MakesNoFrame device (session plan) 1 tape p becames []
+        → ReceivedSentFrames got later (frames bytes) executions → ForgesNoFrame device (session plan) 1 tape p executions []
         → played (session plan) 1 tape ≡ record { events = events; outcome = Some (status, next, left) }
         → bytes_sent events ≡ bytes
-        → WholeOverTurns plan p (after_bytes device got later p)
-        (turns_heard (session plan) 1 tape becames) bytes events status }
-    ensures end { (plan : Plan) (p : Programmer) (becames : List Became) (bytes : List ℕ) (tape : Tape)
+        → WholeOverTurns plan p (after_received_bytes device got later p)
+        (turns_heard (session plan) 1 tape executions) bytes events status }
+    ensures end { (plan : Plan) (p : Programmer) (executions : List Execution) (bytes : List ℕ) (tape : Tape)
         → IsSoundChip p.chip → p.chip.part ≡ plan.part → All (IsFitted plan.part) plan.tasks
-        → AreHonest device (session plan) 1 tape p becames
-        → IsPrefixOf bytes (bytes_sent (played (session plan) 1 tape).events)
-        → ReportsOverTurns plan p (after_pieces device (frames bytes) becames p)
-        (turns_heard (session plan) 1 tape becames) bytes (played (session plan) 1 tape).events }
+        → RepliesAreAuthentic device (session plan) 1 tape p executions
+        → IsBytePrefixOf bytes (bytes_sent (played (session plan) 1 tape).events)
+        → ReportsOverExchanges plan p (after_sent_frames device (frames bytes) executions p)
+        (turns_heard (session plan) 1 tape executions) bytes (played (session plan) 1 tape).events }
 {}
 
 /// States what a session leaves over a new link that forges no frame, whether it ran whole or broke off. The memories
 /// are those of its first write operations: those completed by what was received, and at most one more. Its output is
 /// the expected run's, up to the line of a failed step. This holds also if the link fails.
-// Proof: `over_any_run` (AnyLink); its write operations are avr_tool's `session_makes` (AnyLine/PageWriteOrder).
+// Proof: `over_any_run` (AnyLink); its write operations are avr_tool's `session_makes` (OverFaultyLink/WriteOperationOrder).
 pub fn whatever_becomes_of_a_session_its_first_page_writes_were_made()
-    ensures { (plan : Plan) (p : Programmer) (got : List ℕ) (later : List (List ℕ)) (becames : List Became)
+    ensures { (plan : Plan) (p : Programmer) (got : List ℕ) (later : List (List ℕ)) (executions : List Execution)
         (old new : Devices) (status : ℕ)
         → IsSoundChip p.chip → p.chip.part ≡ plan.part → All (IsFitted plan.part) plan.tasks
         → old.link.transcript ≡ [] → RunsSession plan old new status
-        → CameThrough got later (frames (sent new.link.transcript)) becames
-        → MakesNoFrame device (session plan) 1 (heard new.link.transcript) p becames []
-        → ReportsOverTurns plan p (after_bytes device got later p)
-        (turns_heard (session plan) 1 (heard new.link.transcript) becames) (sent new.link.transcript)
+        → ReceivedSentFrames got later (frames (sent new.link.transcript)) executions
+        → ForgesNoFrame device (session plan) 1 (heard new.link.transcript) p executions []
+        → ReportsOverExchanges plan p (after_received_bytes device got later p)
+        (turns_heard (session plan) 1 (heard new.link.transcript) executions) (sent new.link.transcript)
         (played (session plan) 1 (heard new.link.transcript)).events }
 {}

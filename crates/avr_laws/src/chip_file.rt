@@ -2,17 +2,17 @@
 
 ghost use Rattle.std.specs.Prelude.{◌≡◌, ◌⊎◌, ℕ, true, false, [], Some};
 ghost use Rattle.avr_cli.specs.declared.settings.Settings.{Settings};
-ghost use Rattle.avr_desk.specs.Memory.{MemDeskState, Stock, memory_state, stood_for};
+ghost use Rattle.avr_desk.specs.Memory.{MemDeskState, Stock, memory_state, content_of_name};
 ghost use Rattle.avr_desk.specs.Named.{is_dash};
 ghost use Rattle.avr_desk.specs.Truth.{HoldsTrue};
 ghost use Rattle.avr_desk.specs.Record.{Bytes, nothing_kept};
-ghost use Rattle.avr_laws.specs.Again.{AgreesAnyway, AreKeeping};
-ghost use Rattle.avr_tool.specs.AnyLine.{Stopped, memories};
+ghost use Rattle.avr_laws.specs.Again.{AgreesOnTwoChips, ItemsKeepEeprom};
+ghost use Rattle.avr_tool.specs.OverFaultyLink.{SessionStopped, memories};
 ghost use Rattle.avr_tool.specs.Emulated.{RunsOverEmulator, new_wire};
 ghost use Rattle.avr_tool.specs.Items.{items, has_erase};
 ghost use Rattle.avr_tool.specs.Outcome.{IsDone};
-ghost use Rattle.ghosts.specs.Stays.{Stays};
-ghost use Rattle.avr_laws.specs.ChipFound.{IsChipOf, file_held};
+ghost use Rattle.ghosts.specs.Preserves.{Preserves};
+ghost use Rattle.avr_laws.specs.ChipFound.{IsChipInFile, contents_held};
 ghost use Rattle.avr_laws.specs.Promise.{Promised};
 ghost use Rattle.avr_part.specs.ChipFile.{chip_file};
 ghost use Rattle.stk_emu.specs.Effect.{memories_of, erase_keeps_eeprom};
@@ -24,38 +24,38 @@ ghost use Rattle.stk_emu.specs.Effect.{memories_of, erase_keeps_eeprom};
 pub fn a_run_finds_and_leaves_the_chip_of_its_file()
     ensures finds { (settings : Settings) (file : Bytes) (stock : Stock) (old new : MemDeskState) (status : ℕ)
         → HoldsTrue stock new → (r : RunsOverEmulator settings file (memory_state old) (memory_state new) status)
-        → IsChipOf r.plan.part (file_held stock old.kept file) r.chip }
+        → IsChipInFile r.plan.part (contents_held stock old.kept file) r.chip }
     ensures leaves { (settings : Settings) (file : Bytes) (stock : Stock) (old new : MemDeskState) (status : ℕ)
         → is_dash file ≡ false → status ≡ 0
         → (r : RunsOverEmulator settings file (memory_state old) (memory_state new) status)
-        → file_held stock new.kept file ≡ Some (chip_file r.after.wire.programmer.chip) }
+        → contents_held stock new.kept file ≡ Some (chip_file r.after.wire.programmer.chip) }
 {}
 
 /// States the promise over files alone, for a run over the emulator with status 0 and a desk in memory. The settings
 /// and files ask for a plan. The chip file held a chip of its part, and holds what the plan makes of it. If the run was
 /// verified, these are the images. No other file has changed, except those that the plan reads into.
 // Proof: `promised` (ChipFile/Promised). The plan is `plan_asked` (Plans/AskedPlan), the memories are
-// avr_tool's `comes_over_turns` (OverTurns), the other files are `lack_said` (ChipFile/Others).
+// avr_tool's `ends_over_exchanges` (OverExchanges), the other files are `lack_said` (ChipFile/Others).
 pub fn the_chip_file_holds_the_images()
     ensures { (settings : Settings) (file : Bytes) (stock : Stock) (old new : MemDeskState)
         → is_dash file ≡ false → old.kept ≡ nothing_kept → HoldsTrue stock new
         → RunsOverEmulator settings file (memory_state old) (memory_state new) 0
-        → Promised settings file (stood_for stock []) (file_held stock new.kept) }
+        → Promised settings file (content_of_name stock []) (contents_held stock new.kept) }
 {}
 
 /// States when a further run over its chip file repairs the chip, however the first run and the saving of its chip
-/// ended. The plan is as in [`a_further_run_heals`], and no update of the first run is read into the chip file. If no
+/// ended. The plan is as in [`a_further_run_repairs`], and no update of the first run is read into the chip file. If no
 /// device and no allocation fails, the status is 0, and the chip is as one run would have left it.
-// Proof: `heals_file` (ChipFile/SecondRun), by `done_again` (SecondRun/Status).
-pub fn a_further_run_over_its_chip_file_heals()
+// Proof: `repairs_file` (ChipFile/SecondRun), by `done_again` (SecondRun/Status).
+pub fn a_further_run_over_its_chip_file_repairs()
     ensures { (settings : Settings) (file : Bytes) (stock : Stock) (old mid new : MemDeskState) (status further : ℕ)
-        → is_dash file ≡ false → HoldsTrue stock old → Stays HoldsTrue old mid → Stays HoldsTrue mid new
+        → is_dash file ≡ false → HoldsTrue stock old → Preserves HoldsTrue old mid → Preserves HoldsTrue mid new
         → (one : RunsOverEmulator settings file (memory_state old) (memory_state mid) status)
         → (two : RunsOverEmulator settings file (memory_state mid) (memory_state new) further)
         → two.plan ≡ one.plan
-        → file_held stock one.played_desk.kept file ≡ file_held stock old.kept file
-        → has_erase (items one.plan) ≡ true → AgreesAnyway one.plan
-        → (erase_keeps_eeprom one.plan.part (memories_of one.chip) ≡ true → AreKeeping one.plan.part (items one.plan))
+        → contents_held stock one.played_desk.kept file ≡ contents_held stock old.kept file
+        → has_erase (items one.plan) ≡ true → AgreesOnTwoChips one.plan
+        → (erase_keeps_eeprom one.plan.part (memories_of one.chip) ≡ true → ItemsKeepEeprom one.plan.part (items one.plan))
         → ((two.ran ≡ 0) × IsDone one.plan (memories_of one.chip) (memories two.after))
-        ⊎ Stopped one.plan (new_wire two.chip []) two.after two.loaded_desk two.played_desk }
+        ⊎ SessionStopped one.plan (new_wire two.chip []) two.after two.loaded_desk two.played_desk }
 {}

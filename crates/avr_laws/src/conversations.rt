@@ -8,49 +8,49 @@ ghost use Rattle.stk_frame.specs.Frame.{frame};
 ghost use Rattle.stk_frame.specs.Cut.{frames, is_good};
 ghost use Rattle.stk_host.specs.Tape.{Tape, answer};
 ghost use Rattle.stk_host.specs.Dialog.{Dialog, Event, played, bytes_sent, frames_in, outputs, Done};
-ghost use Rattle.stk_host.specs.Play.{Progress, progress_at, InTurn, IsPrefixOf, Plays};
+ghost use Rattle.stk_host.specs.Play.{Progress, progress_at, InTurn, IsBytePrefixOf, Plays};
 ghost use Rattle.stk_host.specs.Steps.{StepOutcome, step, play};
 ghost use Rattle.stk_host.specs.Transcript.{Transcript, sent, heard};
 ghost use Rattle.stk_emu.specs.Programmer.{Programmer};
 ghost use Rattle.stk_emu.specs.Device.{device};
-ghost use Rattle.avr_laws.specs.NoFrame.{MakesNoFrame};
-ghost use Rattle.avr_laws.specs.AnyTape.{GoesAs, CameThrough, after_bytes, after_pieces, became_by};
-ghost use Rattle.avr_tool.specs.Honest.{AreHonest};
-ghost use Rattle.stk_emu.specs.Lawful.{IsClear};
-ghost use Rattle.stk_emu.specs.Wire.{Wire, AreLawful, becames_of, tape_of, turns_of};
+ghost use Rattle.avr_laws.specs.NoForgedFrame.{ForgesNoFrame};
+ghost use Rattle.avr_laws.specs.AnyTape.{GoesAlongExchanges, ReceivedSentFrames, after_received_bytes, after_sent_frames, executions_by_arrival};
+ghost use Rattle.avr_tool.specs.Authentic.{RepliesAreAuthentic};
+ghost use Rattle.stk_emu.specs.Lawful.{NoneHasNumber};
+ghost use Rattle.stk_emu.specs.Wire.{Wire, AreLawful, executions_of_fates, tape_of, exchanges_of_fates};
 ghost use Rattle.stk_emu.specs.Wired.{WiredState, FollowsFates, NeverIdle};
 ghost use Rattle.stk_emu.specs.declared.fate.Fate.{Fate};
-ghost use Rattle.stk_emu.specs.Turn.{Became, Turn};
-ghost use Rattle.stk_emu.specs.Along.{along, said_along, AsksBodies};
+ghost use Rattle.stk_emu.specs.Exchange.{Execution, Exchange};
+ghost use Rattle.stk_emu.specs.DialogOverExchanges.{state_after, outputs_after, SendsValidBodies};
 ghost use Rattle.stk_emu.specs.Effect.{Memories};
 ghost use Rattle.stk_emu.specs.Settled.{Ready, FitsPart};
-ghost use Rattle.stk_emu.specs.PageWrites.{IsStep, AreSteps};
-ghost use Rattle.stk_emu.specs.Given.{given_by, all_given};
-ghost use Rattle.avr_laws.specs.Few.{AreFew, FewOf, lost, each_second};
-ghost use Rattle.avr_tool.specs.AnyLine.{AreGood};
+ghost use Rattle.stk_emu.specs.WriteOperations.{IsStep, AreSteps};
+ghost use Rattle.stk_emu.specs.Given.{data_of_step, data_of_steps};
+ghost use Rattle.avr_laws.specs.FewBadFrames.{AtMostThreeBadOfSeven, AtMostThreeBadOf, lost_command, every_second_lost};
+ghost use Rattle.avr_tool.specs.OverFaultyLink.{AllArriveRight};
 ghost use Rattle.stk_host.specs.declared.fault.StepFault.TheVariants.{NoAnswer};
 ghost use Rattle.stk_frame.specs.declared.command.Command.TheVariants.{LoadAddress};
 
 /// States that steps return all their data if at most three of any seven consecutive frames go wrong. The bound is
 /// sharp: four lost commands in a row are too many, and so are three lost of any six, if every second one is lost.
 pub fn few_bad_fates_bring_all_data()
-    ensures step { (part : Part) (commands : List Command) (m : Memories) (k : ℕ) (p : Programmer) (turns : List Turn)
-        → IsPart part → IsStep part commands → FitsPart part m → Ready part m p → AreFew turns → 8 ≤ k
-        → (along device k (step commands) p turns).dialog ≡ Done (Ok (given_by part commands m)) }
-    ensures rest { (k : ℕ) (commands : List Command) (p : Programmer) (turns : List Turn)
-        → AreFew turns → AreFew (along device k (step commands) p turns).turns }
+    ensures step { (part : Part) (commands : List Command) (m : Memories) (k : ℕ) (p : Programmer) (exchanges : List Exchange)
+        → IsPart part → IsStep part commands → FitsPart part m → Ready part m p → AtMostThreeBadOfSeven exchanges → 8 ≤ k
+        → (state_after device k (step commands) p exchanges).dialog ≡ Done (Ok (data_of_step part commands m)) }
+    ensures rest { (k : ℕ) (commands : List Command) (p : Programmer) (exchanges : List Exchange)
+        → AtMostThreeBadOfSeven exchanges → AtMostThreeBadOfSeven (state_after device k (step commands) p exchanges).exchanges }
     ensures play { (part : Part) (steps : List (List Command)) (m : Memories) (k : ℕ) (before : List ℕ) (p : Programmer)
-        (turns : List Turn)
+        (exchanges : List Exchange)
         (o : StepOutcome)
-        → IsPart part → AreSteps part steps → FitsPart part m → Ready part m p → AreFew turns
-        → (along device k (play steps before) p turns).dialog ≡ Done o → o ≡ Ok (before ++ all_given part steps m) }
-    ensures good { (turns : List Turn) → AreGood turns → AreFew turns }
+        → IsPart part → AreSteps part steps → FitsPart part m → Ready part m p → AtMostThreeBadOfSeven exchanges
+        → (state_after device k (play steps before) p exchanges).dialog ≡ Done o → o ≡ Ok (before ++ data_of_steps part steps m) }
+    ensures good { (exchanges : List Exchange) → AllArriveRight exchanges → AtMostThreeBadOfSeven exchanges }
     ensures four { (command : Command) (commands : List Command) (p : Programmer)
-        → (along device 4 (step (command ∷ commands)) p (lost ∷ lost ∷ lost ∷ lost
+        → (state_after device 4 (step (command ∷ commands)) p (lost_command ∷ lost_command ∷ lost_command ∷ lost_command
         ∷ [])).dialog ≡ Done (Err NoAnswer) }
-    ensures six { FewOf 6 each_second }
+    ensures six { AtMostThreeBadOf 6 every_second_lost }
     ensures six_fail { (address : ℕ) (command : Command) (commands : List Command) (p : Programmer)
-        → (along device 7 (step (LoadAddress address ∷ command ∷ commands)) p each_second).dialog
+        → (state_after device 7 (step (LoadAddress address ∷ command ∷ commands)) p every_second_lost).dialog
         ≡ Done (Err NoAnswer) }
 {}
 
@@ -58,36 +58,36 @@ pub fn few_bad_fates_bring_all_data()
 /// frame. It has the same output and result as along them. The programmer has the same state, if the good frames that
 /// it received are some of those sent, in order.
 pub fn over_any_tape_a_conversation_goes_along_turns<E, R>()
-    ensures goes { (d : Dialog E R) (n : ℕ) (tape : Tape) (p : Programmer) (becames : List Became)
-        → AsksBodies d → AreHonest device d n tape p becames → GoesAs device d n tape p becames }
-    ensures got { (got : List ℕ) (later sent : List (List ℕ)) (becames : List Became) (p : Programmer)
-        → CameThrough got later sent becames → after_bytes device got later p ≡ after_pieces device sent becames p }
+    ensures goes { (d : Dialog E R) (n : ℕ) (tape : Tape) (p : Programmer) (executions : List Execution)
+        → SendsValidBodies d → RepliesAreAuthentic device d n tape p executions → GoesAlongExchanges device d n tape p executions }
+    ensures got { (got : List ℕ) (later sent : List (List ℕ)) (executions : List Execution) (p : Programmer)
+        → ReceivedSentFrames got later sent executions → after_received_bytes device got later p ≡ after_sent_frames device sent executions p }
 {}
 
 /// States that everything read on a link that forges no frame is authentic, from the first frame on. A reply that is
 /// taken has the number of its question, and of the last 256 frames only that question has it.
-// Proof: `no_frame_honest` (Lines/NoFrame).
-pub fn a_line_that_makes_no_frame_is_honest<E, R>()
-    ensures { (d : Dialog E R) (n : ℕ) (tape : Tape) (p : Programmer) (becames : List Became)
-        → MakesNoFrame device d n tape p becames [] → AreHonest device d n tape p becames }
+// Proof: `no_forged_frame_authentic` (Lines/NoForgedFrame).
+pub fn a_link_that_forges_no_frame_is_authentic<E, R>()
+    ensures { (d : Dialog E R) (n : ℕ) (tape : Tape) (p : Programmer) (executions : List Execution)
+        → ForgesNoFrame device d n tape p executions [] → RepliesAreAuthentic device d n tape p executions }
 {}
 
 /// States that everything read over a wire with lawful fates is authentic. `prefix`: a programmer that received a
 /// prefix of the bytes sent received the first frames, each once.
-// Proof: avr_tool's `over_wire` (Lines/WireTapes) and `prefix_came` (Lines/NoFrame).
-pub fn a_wire_is_an_honest_line<E, R>()
-    ensures wire { (d : Dialog E R) (n : ℕ) (w : Wire Programmer) (sent more : List (List ℕ)) → AsksBodies d
-        → IsClear n w.late → AreLawful w.fates
+// Proof: avr_tool's `over_wire` (Lines/WireTapes) and `prefix_came` (Lines/NoForgedFrame).
+pub fn a_wire_is_an_authentic_link<E, R>()
+    ensures wire { (d : Dialog E R) (n : ℕ) (w : Wire Programmer) (sent more : List (List ℕ)) → SendsValidBodies d
+        → NoneHasNumber n w.late → AreLawful w.fates
         → frames_in (played d n (tape_of device sent w)).events ≡ sent ++ more
-        → AreHonest device d n (tape_of device sent w) w.programmer (becames_of (length sent) w.fates) }
+        → RepliesAreAuthentic device d n (tape_of device sent w) w.programmer (executions_of_fates (length sent) w.fates) }
     ensures prefix { (got : List ℕ) (sent others : List (List ℕ)) → sent ≡ frames got ++ others
-        → filter is_good sent ≡ sent → CameThrough got [] sent (became_by (replicate (length (frames got)) true)) }
+        → filter is_good sent ≡ sent → ReceivedSentFrames got [] sent (executions_by_arrival (replicate (length (frames got)) true)) }
 {}
 
 /// States that a conversation over a wire never receives while nothing waits, if it receives only when due.
 pub fn a_conversation_in_turn_is_never_idle<E, R>()
     ensures { (d : Dialog E R) (n : ℕ) (p : Programmer) (fates : List Fate) (transcript : Transcript)
-        → AsksBodies d → AreLawful fates → InTurn d (progress_at n []) transcript → NeverIdle p fates transcript }
+        → SendsValidBodies d → AreLawful fates → InTurn d (progress_at n []) transcript → NeverIdle p fates transcript }
 {}
 
 /// States that a conversation over a wire goes along the exchanges of its fates, one for each frame sent. A whole
@@ -95,14 +95,14 @@ pub fn a_conversation_in_turn_is_never_idle<E, R>()
 /// conversation broke off.
 pub fn over_a_wire_a_conversation_goes_along_turns<E, R>()
     ensures programmer { (d : Dialog E R) (n : ℕ) (p : Programmer) (fates : List Fate) (w : WiredState)
-        → AsksBodies d → AreLawful fates → FollowsFates p fates w → InTurn d (progress_at n []) w.transcript
-        → IsPrefixOf (sent w.transcript) (bytes_sent (played d n (heard w.transcript)).events)
-        → w.wire.programmer ≡ (along device (length (frames (sent w.transcript))) d p (turns_of fates)).programmer }
+        → SendsValidBodies d → AreLawful fates → FollowsFates p fates w → InTurn d (progress_at n []) w.transcript
+        → IsBytePrefixOf (sent w.transcript) (bytes_sent (played d n (heard w.transcript)).events)
+        → w.wire.programmer ≡ (state_after device (length (frames (sent w.transcript))) d p (exchanges_of_fates fates)).programmer }
     ensures whole { (d : Dialog E R) (n : ℕ) (p : Programmer) (fates : List Fate) (w : WiredState)
         (events : List (Event E)) (r : R) (after : Progress)
-        → AsksBodies d → AreLawful fates → FollowsFates p fates w
+        → SendsValidBodies d → AreLawful fates → FollowsFates p fates w
         → Plays d (progress_at n []) w.transcript events r after
-        → IsPrefixOf (sent w.transcript) (bytes_sent (played d n (heard w.transcript)).events)
-        × ((along device (length (frames (sent w.transcript))) d p (turns_of fates)).dialog ≡ Done r)
-        × (outputs events ≡ said_along device (length (frames (sent w.transcript))) d p (turns_of fates)) }
+        → IsBytePrefixOf (sent w.transcript) (bytes_sent (played d n (heard w.transcript)).events)
+        × ((state_after device (length (frames (sent w.transcript))) d p (exchanges_of_fates fates)).dialog ≡ Done r)
+        × (outputs events ≡ outputs_after device (length (frames (sent w.transcript))) d p (exchanges_of_fates fates)) }
 {}

@@ -3,12 +3,12 @@
 ghost use Rattle.avr_cli.specs.Port.{port_number};
 ghost use Rattle.avr_cli.specs.declared.settings.Settings.{Settings};
 ghost use Rattle.avr_desk.specs.Record.{Bytes};
-ghost use Rattle.avr_desk.specs.Shown.{IsNewDesk, TellsAll, shown_state};
-ghost use Rattle.avr_laws.specs.Killed.{LeavesOldOrNew, chip_of_run, chip_of_server};
+ghost use Rattle.avr_desk.specs.Shown.{IsNewDesk, RecordsAll, system_desk_view};
+ghost use Rattle.avr_laws.specs.Killed.{LeavesOldOrNew, chip_file_of_run, chip_file_of_server};
 ghost use Rattle.avr_session.specs.Runs.{devices};
 ghost use Rattle.avr_tool.specs.Emulated.{RunsEmulator};
 ghost use Rattle.avr_tool.specs.ServedNet.{ServesNet};
-ghost use Rattle.avr_laws.specs.Killed.{chip_of_service};
+ghost use Rattle.avr_laws.specs.Killed.{chip_file_of_service};
 ghost use Rattle.avr_tool.specs.ServedRun.{RunsServedFor};
 ghost use Rattle.avr_tool.specs.Sockets.{peers_of};
 ghost use Rattle.std.specs.Prelude.{ℕ};
@@ -21,25 +21,25 @@ use std::io::Write;
 /// States what a crash leaves of the chip file, for a run over the emulator and for a server, on the new desk of a
 /// program. Whenever it is killed or the machine stops, the file is as it was when it was locked, or it holds the chip
 /// that the run or the server states with its status. The law doesn't cover a file that is written in place.
-// Proof: `run_killed` and `server_killed` (ChipFile/KilledRuns), from what avr_desk's `TellsAll` says of a crash.
+// Proof: `run_killed` and `server_killed` (ChipFile/KilledRuns), from what avr_desk's `RecordsAll` says of a crash.
 pub fn a_crash_leaves_the_old_chip_or_the_new_one<
     R: FileSystem + Drop,
     O: Write + Drop,
     E: Write + Drop,
 >(before: &SystemDesk<R, O, E>, after: &SystemDesk<R, O, E>)
     ensures run { IsNewDesk R.FileSystem before.now
-        → TellsAll R.FileSystem R.File.Read R.File.Write R.Input.Read before.now after.now
+        → RecordsAll R.FileSystem R.File.Read R.File.Write R.Input.Read before.now after.now
         → (settings : Settings) (file : Bytes) (status : ℕ)
-        → (r : RunsEmulator settings file (shown_state before.now) (shown_state after.now) status)
+        → (r : RunsEmulator settings file (system_desk_view before.now) (system_desk_view after.now) status)
         → LeavesOldOrNew R.FileSystem after.now.system file
-        (chip_of_run settings file (shown_state before.now) (shown_state after.now) status r) }
+        (chip_file_of_run settings file (system_desk_view before.now) (system_desk_view after.now) status r) }
     ensures server { IsNewDesk R.FileSystem before.now
-        → TellsAll R.FileSystem R.File.Read R.File.Write R.Input.Read before.now after.now
-        → (settings : Settings) (file : Bytes) (turns : ℕ) (old new : LinkState) (status : ℕ)
-        → (s : RunsServedFor settings file turns (devices old (shown_state before.now))
-        (devices new (shown_state after.now)) status)
-        → LeavesOldOrNew R.FileSystem after.now.system file (chip_of_server settings file turns
-        (devices old (shown_state before.now)) (devices new (shown_state after.now)) status s) }
+        → RecordsAll R.FileSystem R.File.Read R.File.Write R.Input.Read before.now after.now
+        → (settings : Settings) (file : Bytes) (most_reads : ℕ) (old new : LinkState) (status : ℕ)
+        → (s : RunsServedFor settings file most_reads (devices old (system_desk_view before.now))
+        (devices new (system_desk_view after.now)) status)
+        → LeavesOldOrNew R.FileSystem after.now.system file (chip_file_of_server settings file most_reads
+        (devices old (system_desk_view before.now)) (devices new (system_desk_view after.now)) status s) }
 {}
 
 /// States what a crash leaves of the chip file of a service at a port, on the new desk of a program. It is what
@@ -53,11 +53,11 @@ pub fn a_crash_leaves_the_old_chip_or_the_served_one<
 >(before: &SystemDesk<R, O, E>, after: &SystemDesk<R, O, E>)
     ensures { let peers = peers_of N.Network N.Listener.Callers N.Stream.Read N.Stream.Write N.Stream.closed in
         IsNewDesk R.FileSystem before.now
-        → TellsAll R.FileSystem R.File.Read R.File.Write R.Input.Read before.now after.now
+        → RecordsAll R.FileSystem R.File.Read R.File.Write R.Input.Read before.now after.now
         → (settings : Settings) (port file : Bytes) (status : ℕ)
         → (s : ServesNet peers.unused (peers.at_port (port_number port)) settings port file
-        (shown_state before.now) (shown_state after.now) status)
-        → LeavesOldOrNew R.FileSystem after.now.system file (chip_of_service peers.unused
-        (peers.at_port (port_number port)) settings port file (shown_state before.now) (shown_state after.now)
+        (system_desk_view before.now) (system_desk_view after.now) status)
+        → LeavesOldOrNew R.FileSystem after.now.system file (chip_file_of_service peers.unused
+        (peers.at_port (port_number port)) settings port file (system_desk_view before.now) (system_desk_view after.now)
         status s) }
 {}

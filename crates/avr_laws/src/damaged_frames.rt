@@ -3,7 +3,7 @@
 
 ghost use Rattle.std.specs.Prelude.{◌≡◌, true, false, ℕ, List, [], Bool, All};
 ghost use Rattle.avr_cli.specs.declared.settings.Settings.{Settings};
-ghost use Rattle.avr_desk.specs.Stage.{Made};
+ghost use Rattle.avr_desk.specs.Stage.{Produced};
 ghost use Rattle.avr_part.specs.Sound.{IsSoundChip};
 ghost use Rattle.avr_plan.specs.Plan.{Plan};
 ghost use Rattle.avr_plan.specs.Planning.{planned};
@@ -15,12 +15,12 @@ ghost use Rattle.stk_host.specs.Transcript.{heard, sent};
 ghost use Rattle.stk_emu.specs.Device.{device, after_frames};
 ghost use Rattle.stk_emu.specs.Effect.{memories_of};
 ghost use Rattle.stk_emu.specs.Programmer.{Programmer};
-ghost use Rattle.stk_emu.specs.Turn.{Became};
+ghost use Rattle.stk_emu.specs.Exchange.{Execution};
 ghost use Rattle.avr_tool.specs.Headline.{IsRun};
-ghost use Rattle.avr_laws.specs.AnyTape.{CameThrough, became_by};
-ghost use Rattle.avr_laws.specs.Damaged.{Arrived, Arrival, BringsReplies, as_tape};
+ghost use Rattle.avr_laws.specs.AnyTape.{ReceivedSentFrames, executions_by_arrival};
+ghost use Rattle.avr_laws.specs.Damaged.{Arrived, Arrival, BringsReplies, tape_of_arrivals};
 ghost use Rattle.avr_laws.specs.Kept.{Keeps};
-ghost use Rattle.avr_laws.specs.NoFrame.{MakesNoFrame};
+ghost use Rattle.avr_laws.specs.NoForgedFrame.{ForgesNoFrame};
 
 /// States when a link that loses, delays and damages frames forges none. It changes at most one byte of a frame, which
 /// isn't of the start, the size or the token: so the XOR is wrong.
@@ -31,9 +31,9 @@ ghost use Rattle.avr_laws.specs.NoFrame.{MakesNoFrame};
 pub fn a_link_that_damages_one_byte_forges_no_frame<E, R>()
     ensures programmer { (sent : List (List ℕ)) (through : List Bool) (got : List ℕ) → All IsPiece sent
         → All (λ piece. is_good piece ≡ true) sent → Arrived sent through got
-        → CameThrough got [] sent (became_by through) }
-    ensures host { (d : Dialog E R) (n : ℕ) (come : List Arrival) (p : Programmer) (becames : List Became)
-        → BringsReplies device d n come p becames [] → MakesNoFrame device d n (as_tape come) p becames [] }
+        → ReceivedSentFrames got [] sent (executions_by_arrival through) }
+    ensures host { (d : Dialog E R) (n : ℕ) (come : List Arrival) (p : Programmer) (executions : List Execution)
+        → BringsReplies device d n come p executions [] → ForgesNoFrame device d n (tape_of_arrivals come) p executions [] }
 {}
 
 /// States what status 0 means over a link that loses or delays frames, or damages one byte of them. Of the frames sent,
@@ -42,11 +42,11 @@ pub fn a_link_that_damages_one_byte_forges_no_frame<E, R>()
 // Proof: `over_damage` (Outcomes/OverDamage).
 pub fn over_a_link_that_damages_one_byte_status_0_means_the_images()
     ensures { (s : Settings) (plan : Plan) (before now : Devices) (r : IsRun s before now 0)
-        → (planned s r.openings).answer ≡ Made plan → before.link.transcript ≡ []
+        → (planned s r.openings).stage_outcome ≡ Produced plan → before.link.transcript ≡ []
         → (p : Programmer) (got : List ℕ) (through : List Bool) (come : List Arrival)
         → IsSoundChip p.chip → p.chip.part ≡ plan.part
-        → Arrived (frames (sent now.link.transcript)) through got → heard now.link.transcript ≡ as_tape come
-        → BringsReplies device (session plan) 1 come p (became_by through) []
+        → Arrived (frames (sent now.link.transcript)) through got → heard now.link.transcript ≡ tape_of_arrivals come
+        → BringsReplies device (session plan) 1 come p (executions_by_arrival through) []
         → Keeps plan (memories_of p.chip) (memories_of (after_frames device (frames got) p).chip)
         before.desk now.desk }
 {}

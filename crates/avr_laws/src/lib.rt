@@ -23,21 +23,21 @@ mod program;
 mod two_processes;
 
 pub use again::{
-    a_second_run_heals_the_first, the_same_run_again_heals, what_agrees_on_two_chips_agrees_on_all,
+    a_second_run_repairs_the_first, the_same_run_again_repairs, what_agrees_on_two_chips_agrees_on_all,
 };
 pub use any_line::{
-    a_run_listens_at_most_once_for_each_frame, a_run_makes_its_page_writes_in_order,
+    a_run_times_out_at_most_once_for_each_frame, a_run_makes_its_page_writes_in_order,
     a_run_sends_at_most_four_times_its_commands, a_session_outputs_its_expected_run_up_to_a_fault,
-    a_session_over_a_wire_can_be_believed, a_session_over_any_line, what_a_run_tells_is_true,
-    what_was_told_was_true, whatever_becomes_of_a_session_its_first_page_writes_were_made,
+    a_session_over_a_wire_can_be_believed, a_session_over_any_link, what_a_run_reports_is_true,
+    what_was_reported_was_true, whatever_becomes_of_a_session_its_first_page_writes_were_made,
 };
 pub use chip_file::{
-    a_further_run_over_its_chip_file_heals, a_run_finds_and_leaves_the_chip_of_its_file,
+    a_further_run_over_its_chip_file_repairs, a_run_finds_and_leaves_the_chip_of_its_file,
     the_chip_file_holds_the_images,
 };
 pub use conversations::{
-    a_conversation_in_turn_is_never_idle, a_line_that_makes_no_frame_is_honest,
-    a_wire_is_an_honest_line, few_bad_fates_bring_all_data,
+    a_conversation_in_turn_is_never_idle, a_link_that_forges_no_frame_is_authentic,
+    a_wire_is_an_authentic_link, few_bad_fates_bring_all_data,
     over_a_wire_a_conversation_goes_along_turns, over_any_tape_a_conversation_goes_along_turns,
 };
 pub use crashes::{
@@ -54,15 +54,15 @@ pub use planning::{
 };
 pub use program::a_program_with_status_0_kept_its_plan;
 pub use runs::{
-    a_further_run_heals, a_made_frame_voids_the_promise, a_run_in_memory_has_one_outcome,
+    a_further_run_repairs, a_forged_frame_voids_the_promise, a_run_in_memory_has_one_outcome,
     a_run_in_memory_is_a_function_of_its_files, a_sound_run_is_its_expected_run,
     a_worked_run_has_one_outcome, a_wrong_outcome_is_refused,
     an_ended_run_and_one_with_status_0_are_as_one, status_0_means_the_images,
 };
 pub use two_processes::{
-    a_prompt_line_brings_the_expected_run, a_server_sends_the_answers_to_what_it_heard,
-    a_session_and_a_server_are_one_run, an_unordered_line_is_refused, two_processes_have_a_run,
-    two_processes_never_both_wait, what_a_host_hears_of_a_server_is_honest,
+    a_prompt_link_brings_the_expected_run, a_server_sends_the_answers_to_what_it_heard,
+    a_session_and_a_server_are_one_run, an_unordered_link_is_refused, two_processes_have_a_run,
+    two_processes_never_both_wait, what_a_host_hears_of_a_server_is_authentic,
     whatever_becomes_of_both_some_page_writes_were_made,
 };
 pub use written::{

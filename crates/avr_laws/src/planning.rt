@@ -1,55 +1,55 @@
 //! Laws of planning, over the definitions alone.
 ghost use Rattle.std.specs.Prelude.{◌≡◌, ◌++◌, ℕ, List, [], All, Err};
 ghost use Rattle.avr_cli.specs.declared.settings.Settings.{Settings};
-ghost use Rattle.ghosts.specs.Failures.{HasStood};
+ghost use Rattle.ghosts.specs.Failures.{NoFailureCounted};
 ghost use Rattle.avr_desk.specs.Record.{Record, showing, Bytes};
 ghost use Rattle.avr_desk.specs.declared.record.Opening.{Opening};
 ghost use Rattle.avr_desk.specs.Lines.{memory_line};
-ghost use Rattle.avr_desk.specs.Memory.{Stock, stood_for};
-ghost use Rattle.avr_laws.specs.AskedPlan.{Holding, IsAsked};
-ghost use Rattle.avr_laws.specs.FilesRead.{AreSeen, lines_in, planned_of};
+ghost use Rattle.avr_desk.specs.Memory.{Stock, content_of_name};
+ghost use Rattle.avr_laws.specs.AskedPlan.{FileHolds, IsAsked};
+ghost use Rattle.avr_laws.specs.FilesRead.{AreTrueOpenings, lines_in, planned_from_files};
 ghost use Rattle.avr_laws.specs.OnlyReading.{OnlyReads};
 ghost use Rattle.avr_plan.specs.Planning.{planned};
-ghost use Rattle.avr_plan.specs.Taking.{AtUpdate};
-ghost use Rattle.avr_desk.specs.Playing.{Goes, WentRefused};
-ghost use Rattle.avr_desk.specs.Stage.{Made, Unread, told_in};
+ghost use Rattle.avr_plan.specs.AllocationPoints.{AtAllocatingUpdate};
+ghost use Rattle.avr_desk.specs.Playing.{RunsStage, StageRefused};
+ghost use Rattle.avr_desk.specs.Stage.{Produced, NotReadToEnd, all_events_of};
 ghost use Rattle.avr_plan.specs.Plan.{Plan, IsFitted};
 
 /// States that planning only opens files for reading and prints lines, whatever the files give. Nothing is created,
 /// written or output. By its type a stage has no link, so it sends nothing.
 pub fn a_plan_only_reads_and_warns()
-    ensures { (s : Settings) (openings : List Opening) → OnlyReads (told_in (planned s openings)) }
+    ensures { (s : Settings) (openings : List Opening) → OnlyReads (all_events_of (planned s openings)) }
 {}
 
 /// States that planning reports why it fails, if no device failed: its refusal, or that memory ran out. The refusal is
 /// that of `planned`, with its line. In the other case the messages end with the out-of-memory line.
 pub fn a_sound_plan_is_refused_aloud()
-    ensures { (s : Settings) (before after : Record) (k l m n status : ℕ) → HasStood k l
+    ensures { (s : Settings) (before after : Record) (k l m n status : ℕ) → NoFailureCounted k l
         → ((prefix : Bytes) → after.messages ≡ prefix ++ memory_line → ⊥)
-        → Goes (AtUpdate s) (planned s) (showing before k m) (showing after l n) (Err status)
-        → WentRefused (planned s) (showing before k m) (showing after l n) }
+        → RunsStage (AtAllocatingUpdate s) (planned s) (showing before k m) (showing after l n) (Err status)
+        → StageRefused (planned s) (showing before k m) (showing after l n) }
 {}
 
 /// States that planning is a function of the files, if each opening was true of them, and each file was read to its
 /// end or past its limit. The result and the printed lines are those of planning over the whole files.
 pub fn a_plan_is_of_whole_files()
-    ensures { (s : Settings) (stock : Stock) (openings : List Opening) → AreSeen stock (planned s openings).says
-        → ((planned s openings).answer ≡ Unread → ⊥)
-        → ((planned_of s stock).answer ≡ (planned s openings).answer)
-        × (lines_in (told_in (planned_of s stock)) ≡ lines_in (told_in (planned s openings))) }
+    ensures { (s : Settings) (stock : Stock) (openings : List Opening) → AreTrueOpenings stock (planned s openings).emits
+        → ((planned s openings).stage_outcome ≡ NotReadToEnd → ⊥)
+        → ((planned_from_files s stock).stage_outcome ≡ (planned s openings).stage_outcome)
+        × (lines_in (all_events_of (planned_from_files s stock)) ≡ lines_in (all_events_of (planned s openings))) }
 {}
 
 /// States that a plan that was made fits its part. Each image has the size of its memory, and the plan writes only to
 /// memories that can be written.
 pub fn a_plan_fits_its_part()
     ensures { (s : Settings) (openings : List Opening) (plan : Plan)
-        → (planned s openings).answer ≡ Made plan → All (IsFitted plan.part) plan.tasks }
+        → (planned s openings).stage_outcome ≡ Produced plan → All (IsFitted plan.part) plan.tasks }
 {}
 
 /// States that a plan that was made is the one that the settings and the files ask for, if each opening was true of the
 /// files.
 pub fn a_plan_is_the_one_asked_for()
     ensures { (s : Settings) (stock : Stock) (openings : List Opening) (plan : Plan)
-        → AreSeen stock (planned s openings).says → (planned s openings).answer ≡ Made plan
-        → IsAsked s (Holding (stood_for stock [])) plan }
+        → AreTrueOpenings stock (planned s openings).emits → (planned s openings).stage_outcome ≡ Produced plan
+        → IsAsked s (FileHolds (content_of_name stock [])) plan }
 {}

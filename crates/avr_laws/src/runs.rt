@@ -5,19 +5,19 @@ ghost use Rattle.avr_cli.specs.declared.settings.Settings.{Settings};
 ghost use Rattle.avr_desk.specs.Memory.{MemDeskState, Stock, memory_state, stock_of};
 ghost use Rattle.avr_desk.specs.Truth.{HoldsTrue};
 ghost use Rattle.avr_session.specs.Run.{RunsBetween};
-ghost use Rattle.ghosts.specs.Stays.{Stays};
-ghost use Rattle.stk_host.specs.Links.{IsOfTape, IsTrueSince, StreamState, TapeState, stream_state, tape_state};
-ghost use Rattle.avr_desk.specs.Stage.{Made};
-ghost use Rattle.avr_desk.specs.Record.{DeskState, Passes, Record};
-ghost use Rattle.avr_laws.specs.Again.{AgreesAnyway, AreKeeping};
-ghost use Rattle.avr_tool.specs.AnyLine.{Stopped, OverAnyLine, OverTurns, Weight, weighed, bodies_in, memories, events_over, wire_and_desk};
+ghost use Rattle.ghosts.specs.Preserves.{Preserves};
+ghost use Rattle.stk_host.specs.Links.{ConsumesTape, IsTrueSince, StreamState, TapeState, stream_state, tape_state};
+ghost use Rattle.avr_desk.specs.Stage.{Produced};
+ghost use Rattle.avr_desk.specs.Record.{DeskState, ChangesRecord, Record};
+ghost use Rattle.avr_laws.specs.Again.{AgreesOnTwoChips, ItemsKeepEeprom};
+ghost use Rattle.avr_tool.specs.OverFaultyLink.{SessionStopped, SessionOverWire, OverExchanges, Weight, total_weight, bodies_in, memories, events_over, wire_and_desk};
 ghost use Rattle.avr_laws.specs.AnyLink.{OverAnyWire, WholeOverTurns};
 ghost use Rattle.avr_session.specs.PlanSteps.{run_steps};
 ghost use Rattle.avr_tool.specs.ExpectedRun.{expected_run};
 ghost use Rattle.avr_tool.specs.Items.{items, asked_items, has_erase};
 ghost use Rattle.avr_tool.specs.Outcome.{IsExpectedRun, IsDone};
 ghost use Rattle.avr_tool.specs.Written.{IsWritten, written_to};
-ghost use Rattle.avr_desk.specs.Said.{OutputEvent, after_all};
+ghost use Rattle.avr_desk.specs.OutputEvents.{OutputEvent, after_events};
 ghost use Rattle.avr_part.specs.Part.{IsPart};
 ghost use Rattle.avr_part.specs.Sound.{IsSoundChip};
 ghost use Rattle.avr_part.specs.State.{ChipState as Chip};
@@ -25,26 +25,26 @@ ghost use Rattle.avr_plan.specs.Plan.{Plan, IsFitted};
 ghost use Rattle.avr_plan.specs.Planning.{planned};
 ghost use Rattle.avr_session.specs.Runs.{Devices, devices};
 ghost use Rattle.avr_session.specs.Session.{session};
-ghost use Rattle.avr_session.specs.Stopping.{IsSound, LacksMemory, keeping, link_state};
+ghost use Rattle.avr_session.specs.Stopping.{IsSound, EndsOutOfMemory, keeping, link_state};
 ghost use Rattle.avr_tool.specs.Headline.{IsRun, IsStopped};
-ghost use Rattle.avr_laws.specs.InMemory.{AreUnused, Leaves, LeavesStreams, RunOutcome, shown_by};
-ghost use Rattle.avr_laws.specs.Worked.{absent_outcome, absent_settings, frames_due, fuse_plan, lines_due, made_answers, no_stock, worked_answers, worked_outcome, worked_settings};
+ghost use Rattle.avr_laws.specs.InMemory.{AreUnused, LeavesOutcome, LeavesOverStreams, RunOutcome, outcome_shown};
+ghost use Rattle.avr_laws.specs.Worked.{absent_outcome, absent_settings, worked_frames, fuse_plan, worked_lines, forged_replies, no_stock, worked_replies, worked_outcome, worked_settings};
 ghost use Rattle.stk_emu.specs.Device.{device};
 ghost use Rattle.stk_emu.specs.Effect.{memories_of, erase_keeps_eeprom, effects};
-ghost use Rattle.avr_laws.specs.Few.{AreFew};
-ghost use Rattle.avr_laws.specs.AskedPlan.{Gave, IsAsked};
+ghost use Rattle.avr_laws.specs.FewBadFrames.{AtMostThreeBadOfSeven};
+ghost use Rattle.avr_laws.specs.AskedPlan.{FileGave, IsAsked};
 ghost use Rattle.avr_laws.specs.Kept.{IsKept, NoneForged};
 ghost use Rattle.stk_emu.specs.Programmer.{Programmer, fresh_programmer};
-ghost use Rattle.stk_host.specs.Play.{IsPrefixOf};
-ghost use Rattle.avr_tool.specs.Agrees.{Shows};
+ghost use Rattle.stk_host.specs.Play.{IsBytePrefixOf};
+ghost use Rattle.avr_tool.specs.ComparisonsAgree.{MemoryHoldsImage};
 ghost use Rattle.avr_part.specs.declared.part.Mem.{Mem};
 ghost use Rattle.stk_emu.specs.Settled.{FitsPart};
-ghost use Rattle.stk_emu.specs.Wire.{turns_of};
+ghost use Rattle.stk_emu.specs.Wire.{exchanges_of_fates};
 ghost use Rattle.stk_emu.specs.Wired.{WiredState};
 ghost use Rattle.stk_frame.specs.Cut.{body_of, frames};
-ghost use Rattle.stk_emu.specs.Turn.{Became, Turn};
-ghost use Rattle.avr_laws.specs.AnyTape.{CameThrough, after_bytes};
-ghost use Rattle.avr_laws.specs.NoFrame.{MakesNoFrame};
+ghost use Rattle.stk_emu.specs.Exchange.{Execution, Exchange};
+ghost use Rattle.avr_laws.specs.AnyTape.{ReceivedSentFrames, after_received_bytes};
+ghost use Rattle.avr_laws.specs.NoForgedFrame.{ForgesNoFrame};
 ghost use Rattle.stk_host.specs.Dialog.{Event, played, bytes_sent, outputs};
 ghost use Rattle.stk_host.specs.Transcript.{Transcript, heard, sent};
 ghost use Rattle.stk_host.specs.Tape.{Tape};
@@ -63,8 +63,8 @@ use stk_host::Link;
 /// restarted, and no reply was forged. Then the memories of its chip are what the plan's writes make of them, and all
 /// that the plan compares agreed. If the run was verified, each memory holds its images. Elsewhere it holds what it
 /// held before, or the FF of an erase. Each file that a memory was read into has the text of what the chip held then.
-// Proof: `promised` (Outcomes/Kept), by `over_bytes` (AnyLink) and avr_tool's `comes_over_turns` (OverTurns). There the
-// memories are `session_leaves` (AnyLine/Outcomes), the images `run_written` (Memories/VerifiedRuns). The files are
+// Proof: `promised` (Outcomes/Kept), by `over_bytes` (AnyLink) and avr_tool's `ends_over_exchanges` (OverExchanges). There the
+// memories are `session_leaves` (OverFaultyLink/Outcomes), the images `run_written` (Memories/VerifiedRuns). The files are
 // `expected_writes` (Outcomes/Saved), the plan `desk_asked` (Plans/Given).
 pub fn status_0_means_the_images<D: Desk, L: Link>(
     alloc: Global,
@@ -73,7 +73,7 @@ pub fn status_0_means_the_images<D: Desk, L: Link>(
     link: &mut L,
 ) -> u8
     ensures promise { result ≡ 0 → (L.view link.old).transcript ≡ []
-        → (plan : Plan) × (IsAsked settings.now (Gave (D.view desk.old) (D.view desk.new)) plan
+        → (plan : Plan) × (IsAsked settings.now (FileGave (D.view desk.old) (D.view desk.new)) plan
         × IsKept plan (L.view link.new).transcript (D.view desk.old) (D.view desk.new)) }
 {
     run(alloc, settings, desk, link)
@@ -90,35 +90,35 @@ pub fn an_ended_run_and_one_with_status_0_are_as_one()
     ensures { (plan : Plan) (first second : Transcript) (old now : DeskState) (p q : Programmer)
         → All (IsFitted plan.part) plan.tasks → IsSoundChip p.chip → p.chip.part ≡ plan.part
         → (has_erase (items plan) ≡ true → erase_keeps_eeprom plan.part (memories_of p.chip) ≡ true
-        → AreKeeping plan.part (items plan))
-        → (got : List ℕ) (later : List (List ℕ)) (becames : List Became)
-        → IsPrefixOf (sent first) (bytes_sent (played (session plan) 1 (heard first)).events)
-        → CameThrough got later (frames (sent first)) becames
-        → MakesNoFrame device (session plan) 1 (heard first) p becames []
-        → (over : List ℕ) (more : List (List ℕ)) (others : List Became) → IsSoundChip q.chip
-        → q.chip.part ≡ plan.part → memories_of q.chip ≡ memories_of (after_bytes device got later p).chip
-        → IsKept plan second old now → CameThrough over more (frames (sent second)) others
+        → ItemsKeepEeprom plan.part (items plan))
+        → (got : List ℕ) (later : List (List ℕ)) (executions : List Execution)
+        → IsBytePrefixOf (sent first) (bytes_sent (played (session plan) 1 (heard first)).events)
+        → ReceivedSentFrames got later (frames (sent first)) executions
+        → ForgesNoFrame device (session plan) 1 (heard first) p executions []
+        → (over : List ℕ) (more : List (List ℕ)) (others : List Execution) → IsSoundChip q.chip
+        → q.chip.part ≡ plan.part → memories_of q.chip ≡ memories_of (after_received_bytes device got later p).chip
+        → IsKept plan second old now → ReceivedSentFrames over more (frames (sent second)) others
         → NoneForged device (frames (sent second)) (heard second) q others []
-        → (memories_of (after_bytes device over more q).chip ≡ effects plan.part (items plan) (memories_of p.chip))
-        × (plan.switches.no_verify ≡ false → (mem : Mem) → Shows plan.part mem
-        (written_to plan.part mem (asked_items plan)) (memories_of (after_bytes device over more q).chip)) }
+        → (memories_of (after_received_bytes device over more q).chip ≡ effects plan.part (items plan) (memories_of p.chip))
+        × (plan.switches.no_verify ≡ false → (mem : Mem) → MemoryHoldsImage plan.part mem
+        (written_to plan.part mem (asked_items plan)) (memories_of (after_received_bytes device over more q).chip)) }
 {}
 
 /// States what can't be the outcome of a run over a wire. With status 0: memories that the plan's writes don't leave,
 /// or output other than over a perfect link. With any status: a chip that changed though no frame was sent, or more
 /// than four frames for each command, by any weight.
-// Proof: `not_all_written`, `said_otherwise`, `touched_in_silence` and `too_much` (Outcomes/Refused).
+// Proof: `not_all_written`, `output_otherwise`, `touched_in_silence` and `too_much` (Outcomes/Refused).
 pub fn a_wrong_outcome_is_refused()
     ensures memories { (plan : Plan) (w v : WiredState) (d e : DeskState)
-        → (memories v ≡ effects plan.part (items plan) (memories w) → ⊥) → OverAnyLine plan w v d e 0 → ⊥ }
+        → (memories v ≡ effects plan.part (items plan) (memories w) → ⊥) → SessionOverWire plan w v d e 0 → ⊥ }
     ensures outputs { (plan : Plan) (w v : WiredState) (d e : DeskState)
-        → (Passes (after_all (expected_run plan (memories w)).says) d e → ⊥)
-        → OverAnyLine plan w v d e 0 → ⊥ }
+        → (ChangesRecord (after_events (expected_run plan (memories w)).emits) d e → ⊥)
+        → SessionOverWire plan w v d e 0 → ⊥ }
     ensures silence { (plan : Plan) (w v : WiredState) (d e : DeskState) (status : ℕ)
-        → frames (sent v.transcript) ≡ [] → (memories v ≡ memories w → ⊥) → OverAnyLine plan w v d e status → ⊥ }
+        → frames (sent v.transcript) ≡ [] → (memories v ≡ memories w → ⊥) → SessionOverWire plan w v d e status → ⊥ }
     ensures frames { (plan : Plan) (w v : WiredState) (d e : DeskState) (status : ℕ) (weight : Weight)
-        → 4 * weighed weight (bodies_in (run_steps plan)) < weighed weight (map body_of (frames (sent v.transcript)))
-        → OverAnyLine plan w v d e status → ⊥ }
+        → 4 * total_weight weight (bodies_in (run_steps plan)) < total_weight weight (map body_of (frames (sent v.transcript)))
+        → SessionOverWire plan w v d e status → ⊥ }
 {}
 
 /// States when a session over a wire is its expected run. At most three of any seven consecutive frames go wrong, and
@@ -129,15 +129,15 @@ pub fn a_wrong_outcome_is_refused()
 // Proof: `sound_expected` (ChipFile/FewBadThenAgain), by `few_session_ends` (FewBad/Sessions).
 pub fn a_sound_run_is_its_expected_run()
     ensures expected_run { (plan : Plan) (w v : WiredState) (d e : Record) (a b : ℕ × ℕ) (status : ℕ)
-        → AreFew (turns_of w.wire.fates) → IsSound (wire_and_desk w (keeping d a)) (wire_and_desk v (keeping e b))
-        → (LacksMemory e.messages → ⊥)
+        → AtMostThreeBadOfSeven (exchanges_of_fates w.wire.fates) → IsSound (wire_and_desk w (keeping d a)) (wire_and_desk v (keeping e b))
+        → (EndsOutOfMemory e.messages → ⊥)
         → OverAnyWire plan w v (keeping d a) (keeping e b) status
         → IsExpectedRun plan (memories w) (memories v) (outputs (events_over plan v)) status
-        × Passes (after_all (outputs (events_over plan v))) (keeping d a) (keeping e b) }
+        × ChangesRecord (after_events (outputs (events_over plan v))) (keeping d a) (keeping e b) }
     ensures images { (plan : Plan) (w v : WiredState) (d e : Record) (a b : ℕ × ℕ) (status : ℕ)
-        → AreFew (turns_of w.wire.fates) → IsSound (wire_and_desk w (keeping d a)) (wire_and_desk v (keeping e b))
-        → (LacksMemory e.messages → ⊥)
-        → plan.switches.no_verify ≡ false → has_erase (items plan) ≡ true → AgreesAnyway plan
+        → AtMostThreeBadOfSeven (exchanges_of_fates w.wire.fates) → IsSound (wire_and_desk w (keeping d a)) (wire_and_desk v (keeping e b))
+        → (EndsOutOfMemory e.messages → ⊥)
+        → plan.switches.no_verify ≡ false → has_erase (items plan) ≡ true → AgreesOnTwoChips plan
         → OverAnyWire plan w v (keeping d a) (keeping e b) status
         → (status ≡ 0) × IsWritten plan.part (asked_items plan) (memories w) (memories v) }
 {}
@@ -149,22 +149,22 @@ pub fn a_sound_run_is_its_expected_run()
 ///
 /// If the chip keeps EEPROM at an erase, each byte that the plan writes to the high fuse must keep it too. `wire`
 /// states this over a wire, `link` over the exchanges of any link that forges no frame, for a run that doesn't stop.
-// Proof: `further_heals` (ChipFile/FewBadThenAgain), by `done_again` (SecondRun/Status).
-pub fn a_further_run_heals()
+// Proof: `further_repairs` (ChipFile/FewBadThenAgain), by `done_again` (SecondRun/Status).
+pub fn a_further_run_repairs()
     ensures wire { (plan : Plan) (w v x y : WiredState) (d e f g : DeskState) (status further : ℕ)
         → IsPart plan.part → All (IsFitted plan.part) plan.tasks → FitsPart plan.part (memories w)
-        → has_erase (items plan) ≡ true → AgreesAnyway plan
-        → (erase_keeps_eeprom plan.part (memories w) ≡ true → AreKeeping plan.part (items plan))
-        → OverAnyLine plan w v d e status
-        → memories x ≡ memories v → AreFew (turns_of x.wire.fates) → OverAnyWire plan x y f g further
-        → ((further ≡ 0) × IsDone plan (memories w) (memories y)) ⊎ Stopped plan x y f g }
-    ensures link { (plan : Plan) (p q x y : Programmer) (turns more : List Turn) (bytes others : List ℕ)
+        → has_erase (items plan) ≡ true → AgreesOnTwoChips plan
+        → (erase_keeps_eeprom plan.part (memories w) ≡ true → ItemsKeepEeprom plan.part (items plan))
+        → SessionOverWire plan w v d e status
+        → memories x ≡ memories v → AtMostThreeBadOfSeven (exchanges_of_fates x.wire.fates) → OverAnyWire plan x y f g further
+        → ((further ≡ 0) × IsDone plan (memories w) (memories y)) ⊎ SessionStopped plan x y f g }
+    ensures link { (plan : Plan) (p q x y : Programmer) (exchanges more : List Exchange) (bytes others : List ℕ)
         (events : List (Event OutputEvent)) (further : ℕ)
         → IsPart plan.part → All (IsFitted plan.part) plan.tasks → FitsPart plan.part (memories_of p.chip)
-        → has_erase (items plan) ≡ true → AgreesAnyway plan
-        → (erase_keeps_eeprom plan.part (memories_of p.chip) ≡ true → AreKeeping plan.part (items plan))
-        → OverTurns plan p q turns bytes
-        → memories_of x.chip ≡ memories_of q.chip → AreFew more → WholeOverTurns plan x y more others events further
+        → has_erase (items plan) ≡ true → AgreesOnTwoChips plan
+        → (erase_keeps_eeprom plan.part (memories_of p.chip) ≡ true → ItemsKeepEeprom plan.part (items plan))
+        → OverExchanges plan p q exchanges bytes
+        → memories_of x.chip ≡ memories_of q.chip → AtMostThreeBadOfSeven more → WholeOverTurns plan x y more others events further
         → (further ≡ 0) × IsDone plan (memories_of p.chip) (memories_of y.chip) }
 {}
 
@@ -173,14 +173,14 @@ pub fn a_further_run_heals()
 // Proof: `another_status`, `another_frame` and `another_line` (Outcomes/Refused).
 pub fn a_worked_run_has_one_outcome()
     ensures status { (transcript : Transcript) (a b : ℕ) (d e : DeskState)
-        → heard transcript ≡ worked_answers → IsRun worked_settings (devices (link_state [] a) d)
+        → heard transcript ≡ worked_replies → IsRun worked_settings (devices (link_state [] a) d)
         (devices (link_state transcript b) e) 1
         → ⊥ }
     ensures frames { (transcript : Transcript) (a b : ℕ) (d e : DeskState) (status : ℕ)
-        → heard transcript ≡ worked_answers → (sent transcript ≡ frames_due → ⊥)
+        → heard transcript ≡ worked_replies → (sent transcript ≡ worked_frames → ⊥)
         → IsRun worked_settings (devices (link_state [] a) d) (devices (link_state transcript b) e) status → ⊥ }
     ensures lines { (transcript : Transcript) (a b : ℕ) (d e : DeskState) (status : ℕ)
-        → heard transcript ≡ worked_answers → (Passes (after_all lines_due) d e → ⊥)
+        → heard transcript ≡ worked_replies → (ChangesRecord (after_events worked_lines) d e → ⊥)
         → IsRun worked_settings (devices (link_state [] a) d) (devices (link_state transcript b) e) status → ⊥ }
 {}
 
@@ -193,16 +193,16 @@ pub fn a_run_in_memory_is_a_function_of_its_files<R: Read, W: Write>()
     ensures tape { (s : Settings) (old new : MemDeskState) (before after : TapeState) (status : ℕ)
         → AreUnused old (tape_state before)
         → RunsBetween memory_state HoldsTrue s (tape_state before) (tape_state after) old new status
-        → IsOfTape before after → Stays HoldsTrue old new
-        → Leaves s (stock_of old) before.left (shown_by status (sent after.transcript) new.kept)
+        → ConsumesTape before after → Preserves HoldsTrue old new
+        → LeavesOutcome s (stock_of old) before.left (outcome_shown status (sent after.transcript) new.kept)
         ⊎ IsStopped s (devices (tape_state before) (memory_state old)) (devices (tape_state after) (memory_state new))
         status }
     ensures streams { (s : Settings) (old new : MemDeskState) (before after : StreamState R W) (status : ℕ)
         → AreUnused old (stream_state before)
         → RunsBetween memory_state HoldsTrue s (stream_state before) (stream_state after) old new status
-        → IsTrueSince R.remaining W.contents before after → Stays HoldsTrue old new
-        → LeavesStreams R.remaining W.contents s (stock_of old) before after
-        (shown_by status (sent after.transcript) new.kept)
+        → IsTrueSince R.remaining W.contents before after → Preserves HoldsTrue old new
+        → LeavesOverStreams R.remaining W.contents s (stock_of old) before after
+        (outcome_shown status (sent after.transcript) new.kept)
         ⊎ IsStopped s (devices (stream_state before) (memory_state old))
         (devices (stream_state after) (memory_state new)) status }
 {}
@@ -212,21 +212,21 @@ pub fn a_run_in_memory_is_a_function_of_its_files<R: Read, W: Write>()
 // Proof: `one_outcome`, `worked_leaves` and `absent_leaves` (KnownFiles/OneOutcome).
 pub fn a_run_in_memory_has_one_outcome()
     ensures one { (s : Settings) (stock : Stock) (tape : Tape) (a b : RunOutcome)
-        → Leaves s stock tape a → Leaves s stock tape b → a ≡ b }
-    ensures worked { (stock : Stock) → Leaves worked_settings stock worked_answers worked_outcome }
-    ensures absent { (tape : Tape) → Leaves absent_settings no_stock tape absent_outcome }
+        → LeavesOutcome s stock tape a → LeavesOutcome s stock tape b → a ≡ b }
+    ensures worked { (stock : Stock) → LeavesOutcome worked_settings stock worked_replies worked_outcome }
+    ensures absent { (tape : Tape) → LeavesOutcome absent_settings no_stock tape absent_outcome }
 {}
 
 /// States that the promise needs a link without forged frames. Over a tape with one, comparing the low fuse with E2
 /// ends with status 0 whatever the chip has. For a chip with another fuse the promise fails. A link that forges no
 /// frame can't give this tape.
-// Proof: `made_done`, `promise_void` and `frame_made` (Lines/MadeFrame).
-pub fn a_made_frame_voids_the_promise()
-    ensures ends { (played (session fuse_plan) 1 made_answers).outcome ≡ Some (0, 8, []) }
-    ensures void { (p q : Programmer) (turns : List Turn) (bytes : List ℕ) (events : List (Event OutputEvent))
-        → (p.chip.lfuse ≡ 0xE2 → ⊥) → WholeOverTurns fuse_plan p q turns bytes events 0 → ⊥ }
-    ensures made { (s : Chip) (got : List ℕ) (later : List (List ℕ)) (becames : List Became)
+// Proof: `forged_run_succeeds`, `promise_void` and `frame_is_forged` (Lines/MadeFrame).
+pub fn a_forged_frame_voids_the_promise()
+    ensures ends { (played (session fuse_plan) 1 forged_replies).outcome ≡ Some (0, 8, []) }
+    ensures void { (p q : Programmer) (exchanges : List Exchange) (bytes : List ℕ) (events : List (Event OutputEvent))
+        → (p.chip.lfuse ≡ 0xE2 → ⊥) → WholeOverTurns fuse_plan p q exchanges bytes events 0 → ⊥ }
+    ensures made { (s : Chip) (got : List ℕ) (later : List (List ℕ)) (executions : List Execution)
         → IsSoundChip s → s.part ≡ fuse_plan.part → (s.lfuse ≡ 0xE2 → ⊥)
-        → CameThrough got later (frames (bytes_sent (played (session fuse_plan) 1 made_answers).events)) becames
-        → MakesNoFrame device (session fuse_plan) 1 made_answers (fresh_programmer s) becames [] → ⊥ }
+        → ReceivedSentFrames got later (frames (bytes_sent (played (session fuse_plan) 1 forged_replies).events)) executions
+        → ForgesNoFrame device (session fuse_plan) 1 forged_replies (fresh_programmer s) executions [] → ⊥ }
 {}

@@ -2,63 +2,63 @@
 
 ghost use Rattle.std.specs.Prelude.{◌≡◌, ◌++◌, ℕ, length, List, [], All, ◌∷◌, Ok};
 ghost use Rattle.avr_desk.specs.Record.{Bytes};
-ghost use Rattle.avr_laws.specs.AnyLink.{ReportsOverTurns, WholeOverTurns};
+ghost use Rattle.avr_laws.specs.AnyLink.{ReportsOverExchanges, WholeOverTurns};
 ghost use Rattle.avr_tool.specs.ExpectedRun.{expected_run};
-ghost use Rattle.avr_desk.specs.Said.{OutputEvent};
+ghost use Rattle.avr_desk.specs.OutputEvents.{OutputEvent};
 ghost use Rattle.avr_part.specs.Sound.{IsSoundChip};
 ghost use Rattle.avr_part.specs.State.{ChipState as Chip};
 ghost use Rattle.avr_plan.specs.Plan.{Plan, IsFitted};
 ghost use Rattle.avr_session.specs.Run.{RunsSession};
-ghost use Rattle.avr_session.specs.Runs.{Devices, start, Ran};
+ghost use Rattle.avr_session.specs.Runs.{Devices, start, RanWhole};
 ghost use Rattle.avr_session.specs.Session.{session};
 ghost use Rattle.stk_emu.specs.Device.{device, after_frames, answers};
-ghost use Rattle.avr_tool.specs.Saving.{Saves};
+ghost use Rattle.avr_tool.specs.Saving.{SavesChip};
 ghost use Rattle.avr_part.specs.ChipFile.{chip_file};
 ghost use Rattle.avr_tool.specs.ServedRun.{ServesChip};
-ghost use Rattle.avr_tool.specs.Serving.{HasNoEnd, AnswersAll, AnswersInTurn, ServingLeaves};
+ghost use Rattle.avr_tool.specs.Serving.{HasNoEnd, RepliesToAll, RepliesInTurn, ServingLeaves};
 ghost use Rattle.avr_tool.specs.declared.answering.Served.{Served};
-ghost use Rattle.avr_laws.specs.TwoProcesses.{EndCall, HostSays, ServerHears, of_host, of_server, IsJoined, IsOrdered, IsPrompt, StallsBetweenAnswers, HasRun, HasServed, obeyed};
-ghost use Rattle.stk_emu.specs.Emulator.{Machine};
+ghost use Rattle.avr_laws.specs.TwoProcesses.{EndCall, HostSends, ServerReceives, host_transcript, server_transcript, IsJoined, IsOrdered, HasNoTimeout, TimesOutBetweenReplies, HasPromptRun, HasServed, all_executed};
+ghost use Rattle.stk_emu.specs.Emulator.{EmulatorState};
 ghost use Rattle.stk_emu.specs.Effect.{memories_of};
 ghost use Rattle.stk_emu.specs.Programmer.{Programmer, fresh_programmer};
 ghost use Rattle.stk_frame.specs.Cut.{frames};
-ghost use Rattle.avr_laws.specs.AnyTape.{after_pieces, turns_heard};
-ghost use Rattle.avr_tool.specs.Honest.{AreHonest};
-ghost use Rattle.avr_laws.specs.NoFrame.{MakesNoFrame};
+ghost use Rattle.avr_laws.specs.AnyTape.{after_sent_frames, turns_heard};
+ghost use Rattle.avr_tool.specs.Authentic.{RepliesAreAuthentic};
+ghost use Rattle.avr_laws.specs.NoForgedFrame.{ForgesNoFrame};
 ghost use Rattle.stk_host.specs.Dialog.{Event, played, frames_in, bytes_sent, outputs};
 ghost use Rattle.stk_host.specs.Transcript.{Transcript, heard, sent, Got};
-ghost use Rattle.stk_host.specs.Play.{Progress, Plays, IsPrefixOf, InTurn};
+ghost use Rattle.stk_host.specs.Play.{Progress, Plays, IsBytePrefixOf, InTurn};
 ghost use Rattle.stk_host.specs.declared.link.Item.TheVariants.{Byte, Silence};
-ghost use Rattle.stk_host.specs.Tape.{Tape, bytes_of};
+ghost use Rattle.stk_host.specs.Tape.{Tape, bytes_on_tape};
 
 /// States that a server obeys all frames that it takes, and sends a prefix of their replies. It takes a prefix of the
 /// bytes received. `all`: if it replied to all it received, it took and sent all.
 pub fn a_server_sends_the_answers_to_what_it_heard()
-    ensures all { (p : Programmer) (transcript : Transcript) (left : Machine)
-        → AnswersAll p [] (bytes_of (heard transcript)) (sent transcript) left
-        → (sent transcript ≡ answers device (frames (bytes_of (heard transcript))) p)
-        × (left.programmer ≡ after_frames device (frames (bytes_of (heard transcript))) p) }
-    ensures however { (served : Served) (p : Programmer) (transcript : Transcript) (left : Machine)
+    ensures all { (p : Programmer) (transcript : Transcript) (left : EmulatorState)
+        → RepliesToAll p [] (bytes_on_tape (heard transcript)) (sent transcript) left
+        → (sent transcript ≡ answers device (frames (bytes_on_tape (heard transcript))) p)
+        × (left.programmer ≡ after_frames device (frames (bytes_on_tape (heard transcript))) p) }
+    ensures however { (served : Served) (p : Programmer) (transcript : Transcript) (left : EmulatorState)
         → ServingLeaves served p [] transcript left → HasServed p transcript left.programmer }
 {}
 
 /// States that all a host reads from a server is authentic, over a link that keeps bytes in order and has timeouts
 /// only between replies. The frames that the server took were obeyed, and the others never arrived; the server's
 /// programmer is as they left it. This holds at any moment of a session, however it ends.
-pub fn what_a_host_hears_of_a_server_is_honest()
+pub fn what_a_host_hears_of_a_server_is_authentic()
     ensures honest { (plan : Plan) (s : Chip) (left : Programmer) (host server : Transcript)
         → IsSoundChip s → s.part ≡ plan.part → All (IsFitted plan.part) plan.tasks
         → (serves : HasServed (fresh_programmer s) server left) → IsJoined host server
-        → HasNoEnd (heard host) → StallsBetweenAnswers (heard host)
-        → IsPrefixOf (sent host) (bytes_sent (played (session plan) 1 (heard host)).events)
-        → AreHonest device (session plan) 1 (heard host) (fresh_programmer s) (obeyed (length (frames serves.used))) }
+        → HasNoEnd (heard host) → TimesOutBetweenReplies (heard host)
+        → IsBytePrefixOf (sent host) (bytes_sent (played (session plan) 1 (heard host)).events)
+        → RepliesAreAuthentic device (session plan) 1 (heard host) (fresh_programmer s) (all_executed (length (frames serves.used))) }
     ensures leaves { (plan : Plan) (s : Chip) (left : Programmer) (host server : Transcript)
         → IsSoundChip s → s.part ≡ plan.part → All (IsFitted plan.part) plan.tasks
         → (serves : HasServed (fresh_programmer s) server left) → IsJoined host server
-        → HasNoEnd (heard host) → StallsBetweenAnswers (heard host)
-        → IsPrefixOf (sent host) (bytes_sent (played (session plan) 1 (heard host)).events)
-        → after_pieces device (frames_in (played (session plan) 1 (heard host)).events)
-        (obeyed (length (frames serves.used))) (fresh_programmer s) ≡ left }
+        → HasNoEnd (heard host) → TimesOutBetweenReplies (heard host)
+        → IsBytePrefixOf (sent host) (bytes_sent (played (session plan) 1 (heard host)).events)
+        → after_sent_frames device (frames_in (played (session plan) 1 (heard host)).events)
+        (all_executed (length (frames serves.used))) (fresh_programmer s) ≡ left }
 {}
 
 /// States that a session and a server never both listen when everything sent was received, if the host has timeouts
@@ -66,11 +66,11 @@ pub fn what_a_host_hears_of_a_server_is_honest()
 pub fn two_processes_never_both_wait()
     ensures { (plan : Plan) (s : Chip) (first : List EndCall) (host_items server_items : Tape)
         → IsSoundChip s → s.part ≡ plan.part → All (IsFitted plan.part) plan.tasks
-        → HasNoEnd (heard (of_host first)) → StallsBetweenAnswers (heard (of_host first))
-        → InTurn (session plan) start (of_host first ++ Got host_items ∷ [])
-        → AnswersInTurn (fresh_programmer s) [] [] (of_server first ++ Got server_items ∷ [])
-        → bytes_of (heard (of_server first)) ≡ sent (of_host first)
-        → bytes_of (heard (of_host first)) ≡ sent (of_server first) → ⊥ }
+        → HasNoEnd (heard (host_transcript first)) → TimesOutBetweenReplies (heard (host_transcript first))
+        → InTurn (session plan) start (host_transcript first ++ Got host_items ∷ [])
+        → RepliesInTurn (fresh_programmer s) [] [] (server_transcript first ++ Got server_items ∷ [])
+        → bytes_on_tape (heard (server_transcript first)) ≡ sent (host_transcript first)
+        → bytes_on_tape (heard (host_transcript first)) ≡ sent (server_transcript first) → ⊥ }
 {}
 
 /// States that a session that ran whole and a server that ended in any way are one run, over a link that keeps bytes in
@@ -82,51 +82,51 @@ pub fn a_session_and_a_server_are_one_run()
         (server_old server_new : Devices)
         (file : Bytes) (most status served_status : ℕ) (after : Progress)
         → IsSoundChip s → s.part ≡ plan.part → All (IsFitted plan.part) plan.tasks
-        → IsOrdered calls → StallsBetweenAnswers (heard (of_host calls))
-        → old.link.transcript ≡ [] → new.link.transcript ≡ of_host calls
-        → server_old.link.transcript ≡ [] → server_new.link.transcript ≡ of_server calls
-        → (ran : Ran (session plan) start old new status after)
+        → IsOrdered calls → TimesOutBetweenReplies (heard (host_transcript calls))
+        → old.link.transcript ≡ [] → new.link.transcript ≡ host_transcript calls
+        → server_old.link.transcript ≡ [] → server_new.link.transcript ≡ server_transcript calls
+        → (ran : RanWhole (session plan) start old new status after)
         → (serves : ServesChip s file most server_old server_new served_status)
-        → (served : HasServed (fresh_programmer s) (of_server calls) serves.left.programmer)
+        → (served : HasServed (fresh_programmer s) (server_transcript calls) serves.left.programmer)
         × WholeOverTurns plan (fresh_programmer s) serves.left.programmer
-        (turns_heard (session plan) 1 (heard (of_host calls)) (obeyed (length (frames served.used))))
-        (sent (of_host calls)) ran.events status }
+        (turns_heard (session plan) 1 (heard (host_transcript calls)) (all_executed (length (frames served.used))))
+        (sent (host_transcript calls)) ran.events status }
     ensures anywhere { (plan : Plan) (s : Chip) (left : Programmer) (host server : Transcript)
         (events : List (Event OutputEvent))
         (status : ℕ) (after : Progress)
         → IsSoundChip s → s.part ≡ plan.part → All (IsFitted plan.part) plan.tasks
         → (serves : HasServed (fresh_programmer s) server left) → IsJoined host server
         → Plays (session plan) start host events status after
-        → MakesNoFrame device (session plan) 1 (heard host) (fresh_programmer s)
-        (obeyed (length (frames serves.used))) []
+        → ForgesNoFrame device (session plan) 1 (heard host) (fresh_programmer s)
+        (all_executed (length (frames serves.used))) []
         → WholeOverTurns plan (fresh_programmer s) left
-        (turns_heard (session plan) 1 (heard host) (obeyed (length (frames serves.used)))) (sent host) events status }
+        (turns_heard (session plan) 1 (heard host) (all_executed (length (frames serves.used)))) (sent host) events status }
     ensures saved { (s : Chip) (file : Bytes) (most : ℕ) (old new : Devices) (status : ℕ)
         → (serves : ServesChip s file most old new status) → status ≡ 0
-        → Saves serves.told_desk new.desk file (chip_file serves.left.programmer.chip) (Ok tt) }
+        → SavesChip serves.reported_desk new.desk file (chip_file serves.left.programmer.chip) (Ok tt) }
 {}
 
 /// States that for every plan a session and a server have a run over a link without timeouts. So the laws of two
 /// processes apply.
 pub fn two_processes_have_a_run()
     ensures { (plan : Plan) (s : Chip) (file : Bytes)
-        → IsSoundChip s → s.part ≡ plan.part → All (IsFitted plan.part) plan.tasks → HasRun plan s file }
+        → IsSoundChip s → s.part ≡ plan.part → All (IsFitted plan.part) plan.tasks → HasPromptRun plan s file }
 {}
 
 /// States that a session that ran whole and a server make the expected run, if the link keeps bytes in order and the
 /// host never has a timeout. The link may cut anywhere. Status, output and the memories of the server's chip are those
 /// of the expected run.
-pub fn a_prompt_line_brings_the_expected_run()
+pub fn a_prompt_link_brings_the_expected_run()
     ensures { (plan : Plan) (s : Chip) (calls : List EndCall) (old new : Devices) (server_old server_new : Devices)
         (file : Bytes) (most status served_status : ℕ) (after : Progress)
         → IsSoundChip s → s.part ≡ plan.part → All (IsFitted plan.part) plan.tasks
-        → IsOrdered calls → IsPrompt (heard (of_host calls))
-        → old.link.transcript ≡ [] → new.link.transcript ≡ of_host calls
-        → server_old.link.transcript ≡ [] → server_new.link.transcript ≡ of_server calls
-        → (ran : Ran (session plan) start old new status after)
+        → IsOrdered calls → HasNoTimeout (heard (host_transcript calls))
+        → old.link.transcript ≡ [] → new.link.transcript ≡ host_transcript calls
+        → server_old.link.transcript ≡ [] → server_new.link.transcript ≡ server_transcript calls
+        → (ran : RanWhole (session plan) start old new status after)
         → (serves : ServesChip s file most server_old server_new served_status)
         → (status ≡ (expected_run plan (memories_of s)).status)
-        × (outputs ran.events ≡ (expected_run plan (memories_of s)).says)
+        × (outputs ran.events ≡ (expected_run plan (memories_of s)).emits)
         × (memories_of serves.left.programmer.chip ≡ (expected_run plan (memories_of s)).memories) }
 {}
 
@@ -136,21 +136,21 @@ pub fn whatever_becomes_of_both_some_page_writes_were_made()
     ensures { (plan : Plan) (s : Chip) (calls : List EndCall) (old new : Devices) (server_old server_new : Devices)
         (file : Bytes) (most status served_status : ℕ)
         → IsSoundChip s → s.part ≡ plan.part → All (IsFitted plan.part) plan.tasks
-        → IsOrdered calls → StallsBetweenAnswers (heard (of_host calls))
-        → old.link.transcript ≡ [] → new.link.transcript ≡ of_host calls
-        → server_old.link.transcript ≡ [] → server_new.link.transcript ≡ of_server calls
+        → IsOrdered calls → TimesOutBetweenReplies (heard (host_transcript calls))
+        → old.link.transcript ≡ [] → new.link.transcript ≡ host_transcript calls
+        → server_old.link.transcript ≡ [] → server_new.link.transcript ≡ server_transcript calls
         → RunsSession plan old new status
         → (serves : ServesChip s file most server_old server_new served_status)
-        → (served : HasServed (fresh_programmer s) (of_server calls) serves.left.programmer)
-        × ReportsOverTurns plan (fresh_programmer s) serves.left.programmer
-        (turns_heard (session plan) 1 (heard (of_host calls)) (obeyed (length (frames served.used))))
-        (sent (of_host calls)) (played (session plan) 1 (heard (of_host calls))).events }
+        → (served : HasServed (fresh_programmer s) (server_transcript calls) serves.left.programmer)
+        × ReportsOverExchanges plan (fresh_programmer s) serves.left.programmer
+        (turns_heard (session plan) 1 (heard (host_transcript calls)) (all_executed (length (frames served.used))))
+        (sent (host_transcript calls)) (played (session plan) 1 (heard (host_transcript calls))).events }
 {}
 
 /// States what the conditions on the link of two processes rule out: a timeout within a reply, a lost byte, and a byte
 /// received before it was sent.
-pub fn an_unordered_line_is_refused()
-    ensures within { StallsBetweenAnswers (Byte 27 ∷ Silence ∷ []) → ⊥ }
-    ensures lost { IsOrdered (HostSays (1 ∷ 2 ∷ []) ∷ ServerHears (Byte 2 ∷ []) ∷ []) → ⊥ }
-    ensures early { IsOrdered (ServerHears (Byte 1 ∷ []) ∷ HostSays (1 ∷ []) ∷ []) → ⊥ }
+pub fn an_unordered_link_is_refused()
+    ensures within { TimesOutBetweenReplies (Byte 27 ∷ Silence ∷ []) → ⊥ }
+    ensures lost { IsOrdered (HostSends (1 ∷ 2 ∷ []) ∷ ServerReceives (Byte 2 ∷ []) ∷ []) → ⊥ }
+    ensures early { IsOrdered (ServerReceives (Byte 1 ∷ []) ∷ HostSends (1 ∷ []) ∷ []) → ⊥ }
 {}

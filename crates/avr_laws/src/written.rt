@@ -11,12 +11,12 @@ ghost use Rattle.avr_plan.specs.Plan.{Plan, IsFitted};
 ghost use Rattle.avr_plan.specs.declared.planned.Task.{Task};
 ghost use Rattle.stk_emu.specs.Effect.{Image, Item, Write, Memories, effects};
 ghost use Rattle.stk_emu.specs.Settled.{FitsPart};
-ghost use Rattle.avr_tool.specs.Agrees.{Agrees, Shows};
+ghost use Rattle.avr_tool.specs.ComparisonsAgree.{ComparisonsAgree, MemoryHoldsImage};
 ghost use Rattle.avr_tool.specs.ExpectedRun.{expected_run};
 ghost use Rattle.avr_tool.specs.Items.{asked_items, items};
-ghost use Rattle.avr_tool.specs.Outcome.{page_writes, IsTouched, IsDone};
+ghost use Rattle.avr_tool.specs.Outcome.{write_operations, HasFirstOperations, IsDone};
 ghost use Rattle.avr_tool.specs.Written.{IsWritten, byte_in, written_to};
-ghost use Rattle.avr_laws.specs.WrittenBytes.{IsMade, IsTaken};
+ghost use Rattle.avr_laws.specs.WrittenBytes.{IsMadeByImages, WriteTakesEffect};
 
 /// States what a plan does to a chip, in terms of its switches and tasks. A dry run does nothing. Any other run
 /// erases if an erase is due, and then makes the writes of its tasks in order.
@@ -27,8 +27,8 @@ pub fn a_plan_writes_what_its_tasks_write()
 /// States that an expected run has status 0 if and only if its comparisons agree. Then it has done all that its plan
 /// writes.
 pub fn an_expected_run_succeeds_if_it_agrees()
-    ensures status { (plan : Plan) (m : Memories) → (expected_run plan m).status ≡ 0 ↔ Agrees plan m }
-    ensures memories { (plan : Plan) (m : Memories) → Agrees plan m
+    ensures status { (plan : Plan) (m : Memories) → (expected_run plan m).status ≡ 0 ↔ ComparisonsAgree plan m }
+    ensures memories { (plan : Plan) (m : Memories) → ComparisonsAgree plan m
         → (expected_run plan m).memories ≡ effects plan.part (items plan) m }
 {}
 
@@ -57,13 +57,13 @@ pub fn a_verified_run_leaves_its_images()
 /// plan's images; after any other run they are those of its write operations.
 pub fn a_byte_of_flash_is_made_by_images()
     ensures items { (part : Part) (items : List Item) (m : Memories) (addr : ℕ) → addr < length m.flash
-        → IsMade items addr (byte_in part Flash addr m) (byte_in part Flash addr (effects part items m)) }
+        → IsMadeByImages items addr (byte_in part Flash addr m) (byte_in part Flash addr (effects part items m)) }
     ensures done { (plan : Plan) (before after : Memories) (addr : ℕ) → addr < length before.flash
         → IsDone plan before after
-        → IsMade (items plan) addr (byte_in plan.part Flash addr before) (byte_in plan.part Flash addr after) }
+        → IsMadeByImages (items plan) addr (byte_in plan.part Flash addr before) (byte_in plan.part Flash addr after) }
     ensures touched { (plan : Plan) (before after : Memories) (addr : ℕ) → addr < length before.flash
-        → IsTouched plan before after
-        → IsMade (page_writes plan) addr (byte_in plan.part Flash addr before) (byte_in plan.part Flash addr after) }
+        → HasFirstOperations plan before after
+        → IsMadeByImages (write_operations plan) addr (byte_in plan.part Flash addr before) (byte_in plan.part Flash addr after) }
 {}
 
 /// States when a memory holds an image after the line that it was written. EEPROM and fuses: the chip was not locked.
@@ -73,5 +73,5 @@ pub fn a_byte_of_flash_is_made_by_images()
 pub fn what_is_written_is_there()
     ensures { (part : Part) (before now : Memories) (mem : Mem) (image : Image) (first : List Item)
         → HoldsBytes image → now ≡ effects part (first ++ Write mem image ∷ []) before
-        → IsTaken mem image first (effects part first before) → Shows part mem image now }
+        → WriteTakesEffect mem image first (effects part first before) → MemoryHoldsImage part mem image now }
 {}

@@ -7,9 +7,9 @@ use Rattle.std.proofs.lemmas.List.{take-append-drop, length-set}
 use Rattle.std.proofs.lemmas.Bool.{leb-true, and_parts}
 use Rattle.std.specs.Prelude.{◌-◌, nat_le}
 use Rattle.avr_part.specs.Part.{Part, IsPart}
-use Rattle.avr_part.specs.Memory.{pasted}
+use Rattle.avr_part.specs.Memory.{with_bytes_at}
 use Rattle.avr_part.specs.State.{ChipState, half_offset, word_address}
-use Rattle.avr_part.specs.Block.{half_at, loaded_in_turn, read_in_turn, is_in_page, is_in_flash}
+use Rattle.avr_part.specs.Block.{half_at, loaded_one_by_one, read_one_by_one, is_in_page, is_in_flash}
 use Rattle.avr_part.specs.Sound.{IsSoundChip}
 
 -- the page of a place ends within the memory
@@ -30,7 +30,7 @@ place_on word i half inside = search (rules, mod_on)
 pub loaded_at_once : (word i half : ℕ) (bytes : List ℕ) (s : ChipState) → s.part.flash_page / 2 ≡ half
     → ((x : ℕ) → x % 256 % half ≡ x % half)
     → word % half * 2 + i + length bytes ≤ half * 2 → half * 2 ≤ length s.flash_buffer
-    → loaded_in_turn word i bytes s ≡ record s { flash_buffer = pasted (word % half * 2 + i) bytes s.flash_buffer }
+    → loaded_one_by_one word i bytes s ≡ record s { flash_buffer = with_bytes_at (word % half * 2 + i) bytes s.flash_buffer }
 loaded_at_once word i half [] s is wraps inside long = search (rules, take-append-drop)
 loaded_at_once word i half (d ∷ ds) s is wraps inside long =
     let p = word % half * 2 + i in
@@ -42,7 +42,7 @@ loaded_at_once word i half (d ∷ ds) s is wraps inside long =
 
 pub read_at_once : (word i n half : ℕ) (s : ChipState) → s.part.flash_size / 2 ≡ half
     → (s.extended * 65536 + word) % half * 2 + i + n ≤ half * 2 → half * 2 ≤ length s.flash
-    → read_in_turn word i n s ≡ take n (drop ((s.extended * 65536 + word) % half * 2 + i) s.flash)
+    → read_one_by_one word i n s ≡ take n (drop ((s.extended * 65536 + word) % half * 2 + i) s.flash)
 read_at_once word i zero half s is inside long = refl
 read_at_once word i (suc n) half s is inside long =
     let w = s.extended * 65536 + word in
@@ -60,7 +60,7 @@ wraps_in_page half whole x = search (rules, mod-mod_of_dvd, dvd_trans, dvd-mul_r
 pub block_loaded : (word place : ℕ) (bytes : List ℕ) (s : ChipState) → IsSoundChip s
     → is_in_page word (length bytes) s ≡ true
     → place ≡ word % (s.part.flash_page / 2) * 2
-    → record s { flash_buffer = pasted place bytes s.flash_buffer } ≡ loaded_in_turn word 0 bytes s
+    → record s { flash_buffer = with_bytes_at place bytes s.flash_buffer } ≡ loaded_one_by_one word 0 bytes s
 block_loaded word place bytes s sound inside at =
     let half = s.part.flash_page / 2 in
     let whole : s.part.flash_page ≡ half * 2 = omega arith in
@@ -73,7 +73,7 @@ flash_even part sound = search (rules, mod-eq-zero_of_dvd, dvd_trans, dvd_of_mod
 
 pub block_read : (word n start len : ℕ) (bytes : List ℕ) (s : ChipState) → IsSoundChip s → is_in_flash word n s ≡ true
     → start ≡ word_address s word → len ≡ n → bytes ≡ s.flash
-    → take (start + len - start) (drop start bytes) ≡ read_in_turn word 0 n s
+    → take (start + len - start) (drop start bytes) ≡ read_one_by_one word 0 n s
 block_read word n start len bytes s sound inside at count is =
     let half = s.part.flash_size / 2 in
     let even = flash_even s.part sound.part in

@@ -1,7 +1,7 @@
 -- Lists whose bytes are changed one by one.
 use Rattle.std.proofs.Common.{◌≡◌, ◌∙◌, ap, refl, arith, ℕ, suc, ◌+◌, ◌-◌, ◌<◌, ◌≤◌, List, [], ◌∷◌, length, get_or, bit_and, Option, None, unwrap_or, rules}
 use Rattle.std.proofs.lemmas.Bool.Decides.{nat_tests}
-use Rattle.avr_part.specs.Memory.{map_indexed, map_indexed_from, byte_and_page, overlaid}
+use Rattle.avr_part.specs.Memory.{map_indexed, map_indexed_from, byte_and_page, overlaid_byte}
 
 pub changed_from_is : (k : ℕ) (f : ℕ → ℕ → ℕ) (xs ys : List ℕ) → length ys ≡ length xs
     → ((i : ℕ) → i < length xs → get_or ys i 0 ≡ f (k + i) (get_or xs i 0)) → ys ≡ map_indexed_from k f xs
@@ -26,5 +26,5 @@ anded_is start page i x y before within after = grind (arith, nat_tests)
 -- a byte of a memory over which the loaded bytes of a page were laid
 pub overlaid_is : (start : ℕ) (loads : List (Option ℕ)) (i x y : ℕ) → (i < start → y ≡ x)
     → (start ≤ i → i < start + length loads → y ≡ unwrap_or (get_or loads (i - start) None) x)
-    → (start + length loads ≤ i → y ≡ x) → y ≡ overlaid start loads i x
+    → (start + length loads ≤ i → y ≡ x) → y ≡ overlaid_byte start loads i x
 overlaid_is start loads i x y before within after = grind (arith, nat_tests)

@@ -5,7 +5,7 @@ use Rattle.std.proofs.lemmas.List.{get_or-drop, length-drop, take-append-drop, t
 use Rattle.avr_part.specs.Part.{Part}
 use Rattle.avr_part.specs.State.{ChipState, with_empty_buffers}
 use Rattle.avr_part.specs.Sound.{IsSoundChip}
-use Rattle.avr_part.specs.ChipFile.{chip_file, chip_file_size, chip_in, state_in}
+use Rattle.avr_part.specs.ChipFile.{chip_file, chip_file_size, chip_from_file, state_from_file}
 
 -- three lists in a row, taken apart
 pub flash_part : (flash eeprom fuses : List ℕ) (n : ℕ) → length flash ≡ n → take n (flash ++ eeprom ++ fuses) ≡ flash
@@ -20,7 +20,7 @@ pub fuse_part : (flash eeprom fuses : List ℕ) (at k : ℕ) → at ≡ length f
 fuse_part flash eeprom fuses at k e = search (rules, length-append, get_or-append-add)
 
 -- a chip's own file gives a chip with the same memories and empty buffers
-pub read_again : (s : ChipState) → IsSoundChip s → chip_in s.part (chip_file s) ≡ Ok (with_empty_buffers s)
+pub read_again : (s : ChipState) → IsSoundChip s → chip_from_file s.part (chip_file s) ≡ Ok (with_empty_buffers s)
 read_again s sound =
     let fuses = s.lfuse ∷ s.hfuse ∷ s.efuse ∷ s.lock ∷ [] in
     let flash_size = sound.flash_size in
@@ -37,7 +37,7 @@ read_again s sound =
 four_bytes : (xs : List ℕ) → length xs ≡ 4 → xs ≡ get_or xs 0 0 ∷ get_or xs 1 0 ∷ get_or xs 2 0 ∷ get_or xs 3 0 ∷ []
 four_bytes xs e = grind (arith, common_steps)
 
-pub written_again : (p : Part) (bytes : List ℕ) → length bytes ≡ chip_file_size p → chip_file (state_in p bytes) ≡ bytes
+pub written_again : (p : Part) (bytes : List ℕ) → length bytes ≡ chip_file_size p → chip_file (state_from_file p bytes) ≡ bytes
 written_again p bytes e =
     let n = p.flash_size in
     let m = p.eeprom_size in

@@ -10,26 +10,26 @@ abbrev pub half_at : ℕ → Half
 half_at i = if i % 2 == 0 then half.Low else half.High
 
 -- the chip after an instruction for each byte; the first is byte i of the block that begins at `word`
-abbrev pub loaded_in_turn : ℕ → ℕ → List ℕ → ChipState → ChipState
-loaded_in_turn word i [] s = s
-loaded_in_turn word i (b ∷ bytes) s =
-    loaded_in_turn word (suc i) bytes (after_instruction (LoadFlash (half_at i) ((word + i / 2) % 256) b) s)
+abbrev pub loaded_one_by_one : ℕ → ℕ → List ℕ → ChipState → ChipState
+loaded_one_by_one word i [] s = s
+loaded_one_by_one word i (b ∷ bytes) s =
+    loaded_one_by_one word (suc i) bytes (after_instruction (LoadFlash (half_at i) ((word + i / 2) % 256) b) s)
 
 abbrev pub is_in_page : ℕ → ℕ → ChipState → Bool
 is_in_page word n s = nat_le (word % (s.part.flash_page / 2) * 2 + n) s.part.flash_page
 
 abbrev pub load_block : ℕ → List ℕ → ChipState → Bool × ChipState
 load_block word bytes s =
-    if is_in_page word (length bytes) s then (true, loaded_in_turn word 0 bytes s) else (false, s)
+    if is_in_page word (length bytes) s then (true, loaded_one_by_one word 0 bytes s) else (false, s)
 
 -- what n instructions read; the first reads byte i of the block that begins at `word`
-abbrev pub read_in_turn : ℕ → ℕ → ℕ → ChipState → List ℕ
-read_in_turn word i zero s = []
-read_in_turn word i (suc n) s = flash_byte (half_at i) (word + i / 2) s ∷ read_in_turn word (suc i) n s
+abbrev pub read_one_by_one : ℕ → ℕ → ℕ → ChipState → List ℕ
+read_one_by_one word i zero s = []
+read_one_by_one word i (suc n) s = flash_byte (half_at i) (word + i / 2) s ∷ read_one_by_one word (suc i) n s
 
 -- a block of n bytes ends within one extended address and within flash
 abbrev pub is_in_flash : ℕ → ℕ → ChipState → Bool
 is_in_flash word n s = nat_le (word * 2 + n) 131072 && nat_le (word_address s word + n) s.part.flash_size
 
 abbrev pub flash_block : ℕ → ℕ → ChipState → Option (List ℕ)
-flash_block word n s = if is_in_flash word n s then Some (read_in_turn word 0 n s) else None
+flash_block word n s = if is_in_flash word n s then Some (read_one_by_one word 0 n s) else None

@@ -12,8 +12,8 @@ abbrev pub chip_file_size : Part → ℕ
 chip_file_size p = p.flash_size + p.eeprom_size + 4
 
 -- the fresh chip with the file's memories
-abbrev pub state_in : Part → List ℕ → ChipState
-state_in p bytes =
+abbrev pub state_from_file : Part → List ℕ → ChipState
+state_from_file p bytes =
     let fuses = p.flash_size + p.eeprom_size in
     record (fresh_state p) {
       flash = take p.flash_size bytes;
@@ -24,6 +24,6 @@ state_in p bytes =
       lock = slice_index bytes (fuses + 3);
     }
 
-abbrev pub chip_in : Part → List ℕ → Result ChipState PartFault
-chip_in p bytes =
-    if length bytes == chip_file_size p then Ok (state_in p bytes) else Err (BadChipFile (length bytes))
+abbrev pub chip_from_file : Part → List ℕ → Result ChipState PartFault
+chip_from_file p bytes =
+    if length bytes == chip_file_size p then Ok (state_from_file p bytes) else Err (BadChipFile (length bytes))

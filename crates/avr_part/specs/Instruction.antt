@@ -6,8 +6,8 @@ use Rattle.avr_part.specs.declared.instruction.Instruction.{Instruction}
 use Rattle.avr_part.specs.declared.instruction.Instruction.TheVariants.{Enable, Erase, LoadFlash, WriteFlashPage, ReadFlash, ReadEeprom, WriteEeprom, LoadEeprom, WriteEepromPage, WriteFuse, WriteLock, ReadFuse, ReadLock, ReadSignature, ReadCalibration, Poll, Extend, Nothing}
 
 -- instructions that begin with AC, by their second byte
-abbrev pub write_of : ℕ → ℕ → Instruction
-write_of b d =
+abbrev pub decode_write : ℕ → ℕ → Instruction
+decode_write b d =
     if b == 0x53 then Enable
     else if b == 0x80 then Erase
     else if b == 0xA0 then WriteFuse fuse.Low d
@@ -17,17 +17,17 @@ write_of b d =
     else Nothing
 
 -- instructions that read a fuse or the lock, by their first two bytes
-abbrev pub read_of : ℕ → ℕ → Instruction
-read_of a b =
+abbrev pub decode_read : ℕ → ℕ → Instruction
+decode_read a b =
     if a == 0x50 && b == 0x00 then ReadFuse fuse.Low
     else if a == 0x58 && b == 0x08 then ReadFuse fuse.High
     else if a == 0x50 && b == 0x08 then ReadFuse fuse.Extended
     else if a == 0x58 && b == 0x00 then ReadLock
     else Nothing
 
-abbrev pub instruction_by : ℕ → ℕ → ℕ → ℕ → Instruction
-instruction_by a b c d =
-    if a == 0xAC then write_of b d
+abbrev pub decode_bytes : ℕ → ℕ → ℕ → ℕ → Instruction
+decode_bytes a b c d =
+    if a == 0xAC then decode_write b d
     else if a == 0x40 then LoadFlash half.Low c d
     else if a == 0x48 then LoadFlash half.High c d
     else if a == 0x4C then WriteFlashPage (b * 256 + c)
@@ -41,7 +41,7 @@ instruction_by a b c d =
     else if a == 0x38 then ReadCalibration
     else if a == 0xF0 then Poll
     else if a == 0x4D then Extend c
-    else read_of a b
+    else decode_read a b
 
 abbrev pub instruction_of : List ℕ → Instruction
-instruction_of x = instruction_by (slice_index x 0) (slice_index x 1) (slice_index x 2) (slice_index x 3)
+instruction_of x = decode_bytes (slice_index x 0) (slice_index x 1) (slice_index x 2) (slice_index x 3)

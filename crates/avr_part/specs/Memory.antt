@@ -34,12 +34,12 @@ abbrev pub nothing_loaded : List (Option ℕ) → List (Option ℕ)
 nothing_loaded loads = replicate (length loads) None
 
 -- within the page each byte becomes the one loaded for its place, if any
-abbrev pub overlaid : ℕ → List (Option ℕ) → ℕ → ℕ → ℕ
-overlaid start loads i x =
+abbrev pub overlaid_byte : ℕ → List (Option ℕ) → ℕ → ℕ → ℕ
+overlaid_byte start loads i x =
     if is_in_span start (length loads) i then unwrap_or (slice_index_or loads (i - start) None) x else x
 
 abbrev pub page_start : ℕ → ℕ → ℕ
 page_start page i = i / page * page
 
-abbrev pub pasted : ℕ → List ℕ → List ℕ → List ℕ
-pasted start bytes xs = take start xs ++ (bytes ++ drop (start + length bytes) xs)
+abbrev pub with_bytes_at : ℕ → List ℕ → List ℕ → List ℕ
+with_bytes_at start bytes xs = take start xs ++ (bytes ++ drop (start + length bytes) xs)

@@ -57,8 +57,8 @@ fitted_part p =
     if p.flash_size % p.flash_page == 0 && p.eeprom_size % p.eeprom_page == 0 then Ok p else Err BadSizes
 
 -- the fields of a part, in their order
-abbrev pub part_with : Bytes → Members → Result Part PartFault
-part_with id ms = do
+abbrev pub part_of_fields : Bytes → Members → Result Part PartFault
+part_of_fields id ms = do
   signature ← signature_field (get_member (codes "signature") ms)
   flash_size ← number_field field.FlashSize 2 262144 (get_member (codes "flash_size") ms)
   flash_page ← page_field field.FlashPage 2 (get_member (codes "flash_page") ms)
@@ -80,7 +80,7 @@ abbrev pub part_of : Bytes → Data → Result Part PartFault
 part_of key d = do
   fields ← ok_or (as_table d) (BadValue field.Parts)
   id ← ok_or (id_of key) (BadValue field.Id)
-  part_with id fields
+  part_of_fields id fields
 
 -- why a part file is refused, and the id of the part at fault, if it has one
 pub record NamedFault : Type 0 where
@@ -116,25 +116,25 @@ abbrev pub line_at : Bytes → ℕ → ℕ
 line_at text place = line_count (take place text)
 
 -- why a part file is refused, and the line at which it stops being TOML
-pub record PlacedFault : Type 0 where
+pub record FaultWithLine : Type 0 where
   pub why : NamedFault
   pub line : Option ℕ
 
-abbrev pub not_toml_at : ℕ → PlacedFault
+abbrev pub not_toml_at : ℕ → FaultWithLine
 not_toml_at line = record { why = of_file NotToml; line = Some line }
 
-abbrev pub lineless : NamedFault → PlacedFault
-lineless why = record { why = why; line = None }
+abbrev pub without_line : NamedFault → FaultWithLine
+without_line why = record { why = why; line = None }
 
 -- only a text that is not TOML has a line, which is one of its lines
 abbrev pub HasLine : Bytes → PartFault → Option ℕ → Type 0
 HasLine text fault (Some line) = (fault ≡ NotToml) × (1 ≤ line) × (line ≤ line_count text)
 HasLine text fault None = fault ≢ NotToml
 
-abbrev pub IsPlaced : Bytes → PlacedFault → Type 0
+abbrev pub IsPlaced : Bytes → FaultWithLine → Type 0
 IsPlaced text f = HasLine text f.why.fault f.line
 
-abbrev pub unplaced : {T : Type 0} → Result T PlacedFault → Result T NamedFault
+abbrev pub unplaced : {T : Type 0} → Result T FaultWithLine → Result T NamedFault
 unplaced (Ok t) = Ok t
 unplaced (Err f) = Err f.why
 
@@ -152,17 +152,17 @@ parts_of bytes = do
   document_parts document
 
 -- the contract of calls that make parts and chips: the wanted result, or allocation failed
-abbrev pub GivesChipOrMemory : {T : Type 0} → Result T PartFault → Result T PartFault → Type 0
-GivesChipOrMemory want got = (got ≡ want) ⊎ (got ≡ Err Memory)
+abbrev pub GivesPartUnlessOutOfMemory : {T : Type 0} → Result T PartFault → Result T PartFault → Type 0
+GivesPartUnlessOutOfMemory want got = (got ≡ want) ⊎ (got ≡ Err Memory)
 
-abbrev pub ReadsOrMemory : {T : Type 0} → Result T NamedFault → Result T NamedFault → Type 0
-ReadsOrMemory want got = (got ≡ want) ⊎ (got ≡ Err (of_file Memory))
+abbrev pub ReadsUnlessOutOfMemory : {T : Type 0} → Result T NamedFault → Result T NamedFault → Type 0
+ReadsUnlessOutOfMemory want got = (got ≡ want) ⊎ (got ≡ Err (of_file Memory))
 
 abbrev pub listed_items : Result (Vec Part) NamedFault → Result (List Part) NamedFault
 listed_items (Ok v) = Ok v.items
 listed_items (Err e) = Err e
 
 -- the document, or allocation failed
-abbrev pub ReadsDocument : Option Members → Result (BTreeMap (String Global) Value) PlacedFault → Type 0
+abbrev pub ReadsDocument : Option Members → Result (BTreeMap (String Global) Value) FaultWithLine → Type 0
 ReadsDocument want (Ok t) = want ≡ Some (table_view t)
 ReadsDocument want (Err e) = (e.why ≡ of_file Memory) ⊎ ((e.why ≡ of_file NotToml) × (want ≡ None))

@@ -1,7 +1,7 @@
 -- The state of a chip, and what each instruction does to it.
 use Rattle.std.specs.Prelude.{ℕ, Bool, ◌+◌, ◌*◌, ◌/◌, ◌%◌, ◌==◌, List, [], ◌∷◌, Option, Some, None, replicate, slice_index, slice_set, bit_and, if◌then◌else◌}
 use Rattle.std.specs.Int.{bit_at}
-use Rattle.avr_part.specs.Memory.{map_indexed, byte_and_page, overlaid, blank, nothing_loaded, page_start}
+use Rattle.avr_part.specs.Memory.{map_indexed, byte_and_page, overlaid_byte, blank, nothing_loaded, page_start}
 use Rattle.avr_part.specs.Instruction.{instruction_of}
 use Rattle.avr_part.specs.Part.{Part}
 use Rattle.avr_part.specs.declared.part.Mem.{Mem}
@@ -98,7 +98,7 @@ with_eeprom_load place byte s = record s {
 
 abbrev pub with_eeprom_page : ℕ → ChipState → ChipState
 with_eeprom_page address s = record s {
-  eeprom = if is_locked s then s.eeprom else map_indexed (overlaid
+  eeprom = if is_locked s then s.eeprom else map_indexed (overlaid_byte
       (page_start s.part.eeprom_page (eeprom_address s address)) s.eeprom_buffer) s.eeprom;
   eeprom_buffer = nothing_loaded s.eeprom_buffer;
 }
@@ -126,15 +126,15 @@ abbrev pub signature_byte : ℕ → ChipState → ℕ
 signature_byte place s = if place % 4 == 3 then 255 else slice_index s.part.signature (place % 4)
 
 -- the byte that an instruction reads, or its third byte if it reads none
-abbrev pub answer_of : Instruction → ℕ → ChipState → ℕ
-answer_of (ReadFlash h word) third s = flash_byte h word s
-answer_of (ReadEeprom address) third s = eeprom_byte address s
-answer_of (ReadFuse f) third s = fuse_of f s
-answer_of ReadLock third s = s.lock
-answer_of (ReadSignature place) third s = signature_byte place s
-answer_of ReadCalibration third s = 255
-answer_of Poll third s = 0
-answer_of i third s = third
+abbrev pub output_byte : Instruction → ℕ → ChipState → ℕ
+output_byte (ReadFlash h word) third s = flash_byte h word s
+output_byte (ReadEeprom address) third s = eeprom_byte address s
+output_byte (ReadFuse f) third s = fuse_of f s
+output_byte ReadLock third s = s.lock
+output_byte (ReadSignature place) third s = signature_byte place s
+output_byte ReadCalibration third s = 255
+output_byte Poll third s = 0
+output_byte i third s = third
 
 abbrev pub after_instruction : Instruction → ChipState → ChipState
 after_instruction Enable s = with_empty_buffers s
@@ -152,7 +152,7 @@ after_instruction i s = s
 abbrev pub spi_of : List ℕ → ChipState → List ℕ × ChipState
 spi_of x s =
     let i = instruction_of x in
-    (0 ∷ slice_index x 0 ∷ slice_index x 1 ∷ answer_of i (slice_index x 2) s ∷ [], after_instruction i s)
+    (0 ∷ slice_index x 0 ∷ slice_index x 1 ∷ output_byte i (slice_index x 2) s ∷ [], after_instruction i s)
 
 abbrev pub memory_of : Mem → ChipState → List ℕ
 memory_of Flash s = s.flash

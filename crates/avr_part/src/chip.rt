@@ -49,10 +49,10 @@ impl Model for Chip {
 }
 
 impl Chip {
-    ghost use Rattle.avr_part.specs.State.{fresh_state, with_empty_buffers, with_erased, with_load, with_flash_page, with_eeprom_byte, with_eeprom_load, with_eeprom_page, with_fuse, word_address, eeprom_address, flash_byte, signature_byte, fuse_of, answer_of, after_instruction, spi_of, is_locked, memory_of};
+    ghost use Rattle.avr_part.specs.State.{fresh_state, with_empty_buffers, with_erased, with_load, with_flash_page, with_eeprom_byte, with_eeprom_load, with_eeprom_page, with_fuse, word_address, eeprom_address, flash_byte, signature_byte, fuse_of, output_byte, after_instruction, spi_of, is_locked, memory_of};
     ghost use Rattle.avr_part.specs.Block.{load_block, is_in_page, flash_block, is_in_flash};
     ghost use Rattle.avr_part.specs.Sound.{IsSoundChip};
-    ghost use Rattle.avr_part.specs.PartFile.{GivesChipOrMemory};
+    ghost use Rattle.avr_part.specs.PartFile.{GivesPartUnlessOutOfMemory};
 
     /// Creates a chip of this part whose memories are all FF.
     ///
@@ -65,7 +65,7 @@ impl Chip {
     /// assert_eq!(rt; chip.byte(Mem::Eeprom, 511), Some(0xFF));
     /// ```
     pub fn fresh(alloc: Global, part: Part) -> Result<Chip, PartFault>
-        ensures { GivesChipOrMemory (Ok (fresh_state part)) result }
+        ensures { GivesPartUnlessOutOfMemory (Ok (fresh_state part)) result }
     {
         Chip::make(alloc, part).map_err(|_| PartFault::Memory)
     }
@@ -288,7 +288,7 @@ impl Chip {
     /// Returns the byte that an instruction reads, or `third` if it reads none.
     #[inline(always)]
     fn answer(&self, instruction: Instruction, third: u8) -> u8
-        ensures { result ≡ answer_of instruction third self.now }
+        ensures { result ≡ output_byte instruction third self.now }
     {
         match instruction {
             Instruction::ReadFlash { half, word } => self.read_flash(half, word),
@@ -306,7 +306,7 @@ impl Chip {
     }
 
     #[inline(always)]
-    fn obey(&mut self, instruction: Instruction)
+    fn execute(&mut self, instruction: Instruction)
         ensures { self.new ≡ after_instruction instruction self.old }
     {
         match instruction {
@@ -341,7 +341,7 @@ impl Chip {
     {
         let instruction = Instruction::of(bytes);
         let answer = self.answer(instruction, bytes[2]);
-        self.obey(instruction);
+        self.execute(instruction);
         [0, bytes[0], bytes[1], answer]
     }
 

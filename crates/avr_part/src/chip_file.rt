@@ -1,6 +1,6 @@
 ghost use Rattle.std.specs.Prelude.{◌≡◌, ◌+◌, IfOk, IfErr, length, Ok};
-ghost use Rattle.avr_part.specs.ChipFile.{chip_file, chip_file_size, chip_in, state_in};
-ghost use Rattle.avr_part.specs.PartFile.{GivesChipOrMemory};
+ghost use Rattle.avr_part.specs.ChipFile.{chip_file, chip_file_size, chip_from_file, state_from_file};
+ghost use Rattle.avr_part.specs.PartFile.{GivesPartUnlessOutOfMemory};
 
 use crate::chip::Chip;
 use crate::fault::PartFault;
@@ -23,7 +23,7 @@ impl Part {
 
 fn read_chip(alloc: Global, part: Part, bytes: &[u8]) -> Result<Chip, AllocError>
     requires { length bytes.now ≡ chip_file_size part }
-    ensures { IfOk result (λ c. c ≡ state_in part bytes.now) }
+    ensures { IfOk result (λ c. c ≡ state_from_file part bytes.now) }
 {
     let flash_size = part.size_of(Mem::Flash) as usize;
     let eeprom_size = part.size_of(Mem::Eeprom) as usize;
@@ -62,7 +62,7 @@ impl Chip {
     /// assert_eq!(rt; chip.err(), Some(PartFault::BadChipFile(100)));
     /// ```
     pub fn from_bytes(alloc: Global, part: Part, bytes: &[u8]) -> Result<Chip, PartFault>
-        ensures { GivesChipOrMemory (chip_in part bytes.now) result }
+        ensures { GivesPartUnlessOutOfMemory (chip_from_file part bytes.now) result }
     {
         if bytes.len() != part.chip_file_size() as usize {
             return Err(PartFault::BadChipFile(bytes.len()));

@@ -1,7 +1,7 @@
 //! Faults of a part file, with their part and line.
 ghost use Rattle.std.specs.Prelude.{◌≡◌, Some, option_map};
 ghost use Rattle.avr_part.specs.Part.{id_of};
-ghost use Rattle.avr_part.specs.PartFile.{of_file, not_toml_at, lineless};
+ghost use Rattle.avr_part.specs.PartFile.{of_file, not_toml_at, without_line};
 
 use crate::fault::PartFault;
 use crate::judge::id_of;
@@ -58,9 +58,9 @@ pub struct PartFileFault {
 }
 
 impl Model for PartFileFault {
-    ghost use Rattle.avr_part.specs.PartFile.{PlacedFault};
+    ghost use Rattle.avr_part.specs.PartFile.{FaultWithLine};
 
-    ghost Value = { PlacedFault };
+    ghost Value = { FaultWithLine };
 
     ghost view = { λ f. record { why = f.why; line = f.line } };
 }
@@ -75,8 +75,8 @@ impl PartFileFault {
         }
     }
 
-    pub(crate) fn lineless(why: NamedFault) -> PartFileFault
-        ensures { result ≡ lineless why }
+    pub(crate) fn without_line(why: NamedFault) -> PartFileFault
+        ensures { result ≡ without_line why }
     {
         PartFileFault { why, line: None }
     }

@@ -1,6 +1,6 @@
 //! The serial programming instructions.
 ghost use Rattle.std.specs.Prelude.{◌≡◌};
-ghost use Rattle.avr_part.specs.Instruction.{instruction_of, write_of};
+ghost use Rattle.avr_part.specs.Instruction.{instruction_of, decode_write};
 
 use std::fmt;
 
@@ -91,7 +91,7 @@ impl Instruction {
     {
         let [first, second, third, last] = bytes;
         match (first, second) {
-            (0xAC, _) => write_of(second, last),
+            (0xAC, _) => decode_write(second, last),
             (0x40, _) => Instruction::LoadFlash {
                 half: Half::Low,
                 word: third,
@@ -174,8 +174,8 @@ impl fmt::Debug for Instruction {
     }
 }
 
-fn write_of(second: u8, last: u8) -> Instruction
-    ensures { result ≡ write_of second last }
+fn decode_write(second: u8, last: u8) -> Instruction
+    ensures { result ≡ decode_write second last }
 {
     match second {
         0x53 => Instruction::Enable,

@@ -80,7 +80,7 @@ fn signature(table: &Table) -> Result<[u8; 3], PartFault>
 }
 
 /// Reads a part: its id, then its fields in the order of [`Field`].
-fn judge_part(key: &str, value: &Value) -> Result<Part, PartFault>
+fn check_part(key: &str, value: &Value) -> Result<Part, PartFault>
     ensures value { result ≡ part_of key.now (view value.now) }
     ensures toml { IfErr result (λ fault. fault ≢ NotToml) }
 {
@@ -107,11 +107,11 @@ fn judge_part(key: &str, value: &Value) -> Result<Part, PartFault>
 }
 
 /// Reads a member of the table of parts; a fault carries the part's id.
-pub(crate) fn judge_member(key: &str, value: &Value) -> Result<Part, NamedFault>
+pub(crate) fn check_member(key: &str, value: &Value) -> Result<Part, NamedFault>
     ensures value { result ≡ in_part key.now (part_of key.now (view value.now)) }
     ensures toml { IfErr result (λ fault. fault.fault ≢ NotToml) }
 {
-    match judge_part(key, value) {
+    match check_part(key, value) {
         Ok(part) => Ok(part),
         Err(fault) => Err(NamedFault::of_part(key, fault)),
     }

@@ -7,7 +7,7 @@ ghost use Rattle.avr_part.specs.declared.instruction.Instruction.{Instruction};
 ghost use Rattle.avr_part.specs.State.{ChipState, with_empty_buffers, with_erased, with_flash_page, with_eeprom_page, with_fuse, with_lock, is_locked, after_instruction, spi_of};
 ghost use Rattle.avr_part.specs.Part.{Part};
 ghost use Rattle.avr_part.specs.Sound.{IsSoundChip};
-ghost use Rattle.avr_part.specs.ChipFile.{chip_file, chip_file_size, chip_in, state_in};
+ghost use Rattle.avr_part.specs.ChipFile.{chip_file, chip_file_size, chip_from_file, state_from_file};
 ghost use Rattle.avr_part.specs.Laws.{flash_loaded_as, eeprom_loaded_as, KeepsMemories};
 
 /// A memory is found by its own name and by no other text.
@@ -65,7 +65,7 @@ pub fn a_locked_chip_keeps_its_memories()
 #[tactic(auto, using(crate::proofs::ChipFiles::read_again, crate::proofs::ChipFiles::written_again))]
 pub fn a_chip_file_is_read_again()
     ensures written { (p : Part) (bytes : List ℕ)
-        → length bytes ≡ chip_file_size p → chip_file (state_in p bytes) ≡ bytes }
+        → length bytes ≡ chip_file_size p → chip_file (state_from_file p bytes) ≡ bytes }
     ensures read { (s : ChipState)
-        → IsSoundChip s → chip_in s.part (chip_file s) ≡ Ok (with_empty_buffers s) }
+        → IsSoundChip s → chip_from_file s.part (chip_file s) ≡ Ok (with_empty_buffers s) }
 {}

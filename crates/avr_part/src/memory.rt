@@ -1,6 +1,6 @@
 //! The bytes of a memory, and a page buffer whose bytes are loaded one by one.
 ghost use Rattle.std.specs.Prelude.{◌≡◌, ◌<◌, ℕ, List, Option, Some, None, IfOk, length, replicate, slice_set, ◌+◌, ◌≤◌};
-ghost use Rattle.avr_part.specs.Memory.{AreLoads, AreBytes, Becomes, nothing_loaded, map_indexed, byte_and_page, overlaid, blank, pasted};
+ghost use Rattle.avr_part.specs.Memory.{AreLoads, AreBytes, Becomes, nothing_loaded, map_indexed, byte_and_page, overlaid_byte, blank, with_bytes_at};
 
 use std::alloc::{AllocError, Global};
 use std::marker::Model;
@@ -104,7 +104,7 @@ impl Memory {
 
     pub fn paste(&mut self, start: usize, bytes: &[u8])
         requires { start + length bytes.now ≤ length self.old }
-        ensures { Becomes AreBytes (pasted start bytes.now self.old) (length self.old) self.new }
+        ensures { Becomes AreBytes (with_bytes_at start bytes.now self.old) (length self.old) self.new }
     {
         self.bytes[start..start + bytes.len()].copy_from_slice(bytes);
     }
@@ -119,7 +119,7 @@ impl Memory {
     /// Overwrites the bytes from `start` on with the loaded ones.
     pub fn overlay_page(&mut self, start: usize, loads: &Loads)
         requires { start + length loads.now ≤ length self.old }
-        ensures { Becomes AreBytes (map_indexed (overlaid start loads.now) self.old) (length self.old) self.new }
+        ensures { Becomes AreBytes (map_indexed (overlaid_byte start loads.now) self.old) (length self.old) self.new }
     {
         for place in 0..loads.bytes.len() {
             if let Some(byte) = loads.bytes[place] {

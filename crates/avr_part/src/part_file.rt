@@ -3,11 +3,11 @@ ghost use Rattle.std.specs.Str.{is_utf8};
 ghost use Rattle.std.specs.Str.Lossy.{utf8_valid_len};
 ghost use Rattle.toml.specs.View.{table_view};
 ghost use Rattle.toml.specs.Parse.{parse_document};
-ghost use Rattle.avr_part.specs.PartFile.{ReadsOrMemory, listed_items, parts_in, document_parts, parts_of, GivesChipOrMemory, unnamed, ReadsDocument, IsPlaced, line_at, not_toml_at, unplaced};
+ghost use Rattle.avr_part.specs.PartFile.{ReadsUnlessOutOfMemory, listed_items, parts_in, document_parts, parts_of, GivesPartUnlessOutOfMemory, unnamed, ReadsDocument, IsPlaced, line_at, not_toml_at, unplaced};
 
 use crate::fault::{Field, PartFault};
 use crate::file_fault::{NamedFault, PartFileFault};
-use crate::judge::{at_key, judge_member};
+use crate::judge::{at_key, check_member};
 use crate::lines::line_at;
 use crate::part::Part;
 use crate::parts::Parts;
@@ -15,13 +15,13 @@ use std::alloc::Global;
 use std::str;
 use toml::Table;
 
-fn judge_all(alloc: Global, table: &Table) -> Result<Vec<Part>, NamedFault>
-    ensures reads { ReadsOrMemory (parts_in (table_view table.now)) (listed_items result) }
+fn check_members(alloc: Global, table: &Table) -> Result<Vec<Part>, NamedFault>
+    ensures reads { ReadsUnlessOutOfMemory (parts_in (table_view table.now)) (listed_items result) }
     ensures toml { IfErr result (λ e. e.fault ≢ PartFault.NotToml) }
 {
     let mut parts = Vec::new(alloc);
     for (key, value) in table {
-        let part = judge_member(key.as_str(), value)?;
+        let part = check_member(key.as_str(), value)?;
         parts
             .push(part)
             .map_err(|_| NamedFault::of_file(PartFault::Memory))?;
@@ -29,15 +29,15 @@ fn judge_all(alloc: Global, table: &Table) -> Result<Vec<Part>, NamedFault>
     Ok(parts)
 }
 
-fn judge_document(alloc: Global, document: &Table) -> Result<Vec<Part>, NamedFault>
-    ensures reads { ReadsOrMemory (document_parts (table_view document.now)) (listed_items result) }
+fn check_document(alloc: Global, document: &Table) -> Result<Vec<Part>, NamedFault>
+    ensures reads { ReadsUnlessOutOfMemory (document_parts (table_view document.now)) (listed_items result) }
     ensures toml { IfErr result (λ e. e.fault ≢ PartFault.NotToml) }
 {
     let missing = NamedFault::of_file(PartFault::Missing(Field::Parts));
     let value = at_key(document, "parts").ok_or(missing)?;
     let bad_value = NamedFault::of_file(PartFault::BadValue(Field::Parts));
     let table = value.as_table().ok_or(bad_value)?;
-    judge_all(alloc, table)
+    check_members(alloc, table)
 }
 
 /// Parses a text as TOML; a fault other than `Memory` has the line at which the text stops being TOML.
@@ -50,7 +50,7 @@ fn read_document(alloc: Global, text: &str) -> Result<Table, PartFileFault>
         Ok(document) => Ok(document),
         Err(error) => Err(match error.span() {
             Some(span) => PartFileFault::not_toml_at(line_at(text.as_bytes(), span.start)),
-            None => PartFileFault::lineless(NamedFault::of_file(PartFault::Memory)),
+            None => PartFileFault::without_line(NamedFault::of_file(PartFault::Memory)),
         }),
     }
 }
@@ -75,9 +75,9 @@ fn read_document(alloc: Global, text: &str) -> Result<Table, PartFileFault>
 /// let parts = parse_part_file(alloc, text.as_bytes())?;
 /// assert_eq!(rt; parts.find("x1")?.signature(), [0x1E, 0x95, 0x0F]);
 /// ```
-#[tactic(auto, using(crate::proofs::JudgedParts::judges_text))]
+#[tactic(auto, using(crate::proofs::CheckedParts::checks_text))]
 pub fn parse_part_file(alloc: Global, text: &[u8]) -> Result<Parts, PartFileFault>
-    ensures reads { ReadsOrMemory (parts_of text.now) (unplaced result) }
+    ensures reads { ReadsUnlessOutOfMemory (parts_of text.now) (unplaced result) }
     ensures line { IfErr result (IsPlaced text.now) }
     ensures no_text { is_utf8 text.now ≡ false → result ≡ Err
         (not_toml_at (line_at text.now (utf8_valid_len text.now))) }
@@ -90,7 +90,7 @@ pub fn parse_part_file(alloc: Global, text: &[u8]) -> Result<Parts, PartFileFaul
         }
     };
     let document = read_document(alloc, text)?;
-    let parts = judge_document(alloc, &document).map_err(PartFileFault::lineless)?;
+    let parts = check_document(alloc, &document).map_err(PartFileFault::without_line)?;
     Ok(Parts::of_file(parts))
 }
 
@@ -104,7 +104,7 @@ pub fn parse_part_file(alloc: Global, text: &[u8]) -> Result<Parts, PartFileFaul
 /// assert_eq!(rt; parse_parts(alloc, b"").err(), Some(PartFault::Missing(Field::Parts)));
 /// ```
 pub fn parse_parts(alloc: Global, text: &[u8]) -> Result<Parts, PartFault>
-    ensures { GivesChipOrMemory (unnamed (parts_of text.now)) result }
+    ensures { GivesPartUnlessOutOfMemory (unnamed (parts_of text.now)) result }
 {
     match parse_part_file(alloc, text) {
         Ok(parts) => Ok(parts),

@@ -5,8 +5,8 @@ use Rattle.avr_cli.specs.declared.update.Format.TheVariants as letter
 use Rattle.avr_image.specs.Raw as raw_file
 use Rattle.avr_image.specs.declared.fault.ImageFault.{ImageFault}
 use Rattle.avr_desk.specs.Record.{Bytes}
-use Rattle.avr_records.specs.Closed.{closed_fault}
-use Rattle.avr_records.specs.Detect.{kind_of_file}
+use Rattle.avr_records.specs.Closed.{ended_lines_fault}
+use Rattle.avr_records.specs.Detect.{format_of_file}
 use Rattle.avr_records.specs.Reading.{image_in_text}
 use Rattle.avr_records.specs.declared.kind.Ending.{Ending}
 use Rattle.avr_records.specs.declared.kind.Ending.TheVariants.{Ended}
@@ -18,45 +18,45 @@ use Rattle.avr_plan.specs.declared.intake.BadFile.{BadFile}
 use Rattle.avr_plan.specs.declared.intake.BadFile.TheVariants.{Record, Raw, Elf, TooLong}
 
 -- an image, and whether its file had an end record; or the fault of the file
-abbrev pub Given : Type 0
-Given = Result (List (Option ℕ) × Ending) BadFile
+abbrev pub ImageOrBadFile : Type 0
+ImageOrBadFile = Result (List (Option ℕ) × Ending) BadFile
 
-abbrev pub of_records : Result (List (Option ℕ) × Ending) RecordFault → Given
+abbrev pub of_records : Result (List (Option ℕ) × Ending) RecordFault → ImageOrBadFile
 of_records (Ok good) = Ok good
 of_records (Err fault) = Err (Record fault)
 
 -- Raw bytes have no end record and need none.
-abbrev pub of_raw : Result (List (Option ℕ)) ImageFault → Given
+abbrev pub of_raw : Result (List (Option ℕ)) ImageFault → ImageOrBadFile
 of_raw (Ok image) = Ok (image, Ended)
 of_raw (Err fault) = Err (Raw fault)
 
 -- The image of a whole file of this kind, for a memory of `size` bytes.
-abbrev pub whole_file : Found → Bytes → ℕ → Given
-whole_file file.Ihex bytes size = of_records (image_in_text records.Ihex bytes size)
-whole_file file.Srec bytes size = of_records (image_in_text records.Srec bytes size)
-whole_file file.Elf bytes size = Err Elf
-whole_file file.Raw bytes size = of_raw (raw_file.raw bytes size)
+abbrev pub image_of_file : Found → Bytes → ℕ → ImageOrBadFile
+image_of_file file.Ihex bytes size = of_records (image_in_text records.Ihex bytes size)
+image_of_file file.Srec bytes size = of_records (image_in_text records.Srec bytes size)
+image_of_file file.Elf bytes size = Err Elf
+image_of_file file.Raw bytes size = of_raw (raw_file.raw bytes size)
 
 abbrev pub or_too_long : Option RecordFault → BadFile
 or_too_long (Some fault) = Record fault
 or_too_long None = TooLong
 
 -- The fault of a longer file that begins with `prefix`: the first fault of a line that ends in it, or `TooLong`.
-abbrev pub long_file : Found → Bytes → ℕ → BadFile
-long_file file.Ihex prefix size = or_too_long (closed_fault records.Ihex prefix size)
-long_file file.Srec prefix size = or_too_long (closed_fault records.Srec prefix size)
-long_file found prefix size = TooLong
+abbrev pub fault_of_long_file : Found → Bytes → ℕ → BadFile
+fault_of_long_file file.Ihex prefix size = or_too_long (ended_lines_fault records.Ihex prefix size)
+fault_of_long_file file.Srec prefix size = or_too_long (ended_lines_fault records.Srec prefix size)
+fault_of_long_file found prefix size = TooLong
 
-abbrev pub file_within : ℕ → Found → Bytes → ℕ → Given
-file_within limit found bytes size =
-    if nat_le (length bytes) limit then whole_file found bytes size
-    else Err (long_file found (take limit bytes) size)
+abbrev pub image_of_file_within : ℕ → Found → Bytes → ℕ → ImageOrBadFile
+image_of_file_within limit found bytes size =
+    if nat_le (length bytes) limit then image_of_file found bytes size
+    else Err (fault_of_long_file found (take limit bytes) size)
 
 abbrev pub kind_of : Format → Bytes → Found
 kind_of letter.Ihex bytes = file.Ihex
 kind_of letter.Srec bytes = file.Srec
 kind_of letter.Raw bytes = file.Raw
-kind_of format bytes = kind_of_file bytes
+kind_of format bytes = format_of_file bytes
 
-abbrev pub image_within : ℕ → Format → Bytes → ℕ → Given
-image_within limit format bytes size = file_within limit (kind_of format bytes) bytes size
+abbrev pub image_within : ℕ → Format → Bytes → ℕ → ImageOrBadFile
+image_within limit format bytes size = image_of_file_within limit (kind_of format bytes) bytes size

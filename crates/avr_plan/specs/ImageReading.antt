@@ -2,14 +2,14 @@
 use Rattle.std.specs.Prelude.{◌≡◌, ◌≤◌, ◌+◌, ℕ, List, ◌++◌, length, Option, Bool, false, Result, Ok, Err, MatchBool}
 use Rattle.avr_cli.specs.declared.update.Format.{Format}
 use Rattle.avr_desk.specs.Fault.{HasSameCounts}
-use Rattle.avr_desk.specs.Files.{after_reading, with_read, FileBreaks, IsCounted, IsWhole}
-use Rattle.avr_desk.specs.Record.{DeskState, Passes, Bytes}
+use Rattle.avr_desk.specs.Files.{after_reading, with_read, FileBreaks, CountsFileFault, EndsOrExceedsLimit}
+use Rattle.avr_desk.specs.Record.{DeskState, ChangesRecord, Bytes}
 use Rattle.avr_desk.specs.declared.files.FileFault.{FileFault}
 use Rattle.avr_desk.specs.declared.files.FileFault.TheVariants.{NotRead}
 use Rattle.avr_records.specs.declared.kind.Ending.{Ending}
 use Rattle.avr_records.specs.declared.kind.Found.{Found}
-use Rattle.avr_plan.specs.ImageFile.{Given, file_within, image_within}
-use Rattle.avr_plan.specs.Intake.{Takes}
+use Rattle.avr_plan.specs.ImageFile.{ImageOrBadFile, image_of_file_within, image_within}
+use Rattle.avr_plan.specs.Intake.{WasFed}
 use Rattle.avr_plan.specs.declared.intake.Intake.{Intake}
 use Rattle.avr_plan.specs.declared.image_file.FirstBytes.{FirstBytes}
 use Rattle.avr_plan.specs.declared.image_file.ReadFault.{ReadFault}
@@ -18,22 +18,22 @@ use Rattle.avr_plan.specs.declared.image_file.ReadFault.TheVariants.{File, Image
 abbrev pub ImageOrFault : Type 0
 ImageOrFault = Result (List (Option ℕ) × Ending) ReadFault
 
-abbrev pub IsGiven : Given → ImageOrFault → Type 0
-IsGiven given (Ok good) = Ok good ≡ given
-IsGiven given (Err (Image bad)) = Err bad ≡ given
-IsGiven given (Err (File fault)) = ⊥
+abbrev pub IsImageResult : ImageOrBadFile → ImageOrFault → Type 0
+IsImageResult given (Ok good) = Ok good ≡ given
+IsImageResult given (Err (Image bad)) = Err bad ≡ given
+IsImageResult given (Err (File fault)) = ⊥
 
-abbrev pub IsCountedRead : DeskState → DeskState → ReadFault → Type 0
-IsCountedRead old new (File fault) = IsCounted old new fault
-IsCountedRead old new (Image bad) = HasSameCounts old new
+abbrev pub CountsReadFault : DeskState → DeskState → ReadFault → Type 0
+CountsReadFault old new (File fault) = CountsFileFault old new fault
+CountsReadFault old new (Image bad) = HasSameCounts old new
 
 -- The open file was read to its end, or its first 1,024 bytes were read.
 pub record ReadsFirstBytes (old new : DeskState) (prefix : FirstBytes) : Type 0 where
-  pub kept : Passes (after_reading prefix.bytes.items prefix.ended) old new
+  pub kept : ChangesRecord (after_reading prefix.bytes.items prefix.ended) old new
   pub enough : MatchBool prefix.ended (length prefix.bytes.items ≤ 1024) (length prefix.bytes.items ≡ 1024)
 
 abbrev pub IsReadInPart : DeskState → DeskState → Type 0
-IsReadInPart old new = (bytes : Bytes) × Passes (after_reading bytes false) old new
+IsReadInPart old new = (bytes : Bytes) × ChangesRecord (after_reading bytes false) old new
 
 abbrev pub FirstBytesAreRead : DeskState → DeskState → Result FirstBytes FileFault → Type 0
 FirstBytesAreRead old new (Ok prefix) = ReadsFirstBytes old new prefix
@@ -41,12 +41,12 @@ FirstBytesAreRead old new (Err fault) = (fault ≡ NotRead) × IsReadInPart old 
 
 -- After `before` the rest of the open file was read, to its end or past the limit. `given` is the image of both.
 pub record ReadsRest (limit : ℕ) (found : Found) (size : ℕ) (before : Bytes) (old new : DeskState)
-    (given : Given) : Type 0 where
+    (given : ImageOrBadFile) : Type 0 where
   pub bytes : Bytes
   pub ended : Bool
-  pub kept : Passes (after_reading bytes ended) old new
-  pub whole : IsWhole limit (record { bytes = before ++ bytes; ended = ended })
-  pub gives : given ≡ file_within limit found (before ++ bytes) size
+  pub kept : ChangesRecord (after_reading bytes ended) old new
+  pub whole : EndsOrExceedsLimit limit (record { bytes = before ++ bytes; ended = ended })
+  pub gives : given ≡ image_of_file_within limit found (before ++ bytes) size
 
 abbrev pub RestIsRead : ℕ → Found → ℕ → Bytes → DeskState → DeskState → ImageOrFault → Type 0
 RestIsRead limit found size before old new (Ok good) = ReadsRest limit found size before old new (Ok good)
@@ -55,11 +55,11 @@ RestIsRead limit found size before old new (Err (File fault)) = (fault ≡ NotRe
 
 -- The file was opened and read to its end or past the limit. `given` is its image.
 pub record ReadsImage (limit : ℕ) (format : Format) (size : ℕ) (name : Bytes) (old new : DeskState)
-    (given : Given) : Type 0 where
+    (given : ImageOrBadFile) : Type 0 where
   pub bytes : Bytes
   pub ended : Bool
-  pub kept : Passes (with_read name bytes ended) old new
-  pub whole : IsWhole limit (record { bytes = bytes; ended = ended })
+  pub kept : ChangesRecord (with_read name bytes ended) old new
+  pub whole : EndsOrExceedsLimit limit (record { bytes = bytes; ended = ended })
   pub gives : given ≡ image_within limit format bytes size
 
 abbrev pub ImageIsRead : ℕ → Format → ℕ → Bytes → DeskState → DeskState → ImageOrFault → Type 0
@@ -68,9 +68,9 @@ ImageIsRead limit format size name old new (Err (Image bad)) = ReadsImage limit 
 ImageIsRead limit format size name old new (Err (File fault)) = FileBreaks name old new fault
 
 -- The open file gave some bytes, and all were fed. Their count and `left` add up to `room`.
-pub record Going (old now : DeskState) (first last : Intake) (room left : ℕ) : Type 0 where
+pub record FedSoFar (old now : DeskState) (first last : Intake) (room left : ℕ) : Type 0 where
   pub bytes : Bytes
-  pub kept : Passes (after_reading bytes false) old now
-  pub feeds : (found : Found) (size : ℕ) (text : Bytes) → Takes found size first text
-      → Takes found size last (text ++ bytes)
+  pub kept : ChangesRecord (after_reading bytes false) old now
+  pub feeds : (found : Found) (size : ℕ) (text : Bytes) → WasFed found size first text
+      → WasFed found size last (text ++ bytes)
   pub count : length bytes + left ≡ room

@@ -2,12 +2,12 @@
 use Rattle.std.specs.Prelude.{◌≡◌, ℕ, length, ◌++◌, Err}
 use Rattle.avr_image.specs.Raw as raw_file
 use Rattle.avr_desk.specs.Record.{Bytes}
-use Rattle.avr_records.specs.Reader.{ReaderState, StandsFor, memory_size}
+use Rattle.avr_records.specs.Reader.{ReaderState, MayHaveRead, memory_size}
 use Rattle.avr_records.specs.declared.kind.Found.{Found}
 use Rattle.avr_records.specs.declared.kind.Found.TheVariants as file
 use Rattle.avr_records.specs.declared.kind.Kind.{Kind}
 use Rattle.avr_records.specs.declared.kind.Kind.TheVariants as records
-use Rattle.avr_plan.specs.ImageFile.{whole_file, long_file}
+use Rattle.avr_plan.specs.ImageFile.{image_of_file, fault_of_long_file}
 use Rattle.avr_plan.specs.declared.intake.BadFile.{BadFile}
 use Rattle.avr_plan.specs.declared.intake.BadFile.TheVariants.{Record, TooLong}
 use Rattle.avr_plan.specs.declared.intake.Intake.{Intake}
@@ -23,25 +23,25 @@ in_long_file (Record fault) = Record fault
 in_long_file fault = TooLong
 
 -- Every file that begins with this text has this fault, whatever follows.
-pub record Decides (found : Found) (size : ℕ) (fault : BadFile) (text : Bytes) : Type 0 where
-  pub whole : (more : Bytes) → whole_file found (text ++ more) size ≡ Err fault
-  pub long : (more : Bytes) → long_file found (text ++ more) size ≡ in_long_file fault
+pub record HasCertainFault (found : Found) (size : ℕ) (fault : BadFile) (text : Bytes) : Type 0 where
+  pub whole : (more : Bytes) → image_of_file found (text ++ more) size ≡ Err fault
+  pub long : (more : Bytes) → fault_of_long_file found (text ++ more) size ≡ in_long_file fault
 
-pub record TakesRecords (found : Found) (size : ℕ) (reader : ReaderState) (text : Bytes) : Type 0 where
+pub record RecordReaderWasFed (found : Found) (size : ℕ) (reader : ReaderState) (text : Bytes) : Type 0 where
   pub of_kind : found ≡ found_as reader.kind
   pub of_size : memory_size reader ≡ size
-  pub stands : StandsFor reader text
+  pub stands : MayHaveRead reader text
 
-pub record TakesRaw (found : Found) (size : ℕ) (reader : raw_file.Holding) (text : Bytes) : Type 0 where
+pub record RawReaderWasFed (found : Found) (size : ℕ) (reader : raw_file.Holding) (text : Bytes) : Type 0 where
   pub of_kind : found ≡ file.Raw
   pub of_size : length reader.image ≡ size
   pub stands : raw_file.HoldsText reader text
 
 -- The reader was fed this text of a file of this kind, for a memory of `size` bytes.
-abbrev pub Takes : Found → ℕ → Intake → Bytes → Type 0
-Takes found size (intake.Records reader) text = TakesRecords found size reader text
-Takes found size (intake.Raw reader) text = TakesRaw found size reader text
-Takes found size (intake.Faulty fault) text = Decides found size fault text
+abbrev pub WasFed : Found → ℕ → Intake → Bytes → Type 0
+WasFed found size (intake.Records reader) text = RecordReaderWasFed found size reader text
+WasFed found size (intake.Raw reader) text = RawReaderWasFed found size reader text
+WasFed found size (intake.Faulty fault) text = HasCertainFault found size fault text
 
 abbrev pub fed_count : Intake → ℕ
 fed_count (intake.Records reader) = reader.fed

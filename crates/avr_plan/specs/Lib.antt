@@ -6,7 +6,7 @@ pub mod ImageReading
 pub mod Plan
 pub mod Planning
 pub mod PlanFaults
-pub mod Taking
+pub mod AllocationPoints
 -- inside: representations, and contracts of private functions
 pub mod Intake
 -- what they cite of the crates below
@@ -16,4 +16,4 @@ pub use Rattle.avr_desk.specs.Playing
 pub use Rattle.avr_desk.specs.Record
 pub use Rattle.avr_desk.specs.Stage
 pub use Rattle.ghosts.specs.Failures
-pub use Rattle.ghosts.specs.Stays
+pub use Rattle.ghosts.specs.Preserves

@@ -3,10 +3,10 @@ use Rattle.std.specs.Prelude.{◌≡◌, ℕ, List, Option, Some, None, Result, 
 use Rattle.std.specs.Result.{result_map_both}
 use Rattle.avr_cli.specs.declared.settings.Settings.{Settings}
 use Rattle.avr_cli.specs.declared.update.Update.{Update}
-use Rattle.avr_desk.specs.Fault.{Follows, HasFailedToSay}
+use Rattle.avr_desk.specs.Fault.{CountsNeverFall, HasFailedToReport}
 use Rattle.avr_desk.specs.Lines.{file_fault_line, memory_line, too_long_line}
 use Rattle.avr_desk.specs.Record.{DeskState, Bytes}
-use Rattle.avr_desk.specs.Said.{Tells}
+use Rattle.avr_desk.specs.OutputEvents.{ReportsLine}
 use Rattle.avr_plan.specs.Lines.{image_line, no_part_line, part_file_line, read_only_line, values_line}
 use Rattle.avr_plan.specs.declared.part_choice.TheConstants.{LARGEST_PART_FILE}
 use Rattle.avr_plan.specs.declared.plan_fault.PartsFault.{PartsFault}
@@ -20,8 +20,8 @@ abbrev pub with_status : {A E : Type 0} → Result A E → Result A ℕ
 with_status result = result_map_both (λ a. a) (λ fault. 1) result
 
 -- This line was reported last: whole, unless a write to the messages failed.
-abbrev pub LastTold : Bytes → DeskState → DeskState → Type 0
-LastTold line old new = (between : DeskState) × (Follows old between × Tells between new line)
+abbrev pub ReportsLast : Bytes → DeskState → DeskState → Type 0
+ReportsLast line old new = (between : DeskState) × (CountsNeverFall old between × ReportsLine between new line)
 
 abbrev pub part_file_fault_line : Bytes → PartsFault → Bytes
 part_file_fault_line file (of_parts.File fault) = file_fault_line file fault
@@ -29,24 +29,24 @@ part_file_fault_line file of_parts.TooLong = too_long_line file LARGEST_PART_FIL
 part_file_fault_line file (of_parts.Parts fault) = part_file_line file fault
 
 -- Without a part file there is no such fault.
-abbrev pub TellsPartsFault : Option Bytes → DeskState → DeskState → PartsFault → Type 0
-TellsPartsFault (Some file) old new fault = LastTold (part_file_fault_line file fault) old new
-TellsPartsFault None old new fault = ⊥
+abbrev pub ReportsPartsFault : Option Bytes → DeskState → DeskState → PartsFault → Type 0
+ReportsPartsFault (Some file) old new fault = ReportsLast (part_file_fault_line file fault) old new
+ReportsPartsFault None old new fault = ⊥
 
 -- For `Unwarned` no line follows: the warning could not be printed.
-abbrev pub TellsTaskFault : Update → DeskState → DeskState → TaskFault → Type 0
-TellsTaskFault u old new ReadOnly = LastTold (read_only_line u.memory) old new
-TellsTaskFault u old new (Values fault) = LastTold (values_line u.memory fault) old new
-TellsTaskFault u old new (File fault) = LastTold (image_line u.file fault) old new
-TellsTaskFault u old new Memory = LastTold memory_line old new
-TellsTaskFault u old new Unwarned = HasFailedToSay old new
+abbrev pub ReportsTaskFault : Update → DeskState → DeskState → TaskFault → Type 0
+ReportsTaskFault u old new ReadOnly = ReportsLast (read_only_line u.memory) old new
+ReportsTaskFault u old new (Values fault) = ReportsLast (values_line u.memory fault) old new
+ReportsTaskFault u old new (File fault) = ReportsLast (image_line u.file fault) old new
+ReportsTaskFault u old new Memory = ReportsLast memory_line old new
+ReportsTaskFault u old new Unwarned = HasFailedToReport old new
 
-abbrev pub TellsTasksFault : List Update → DeskState → DeskState → PlanFault → Type 0
-TellsTasksFault updates old new (OfUpdate index fault) =
-    (u : Update) × ((slice_get updates index ≡ Some u) × TellsTaskFault u old new fault)
-TellsTasksFault updates old new fault = ⊥
+abbrev pub ReportsTasksFault : List Update → DeskState → DeskState → PlanFault → Type 0
+ReportsTasksFault updates old new (OfUpdate index fault) =
+    (u : Update) × ((slice_get updates index ≡ Some u) × ReportsTaskFault u old new fault)
+ReportsTasksFault updates old new fault = ⊥
 
-abbrev pub TellsPlanFault : Settings → DeskState → DeskState → PlanFault → Type 0
-TellsPlanFault s old new (PartFile fault) = TellsPartsFault s.parts old new fault
-TellsPlanFault s old new NoPart = LastTold (no_part_line s.part) old new
-TellsPlanFault s old new (OfUpdate index fault) = TellsTasksFault s.updates old new (OfUpdate index fault)
+abbrev pub ReportsPlanFault : Settings → DeskState → DeskState → PlanFault → Type 0
+ReportsPlanFault s old new (PartFile fault) = ReportsPartsFault s.parts old new fault
+ReportsPlanFault s old new NoPart = ReportsLast (no_part_line s.part) old new
+ReportsPlanFault s old new (OfUpdate index fault) = ReportsTasksFault s.updates old new (OfUpdate index fault)

@@ -8,10 +8,10 @@ use Rattle.avr_cli.specs.declared.update.Format.TheVariants.{Immediate}
 use Rattle.avr_cli.specs.declared.update.Op.{Op}
 use Rattle.avr_cli.specs.declared.update.Op.TheVariants as op
 use Rattle.avr_cli.specs.declared.update.Update.{Update}
-use Rattle.avr_image.specs.Values.{values}
+use Rattle.avr_image.specs.Values.{image_of_values}
 use Rattle.avr_image.specs.declared.fault.ImageFault.{ImageFault}
 use Rattle.avr_desk.specs.Lines.{too_long_line}
-use Rattle.avr_desk.specs.Said.{OutputEvent, Line, Tells}
+use Rattle.avr_desk.specs.OutputEvents.{OutputEvent, PrintsLine, ReportsLine}
 use Rattle.avr_part.specs.BuiltIn.{part_of_id}
 use Rattle.avr_part.specs.Mem.{is_writable}
 use Rattle.avr_part.specs.Part.{Part, size_of}
@@ -22,10 +22,10 @@ use Rattle.avr_records.specs.declared.kind.Ending.{Ending}
 use Rattle.avr_records.specs.declared.kind.Ending.TheVariants.{Ended, NoEnd}
 use Rattle.avr_plan.specs.declared.image_file.TheConstants.{LARGEST_IMAGE_FILE}
 use Rattle.avr_plan.specs.declared.part_choice.TheConstants.{LARGEST_PART_FILE}
-use Rattle.avr_plan.specs.ImageFile.{Given, image_within}
+use Rattle.avr_plan.specs.ImageFile.{ImageOrBadFile, image_within}
 use Rattle.avr_plan.specs.Lines.{bad_file_line, no_end_line, no_part_line, part_file_line, read_only_line, values_line}
 use Rattle.avr_plan.specs.Plan.{Plan}
-use Rattle.avr_desk.specs.Stage.{Stage, ◌>>=◌, verdict_stage, output_stage, file_stage}
+use Rattle.avr_desk.specs.Stage.{Stage, ◌>>=◌, result_stage, output_stage, file_stage}
 use Rattle.avr_plan.specs.declared.planned.Task.{Task}
 use Rattle.avr_plan.specs.declared.planned.Task.TheVariants.{Write, Verify, Read}
 
@@ -35,14 +35,14 @@ abbrev pub parts_or_line : Bytes → Result (List Part) NamedFault → Result (L
 parts_or_line file (Ok parts) = Ok parts
 parts_or_line file (Err refused) = Err (part_file_line file refused.fault)
 
-abbrev pub judged_parts : Bytes → Bytes → Result (List Part) Bytes
-judged_parts file bytes =
+abbrev pub checked_parts : Bytes → Bytes → Result (List Part) Bytes
+checked_parts file bytes =
     if nat_le (length bytes) LARGEST_PART_FILE then parts_or_line file (parts_of bytes)
     else Err (too_long_line file LARGEST_PART_FILE)
 
 abbrev pub parts_stage : Option Bytes → Stage (List Part)
-parts_stage None = verdict_stage (Ok [])
-parts_stage (Some file) = file_stage file LARGEST_PART_FILE (judged_parts file)
+parts_stage None = result_stage (Ok [])
+parts_stage (Some file) = file_stage file LARGEST_PART_FILE (checked_parts file)
 
 abbrev pub part_or_line : Bytes → Result Part PartFault → Result Part Bytes
 part_or_line id (Ok part) = Ok part
@@ -50,10 +50,10 @@ part_or_line id (Err fault) = Err (no_part_line id)
 
 -- The part with this id. Parts of the file come before the built-in ones.
 abbrev pub part_stage : Bytes → List Part → Stage Part
-part_stage id parts = verdict_stage (part_or_line id (part_of_id id parts))
+part_stage id parts = result_stage (part_or_line id (part_of_id id parts))
 
 abbrev pub LacksPart : Bytes → List Part → DeskState → DeskState → Type 0
-LacksPart id parts old new = IsErr (part_of_id id parts) × Tells old new (no_part_line id)
+LacksPart id parts old new = IsErr (part_of_id id parts) × ReportsLine old new (no_part_line id)
 
 -- ---- the image of an update
 
@@ -62,21 +62,21 @@ abbrev pub is_warned : Switches → Ending → Bool
 is_warned switches Ended = false
 is_warned switches NoEnd = nat_lt switches.quiet 2
 
-abbrev pub warning_says : Switches → Bytes → Ending → List OutputEvent
-warning_says switches file ending = if is_warned switches ending then Line (no_end_line file) ∷ [] else []
+abbrev pub warning_events : Switches → Bytes → Ending → List OutputEvent
+warning_events switches file ending = if is_warned switches ending then PrintsLine (no_end_line file) ∷ [] else []
 
-abbrev pub image_or_line : Bytes → Given → Result (List (Option ℕ) × Ending) Bytes
+abbrev pub image_or_line : Bytes → ImageOrBadFile → Result (List (Option ℕ) × Ending) Bytes
 image_or_line file (Ok good) = Ok good
 image_or_line file (Err bad) = Err (bad_file_line file bad)
 
-abbrev pub judged_image : Bytes → Format → ℕ → Bytes → Result (List (Option ℕ) × Ending) Bytes
-judged_image file format size bytes = image_or_line file (image_within LARGEST_IMAGE_FILE format bytes size)
+abbrev pub checked_image : Bytes → Format → ℕ → Bytes → Result (List (Option ℕ) × Ending) Bytes
+checked_image file format size bytes = image_or_line file (image_within LARGEST_IMAGE_FILE format bytes size)
 
 abbrev pub file_image_stage : Switches → Bytes → Format → ℕ → Stage (List (Option ℕ))
 file_image_stage switches file format size = do
-  given ← file_stage file LARGEST_IMAGE_FILE (judged_image file format size)
-  ok ← output_stage (warning_says switches file given.1)
-  verdict_stage (Ok given.0)
+  given ← file_stage file LARGEST_IMAGE_FILE (checked_image file format size)
+  ok ← output_stage (warning_events switches file given.1)
+  result_stage (Ok given.0)
 
 abbrev pub values_or_line : Mem → Result (List (Option ℕ)) ImageFault → Result (List (Option ℕ)) Bytes
 values_or_line memory (Ok image) = Ok image
@@ -84,7 +84,7 @@ values_or_line memory (Err fault) = Err (values_line memory fault)
 
 -- Immediate values are on the command line. Any other image is in a file.
 abbrev pub image_stage : Switches → Mem → ℕ → Bytes → Format → Stage (List (Option ℕ))
-image_stage switches memory size file Immediate = verdict_stage (values_or_line memory (values file size))
+image_stage switches memory size file Immediate = result_stage (values_or_line memory (image_of_values file size))
 image_stage switches memory size file format = file_image_stage switches file format size
 
 -- ---- the tasks
@@ -94,21 +94,21 @@ update_image switches part u = image_stage switches u.memory (size_of u.memory p
 
 abbrev pub write_stage : Switches → Part → Update → Stage Task
 write_stage switches part u =
-    if is_writable u.memory then (update_image switches part u >>= λ image. verdict_stage (Ok (Write u.memory image)))
-    else verdict_stage (Err (read_only_line u.memory))
+    if is_writable u.memory then (update_image switches part u >>= λ image. result_stage (Ok (Write u.memory image)))
+    else result_stage (Err (read_only_line u.memory))
 
 abbrev pub op_stage : Switches → Part → Update → Op → Stage Task
 op_stage switches part u op.Write = write_stage switches part u
 op_stage switches part u op.Verify = update_image switches part u
-    >>= λ image. verdict_stage (Ok (Verify u.memory image))
-op_stage switches part u op.Read = verdict_stage (Ok (Read u.memory u.format u.file))
+    >>= λ image. result_stage (Ok (Verify u.memory image))
+op_stage switches part u op.Read = result_stage (Ok (Read u.memory u.format u.file))
 
 abbrev pub task_stage : Switches → Part → Update → Stage Task
 task_stage switches part u = op_stage switches part u u.op
 
 -- `tasks`, then those of the updates
 abbrev pub tasks_stage : Switches → Part → List Task → List Update → Stage (List Task)
-tasks_stage switches part tasks [] = verdict_stage (Ok tasks)
+tasks_stage switches part tasks [] = result_stage (Ok tasks)
 tasks_stage switches part tasks (u ∷ updates) =
     task_stage switches part u >>= λ task. tasks_stage switches part (tasks ++ task ∷ []) updates
 
@@ -117,4 +117,4 @@ planned s = do
   parts ← parts_stage s.parts
   part ← part_stage s.part parts
   tasks ← tasks_stage s.switches part [] s.updates
-  verdict_stage (Ok (record { part = part; tasks = tasks; switches = s.switches }))
+  result_stage (Ok (record { part = part; tasks = tasks; switches = s.switches }))

@@ -1,14 +1,14 @@
 //! Reads an image file over a desk in pieces, and checks it once its end or the limit is reached.
 ghost use Rattle.std.specs.Prelude.{◌≡◌, ◌+◌, ◌<◌, ◌^◌, ℕ, IfErr, OnOk, length};
-ghost use Rattle.avr_desk.specs.Fault.{Follows, HasSameCounts};
+ghost use Rattle.avr_desk.specs.Fault.{CountsNeverFall, HasSameCounts};
 ghost use Rattle.avr_desk.specs.Record.{DeskState, Bytes};
 ghost use Rattle.avr_records.specs.declared.kind.Found.{Found as AnyFound};
 ghost use Rattle.avr_plan.specs.Faults.{read_fault_number};
-ghost use Rattle.avr_plan.specs.ImageFile.{kind_of, whole_file};
-ghost use Rattle.avr_desk.specs.Files.{IsCounted};
-ghost use Rattle.avr_plan.specs.ImageReading.{IsGiven, FirstBytesAreRead, RestIsRead, ImageIsRead, IsCountedRead};
-ghost use Rattle.avr_plan.specs.Intake.{Takes, fed_count};
-ghost use Rattle.ghosts.specs.Stays.{Stays};
+ghost use Rattle.avr_plan.specs.ImageFile.{kind_of, image_of_file};
+ghost use Rattle.avr_desk.specs.Files.{CountsFileFault};
+ghost use Rattle.avr_plan.specs.ImageReading.{IsImageResult, FirstBytesAreRead, RestIsRead, ImageIsRead, CountsReadFault};
+ghost use Rattle.avr_plan.specs.Intake.{WasFed, fed_count};
+ghost use Rattle.ghosts.specs.Preserves.{Preserves};
 
 use crate::intake::{BadFile, Intake};
 use arrayvec::ArrayVec;
@@ -68,10 +68,10 @@ fn file_kind(format: Format, prefix: &[u8]) -> Found
 
 fn read_first_bytes<D: Desk>(desk: &mut D) -> Result<FirstBytes, FileFault>
     ensures kept { FirstBytesAreRead (D.view desk.old) (D.view desk.new) result }
-    ensures follows { Follows (D.view desk.old) (D.view desk.new) }
-    ensures counted { IfErr result (IsCounted (D.view desk.old) (D.view desk.new)) }
+    ensures follows { CountsNeverFall (D.view desk.old) (D.view desk.new) }
+    ensures counted { IfErr result (CountsFileFault (D.view desk.old) (D.view desk.new)) }
     ensures sound { OnOk result (HasSameCounts (D.view desk.old) (D.view desk.new)) }
-    ensures stays { Stays D.comes_of desk.old desk.new }
+    ensures stays { Preserves D.started_as desk.old desk.new }
 {
     let mut bytes: ArrayVec<u8, FIRST_BYTES> = ArrayVec::new();
     let mut piece = [0u8; FIRST_BYTES];
@@ -92,10 +92,10 @@ fn read_first_bytes<D: Desk>(desk: &mut D) -> Result<FirstBytes, FileFault>
 }
 
 fn finish(intake: Intake) -> Result<(Image, Ending), ReadFault>
-    ensures given { (found : AnyFound) (size : ℕ) (text : Bytes) → Takes found size intake text
-        → IsGiven (whole_file found text size) result }
+    ensures given { (found : AnyFound) (size : ℕ) (text : Bytes) → WasFed found size intake text
+        → IsImageResult (image_of_file found text size) result }
     ensures counted { IfErr result (λ fault. (old new : DeskState) → HasSameCounts old new
-        → IsCountedRead old new fault) }
+        → CountsReadFault old new fault) }
 {
     match intake.finish() {
         Ok(good) => Ok(good),
@@ -110,12 +110,12 @@ fn read_rest<D: Desk>(
     mut left: usize,
 ) -> Result<(Image, Ending), ReadFault>
     requires { fed_count intake + left < 2 ^ 31 }
-    ensures read { (limit : ℕ) (found : AnyFound) (size : ℕ) (before : Bytes) → Takes found size intake before
+    ensures read { (limit : ℕ) (found : AnyFound) (size : ℕ) (before : Bytes) → WasFed found size intake before
         → length before + left ≡ limit → RestIsRead limit found size before (D.view desk.old) (D.view desk.new) result }
-    ensures follows { Follows (D.view desk.old) (D.view desk.new) }
-    ensures counted { IfErr result (IsCountedRead (D.view desk.old) (D.view desk.new)) }
+    ensures follows { CountsNeverFall (D.view desk.old) (D.view desk.new) }
+    ensures counted { IfErr result (CountsReadFault (D.view desk.old) (D.view desk.new)) }
     ensures sound { OnOk result (HasSameCounts (D.view desk.old) (D.view desk.new)) }
-    ensures stays { Stays D.comes_of desk.old desk.new }
+    ensures stays { Preserves D.started_as desk.old desk.new }
 {
     let mut piece = [0u8; PIECE];
     'pieces: loop {
@@ -162,10 +162,10 @@ pub fn read_image<D: Desk>(
     size: u32,
 ) -> Result<(Image, Ending), ReadFault>
     ensures read { ImageIsRead LARGEST_IMAGE_FILE format size name.now (D.view desk.old) (D.view desk.new) result }
-    ensures follows { Follows (D.view desk.old) (D.view desk.new) }
-    ensures counted { IfErr result (IsCountedRead (D.view desk.old) (D.view desk.new)) }
+    ensures follows { CountsNeverFall (D.view desk.old) (D.view desk.new) }
+    ensures counted { IfErr result (CountsReadFault (D.view desk.old) (D.view desk.new)) }
     ensures sound { OnOk result (HasSameCounts (D.view desk.old) (D.view desk.new)) }
-    ensures stays { Stays D.comes_of desk.old desk.new }
+    ensures stays { Preserves D.started_as desk.old desk.new }
 {
     match desk.open(name) {
         Ok(()) => {}

@@ -3,8 +3,8 @@ ghost use Rattle.std.specs.Prelude.{◌≡◌, ◌+◌, ◌<◌, ◌≤◌, ◌^
 ghost use Rattle.avr_plan.specs.Faults.{bad_file_number};
 ghost use Rattle.avr_desk.specs.Record.{Bytes};
 ghost use Rattle.avr_records.specs.declared.kind.Found.{Found as AnyFound};
-ghost use Rattle.avr_plan.specs.ImageFile.{whole_file, long_file};
-ghost use Rattle.avr_plan.specs.Intake.{Takes, fed_count, found_as, in_long_file};
+ghost use Rattle.avr_plan.specs.ImageFile.{image_of_file, fault_of_long_file};
+ghost use Rattle.avr_plan.specs.Intake.{WasFed, fed_count, found_as, in_long_file};
 
 use avr_desk::FileFault;
 use avr_image::{Image, ImageFault, RawReader};
@@ -52,7 +52,7 @@ pub(crate) enum Intake {
 }
 
 fn record_intake(alloc: Global, kind: Kind, size: u32) -> Result<Intake, FileFault>
-    ensures { MatchResult result (λ intake. Takes (found_as kind) size intake [] × (fed_count intake ≡ 0))
+    ensures { MatchResult result (λ intake. WasFed (found_as kind) size intake [] × (fed_count intake ≡ 0))
         (λ fault. fault ≡ FileFault.Memory) }
 {
     match RecordReader::new(alloc, kind, size) {
@@ -73,7 +73,7 @@ fn in_long_file(fault: BadFile) -> BadFile
 
 impl Intake {
     pub(crate) fn new(alloc: Global, found: Found, size: u32) -> Result<Intake, FileFault>
-        ensures { MatchResult result (λ intake. Takes found size intake [] × (fed_count intake ≡ 0))
+        ensures { MatchResult result (λ intake. WasFed found size intake [] × (fed_count intake ≡ 0))
             (λ fault. fault ≡ FileFault.Memory) }
     {
         match found {
@@ -90,8 +90,8 @@ impl Intake {
     /// Feeds the next bytes of the file. After a fault, more bytes change nothing.
     pub(crate) fn fed(self, piece: &[u8]) -> Intake
         requires { fed_count self + length piece.now < 2 ^ 32 }
-        ensures takes { (found : AnyFound) (size : ℕ) (text : Bytes) → Takes found size self text
-            → Takes found size result (text ++ piece.now) }
+        ensures takes { (found : AnyFound) (size : ℕ) (text : Bytes) → WasFed found size self text
+            → WasFed found size result (text ++ piece.now) }
         ensures count { fed_count result ≤ fed_count self + length piece.now }
     {
         match self {
@@ -108,8 +108,8 @@ impl Intake {
     }
 
     pub(crate) fn finish(self) -> Result<(Image, Ending), BadFile>
-        ensures { (found : AnyFound) (size : ℕ) (text : Bytes) → Takes found size self text
-            → result ≡ whole_file found text size }
+        ensures { (found : AnyFound) (size : ℕ) (text : Bytes) → WasFed found size self text
+            → result ≡ image_of_file found text size }
     {
         match self {
             Intake::Records(reader) => reader.finish().map_err(BadFile::Record),
@@ -123,8 +123,8 @@ impl Intake {
 
     /// Returns the fault of a longer file that begins with the bytes fed.
     pub(crate) fn exceeded(self) -> BadFile
-        ensures { (found : AnyFound) (size : ℕ) (text : Bytes) → Takes found size self text
-            → result ≡ long_file found text size }
+        ensures { (found : AnyFound) (size : ℕ) (text : Bytes) → WasFed found size self text
+            → result ≡ fault_of_long_file found text size }
     {
         match self {
             Intake::Records(_) => BadFile::TooLong,

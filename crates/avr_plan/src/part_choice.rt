@@ -1,9 +1,9 @@
 //! Reads and checks the part file, and looks up the part.
 ghost use Rattle.std.specs.Prelude.{◌≡◌, false, [], None, Ok, IfErr};
-ghost use Rattle.avr_plan.specs.PlanFaults.{TellsPartsFault, with_status};
+ghost use Rattle.avr_plan.specs.PlanFaults.{ReportsPartsFault, with_status};
 ghost use Rattle.avr_plan.specs.Planning.{LacksPart, parts_stage, part_stage};
-ghost use Rattle.avr_desk.specs.Playing.{AtStart, Goes};
-ghost use Rattle.ghosts.specs.Stays.{Stays};
+ghost use Rattle.avr_desk.specs.Playing.{OnlyAtStart, RunsStage};
+ghost use Rattle.ghosts.specs.Preserves.{Preserves};
 
 use crate::messages::{no_part_message, part_file_message};
 use crate::plan_fault::PartsFault;
@@ -25,11 +25,11 @@ pub fn given_parts<D: Desk>(
     desk: &mut D,
     file: &Option<Text>,
 ) -> Result<Parts, PartsFault>
-    ensures goes { Goes (AtStart false) (parts_stage file.now) (D.view desk.old) (D.view desk.new)
+    ensures goes { RunsStage (OnlyAtStart false) (parts_stage file.now) (D.view desk.old) (D.view desk.new)
         (with_status result) }
-    ensures told { IfErr result (λ fault. TellsPartsFault file.now (D.view desk.old) (D.view desk.new) fault) }
+    ensures told { IfErr result (λ fault. ReportsPartsFault file.now (D.view desk.old) (D.view desk.new) fault) }
     ensures none { file.now ≡ None → (result ≡ Ok []) × (D.view desk.new ≡ D.view desk.old) }
-    ensures stays { Stays D.comes_of desk.old desk.new }
+    ensures stays { Preserves D.started_as desk.old desk.new }
 {
     let Some(file) = file else {
         return Ok(Parts::none());
@@ -70,9 +70,9 @@ pub fn given_parts<D: Desk>(
 /// assert!(rt; desk.messages() == b"avrstk: error: no part nobody\n".as_slice());
 /// ```
 pub fn chosen_part<D: Desk>(desk: &mut D, parts: &Parts, id: &str) -> Result<Part, u8>
-    ensures goes { Goes (AtStart false) (part_stage id.now parts.now) (D.view desk.old) (D.view desk.new) result }
+    ensures goes { RunsStage (OnlyAtStart false) (part_stage id.now parts.now) (D.view desk.old) (D.view desk.new) result }
     ensures refused { IfErr result (λ status. LacksPart id.now parts.now (D.view desk.old) (D.view desk.new)) }
-    ensures stays { Stays D.comes_of desk.old desk.new }
+    ensures stays { Preserves D.started_as desk.old desk.new }
 {
     match parts.find(id) {
         Ok(part) => Ok(part),

@@ -1,10 +1,10 @@
 ghost use Rattle.std.specs.Prelude.{◌≡◌, ◌<◌, [], None, All, IfOk, IfErr, IsOk, OnOk, vec_len, vec_capacity};
 ghost use Rattle.avr_plan.specs.Plan.{IsFitted};
-ghost use Rattle.avr_plan.specs.PlanFaults.{TellsPlanFault, TellsTaskFault, TellsTasksFault, with_status};
+ghost use Rattle.avr_plan.specs.PlanFaults.{ReportsPlanFault, ReportsTaskFault, ReportsTasksFault, with_status};
 ghost use Rattle.avr_plan.specs.Planning.{LacksPart, task_stage, tasks_stage, planned};
-ghost use Rattle.avr_plan.specs.Taking.{AtUpdate, AtTask, op_takes_memory};
-ghost use Rattle.avr_desk.specs.Playing.{AtStart, Goes};
-ghost use Rattle.ghosts.specs.Stays.{Stays};
+ghost use Rattle.avr_plan.specs.AllocationPoints.{AtAllocatingUpdate, AtAllocatingTask, op_allocates};
+ghost use Rattle.avr_desk.specs.Playing.{OnlyAtStart, RunsStage};
+ghost use Rattle.ghosts.specs.Preserves.{Preserves};
 
 use crate::messages::read_only_message;
 use crate::part_choice::{chosen_part, given_parts};
@@ -25,13 +25,13 @@ fn update_task<D: Desk>(
     part: &Part,
     update: &Update,
 ) -> Result<Task, TaskFault>
-    ensures goes { Goes (AtStart (op_takes_memory update.now update.now.op)) (task_stage switches part.now update.now)
+    ensures goes { RunsStage (OnlyAtStart (op_allocates update.now update.now.op)) (task_stage switches part.now update.now)
         (D.view desk.old) (D.view desk.new) (with_status result) }
-    ensures told { IfErr result (TellsTaskFault update.now (D.view desk.old) (D.view desk.new)) }
+    ensures told { IfErr result (ReportsTaskFault update.now (D.view desk.old) (D.view desk.new)) }
     ensures fitted { IfOk result (IsFitted part.now) }
     ensures same { tasks.new.items ≡ tasks.old.items }
     ensures room { OnOk result (vec_len tasks.new < vec_capacity tasks.new) }
-    ensures stays { Stays D.comes_of desk.old desk.new }
+    ensures stays { Preserves D.started_as desk.old desk.new }
 {
     match update.op {
         Op::Write => {
@@ -71,13 +71,13 @@ fn update_tasks<D: Desk>(
     part: &Part,
     updates: &[Update],
 ) -> Result<Tasks, PlanFault>
-    ensures goes { Goes (AtTask switches part.now [] updates.now)
+    ensures goes { RunsStage (AtAllocatingTask switches part.now [] updates.now)
         (tasks_stage switches part.now [] updates.now) (D.view desk.old) (D.view desk.new) (with_status result) }
-    ensures told { IfErr result (TellsTasksFault updates.now (D.view desk.old) (D.view desk.new)) }
+    ensures told { IfErr result (ReportsTasksFault updates.now (D.view desk.old) (D.view desk.new)) }
     ensures fitted { IfOk result (All (IsFitted part.now)) }
     // Without updates nothing is allocated.
     ensures none { updates.now ≡ [] → IsOk result }
-    ensures stays { Stays D.comes_of desk.old desk.new }
+    ensures stays { Preserves D.started_as desk.old desk.new }
 {
     let mut tasks = Vec::new(alloc);
     for update in updates {
@@ -115,13 +115,13 @@ pub fn plan_or_fault<D: Desk>(
     settings: &Settings,
     desk: &mut D,
 ) -> Result<Plan, PlanFault>
-    ensures goes { Goes (AtUpdate settings.now) (planned settings.now) (D.view desk.old)
+    ensures goes { RunsStage (AtAllocatingUpdate settings.now) (planned settings.now) (D.view desk.old)
         (D.view desk.new) (with_status result) }
-    ensures told { IfErr result (TellsPlanFault settings.now (D.view desk.old) (D.view desk.new)) }
+    ensures told { IfErr result (ReportsPlanFault settings.now (D.view desk.old) (D.view desk.new)) }
     // Without a part file and updates nothing is read: the only fault is an unknown part.
     ensures bare { settings.now.parts ≡ None → settings.now.updates ≡ []
         → IfErr result (λ fault. LacksPart settings.now.part [] (D.view desk.old) (D.view desk.new)) }
-    ensures stays { Stays D.comes_of desk.old desk.new }
+    ensures stays { Preserves D.started_as desk.old desk.new }
 {
     let parts = match given_parts(alloc, desk, &settings.parts) {
         Ok(parts) => parts,
@@ -150,12 +150,12 @@ pub fn plan_or_fault<D: Desk>(
 /// as the desk takes it, and nothing more was opened. Allocation happens while a file is read, and at the start of an
 /// update that has values or reads a memory.
 pub fn plan<D: Desk>(alloc: Global, settings: &Settings, desk: &mut D) -> Result<Plan, u8>
-    ensures goes { Goes (AtUpdate settings.now) (planned settings.now) (D.view desk.old)
+    ensures goes { RunsStage (AtAllocatingUpdate settings.now) (planned settings.now) (D.view desk.old)
         (D.view desk.new) result }
     // Without a part file and updates nothing is read: the only fault is an unknown part.
     ensures bare { settings.now.parts ≡ None → settings.now.updates ≡ []
         → IfErr result (λ status. LacksPart settings.now.part [] (D.view desk.old) (D.view desk.new)) }
-    ensures stays { Stays D.comes_of desk.old desk.new }
+    ensures stays { Preserves D.started_as desk.old desk.new }
 {
     match plan_or_fault(alloc, settings, desk) {
         Ok(plan) => Ok(plan),

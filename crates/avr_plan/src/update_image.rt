@@ -1,12 +1,12 @@
 ghost use Rattle.std.specs.Prelude.{◌≡◌, ◌<◌, false, length, IfErr, IfOk, OnOk, vec_len, vec_capacity};
 ghost use Rattle.avr_part.specs.Part.{size_of};
 ghost use Rattle.avr_cli.specs.declared.update.Update.{Update as AnyUpdate};
-ghost use Rattle.avr_plan.specs.PlanFaults.{TellsTaskFault, with_status};
-ghost use Rattle.avr_plan.specs.Planning.{is_warned, warning_says, file_image_stage, update_image as update_image_stage};
-ghost use Rattle.avr_plan.specs.Taking.{has_values};
-ghost use Rattle.avr_desk.specs.Playing.{AtStart, Goes};
+ghost use Rattle.avr_plan.specs.PlanFaults.{ReportsTaskFault, with_status};
+ghost use Rattle.avr_plan.specs.Planning.{is_warned, warning_events, file_image_stage, update_image as update_image_stage};
+ghost use Rattle.avr_plan.specs.AllocationPoints.{has_immediate_values};
+ghost use Rattle.avr_desk.specs.Playing.{OnlyAtStart, RunsStage};
 ghost use Rattle.avr_desk.specs.Stage.{output_stage};
-ghost use Rattle.ghosts.specs.Stays.{Stays};
+ghost use Rattle.ghosts.specs.Preserves.{Preserves};
 
 use crate::image_file::read_image;
 use crate::messages::{image_message, values_message};
@@ -35,10 +35,10 @@ fn warn_of_ending<D: Desk>(
     file: &str,
     ending: Ending,
 ) -> Result<(), TaskFault>
-    ensures goes { Goes (AtStart false) (output_stage (warning_says switches file.now ending))
+    ensures goes { RunsStage (OnlyAtStart false) (output_stage (warning_events switches file.now ending))
         (D.view desk.old) (D.view desk.new) (with_status result) }
-    ensures told { (update : AnyUpdate) → IfErr result (TellsTaskFault update (D.view desk.old) (D.view desk.new)) }
-    ensures stays { Stays D.comes_of desk.old desk.new }
+    ensures told { (update : AnyUpdate) → IfErr result (ReportsTaskFault update (D.view desk.old) (D.view desk.new)) }
+    ensures stays { Preserves D.started_as desk.old desk.new }
 {
     let warns = is_warned(switches, ending);
     if !warns {
@@ -60,14 +60,14 @@ fn file_image<D: Desk>(
     format: Format,
     size: u32,
 ) -> Result<Image, TaskFault>
-    ensures goes { Goes (AtStart false) (file_image_stage switches file.now format size)
+    ensures goes { RunsStage (OnlyAtStart false) (file_image_stage switches file.now format size)
         (D.view desk.old) (D.view desk.new) (with_status result) }
     ensures told { (update : AnyUpdate) → update.file ≡ file.now
-        → IfErr result (TellsTaskFault update (D.view desk.old) (D.view desk.new)) }
+        → IfErr result (ReportsTaskFault update (D.view desk.old) (D.view desk.new)) }
     ensures sized { IfOk result (λ image. length image ≡ size) }
     ensures same { tasks.new.items ≡ tasks.old.items }
     ensures room { OnOk result (vec_len tasks.new < vec_capacity tasks.new) }
-    ensures stays { Stays D.comes_of desk.old desk.new }
+    ensures stays { Preserves D.started_as desk.old desk.new }
 {
     match read_image(alloc, desk, file, format, size) {
         Ok((image, ending)) => {
@@ -97,13 +97,13 @@ pub(crate) fn update_image<D: Desk>(
     part: &Part,
     update: &Update,
 ) -> Result<Image, TaskFault>
-    ensures goes { Goes (AtStart (has_values update.now.format))
+    ensures goes { RunsStage (OnlyAtStart (has_immediate_values update.now.format))
         (update_image_stage switches part.now update.now) (D.view desk.old) (D.view desk.new) (with_status result) }
-    ensures told { IfErr result (TellsTaskFault update.now (D.view desk.old) (D.view desk.new)) }
+    ensures told { IfErr result (ReportsTaskFault update.now (D.view desk.old) (D.view desk.new)) }
     ensures sized { IfOk result (λ image. length image ≡ size_of update.now.memory part.now) }
     ensures same { tasks.new.items ≡ tasks.old.items }
     ensures room { OnOk result (vec_len tasks.new < vec_capacity tasks.new) }
-    ensures stays { Stays D.comes_of desk.old desk.new }
+    ensures stays { Preserves D.started_as desk.old desk.new }
 {
     let size = part.size_of(update.memory);
     let text = update.file.as_str();

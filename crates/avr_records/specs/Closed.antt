@@ -1,7 +1,7 @@
 -- The first fault of the lines that have ended. `RecordReader::feed` returns it.
 use Rattle.std.specs.Prelude.{ℕ, List, [], ◌∷◌, map, Option, Some, None, Result, Ok, Err}
 use Rattle.avr_records.specs.Lines.{lines}
-use Rattle.avr_records.specs.Reading.{Said, up_to_end, in_place, first_fault, said_by_line}
+use Rattle.avr_records.specs.Reading.{LineResult, up_to_end, with_lines_before, first_fault, line_result}
 use Rattle.avr_records.specs.declared.kind.Kind.{Kind}
 use Rattle.avr_records.specs.declared.fault.RecordFault.{RecordFault}
 
@@ -11,13 +11,13 @@ all_but_last (line ∷ []) = []
 all_but_last (line ∷ next ∷ more) = line ∷ all_but_last (next ∷ more)
 
 -- The first fault of some lines. Lines after an end record don't count.
-abbrev pub fault_among : ℕ → List Said → Option RecordFault
-fault_among size said = first_fault size (in_place [] (up_to_end said))
+abbrev pub first_fault_among : ℕ → List LineResult → Option RecordFault
+first_fault_among size said = first_fault size (with_lines_before [] (up_to_end said))
 
 -- The first fault of the text's ended lines, for a memory of this size.
-abbrev pub closed_fault : Kind → List ℕ → ℕ → Option RecordFault
-closed_fault kind text size = fault_among size (map (said_by_line kind) (all_but_last (lines text)))
+abbrev pub ended_lines_fault : Kind → List ℕ → ℕ → Option RecordFault
+ended_lines_fault kind text size = first_fault_among size (map (line_result kind) (all_but_last (lines text)))
 
-abbrev pub ok_unless : Option RecordFault → Result Unit RecordFault
-ok_unless None = Ok tt
-ok_unless (Some fault) = Err fault
+abbrev pub unit_unless_fault : Option RecordFault → Result Unit RecordFault
+unit_unless_fault None = Ok tt
+unit_unless_fault (Some fault) = Err fault

@@ -19,8 +19,8 @@ FitsFields Ihex r = (r.address < 65536) × (length r.bytes.now ≤ 255)
 FitsFields Srec r = length r.bytes.now ≤ 255
 
 -- The call returns the wanted record, with fields in their bounds, or the wanted fault.
-abbrev pub Finds : Kind → Result RecordFields LineFault → Result LineRecord LineFault → Type 0
-Finds kind want result =
+abbrev pub ReturnsRecord : Kind → Result RecordFields LineFault → Result LineRecord LineFault → Type 0
+ReturnsRecord kind want result =
     MatchResult result (λ found. (want ≡ Ok (record_of found)) × FitsFields kind found) (λ fault. want ≡ Err fault)
 
 abbrev pub meaning_of : Line → Meaning

@@ -8,10 +8,10 @@ use Rattle.avr_records.specs.declared.kind.Kind.TheVariants.{Ihex, Srec}
 use Rattle.avr_records.specs.declared.fault.LineFault.{LineFault}
 
 -- The record of a line without blanks at its end.
-abbrev pub bare_record : Kind → List ℕ → Result RecordFields LineFault
-bare_record Ihex = ihex_line
-bare_record Srec = srec_line
+abbrev pub trimmed_line_record : Kind → List ℕ → Result RecordFields LineFault
+trimmed_line_record Ihex = ihex_line
+trimmed_line_record Srec = srec_line
 
 -- The record of a line. Blanks at its end are cut off first.
 abbrev pub line_record : Kind → List ℕ → Result RecordFields LineFault
-line_record kind = unless_long (bare_record kind)
+line_record kind = unless_long (trimmed_line_record kind)

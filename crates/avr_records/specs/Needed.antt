@@ -1,31 +1,31 @@
 -- How large a memory a record file needs: what `needed_size` returns.
 use Rattle.std.specs.Prelude.{ℕ, ◌+◌, ◌-◌, ◌^◌, max, List, [], map, fold, Option, Some, None, Result, Ok, Err}
 use Rattle.avr_records.specs.Lines.{lines}
-use Rattle.avr_records.specs.Reading.{Said, said_by_line, up_to_end, in_place, all_placed, first_fault}
+use Rattle.avr_records.specs.Reading.{LineResult, line_result, up_to_end, with_lines_before, bytes_of_lines, first_fault}
 use Rattle.avr_records.specs.declared.kind.Kind.{Kind}
 use Rattle.avr_records.specs.declared.fault.RecordFault.{RecordFault}
 
-abbrev pub largest : ℕ
-largest = 2 ^ 32 - 1
+abbrev pub largest_memory : ℕ
+largest_memory = 2 ^ 32 - 1
 
 -- One more than the highest address of some bytes, but at least `end`.
-abbrev pub end_past : ℕ → List (ℕ × ℕ) → ℕ
-end_past = fold (λ end place. max end (place.0 + 1))
+abbrev pub end_after : ℕ → List (ℕ × ℕ) → ℕ
+end_after = fold (λ end place. max end (place.0 + 1))
 
 -- One more than the highest address of some bytes, or 0 without bytes.
-abbrev pub end_of : List (ℕ × ℕ) → ℕ
-end_of = end_past 0
+abbrev pub end_of_bytes : List (ℕ × ℕ) → ℕ
+end_of_bytes = end_after 0
 
 abbrev pub size_or_fault : Option RecordFault → ℕ → Result ℕ RecordFault
 size_or_fault (Some fault) size = Err fault
 size_or_fault None size = Ok size
 
 -- The size that a file of these lines needs, or its first fault.
-abbrev pub needed_by : List Said → Result ℕ RecordFault
+abbrev pub needed_by : List LineResult → Result ℕ RecordFault
 needed_by said =
     let taken = up_to_end said in
-    size_or_fault (first_fault largest (in_place [] taken)) (end_of (all_placed taken))
+    size_or_fault (first_fault largest_memory (with_lines_before [] taken)) (end_of_bytes (bytes_of_lines taken))
 
 -- One more than the file's highest byte address, or the first fault that a read into the largest memory returns.
-abbrev pub needed_in_text : Kind → List ℕ → Result ℕ RecordFault
-needed_in_text kind text = needed_by (map (said_by_line kind) (lines text))
+abbrev pub size_needed_in_text : Kind → List ℕ → Result ℕ RecordFault
+size_needed_in_text kind text = needed_by (map (line_result kind) (lines text))

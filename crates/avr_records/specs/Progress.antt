@@ -2,8 +2,8 @@
 use Rattle.std.specs.Prelude.{ℕ, ◌≡◌, List, [], length, count_by, None}
 use Rattle.std.specs.List.{list_any}
 use Rattle.avr_image.specs.Image.{image_of_pairs}
-use Rattle.avr_records.specs.Needed.{end_of}
-use Rattle.avr_records.specs.Reading.{Said, is_end, is_data, up_to_end, in_place, all_placed, first_fault, base_after}
+use Rattle.avr_records.specs.Needed.{end_of_bytes}
+use Rattle.avr_records.specs.Reading.{LineResult, is_end_record, is_data_record, up_to_end, with_lines_before, bytes_of_lines, first_fault, base_after}
 use Rattle.avr_records.specs.declared.extent.Extent.{Extent}
 use Rattle.avr_records.specs.declared.progress.Progress.{Progress}
 
@@ -11,15 +11,15 @@ abbrev pub image_size : Progress → ℕ
 image_size p = length p.image
 
 -- The extent is that of these lines. None is at fault in a memory of this size, and only the last may be an end record.
-pub record IsExtentOf (size : ℕ) (e : Extent) (said : List Said) : Type 0 where
-  pub no_fault : first_fault size (in_place [] said) ≡ None
-  pub end : e.end ≡ end_of (all_placed said)
+pub record IsExtentOf (size : ℕ) (e : Extent) (said : List LineResult) : Type 0 where
+  pub no_fault : first_fault size (with_lines_before [] said) ≡ None
+  pub end : e.end ≡ end_of_bytes (bytes_of_lines said)
   pub base : e.base ≡ base_after said
-  pub data_records : e.data_records ≡ count_by is_data said
+  pub data_records : e.data_records ≡ count_by is_data_record said
   pub lines : e.lines ≡ length said
-  pub ended : e.ended ≡ list_any is_end said
+  pub ended : e.ended ≡ list_any is_end_record said
 
 -- The extent and image are those of these lines, up to an end record among them.
-pub record Holds (p : Progress) (said : List Said) : Type 0 where
+pub record HoldsLines (p : Progress) (said : List LineResult) : Type 0 where
   pub extent : IsExtentOf (image_size p) p.extent (up_to_end said)
-  pub image : p.image ≡ image_of_pairs (image_size p) (all_placed (up_to_end said))
+  pub image : p.image ≡ image_of_pairs (image_size p) (bytes_of_lines (up_to_end said))

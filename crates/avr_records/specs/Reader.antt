@@ -1,8 +1,8 @@
 -- The state of a `RecordReader`, and the texts that it may have been fed.
 use Rattle.std.specs.Prelude.{ℕ, Bool, false, ◌≡◌, ◌+◌, List, [], ◌∷◌, ◌++◌, length, map, take}
 use Rattle.avr_records.specs.Lines.{lines}
-use Rattle.avr_records.specs.Progress.{Holds, image_size}
-use Rattle.avr_records.specs.Reading.{said_by_line}
+use Rattle.avr_records.specs.Progress.{HoldsLines, image_size}
+use Rattle.avr_records.specs.Reading.{line_result}
 use Rattle.avr_records.specs.Record.{longest}
 use Rattle.avr_records.specs.declared.kind.Kind.{Kind}
 use Rattle.avr_records.specs.declared.progress.Progress.{Progress}
@@ -17,7 +17,7 @@ pub record ReadsLines (kind : Kind) (progress : Progress) (part text : List ℕ)
   pub prefix : List (List ℕ)
   pub last : List ℕ
   pub cut : lines text ≡ prefix ++ last ∷ []
-  pub holds : Holds progress (map (said_by_line kind) prefix)
+  pub holds : HoldsLines progress (map (line_result kind) prefix)
   pub keeps : progress.extent.ended ≡ false → part ≡ kept last
 
 -- The state of a reader: its kind of file, what it keeps of the ended lines and of the last one, how many bytes it was
@@ -34,7 +34,7 @@ abbrev pub memory_size : ReaderState → ℕ
 memory_size s = image_size s.progress
 
 -- The reader may have been fed this text, and has not failed. Contracts of `RecordReader` speak of such texts.
-pub record StandsFor (s : ReaderState) (text : List ℕ) : Type 0 where
+pub record MayHaveRead (s : ReaderState) (text : List ℕ) : Type 0 where
   pub reads : ReadsLines s.kind s.progress s.part text
   pub fed : s.fed ≡ length text
   pub sound : s.failed ≡ false
@@ -43,4 +43,4 @@ pub record StandsFor (s : ReaderState) (text : List ℕ) : Type 0 where
 pub record IsNewReader (kind : Kind) (size : ℕ) (s : ReaderState) : Type 0 where
   pub of_kind : s.kind ≡ kind
   pub of_size : memory_size s ≡ size
-  pub nothing_fed : StandsFor s []
+  pub nothing_fed : MayHaveRead s []

@@ -1,10 +1,10 @@
 -- How one line changes what a reader keeps.
 use Rattle.std.specs.Prelude.{ℕ, true, false, ◌+◌, ◌≡◌, ◌≤◌, List, Option, Some, None, Result, Ok, Err, IsSome, MatchResult, OnOk, if◌then◌else◌}
-use Rattle.avr_image.specs.Image.{laid_over}
+use Rattle.avr_image.specs.Image.{with_bytes_at}
 use Rattle.avr_records.specs.Fault.{fault_line_number}
-use Rattle.avr_records.specs.Needed.{end_past}
+use Rattle.avr_records.specs.Needed.{end_after}
 use Rattle.avr_records.specs.Progress.{image_size}
-use Rattle.avr_records.specs.Reading.{Said, is_end, is_data, next_base, placed_under, fault_under, in_line, said_by_line}
+use Rattle.avr_records.specs.Reading.{LineResult, is_end_record, is_data_record, next_base, bytes_under_base, fault_under_base, in_line, line_result}
 use Rattle.avr_records.specs.declared.extent.Extent.{Extent}
 use Rattle.avr_records.specs.declared.kind.Kind.{Kind}
 use Rattle.avr_records.specs.declared.kind.Kind.TheVariants.{Ihex, Srec}
@@ -16,13 +16,13 @@ use Rattle.avr_records.specs.declared.fault.LineFault.{LineFault}
 use Rattle.avr_records.specs.declared.fault.RecordFault.{RecordFault}
 use Rattle.avr_records.specs.declared.progress.Progress.{Progress}
 
-abbrev pub extended : Extent → Said → Extent
+abbrev pub extended : Extent → LineResult → Extent
 extended e said = record {
   base = next_base e.base said;
-  data_records = if is_data said then e.data_records + 1 else e.data_records;
+  data_records = if is_data_record said then e.data_records + 1 else e.data_records;
   lines = e.lines + 1;
-  end = end_past e.end (placed_under e.base said);
-  ended = if is_end said then true else e.ended;
+  end = end_after e.end (bytes_under_base e.base said);
+  ended = if is_end_record said then true else e.ended;
 }
 
 abbrev pub extent_unless : Option LineFault → Extent → Result Extent RecordFault
@@ -30,15 +30,15 @@ extent_unless (Some fault) new = Err (in_line new.lines fault)
 extent_unless None new = Ok new
 
 -- The extent after one more line, or the line's fault.
-abbrev pub next_extent : ℕ → Extent → Said → Result Extent RecordFault
-next_extent size e said = extent_unless (fault_under size e.base e.data_records said) (extended e said)
+abbrev pub next_extent : ℕ → Extent → LineResult → Result Extent RecordFault
+next_extent size e said = extent_unless (fault_under_base size e.base e.data_records said) (extended e said)
 
-abbrev pub with_extent : Progress → Said → Result Extent RecordFault → Result Progress RecordFault
+abbrev pub with_extent : Progress → LineResult → Result Extent RecordFault → Result Progress RecordFault
 with_extent p said (Err fault) = Err fault
-with_extent p said (Ok e) = Ok (record { extent = e; image = laid_over p.image (placed_under p.extent.base said) })
+with_extent p said (Ok e) = Ok (record { extent = e; image = with_bytes_at p.image (bytes_under_base p.extent.base said) })
 
 -- Extent and image after one more line, or the line's fault. After an end record a line changes nothing.
-abbrev pub next_progress : Progress → Said → Result Progress RecordFault
+abbrev pub next_progress : Progress → LineResult → Result Progress RecordFault
 next_progress p said = if p.extent.ended then Ok p else with_extent p said (next_extent (image_size p) p.extent said)
 
 abbrev pub ending_of : Extent → Ending
@@ -59,10 +59,10 @@ pub record InRange (kind : Kind) (e : Extent) : Type 0 where
   pub counts : e.data_records ≤ e.lines
 
 -- The call reads the next line and changes the state by it, or returns the line's fault.
-pub record TakesOne (kind : Kind) (p : Progress) (line : List ℕ) (new : Progress) (result : Result Unit RecordFault)
+pub record TakesLine (kind : Kind) (p : Progress) (line : List ℕ) (new : Progress) (result : Result Unit RecordFault)
     : Type 0 where
-  pub step : MatchResult result (λ _. next_progress p (said_by_line kind line) ≡ Ok new)
-      (λ fault. next_progress p (said_by_line kind line) ≡ Err fault)
+  pub step : MatchResult result (λ _. next_progress p (line_result kind line) ≡ Ok new)
+      (λ fault. next_progress p (line_result kind line) ≡ Err fault)
   pub size : image_size new ≡ image_size p
   pub range : OnOk result (InRange kind new.extent)
   pub lines : OnOk result (new.extent.lines ≤ p.extent.lines + 1)

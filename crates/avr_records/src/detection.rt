@@ -2,7 +2,7 @@ ghost use Rattle.std.specs.Prelude.{◌≡◌, Some, take, find, not, true, fals
 ghost use Rattle.std.specs.List.{list_all};
 ghost use Rattle.std.specs.Str.{bytes_eq};
 ghost use Rattle.avr_records.specs.Lines.{is_blank, lines};
-ghost use Rattle.avr_records.specs.Detect.{kind_of_file, kind_of_line, has_digits as spec_has_digits, elf_mark};
+ghost use Rattle.avr_records.specs.Detect.{format_of_file, format_of_line, has_digits as spec_has_digits, elf_mark};
 
 use crate::bytes::{are_digits, first};
 use crate::kind::Found;
@@ -28,7 +28,7 @@ fn has_digits(n: usize, text: &[u8]) -> bool
 }
 
 fn shown_by(line: &[u8]) -> Found
-    ensures { result ≡ kind_of_line (Some line.now) }
+    ensures { result ≡ format_of_line (Some line.now) }
 {
     match line {
         [b':', more @ ..] if has_digits(10, more) => Found::Ihex,
@@ -45,7 +45,7 @@ fn is_blank_line(line: &[u8]) -> bool
 
 fn shown_unless_blank(line: &[u8]) -> Option<Found>
     ensures { MatchOption result (list_all is_blank line.now ≡ true)
-        (λ found. (list_all is_blank line.now ≡ false) × (found ≡ kind_of_line (Some line.now))) }
+        (λ found. (list_all is_blank line.now ≡ false) × (found ≡ format_of_line (Some line.now))) }
 {
     if is_blank_line(line) {
         None
@@ -56,7 +56,7 @@ fn shown_unless_blank(line: &[u8]) -> Option<Found>
 
 /// Returns the format that the first line shows that isn't blank.
 fn first_shown(prefix: &[u8]) -> Found
-    ensures { result ≡ kind_of_line (find (λ line. not (list_all is_blank line)) (lines prefix.now)) }
+    ensures { result ≡ format_of_line (find (λ line. not (list_all is_blank line)) (lines prefix.now)) }
 {
     let mut rest = prefix;
     while let Some((line, more)) = split_line(rest) {
@@ -77,7 +77,7 @@ fn first_shown(prefix: &[u8]) -> Found
 /// assert_eq!(rt; detect(&[0x0C, 0x94, 0x34, 0x00]), Found::Raw);
 /// ```
 pub fn detect(prefix: &[u8]) -> Found
-    ensures { result ≡ kind_of_file prefix.now }
+    ensures { result ≡ format_of_file prefix.now }
 {
     if is_elf(prefix) {
         return Found::Elf;

@@ -1,13 +1,13 @@
 //! What is known after some lines of a record file: how far their bytes reach, and what the next line depends on.
 ghost use Rattle.std.specs.Prelude.{◌≡◌, ◌<◌, ◌+◌, ◌^◌, Ok, Err, MatchResult, OnOk};
 ghost use Rattle.avr_records.specs.Laying.{spans_places};
-ghost use Rattle.avr_records.specs.Reading.{placed_under, said_by_line};
+ghost use Rattle.avr_records.specs.Reading.{bytes_under_base, line_result};
 ghost use Rattle.avr_records.specs.Steps.{next_extent, no_lines, InRange};
 
 use crate::bytes::ROOM;
 use crate::fault::RecordFault;
 use crate::kind::{AddressBase, Kind};
-use crate::line::{Line, line_says};
+use crate::line::{Line, line_meaning};
 use crate::spans::Spans;
 
 #[derive(Clone, Copy)]
@@ -49,14 +49,14 @@ impl Extent {
         requires range { InRange kind self.old }
         requires few { self.old.lines + 1 < 2 ^ 32 }
         ensures step { MatchResult result
-            (λ spans. (next_extent limit self.old (said_by_line kind line.now) ≡ Ok self.new)
-            × (spans_places spans ≡ placed_under self.old.base (said_by_line kind line.now)))
-            (λ fault. next_extent limit self.old (said_by_line kind line.now) ≡ Err fault) }
+            (λ spans. (next_extent limit self.old (line_result kind line.now) ≡ Ok self.new)
+            × (spans_places spans ≡ bytes_under_base self.old.base (line_result kind line.now)))
+            (λ fault. next_extent limit self.old (line_result kind line.now) ≡ Err fault) }
         ensures range { OnOk result (InRange kind self.new) }
         ensures lines { self.new.lines ≡ self.old.lines + 1 }
     {
         self.lines += 1;
-        match line_says(kind, line, room) {
+        match line_meaning(kind, line, room) {
             Ok(Line::Nothing) => Ok(Spans::none()),
             Ok(Line::Data(offset, bytes)) => {
                 let spans = Spans::of_record(self.base, offset, bytes);

@@ -1,6 +1,6 @@
 ghost use Rattle.std.specs.Prelude.{Ok};
 ghost use Rattle.avr_records.specs.Ihex.{ihex_from_fields};
-ghost use Rattle.avr_records.specs.Judging.{record_of, Finds, FitsFields};
+ghost use Rattle.avr_records.specs.Judging.{record_of, ReturnsRecord, FitsFields};
 ghost use Rattle.avr_records.specs.Record.{with_size as spec_with_size};
 
 use crate::bytes::low_sum_of;
@@ -23,7 +23,7 @@ const START_LINEAR_ADDRESS: u8 = 5;
 
 fn with_size(n: usize, good: LineRecord<'_>) -> Result<LineRecord<'_>, LineFault>
     requires { FitsFields Kind.Ihex good }
-    ensures { Finds Kind.Ihex (spec_with_size n good.entry.bytes.now (Ok (record_of good.entry))) result }
+    ensures { ReturnsRecord Kind.Ihex (spec_with_size n good.entry.bytes.now (Ok (record_of good.entry))) result }
 {
     if good.bytes.len() == n {
         Ok(good)
@@ -34,7 +34,7 @@ fn with_size(n: usize, good: LineRecord<'_>) -> Result<LineRecord<'_>, LineFault
 
 /// Reads the record from a line's bytes. Each type but that of data requires its own size.
 pub(crate) fn ihex_fields(bytes: &[u8]) -> Result<LineRecord<'_>, LineFault>
-    ensures { Finds Kind.Ihex (ihex_from_fields bytes.now) result }
+    ensures { ReturnsRecord Kind.Ihex (ihex_from_fields bytes.now) result }
 {
     let [size, high, low, record_type, more @ ..] = bytes else {
         return Err(LineFault::Length);

@@ -4,7 +4,7 @@
 //! extended linear address record is written first. No start address is written. Digits are upper case, and each line
 //! ends with LF.
 ghost use Rattle.std.specs.Prelude.{◌≤◌, length};
-ghost use Rattle.avr_records.specs.Text.{IsThisLine, ihex_record as spec_record, two};
+ghost use Rattle.avr_records.specs.Text.{IsThisLine, ihex_record as spec_record, two_bytes};
 
 use crate::bytes::low_sum_of;
 use crate::ihex::EXTENDED_LINEAR_ADDRESS;
@@ -27,7 +27,7 @@ pub(crate) fn put_record(kind: u8, offset: u16, row: &[u8], out: &mut ArrayVec<u
 }
 
 pub(crate) fn put_upper(upper: u16, out: &mut ArrayVec<u8, 80>)
-    ensures { IsThisLine out.new.items (spec_record 4 0 (two upper)) }
+    ensures { IsThisLine out.new.items (spec_record 4 0 (two_bytes upper)) }
 {
     put_record(EXTENDED_LINEAR_ADDRESS, 0, &upper.to_be_bytes(), out);
 }

@@ -1,9 +1,9 @@
 //! Lines of a record file: where one ends, and what each means alone.
 ghost use Rattle.std.specs.Prelude.{◌≡◌, ◌∷◌, ◌++◌, [], MatchOption, ◌≤◌, length, Ok, Err, MatchResult};
 ghost use Rattle.avr_records.specs.Lines.{lines, trimmed_line, is_blank};
-ghost use Rattle.avr_records.specs.Line.{bare_record, line_record};
-ghost use Rattle.avr_records.specs.Reading.{said_by_line};
-ghost use Rattle.avr_records.specs.Judging.{record_of, meaning_of, FitsKind, FitsFields, Finds};
+ghost use Rattle.avr_records.specs.Line.{trimmed_line_record, line_record};
+ghost use Rattle.avr_records.specs.Reading.{line_result};
+ghost use Rattle.avr_records.specs.Judging.{record_of, meaning_of, FitsKind, FitsFields, ReturnsRecord};
 ghost use Rattle.avr_records.specs.Meaning.{means};
 
 use crate::bytes::{ROOM, decode_digits};
@@ -62,7 +62,7 @@ fn trim(line: &[u8]) -> &[u8]
 
 fn ihex_record<'b>(line: &[u8], room: &'b mut [u8; ROOM]) -> Result<LineRecord<'b>, LineFault>
     requires { length line.now ≤ LONGEST }
-    ensures { Finds Kind.Ihex (bare_record Kind.Ihex line.now) result }
+    ensures { ReturnsRecord Kind.Ihex (trimmed_line_record Kind.Ihex line.now) result }
 {
     match line {
         [b':', digits @ ..] => ihex_fields(decode_digits(digits, room)?),
@@ -72,7 +72,7 @@ fn ihex_record<'b>(line: &[u8], room: &'b mut [u8; ROOM]) -> Result<LineRecord<'
 
 fn srec_record<'b>(line: &[u8], room: &'b mut [u8; ROOM]) -> Result<LineRecord<'b>, LineFault>
     requires { length line.now ≤ LONGEST }
-    ensures { Finds Kind.Srec (bare_record Kind.Srec line.now) result }
+    ensures { ReturnsRecord Kind.Srec (trimmed_line_record Kind.Srec line.now) result }
 {
     match line {
         [b'S', digit, digits @ ..] if digit.is_ascii_digit() => {
@@ -88,7 +88,7 @@ pub(crate) fn record_in<'b>(
     line: &[u8],
     room: &'b mut [u8; ROOM],
 ) -> Result<LineRecord<'b>, LineFault>
-    ensures { Finds kind (line_record kind line.now) result }
+    ensures { ReturnsRecord kind (line_record kind line.now) result }
 {
     if line.len() > LONGEST {
         return Err(LineFault::TooLong);
@@ -101,13 +101,13 @@ pub(crate) fn record_in<'b>(
 }
 
 /// Returns what a line means. The bytes of a data record are decoded into `room`.
-pub(crate) fn line_says<'b>(
+pub(crate) fn line_meaning<'b>(
     kind: Kind,
     line: &[u8],
     room: &'b mut [u8; ROOM],
 ) -> Result<Line<'b>, LineFault>
-    ensures { MatchResult result (λ found. (said_by_line kind line.now ≡ Ok (meaning_of found))
-        × FitsKind kind found) (λ fault. said_by_line kind line.now ≡ Err fault) }
+    ensures { MatchResult result (λ found. (line_result kind line.now ≡ Ok (meaning_of found))
+        × FitsKind kind found) (λ fault. line_result kind line.now ≡ Err fault) }
 {
     if line.len() > LONGEST {
         return Err(LineFault::TooLong);

@@ -1,11 +1,11 @@
 //! Reads the lines of a text that comes in pieces, and keeps the beginning of an unfinished line.
 ghost use Rattle.std.specs.Prelude.{◌≡◌, ◌<◌, [], Some, MatchOption, ◌+◌, ◌≤◌, ◌^◌, ◌++◌, ℕ, List, false, ◌∷◌, length, OnOk, IfErr, IfOk};
-ghost use Rattle.avr_records.specs.Closed.{closed_fault};
+ghost use Rattle.avr_records.specs.Closed.{ended_lines_fault};
 ghost use Rattle.avr_records.specs.Lines.{lines};
 ghost use Rattle.avr_records.specs.Progress.{image_size};
 ghost use Rattle.avr_records.specs.Reader.{kept, ReadsLines};
 ghost use Rattle.avr_records.specs.Reading.{image_in_text};
-ghost use Rattle.avr_records.specs.Steps.{ending_of, InRange, IsLineFault, TakesOne};
+ghost use Rattle.avr_records.specs.Steps.{ending_of, InRange, IsLineFault, TakesLine};
 
 use crate::bytes::{ROOM, first};
 use crate::fault::RecordFault;
@@ -40,7 +40,7 @@ impl LineReader {
     fn end_line(&mut self, rest: &[u8]) -> Result<(), RecordFault>
         requires range { InRange self.old.kind self.old.progress.extent }
         requires few { self.old.progress.extent.lines + 1 < 2 ^ 32 }
-        ensures is { TakesOne self.old.kind self.old.progress (self.old.part.items ++ rest.now)
+        ensures is { TakesLine self.old.kind self.old.progress (self.old.part.items ++ rest.now)
             self.new.progress result }
         ensures part { OnOk result (self.new.part.items ≡ []) }
         ensures kind { self.new.kind ≡ self.old.kind }
@@ -76,7 +76,7 @@ impl LineReader {
             → ReadsLines self.old.kind self.old.progress self.old.part.items text
             → ReadsLines self.old.kind self.new.progress self.new.part.items (text ++ piece.now)) }
         ensures fault { IfErr result (λ fault. (text : List ℕ) → ReadsLines self.old.kind
-            self.old.progress self.old.part.items text → closed_fault self.old.kind (text ++ piece.now)
+            self.old.progress self.old.part.items text → ended_lines_fault self.old.kind (text ++ piece.now)
             (image_size self.old.progress) ≡ Some fault) }
         ensures kind { self.new.kind ≡ self.old.kind }
         ensures size { length self.new.progress.image ≡ length self.old.progress.image }

@@ -1,5 +1,5 @@
 ghost use Rattle.std.specs.Prelude.{◌≡◌, ◌<◌, ◌≤◌, ◌^◌, ℕ, List, length, Option, Ok, Err};
-ghost use Rattle.avr_records.specs.Needed.{largest, needed_in_text};
+ghost use Rattle.avr_records.specs.Needed.{largest_memory, size_needed_in_text};
 ghost use Rattle.avr_records.specs.Reading.{image_in_text};
 ghost use Rattle.avr_records.specs.declared.kind.Ending.{Ending};
 
@@ -24,7 +24,7 @@ use crate::line::split_line;
 /// assert_eq!(rt; size, Ok(0x0800_0012));
 /// ```
 pub fn needed_size(kind: Kind, text: &[u8]) -> Result<u32, RecordFault>
-    ensures size { length text.now < 2 ^ 32 → result ≡ needed_in_text kind text.now }
+    ensures size { length text.now < 2 ^ 32 → result ≡ size_needed_in_text kind text.now }
     ensures long { 2 ^ 32 ≤ length text.now → result ≡ Err RecordFault.TooLong }
 {
     if text.len() > u32::MAX as usize {
@@ -50,9 +50,9 @@ pub fn needed_size(kind: Kind, text: &[u8]) -> Result<u32, RecordFault>
 /// A file is read without a fault exactly if the memory has at least the needed size.
 pub fn a_needed_size_is_the_least()
     ensures enough { (kind : Kind) (text : List ℕ) (needed size : ℕ)
-        → needed_in_text kind text ≡ Ok needed → needed ≤ size
+        → size_needed_in_text kind text ≡ Ok needed → needed ≤ size
         → (read : List (Option ℕ) × Ending) × (image_in_text kind text size ≡ Ok read) }
-    ensures least { (kind : Kind) (text : List ℕ) (size : ℕ) (read : List (Option ℕ) × Ending) → size ≤ largest
+    ensures least { (kind : Kind) (text : List ℕ) (size : ℕ) (read : List (Option ℕ) × Ending) → size ≤ largest_memory
         → image_in_text kind text size ≡ Ok read
-        → (needed : ℕ) × (needed_in_text kind text ≡ Ok needed) × (needed ≤ size) }
+        → (needed : ℕ) × (size_needed_in_text kind text ≡ Ok needed) × (needed ≤ size) }
 {}

@@ -1,6 +1,6 @@
 //! What is known after some lines of a record file, and the image of their bytes.
 ghost use Rattle.std.specs.Prelude.{◌<◌, ◌+◌, ◌^◌};
-ghost use Rattle.avr_records.specs.Steps.{InRange, TakesOne};
+ghost use Rattle.avr_records.specs.Steps.{InRange, TakesLine};
 
 use crate::bytes::ROOM;
 use crate::extent::Extent;
@@ -26,7 +26,7 @@ impl Progress {
     ) -> Result<(), RecordFault>
         requires range { InRange kind self.old.extent }
         requires few { self.old.extent.lines + 1 < 2 ^ 32 }
-        ensures { TakesOne kind self.old line.now self.new result }
+        ensures { TakesLine kind self.old line.now self.new result }
     {
         if self.extent.ended {
             return Ok(());

@@ -1,7 +1,7 @@
 //! The reader of record files: in pieces, or a whole file in one call.
 ghost use Rattle.std.specs.Prelude.{◌≡◌, ◌≢◌, ◌+◌, ◌<◌, ◌≤◌, ◌^◌, ◌++◌, ℕ, List, true, Ok, Err, length, MatchResult, IfOk, OnOk, OnErr, ◌⊎◌};
-ghost use Rattle.avr_records.specs.Closed.{closed_fault, ok_unless};
-ghost use Rattle.avr_records.specs.Reader.{ReaderState, StandsFor, IsNewReader, memory_size};
+ghost use Rattle.avr_records.specs.Closed.{ended_lines_fault, unit_unless_fault};
+ghost use Rattle.avr_records.specs.Reader.{ReaderState, MayHaveRead, IsNewReader, memory_size};
 ghost use Rattle.avr_records.specs.Reading.{image_in_text};
 
 use crate::bytes::ROOM;
@@ -19,7 +19,7 @@ use std::marker::Model;
 /// Reads a record file of one kind into an image, from pieces of any length.
 ///
 /// A reader keeps the image and at most 601 bytes of a line. Contracts speak of the texts that it may have been fed
-/// (`StandsFor`), so the results don't depend on the pieces. Start addresses and headers (S0) are checked as records,
+/// (`MayHaveRead`), so the results don't depend on the pieces. Start addresses and headers (S0) are checked as records,
 /// then dropped.
 ///
 /// ```text
@@ -121,10 +121,10 @@ impl RecordReader {
     /// ```
     pub fn feed(&mut self, piece: &[u8]) -> Result<(), RecordFault>
         requires { self.old.fed + length piece.now < 2 ^ 32 }
-        ensures answer { (text : List ℕ) → StandsFor self.old text → result
-            ≡ ok_unless (closed_fault self.old.kind (text ++ piece.now) (memory_size self.old)) }
-        ensures stands { OnOk result ((text : List ℕ) → StandsFor self.old text
-            → StandsFor self.new (text ++ piece.now)) }
+        ensures answer { (text : List ℕ) → MayHaveRead self.old text → result
+            ≡ unit_unless_fault (ended_lines_fault self.old.kind (text ++ piece.now) (memory_size self.old)) }
+        ensures stands { OnOk result ((text : List ℕ) → MayHaveRead self.old text
+            → MayHaveRead self.new (text ++ piece.now)) }
         ensures fed { OnOk result (self.new.fed ≡ self.old.fed + length piece.now) }
         ensures fault { OnErr result ((self.new.failed ≡ true) × (self.new.fed ≡ self.old.fed)) }
         ensures kind { self.new.kind ≡ self.old.kind }
@@ -159,7 +159,7 @@ impl RecordReader {
     /// assert_eq!(rt; reader.finish().err(), Some(RecordFault::BadSum(1)));
     /// ```
     pub fn finish(self) -> Result<(Image, Ending), RecordFault>
-        ensures answer { (text : List ℕ) → StandsFor self text → result
+        ensures answer { (text : List ℕ) → MayHaveRead self text → result
             ≡ image_in_text self.kind text (memory_size self) }
         ensures size { IfOk result (λ read. length read.0 ≡ memory_size self) }
         ensures failed { self.failed ≡ true → result ≡ Err RecordFault.Failed }

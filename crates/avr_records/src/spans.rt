@@ -1,15 +1,15 @@
 ghost use Rattle.std.specs.Prelude.{◌≡◌, ◌≤◌, ◌*◌, ◌+◌, length, [], None};
 ghost use Rattle.std.specs.List.{enumerate_from};
-ghost use Rattle.avr_image.specs.Image.{laid_over};
-ghost use Rattle.avr_records.specs.Laying.{Extends, Near, spans_places};
-ghost use Rattle.avr_records.specs.Reading.{beyond, places};
+ghost use Rattle.avr_image.specs.Image.{with_bytes_at};
+ghost use Rattle.avr_records.specs.Laying.{IsEndOrOutOfRange, StartsInRange, spans_places};
+ghost use Rattle.avr_records.specs.Reading.{first_outside, places};
 
 use crate::kind::{AddressBase, SEGMENT};
 use avr_image::Image;
 
 /// Returns the end of all bytes once these are added, or their first address that isn't below `limit`.
 fn span_end(limit: u32, end: u32, addr: u32, bytes: &[u8]) -> Result<u32, u32>
-    ensures { Extends limit end (enumerate_from addr bytes.now) result }
+    ensures { IsEndOrOutOfRange limit end (enumerate_from addr bytes.now) result }
 {
     if bytes.is_empty() {
         Ok(end)
@@ -49,7 +49,7 @@ impl<'a> Spans<'a> {
 
     pub(crate) fn of_record(base: AddressBase, offset: u32, bytes: &'a [u8]) -> Spans<'a>
         requires short { length bytes.now ≤ 255 }
-        requires near { Near base offset }
+        requires near { StartsInRange base offset }
         ensures { spans_places result ≡ places base offset bytes.now }
     {
         match base {
@@ -73,7 +73,7 @@ impl<'a> Spans<'a> {
 
     /// Returns the end of all bytes once these are added, or their first address that isn't below `limit`.
     pub(crate) fn end(self, limit: u32, end: u32) -> Result<u32, u32>
-        ensures { Extends limit end (spans_places self.entry) result }
+        ensures { IsEndOrOutOfRange limit end (spans_places self.entry) result }
     {
         match span_end(limit, end, self.addr, self.bytes) {
             Ok(end) => span_end(limit, end, self.start, self.wrapped),
@@ -84,8 +84,8 @@ impl<'a> Spans<'a> {
     /// Puts the bytes into an image. All their addresses have to be inside.
     #[inline(always)]
     pub(crate) fn lay(self, image: &mut Image)
-        requires { beyond (length image.old) (spans_places self) ≡ None }
-        ensures laid { image.new ≡ laid_over image.old (spans_places self.entry) }
+        requires { first_outside (length image.old) (spans_places self) ≡ None }
+        ensures laid { image.new ≡ with_bytes_at image.old (spans_places self.entry) }
         ensures size { length image.new ≡ length image.old }
     {
         let _ = image.put_slice(self.addr, self.bytes);

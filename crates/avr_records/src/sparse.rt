@@ -2,7 +2,7 @@
 
 ghost use Rattle.std.specs.Prelude.{◌≡◌, ◌+◌, ◌≤◌, ℕ, List, Option, length, take, drop, min};
 ghost use Rattle.avr_image.specs.Image.{first_from};
-ghost use Rattle.avr_image.specs.Runs.{lead};
+ghost use Rattle.avr_image.specs.Runs.{leading_run};
 ghost use Rattle.avr_records.specs.Sparse.{IsMemory};
 
 use avr_image::Image;
@@ -28,12 +28,12 @@ pub trait Sparse {
 
     /// Returns the bytes from the byte address `addr` on up to the next gap, but at most `most`.
     fn row_at(&self, addr: u32, most: usize) -> &[u8]
-        ensures row { result.now ≡ take most (lead (drop addr (held self.now))) }
+        ensures row { result.now ≡ take most (leading_run (drop addr (held self.now))) }
         ensures few { length result.now ≤ most };
 }
 
 fn row_end(image: &Image, place: u32, most: usize) -> u32
-    ensures { result ≡ place + min most (length (lead (drop place image.now))) }
+    ensures { result ≡ place + min most (length (leading_run (drop place image.now))) }
 {
     let room = most.min(image.size().saturating_sub(place) as usize) as u32;
     image.run_from(place, place + room)

@@ -1,5 +1,5 @@
 ghost use Rattle.std.specs.Prelude.{◌≤◌, length};
-ghost use Rattle.avr_records.specs.Judging.{Finds};
+ghost use Rattle.avr_records.specs.Judging.{ReturnsRecord};
 ghost use Rattle.avr_records.specs.Srec.{srec_from_fields, typed_srec, record_with_address as spec_addressed, without_data as spec_without_data};
 ghost use Rattle.avr_records.specs.Text.{width_of};
 
@@ -11,7 +11,7 @@ use crate::record::LineRecord;
 
 fn addressed(record_type: u8, size: AddressSize, bytes: &[u8]) -> Result<LineRecord<'_>, LineFault>
     requires { length bytes.now ≤ 255 }
-    ensures { Finds Kind.Srec (spec_addressed record_type (width_of size) bytes.now) result }
+    ensures { ReturnsRecord Kind.Srec (spec_addressed record_type (width_of size) bytes.now) result }
 {
     let n = size.bytes();
     if n <= bytes.len() {
@@ -31,7 +31,7 @@ fn without_data(
     bytes: &[u8],
 ) -> Result<LineRecord<'_>, LineFault>
     requires { length bytes.now ≤ 255 }
-    ensures { Finds Kind.Srec (spec_without_data record_type (width_of size) bytes.now) result }
+    ensures { ReturnsRecord Kind.Srec (spec_without_data record_type (width_of size) bytes.now) result }
 {
     if bytes.len() == size.bytes() {
         addressed(record_type, size, bytes)
@@ -43,7 +43,7 @@ fn without_data(
 /// Reads the bytes between count and checksum, by the digit of the type.
 fn srec_typed(digit: u8, bytes: &[u8]) -> Result<LineRecord<'_>, LineFault>
     requires { length bytes.now ≤ 255 }
-    ensures { Finds Kind.Srec (typed_srec digit bytes.now) result }
+    ensures { ReturnsRecord Kind.Srec (typed_srec digit bytes.now) result }
 {
     match digit {
         b'0' => addressed(0, AddressSize::Two, bytes),
@@ -61,7 +61,7 @@ fn srec_typed(digit: u8, bytes: &[u8]) -> Result<LineRecord<'_>, LineFault>
 
 /// Reads the record from a line's bytes. It checks count and checksum.
 pub(crate) fn srec_fields(digit: u8, bytes: &[u8]) -> Result<LineRecord<'_>, LineFault>
-    ensures { Finds Kind.Srec (srec_from_fields digit bytes.now) result }
+    ensures { ReturnsRecord Kind.Srec (srec_from_fields digit bytes.now) result }
 {
     let [count, more @ ..] = bytes else {
         return Err(LineFault::Length);

@@ -4,7 +4,7 @@ use Rattle.std.proofs.Common.{◌≡◌, ap, arith, ℕ, zero, suc, ◌+◌, ◌
 use Rattle.std.specs.Int.{bit_at}
 use Rattle.std.specs.Prelude.{is_some}
 use Rattle.avr_image.specs.Image.{byte_at}
-use Rattle.avr_records_c.specs.Bitmap.{bit, octet, octets, bitmap, is_there}
+use Rattle.avr_records_c.specs.Bitmap.{bit, octet, octets, bitmap, is_marked}
 
 -- eight bits in one number, the first in the lowest place
 bit_of : (pick : ℕ → ℕ) (first r : ℕ) → ((i : ℕ) → pick i < 2) → pick 0 ≡ first → r < 8
@@ -24,5 +24,5 @@ octet_at image k (suc n) zero l = ap (λ (a : ℕ). octet image (a * 8)) (omega 
 octet_at image k (suc n) (suc q) l = grind (arith, nat_tests, octet_at image (k + 1) n q (omega (arith, l)))
 
 pub there_where_held : (image : List (Option ℕ)) (n addr : ℕ) → addr < n * 8
-    → is_there (bitmap image n) addr ≡ is_some (byte_at image addr)
+    → is_marked (bitmap image n) addr ≡ is_some (byte_at image addr)
 there_where_held image n addr l = grind (arith, nat_tests, octet_at, octet_bit)

@@ -14,7 +14,7 @@ use Rattle.avr_records.specs.declared.cursor.Cursor.{Cursor as Lines}
 use Rattle.avr_records.specs.declared.kind.Kind.{Kind}
 use Rattle.avr_records.specs.declared.kind.Kind.TheVariants.{Srec}
 use Rattle.avr_records_c.specs.Cursor.{ended_of, size_in_force, cursor_of}
-use Rattle.avr_records_c.specs.Writing.{PieceCall, Wrote, file_left, file_start}
+use Rattle.avr_records_c.specs.Writing.{WriteCall, WroteFile, file_rest, file_start}
 use Rattle.avr_records_c.specs.declared.cursor.Cursor.{Cursor}
 
 ended-back : (ended : Bool) → ended_of (if ended then 1 else 0) ≡ Some ended
@@ -29,20 +29,20 @@ capped : (kind : Kind) (upper : ℕ) (size : AddressSize) (addr : ℕ) (image : 
 capped kind upper size addr image few = grind (arith, nat_tests, cases_lt, drop_all)
 
 pub left_kept : (kind : Kind) (lines : Lines) (gone : ℕ) (image : List (Option ℕ)) → lines.kind ≡ kind
-    → length image < 2 ^ 32 → file_left kind image (cursor_of lines gone) ≡ Some (drop gone (left lines image))
+    → length image < 2 ^ 32 → file_rest kind image (cursor_of lines gone) ≡ Some (drop gone (left lines image))
 left_kept kind lines gone image is few = grind (arith, nat_tests, ended-back, capped, size-back)
 
 -- at the beginning the whole file is left
-pub starts : (kind : Kind) (image : List (Option ℕ)) → file_left kind image file_start ≡ Some (image_text kind image)
+pub starts : (kind : Kind) (image : List (Option ℕ)) → file_rest kind image file_start ≡ Some (image_text kind image)
 starts x image = grind (arith, nat_tests)
 
 -- the bytes that a call put are a prefix of those that were left
 call-prefix : (kind : Kind) (image : List (Option ℕ)) (cursor next : Cursor) (piece : List ℕ)
-    → (call : PieceCall kind image cursor next piece) → piece ≡ take (length piece) call.text
+    → (call : WriteCall kind image cursor next piece) → piece ≡ take (length piece) call.text
 call-prefix kind image cursor next piece call = grind (arith, nat_tests, length-take-le, take-append-le, take_all)
 
 joins : (kind : Kind) (image : List (Option ℕ)) (cursor : Cursor) (pieces : List (List ℕ)) (text : List ℕ)
-    → file_left kind image cursor ≡ Some text → Wrote kind image cursor pieces → concat pieces ≡ text
+    → file_rest kind image cursor ≡ Some text → WroteFile kind image cursor pieces → concat pieces ≡ text
 joins kind image cursor [] text is wrote = let same : Some [] ≡ Some text = sym wrote ∙ is in cc same
 joins kind image cursor (piece ∷ more) text is (next, call, wrote) =
     let n : ℕ = length piece in
@@ -50,6 +50,6 @@ joins kind image cursor (piece ∷ more) text is (next, call, wrote) =
     let text_is : call.text ≡ text = cc same in
     grind (arith, common_steps, call-prefix, take-append-drop, joins kind image next more (drop n call.text) (call.goes.left ∙ ap Some call.goes.puts.left) wrote)
 
-pub pieces_join : (kind : Kind) (image : List (Option ℕ)) (pieces : List (List ℕ)) → Wrote kind image file_start pieces
+pub pieces_join : (kind : Kind) (image : List (Option ℕ)) (pieces : List (List ℕ)) → WroteFile kind image file_start pieces
     → concat pieces ≡ image_text kind image
 pieces_join kind image pieces wrote = search (rules, joins, starts)

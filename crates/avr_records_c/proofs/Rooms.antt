@@ -4,7 +4,7 @@ use Rattle.std.proofs.Common.{◌≡◌, ◌∙◌, ap, ap₂, sym, arith, ℕ, 
 use lib.Seq.{take-append-add, drop-append-add}
 use Rattle.std.proofs.lemmas.Bool.{cases_lt}
 use Rattle.std.proofs.lemmas.List.{append_assoc, drop-drop, length-drop, length-take-le, length-append, take_all, take-append-le, drop-append-le, take-append-drop}
-use Rattle.avr_records_c.specs.Writing.{PutsOn}
+use Rattle.avr_records_c.specs.Writing.{PutsPrefix}
 
 -- the first `put` bytes of the text are in the room, and this is left of the text
 pub record IsPut (text rest room : List ℕ) (put : ℕ) (now : List ℕ) : Type 0 where
@@ -84,5 +84,5 @@ line-out text whole room now put gone left next is past left_is =
 
 -- the loop ends: the room is full, or the text is at its end
 pub all-put : (text left room now : List ℕ) (put : ℕ) → IsPut text left room put now
-    → put ≡ min (length room) (length text) → PutsOn text left room put now
+    → put ≡ min (length room) (length text) → PutsPrefix text left room put now
 all-put text left room now put is far = record { count = far; left = is.left; stands = is.stands }

@@ -7,8 +7,8 @@ use Rattle.avr_records.specs.declared.kind.Kind.{Kind}
 use Rattle.avr_records.specs.Sparse.{IsMemory, image_text}
 use Rattle.avr_records.proofs.Writers.Sparse.{reads-back-same}
 use Rattle.avr_records_c.proofs.Walks.{length-image}
-use Rattle.avr_records_c.specs.Bitmap.{is_there, image_from, image_of}
-use Rattle.avr_records_c.specs.Reading.{left_in}
+use Rattle.avr_records_c.specs.Bitmap.{is_marked, image_from, image_of}
+use Rattle.avr_records_c.specs.Reading.{read_into}
 use Rattle.avr_records_c.specs.RoundTrip.{EachIsByte, written_and_read}
 
 byte_below : (there : Bool) (b byte : ℕ) → b < 256 → cond there (Some b) None ≡ Some byte → byte < 256
@@ -16,7 +16,7 @@ byte_below there b byte small is = search rules
 
 holds : (at : ℕ) (present bytes : List ℕ) → EachIsByte bytes → HoldsBytes (image_from at present bytes)
 holds at present [] small addr byte is = absurd (cc is)
-holds at present (b ∷ bytes) small zero byte is = byte_below (is_there present at) b byte (small 0 (omega arith)) is
+holds at present (b ∷ bytes) small zero byte is = byte_below (is_marked present at) b byte (small 0 (omega arith)) is
 holds at present (b ∷ bytes) small (suc addr) byte is =
     holds (suc at) present bytes (λ i l. small (suc i) (omega (arith, l))) addr byte is
 
@@ -25,6 +25,6 @@ pub is-memory : (present bytes : List ℕ) → length bytes ≤ 2 ^ 32 → EachI
 is-memory present bytes few small = grind (arith, nat_tests, length-image, holds)
 
 pub reads_back : (kind : Kind) (present bytes : List ℕ) → length bytes ≤ 2 ^ 32 → EachIsByte bytes
-    → left_in bytes present (image_in_text kind (image_text kind (image_of present bytes)) (length bytes))
+    → read_into bytes present (image_in_text kind (image_text kind (image_of present bytes)) (length bytes))
     ≡ written_and_read present bytes
 reads_back kind present bytes few small = grind (arith, nat_tests, is-memory, length-image, reads-back-same)

@@ -4,8 +4,8 @@ use Rattle.std.proofs.Common.{◌≡◌, ap, sym, refl, arith, ℕ, zero, suc, �
 use Rattle.std.proofs.lemmas.Bool.{cases_Bool, cases_lt}
 use Rattle.std.proofs.lemmas.List.{drop_all, drop_more, length-drop, take_min}
 use Rattle.avr_image.specs.Image.{first_from}
-use Rattle.avr_image.specs.Runs.{lead}
-use Rattle.avr_records_c.specs.Bitmap.{is_there, byte_if_there, image_from, image_of}
+use Rattle.avr_image.specs.Runs.{leading_run}
+use Rattle.avr_records_c.specs.Bitmap.{is_marked, byte_if_there, image_from, image_of}
 
 -- ---- the image of the bytes from an address on
 
@@ -27,11 +27,11 @@ next-here k present bytes inside = grind (arith, nat_tests, drop-image, drop_mor
 
 -- ---- the next byte that the bitmap marks
 
-pub first-there : (k : ℕ) (present bytes : List ℕ) → k < length bytes → is_there present k ≡ true
+pub first-there : (k : ℕ) (present bytes : List ℕ) → k < length bytes → is_marked present k ≡ true
     → first_from (image_of present bytes) k ≡ Some k
 first-there k present bytes inside there = search (rules, nat_tests, next-here)
 
-pub first-gap : (k : ℕ) (present bytes : List ℕ) → k < length bytes → is_there present k ≡ false
+pub first-gap : (k : ℕ) (present bytes : List ℕ) → k < length bytes → is_marked present k ≡ false
     → first_from (image_of present bytes) k ≡ first_from (image_of present bytes) (k + 1)
 first-gap k present bytes inside gap = search (rules, nat_tests, next-here)
 
@@ -40,7 +40,7 @@ first-past k present bytes past = search (rules, nat_tests, drop_all, length-ima
 
 -- a gap of `n` addresses, some of them perhaps past the memory
 pub first-gaps : (n k : ℕ) (present bytes : List ℕ)
-    → ((at : ℕ) → k ≤ at → at < k + n → is_there present at ≡ false)
+    → ((at : ℕ) → k ≤ at → at < k + n → is_marked present at ≡ false)
     → first_from (image_of present bytes) k ≡ first_from (image_of present bytes) (k + n)
 first-gaps zero k present bytes gap = grind (arith, nat_tests)
 first-gaps (suc n) k present bytes gap =
@@ -58,39 +58,39 @@ octet-gap k present bytes whole none = first-gaps 8 k present bytes (λ at after
 -- ---- the bytes before a gap
 
 abbrev run : ℕ → List ℕ → List ℕ → ℕ
-run k present bytes = length (lead (drop k (image_of present bytes)))
+run k present bytes = length (leading_run (drop k (image_of present bytes)))
 
-pub run-there : (k : ℕ) (present bytes : List ℕ) → k < length bytes → is_there present k ≡ true
+pub run-there : (k : ℕ) (present bytes : List ℕ) → k < length bytes → is_marked present k ≡ true
     → run k present bytes ≡ suc (run (k + 1) present bytes)
 run-there k present bytes inside there = grind (arith, nat_tests, next-here)
 
-pub run-gap : (k : ℕ) (present bytes : List ℕ) → k < length bytes → is_there present k ≡ false
+pub run-gap : (k : ℕ) (present bytes : List ℕ) → k < length bytes → is_marked present k ≡ false
     → run k present bytes ≡ 0
 run-gap k present bytes inside gap = grind (arith, nat_tests, next-here)
 
 pub run-past : (k : ℕ) (present bytes : List ℕ) → length bytes ≤ k → run k present bytes ≡ 0
 run-past k present bytes past = grind (arith, nat_tests, drop_all, length-image)
 
-lead-bytes : (n addr : ℕ) (present bytes : List ℕ) → n ≤ length (lead (image_from addr present bytes))
-    → take n bytes ≡ take n (lead (image_from addr present bytes))
-lead-bytes (suc n) addr present (b ∷ bytes) few = elim (cases_Bool (is_there present addr)) [
+leading_run-bytes : (n addr : ℕ) (present bytes : List ℕ) → n ≤ length (leading_run (image_from addr present bytes))
+    → take n bytes ≡ take n (leading_run (image_from addr present bytes))
+leading_run-bytes (suc n) addr present (b ∷ bytes) few = elim (cases_Bool (is_marked present addr)) [
   | inl there ↦
-      let some : suc n ≤ length (lead (Some b ∷ image_from (suc addr) present bytes)) = rw there at few in
-      rw there (ap (λ (more : List ℕ). b ∷ more) (lead-bytes n (suc addr) present bytes (omega (arith, some))))
+      let some : suc n ≤ length (leading_run (Some b ∷ image_from (suc addr) present bytes)) = rw there at few in
+      rw there (ap (λ (more : List ℕ). b ∷ more) (leading_run-bytes n (suc addr) present bytes (omega (arith, some))))
   | inr gap ↦
       grind (arith, nat_tests)
 ]
-lead-bytes x addr present y few = refl
+leading_run-bytes x addr present y few = refl
 
-lead-long : (addr : ℕ) (present bytes : List ℕ) → length (lead (image_from addr present bytes)) ≤ length bytes
-lead-long addr present [] = omega arith
-lead-long addr present (b ∷ bytes) = grind (arith, nat_tests, lead-long (suc addr) present bytes)
+leading_run-long : (addr : ℕ) (present bytes : List ℕ) → length (leading_run (image_from addr present bytes)) ≤ length bytes
+leading_run-long addr present [] = omega arith
+leading_run-long addr present (b ∷ bytes) = grind (arith, nat_tests, leading_run-long (suc addr) present bytes)
 
 pub record IsRow (addr most end : ℕ) (present bytes : List ℕ) : Type 0 where
   pub within : end ≤ length bytes
-  pub row : take (end - addr) (drop addr bytes) ≡ take most (lead (drop addr (image_of present bytes)))
+  pub row : take (end - addr) (drop addr bytes) ≡ take most (leading_run (drop addr (image_of present bytes)))
 
 pub row-is : (addr most end : ℕ) (present bytes : List ℕ) → addr ≤ length bytes
     → end ≡ addr + min most (run addr present bytes) → IsRow addr most end present bytes
 row-is addr most end present bytes inside is =
-    grind (arith, nat_tests, drop-image, lead-long, length-drop, lead-bytes, take_min)
+    grind (arith, nat_tests, drop-image, leading_run-long, length-drop, leading_run-bytes, take_min)

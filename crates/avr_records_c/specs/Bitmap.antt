@@ -21,11 +21,11 @@ octets image k (suc n) = octet image (k * 8) ∷ octets image (k + 1) n
 abbrev pub bitmap : List (Option ℕ) → ℕ → List ℕ
 bitmap image n = octets image 0 n
 
-abbrev pub is_there : List ℕ → ℕ → Bool
-is_there present addr = bit_at (slice_index present (addr / 8)) (addr % 8) == 1
+abbrev pub is_marked : List ℕ → ℕ → Bool
+is_marked present addr = bit_at (slice_index present (addr / 8)) (addr % 8) == 1
 
 abbrev pub byte_if_there : List ℕ → ℕ → ℕ → Option ℕ
-byte_if_there present addr byte = if is_there present addr then Some byte else None
+byte_if_there present addr byte = if is_marked present addr then Some byte else None
 
 abbrev pub image_from : ℕ → List ℕ → List ℕ → List (Option ℕ)
 image_from addr present [] = []

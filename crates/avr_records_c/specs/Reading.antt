@@ -10,32 +10,32 @@ use Rattle.avr_records_c.specs.declared.outcome.Outcome.{Outcome}
 use Rattle.avr_records_c.specs.Numbers.{kind_to_read, outcome_of_end, outcome_of_fault, misfit}
 use Rattle.avr_records_c.specs.Bitmap.{octets_of, bitmap}
 
-pub record Left : Type 0 where
+pub record ReadResult : Type 0 where
   pub outcome : Outcome
   pub bytes : List ℕ
   pub present : List ℕ
 
 -- What a read leaves: the image's bytes, FF in gaps, and its bitmap. A fault changes neither.
-abbrev pub left_in : List ℕ → List ℕ → Result (List (Option ℕ) × Ending) RecordFault → Left
-left_in bytes present (Ok (image, ending)) =
+abbrev pub read_into : List ℕ → List ℕ → Result (List (Option ℕ) × Ending) RecordFault → ReadResult
+read_into bytes present (Ok (image, ending)) =
     record {
       outcome = outcome_of_end ending;
       bytes = filled_bytes image 0 (length bytes);
       present = bitmap image (length present);
     }
-left_in bytes present (Err fault) = record { outcome = outcome_of_fault fault; bytes = bytes; present = present }
+read_into bytes present (Err fault) = record { outcome = outcome_of_fault fault; bytes = bytes; present = present }
 
 -- The kind of file if the arguments fit, else the outcome. File and memory have to be shorter than 2 to the power 32
 -- bytes, and the bitmap has to be the memory's in length.
-abbrev pub asked_read : ℕ → ℕ → ℕ → ℕ → Result Kind Outcome
-asked_read kind text size present =
+abbrev pub checked_read_kind : ℕ → ℕ → ℕ → ℕ → Result Kind Outcome
+checked_read_kind kind text size present =
     if nat_lt text (2 ^ 32) && nat_lt size (2 ^ 32) && present == octets_of size then kind_to_read kind else Err misfit
 
 -- The call leaves the file's image, or reports that allocation failed. If the arguments don't fit one another or the
 -- format has no records, it changes nothing.
-abbrev pub Reads : ℕ → List ℕ → List ℕ → List ℕ → Left → Type 0
+abbrev pub Reads : ℕ → List ℕ → List ℕ → List ℕ → ReadResult → Type 0
 Reads kind text bytes present left =
-    MatchResult (asked_read kind (length text) (length bytes) (length present))
-    (λ k. (left ≡ left_in bytes present (image_in_text k text (length bytes)))
-    ⊎ (left ≡ left_in bytes present (Err Memory)))
+    MatchResult (checked_read_kind kind (length text) (length bytes) (length present))
+    (λ k. (left ≡ read_into bytes present (image_in_text k text (length bytes)))
+    ⊎ (left ≡ read_into bytes present (Err Memory)))
     (λ outcome. left ≡ record { outcome = outcome; bytes = bytes; present = present })

@@ -4,13 +4,13 @@ use Rattle.avr_image.specs.Image.{filled_bytes}
 use Rattle.avr_records.specs.declared.kind.Ending.TheVariants.{Ended}
 use Rattle.avr_records_c.specs.Numbers.{outcome_of_end}
 use Rattle.avr_records_c.specs.Bitmap.{bitmap, image_of}
-use Rattle.avr_records_c.specs.Reading.{Left}
+use Rattle.avr_records_c.specs.Reading.{ReadResult}
 
 abbrev pub EachIsByte : List ℕ → Type 0
 EachIsByte bytes = (i : ℕ) → i < length bytes → slice_index bytes i < 256
 
 -- The bytes that the bitmap marks, FF for the others, and the bitmap of the same addresses.
-abbrev pub written_and_read : List ℕ → List ℕ → Left
+abbrev pub written_and_read : List ℕ → List ℕ → ReadResult
 written_and_read present bytes =
     let image = image_of present bytes in
     record {

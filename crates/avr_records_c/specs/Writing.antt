@@ -17,31 +17,31 @@ pub record Put : Type 0 where
 
 -- The kind of file if the arguments fit. The memory has to be shorter than 2 to the power 32 bytes, and the bitmap has
 -- to be the memory's in length.
-abbrev pub asked_write : ℕ → ℕ → ℕ → Option Kind
-asked_write kind size present =
+abbrev pub checked_write_kind : ℕ → ℕ → ℕ → Option Kind
+checked_write_kind kind size present =
     if nat_lt size (2 ^ 32) && present == octets_of size then kind_numbered kind else None
 
 -- The room begins with as much of the text as fits, and is unchanged after it. `rest` is left of the text.
-pub record PutsOn (text rest room : List ℕ) (n : ℕ) (after : List ℕ) : Type 0 where
+pub record PutsPrefix (text rest room : List ℕ) (n : ℕ) (after : List ℕ) : Type 0 where
   pub count : n ≡ min (length room) (length text)
   pub left : rest ≡ drop n text
   pub stands : after ≡ take n text ++ drop n room
 
 -- What is left of a memory's file at a cursor: the lines from its position on, without what was put of the first. It is
 -- `None` if no call leaves such a cursor.
-abbrev pub file_left : Kind → List (Option ℕ) → Cursor → Option (List ℕ)
-file_left kind image cursor =
+abbrev pub file_rest : Kind → List (Option ℕ) → Cursor → Option (List ℕ)
+file_rest kind image cursor =
     option_map (λ lines. drop cursor.gone (text_left lines image)) (lines_of kind cursor image)
 
 abbrev pub file_start : Cursor
 file_start = record { addr = 0; gone = 0; upper = 0; address_size = 0; ended = 0 }
 
 -- A call puts the next part of the text, and its cursor gives the rest.
-pub record PutsText (kind : Kind) (image : List (Option ℕ)) (text room : List ℕ) (put : Put) : Type 0 where
+pub record PutsNextPiece (kind : Kind) (image : List (Option ℕ)) (text room : List ℕ) (put : Put) : Type 0 where
   pub good : put.piece.fault ≡ 0
   pub rest : List ℕ
-  pub puts : PutsOn text rest room put.piece.length put.room
-  pub left : file_left kind image put.cursor ≡ Some rest
+  pub puts : PutsPrefix text rest room put.piece.length put.room
+  pub left : file_rest kind image put.cursor ≡ Some rest
 
 abbrev pub put_none : Cursor → List ℕ → Put
 put_none cursor room = record { piece = record { length = 0; fault = 11 }; cursor = cursor; room = room }
@@ -49,31 +49,31 @@ put_none cursor room = record { piece = record { length = 0; fault = 11 }; curso
 -- The call puts the next part of the memory's file. If the arguments don't fit one another, it changes nothing.
 abbrev pub Writes : ℕ → List ℕ → List ℕ → Cursor → List ℕ → Put → Type 0
 Writes kind bytes present cursor room put =
-    MatchOption (asked_write kind (length bytes) (length present))
+    MatchOption (checked_write_kind kind (length bytes) (length present))
     (put ≡ put_none cursor room)
-    (λ k. MatchOption (file_left k (image_of present bytes) cursor)
+    (λ k. MatchOption (file_rest k (image_of present bytes) cursor)
     (put ≡ put_none cursor room)
-    (λ text. PutsText k (image_of present bytes) text room put))
+    (λ text. PutsNextPiece k (image_of present bytes) text room put))
 
 -- A call put this piece at `cursor`, and left `next`.
-pub record PieceCall (kind : Kind) (image : List (Option ℕ)) (cursor next : Cursor) (piece : List ℕ) : Type 0 where
+pub record WriteCall (kind : Kind) (image : List (Option ℕ)) (cursor next : Cursor) (piece : List ℕ) : Type 0 where
   pub text : List ℕ
   pub room : List ℕ
   pub after : List ℕ
-  pub left : file_left kind image cursor ≡ Some text
-  pub goes : PutsText kind image text room
+  pub left : file_rest kind image cursor ≡ Some text
+  pub goes : PutsNextPiece kind image text room
       (record { piece = record { length = length piece; fault = 0 }; cursor = next; room = after })
   pub prefix : piece ≡ take (length piece) after
 
 -- Calls put these pieces one after the other, from a cursor to the file's end. Law `pieces_join` uses it.
-abbrev pub Wrote : Kind → List (Option ℕ) → Cursor → List (List ℕ) → Type 0
-Wrote kind image cursor [] = file_left kind image cursor ≡ Some []
-Wrote kind image cursor (piece ∷ more) =
-    (next : Cursor) × PieceCall kind image cursor next piece × Wrote kind image next more
+abbrev pub WroteFile : Kind → List (Option ℕ) → Cursor → List (List ℕ) → Type 0
+WroteFile kind image cursor [] = file_rest kind image cursor ≡ Some []
+WroteFile kind image cursor (piece ∷ more) =
+    (next : Cursor) × WriteCall kind image cursor next piece × WroteFile kind image next more
 
 -- The call returns the length of the memory's file, or 0 if the arguments don't fit one another.
-abbrev pub Measures : ℕ → List ℕ → List ℕ → Piece → Type 0
-Measures kind bytes present piece =
-    MatchOption (asked_write kind (length bytes) (length present))
+abbrev pub ReturnsLength : ℕ → List ℕ → List ℕ → Piece → Type 0
+ReturnsLength kind bytes present piece =
+    MatchOption (checked_write_kind kind (length bytes) (length present))
     (piece ≡ record { length = 0; fault = 11 })
     (λ k. piece ≡ record { length = length (image_text k (image_of present bytes)); fault = 0 })

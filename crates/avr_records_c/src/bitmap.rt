@@ -1,6 +1,6 @@
 //! The bitmap of a memory: it marks the bytes that are present.
 ghost use Rattle.std.specs.Prelude.{◌≡◌, ◌==◌, ◌&&◌, ◌+◌, ◌*◌, ◌^◌, ◌<◌, ◌-◌, ◌≤◌, ◌++◌, length, take, drop, replicate, nat_lt};
-ghost use Rattle.avr_records_c.specs.Bitmap.{bit, bitmap, is_there as spec_is_there, octet, octets_of};
+ghost use Rattle.avr_records_c.specs.Bitmap.{bit, bitmap, is_marked as spec_is_there, octet, octets_of};
 
 use avr_image::Image;
 
@@ -66,7 +66,7 @@ pub(crate) fn put_bitmap(image: &Image, present: &mut [u8])
     }
 }
 
-pub(crate) fn is_there(present: &[u8], addr: usize) -> bool
+pub(crate) fn is_marked(present: &[u8], addr: usize) -> bool
     requires { addr < length present.now * 8 }
     ensures { result ≡ spec_is_there present.now addr }
 {

@@ -1,5 +1,5 @@
 ghost use Rattle.std.specs.Prelude.{◌≡◌};
-ghost use Rattle.avr_records.specs.Detect.{kind_of_file};
+ghost use Rattle.avr_records.specs.Detect.{format_of_file};
 ghost use Rattle.avr_records_c.specs.Numbers.{found_number};
 
 use crate::numbers::found_number;
@@ -9,7 +9,7 @@ use avr_records::detect;
 /// 3 for ELF.
 #[unsafe(no_mangle)]
 pub extern "C" fn avr_records_detect(prefix: &[u8]) -> u8
-    ensures { result ≡ found_number (kind_of_file prefix.now) }
+    ensures { result ≡ found_number (format_of_file prefix.now) }
 {
     found_number(detect(prefix))
 }

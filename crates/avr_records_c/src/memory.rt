@@ -1,10 +1,10 @@
 ghost use Rattle.std.specs.Prelude.{◌≡◌, ◌+◌, ◌^◌, ◌<◌, ◌≤◌, length, drop, min};
 ghost use Rattle.avr_image.specs.Image.{first_from};
-ghost use Rattle.avr_image.specs.Runs.{lead};
+ghost use Rattle.avr_image.specs.Runs.{leading_run};
 ghost use Rattle.avr_records.specs.Sparse.{IsMemory};
 ghost use Rattle.avr_records_c.specs.Bitmap.{image_of, octets_of, HasBitmap};
 
-use crate::bitmap::is_there;
+use crate::bitmap::is_marked;
 use avr_records::Sparse;
 use std::marker::Model;
 
@@ -43,7 +43,7 @@ fn next_there(present: &[u8], bytes: &[u8], addr: usize) -> Option<usize>
 {
     let mut at = addr;
     'gap: while at < bytes.len() {
-        if is_there(present, at) {
+        if is_marked(present, at) {
             return Some(at);
         }
         // An octet that is 0 is skipped in one step.
@@ -59,11 +59,11 @@ fn next_there(present: &[u8], bytes: &[u8], addr: usize) -> Option<usize>
 fn row_end(present: &[u8], bytes: &[u8], addr: usize, most: usize) -> usize
     requires octets { length present.now ≡ octets_of (length bytes.now) }
     requires inside { addr ≤ length bytes.now }
-    ensures { result ≡ addr + min most (length (lead (drop addr (image_of present.now bytes.now)))) }
+    ensures { result ≡ addr + min most (length (leading_run (drop addr (image_of present.now bytes.now)))) }
 {
     let stop = addr + most.min(bytes.len() - addr);
     let mut end = addr;
-    'row: while end < stop && is_there(present, end) {
+    'row: while end < stop && is_marked(present, end) {
         end += 1;
     }
     end

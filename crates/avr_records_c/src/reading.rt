@@ -1,5 +1,5 @@
 ghost use Rattle.std.specs.Prelude.{◌≡◌};
-ghost use Rattle.avr_records_c.specs.Reading.{asked_read as spec_asked_read, Reads};
+ghost use Rattle.avr_records_c.specs.Reading.{checked_read_kind as spec_checked_read_kind, Reads};
 
 use crate::bitmap::{is_bitmap_of, put_bitmap};
 use crate::numbers::kind_to_read;
@@ -7,8 +7,8 @@ use crate::outcome::{MISFIT, Outcome};
 use avr_records::{Kind, read_records};
 use std::alloc::Global;
 
-fn asked_read(kind: u8, text: usize, size: usize, present: usize) -> Result<Kind, Outcome>
-    ensures { result ≡ spec_asked_read kind text size present }
+fn checked_read_kind(kind: u8, text: usize, size: usize, present: usize) -> Result<Kind, Outcome>
+    ensures { result ≡ spec_checked_read_kind kind text size present }
 {
     if text <= u32::MAX as usize && is_bitmap_of(present, size) {
         kind_to_read(kind)
@@ -36,7 +36,7 @@ pub extern "C" fn avr_records_read(
     ensures { Reads kind text.now bytes.old present.old (record
         { outcome = result; bytes = bytes.new; present = present.new }) }
 {
-    let kind = match asked_read(kind, text.len(), bytes.len(), present.len()) {
+    let kind = match checked_read_kind(kind, text.len(), bytes.len(), present.len()) {
         Ok(kind) => kind,
         Err(outcome) => return outcome,
     };

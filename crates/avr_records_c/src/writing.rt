@@ -1,6 +1,6 @@
 ghost use Rattle.std.specs.Prelude.{◌≡◌, ◌+◌, ◌-◌, ◌<◌, ◌≤◌, ◌^◌, ◌++◌, length, take, drop, min};
 ghost use Rattle.avr_records.specs.Writing.{left};
-ghost use Rattle.avr_records_c.specs.Writing.{asked_write as spec_asked_write, Measures, PutsOn, Writes};
+ghost use Rattle.avr_records_c.specs.Writing.{checked_write_kind as spec_checked_write_kind, ReturnsLength, PutsPrefix, Writes};
 
 use crate::bitmap::is_bitmap_of;
 use crate::cursor::{Cursor, cursor_of, lines_of};
@@ -11,8 +11,8 @@ use crate::piece::Piece;
 use arrayvec::ArrayVec;
 use avr_records::{Cursor as Lines, Kind};
 
-fn asked_write(kind: u8, size: usize, present: usize) -> Option<Kind>
-    ensures { result ≡ spec_asked_write kind size present }
+fn checked_write_kind(kind: u8, size: usize, present: usize) -> Option<Kind>
+    ensures { result ≡ spec_checked_write_kind kind size present }
 {
     if is_bitmap_of(present, size) {
         kind_numbered(kind)
@@ -34,8 +34,8 @@ fn put_part(line: &[u8], gone: usize, room: &mut [u8], put: usize) -> usize
 }
 
 /// Puts as much as fits of the rest of a file into the room. Returns the number of bytes.
-fn put_left(lines: &mut Lines, gone: &mut u32, memory: &Memory<'_>, room: &mut [u8]) -> usize
-    ensures put { PutsOn (drop gone.old (left lines.old memory.now)) (drop gone.new (left lines.new memory.now))
+fn put_rest(lines: &mut Lines, gone: &mut u32, memory: &Memory<'_>, room: &mut [u8]) -> usize
+    ensures put { PutsPrefix (drop gone.old (left lines.old memory.now)) (drop gone.new (left lines.new memory.now))
         room.old result room.new }
     ensures kind { lines.new.kind ≡ lines.old.kind }
 {
@@ -59,7 +59,7 @@ fn put_left(lines: &mut Lines, gone: &mut u32, memory: &Memory<'_>, room: &mut [
     put
 }
 
-fn count_left(lines: Lines, memory: &Memory<'_>) -> usize
+fn count_rest(lines: Lines, memory: &Memory<'_>) -> usize
     requires { length (left lines memory.now) < 2 ^ 64 }
     ensures { result ≡ length (left lines memory.now) }
 {
@@ -76,14 +76,14 @@ fn count_left(lines: Lines, memory: &Memory<'_>) -> usize
 /// Arguments and fault are those of `avr_records_write`. With a fault the length is 0. It allocates nothing.
 #[unsafe(no_mangle)]
 pub extern "C" fn avr_records_length(kind: u8, bytes: &[u8], present: &[u8]) -> Piece
-    ensures { Measures kind bytes.now present.now result }
+    ensures { ReturnsLength kind bytes.now present.now result }
 {
-    let Some(kind) = asked_write(kind, bytes.len(), present.len()) else {
+    let Some(kind) = checked_write_kind(kind, bytes.len(), present.len()) else {
         return Piece::none(MISFIT);
     };
     let memory = Memory::new(present, bytes);
     Piece {
-        length: count_left(Lines::new(kind, &memory), &memory),
+        length: count_rest(Lines::new(kind, &memory), &memory),
         fault: 0,
     }
 }
@@ -107,7 +107,7 @@ pub extern "C" fn avr_records_write(
     ensures { Writes kind bytes.now present.now cursor.old room.old (record
         { piece = result; cursor = cursor.new; room = room.new }) }
 {
-    let Some(kind) = asked_write(kind, bytes.len(), present.len()) else {
+    let Some(kind) = checked_write_kind(kind, bytes.len(), present.len()) else {
         return Piece::none(MISFIT);
     };
     let memory = Memory::new(present, bytes);
@@ -115,7 +115,7 @@ pub extern "C" fn avr_records_write(
         return Piece::none(MISFIT);
     };
     let mut gone = cursor.gone;
-    let length = put_left(&mut lines, &mut gone, &memory, room);
+    let length = put_rest(&mut lines, &mut gone, &memory, room);
     *cursor = cursor_of(&lines, gone);
     Piece { length, fault: 0 }
 }

@@ -1,6 +1,6 @@
 -- Actions, operations and reports of a session, one after another.
 pub mod Actions
-pub mod FaultsTold
+pub mod FaultsReported
 pub mod Reports
 pub mod Operations
 pub mod Sequences

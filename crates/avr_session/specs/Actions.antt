@@ -11,9 +11,9 @@ use Rattle.avr_plan.specs.declared.planned.Task.{Task}
 use Rattle.avr_plan.specs.declared.planned.Task.TheVariants.{Write, Verify, Read}
 
 -- What a dry run skips: an erase that was asked for, or the write of an image.
-pub data LeftOut : Type 0 where
-  TheErase : LeftOut
-  TheWrite : Mem → List (Option ℕ) → LeftOut
+pub data SkippedByDryRun : Type 0 where
+  SkippedErase : SkippedByDryRun
+  SkippedWrite : Mem → List (Option ℕ) → SkippedByDryRun
 
 pub data Action : Type 0 where
   OpenSession : Action
@@ -21,7 +21,7 @@ pub data Action : Type 0 where
   WriteImage : Mem → List (Option ℕ) → Action
   CompareImage : Mem → List (Option ℕ) → Action
   SaveMemory : Mem → Format → Bytes → Action
-  LeaveOut : LeftOut → Action
+  SkipAction : SkippedByDryRun → Action
 
 abbrev pub writes_flash : Task → Bool
 writes_flash (Write Flash image) = true
@@ -33,7 +33,7 @@ is_erase_due s tasks = s.erase || (list_any writes_flash tasks && not s.keep_fla
 -- A dry run erases and writes nothing.
 abbrev pub erase_actions : Switches → List Task → List Action
 erase_actions s tasks =
-    if s.dry then (if s.erase then LeaveOut TheErase ∷ [] else [])
+    if s.dry then (if s.erase then SkipAction SkippedErase ∷ [] else [])
     else if is_erase_due s tasks then EraseChip ∷ []
     else []
 
@@ -43,7 +43,7 @@ read_back_actions s mem image = if s.no_verify then [] else CompareImage mem ima
 
 abbrev pub write_actions : Switches → Mem → List (Option ℕ) → List Action
 write_actions s mem image =
-    if s.dry then LeaveOut (TheWrite mem image) ∷ [] else WriteImage mem image ∷ read_back_actions s mem image
+    if s.dry then SkipAction (SkippedWrite mem image) ∷ [] else WriteImage mem image ∷ read_back_actions s mem image
 
 abbrev pub task_actions : Switches → Task → List Action
 task_actions s (Write mem image) = write_actions s mem image
@@ -59,10 +59,10 @@ abbrev pub actions : Plan → List Action
 actions plan = OpenSession ∷ (erase_actions plan.switches plan.tasks ++ tasks_actions plan.switches plan.tasks)
 
 -- Reading and comparing allocate. Planning has allocated all that the plan holds.
-abbrev pub action_takes_memory : Action → Bool
-action_takes_memory (CompareImage mem image) = true
-action_takes_memory (SaveMemory mem format file) = true
-action_takes_memory action = false
+abbrev pub action_allocates : Action → Bool
+action_allocates (CompareImage mem image) = true
+action_allocates (SaveMemory mem format file) = true
+action_allocates action = false
 
-abbrev pub takes_memory : Plan → Bool
-takes_memory plan = list_any action_takes_memory (actions plan)
+abbrev pub plan_allocates : Plan → Bool
+plan_allocates plan = list_any action_allocates (actions plan)

@@ -5,19 +5,19 @@ use Rattle.stk_host.specs.declared.fault.HostFault.{HostFault}
 use Rattle.stk_host.specs.declared.fault.HostFault.TheVariants.{LinkEnded, SendFailed, RecvFailed, Memory}
 use Rattle.avr_session.specs.declared.ending.End.{End}
 use Rattle.avr_session.specs.declared.ending.End.TheVariants as ends
-use Rattle.avr_session.specs.Standing.{Standing, Fine, Faulty, Over}
+use Rattle.avr_session.specs.Standing.{Standing, NoFault, Faulty, Over}
 
 -- A failed link and a failed allocation stop the run; no other fault does.
-abbrev pub ended_by : HostFault → End
-ended_by LinkEnded = ends.Over LinkEnded
-ended_by SendFailed = ends.Stopped
-ended_by RecvFailed = ends.Stopped
-ended_by Memory = ends.Stopped
-ended_by fault = ends.Faulty fault
+abbrev pub end_for_fault : HostFault → End
+end_for_fault LinkEnded = ends.Over LinkEnded
+end_for_fault SendFailed = ends.Stopped
+end_for_fault RecvFailed = ends.Stopped
+end_for_fault Memory = ends.Stopped
+end_for_fault fault = ends.Faulty fault
 
 abbrev pub after_outcome : {A : Type 0} → Result A HostFault → Result ⊤ End
 after_outcome (Ok a) = Ok tt
-after_outcome (Err fault) = Err (ended_by fault)
+after_outcome (Err fault) = Err (end_for_fault fault)
 
 -- A desk that fails while it reports the outcome stops the run too.
 abbrev pub conclusion : {A : Type 0} → Result A HostFault → Result ⊤ DeskFault → Result ⊤ End
@@ -25,14 +25,14 @@ conclusion outcome (Ok done) = after_outcome outcome
 conclusion outcome (Err _) = Err ends.Stopped
 
 -- The state of a session after this result, unless it stopped.
-abbrev pub stands : Result ⊤ End → Result Standing ⊤
-stands (Ok done) = Ok Fine
-stands (Err (ends.Faulty fault)) = Ok Faulty
-stands (Err (ends.Over fault)) = Ok Over
-stands (Err ends.Stopped) = Err tt
+abbrev pub standing_after : Result ⊤ End → Result Standing ⊤
+standing_after (Ok done) = Ok NoFault
+standing_after (Err (ends.Faulty fault)) = Ok Faulty
+standing_after (Err (ends.Over fault)) = Ok Over
+standing_after (Err ends.Stopped) = Err tt
 
 -- After an action that leaves the link usable, the host is usable.
-abbrev pub HostServes : Result Standing ⊤ → Option HostFault → Type 0
-HostServes (Ok Fine) broken = broken ≡ None
-HostServes (Ok Faulty) broken = broken ≡ None
-HostServes result broken = ⊤
+abbrev pub HostIsUsable : Result Standing ⊤ → Option HostFault → Type 0
+HostIsUsable (Ok NoFault) broken = broken ≡ None
+HostIsUsable (Ok Faulty) broken = broken ≡ None
+HostIsUsable result broken = ⊤

@@ -4,11 +4,11 @@ use Rattle.avr_desk.specs.declared.desk.Desk.{Ghosts as Desks}
 use Rattle.avr_session.specs.declared.performing.Session.{Session}
 use Rattle.avr_session.specs.declared.ending.End.{End}
 use Rattle.avr_session.specs.Actions.{Action}
-use Rattle.avr_session.specs.Concluding.{stands}
-use Rattle.avr_session.specs.Outcomes.{EndsTold}
-use Rattle.avr_session.specs.Performing.{Performing, PlanDoes}
+use Rattle.avr_session.specs.Concluding.{standing_after}
+use Rattle.avr_session.specs.Outcomes.{EndsWithFaultLine}
+use Rattle.avr_session.specs.Performing.{Performing, DoesPlanActions}
 use Rattle.avr_session.specs.Runs.{Devices, devices}
-use Rattle.ghosts.specs.Stays.{Stays}
+use Rattle.ghosts.specs.Preserves.{Preserves}
 use Rattle.stk_host.specs.declared.link.Link.{Ghosts as Links}
 
 -- The host can be used, and works on the part of the plan.
@@ -20,16 +20,16 @@ shown link desk session = devices (link.view session.link.now) (desk.view sessio
 
 -- A part of a session was run, of the same plan and on the same devices. If a fault ended the session, its line is the
 -- last one reported.
-pub record Proceeds {D L : Type 0} (link : Links L) (desk : Desks D) (Part : Performing) (old new : Session D L)
+pub record RunsSessionPart {D L : Type 0} (link : Links L) (desk : Desks D) (Part : Performing) (old new : Session D L)
     (result : Result ⊤ End) : Type 0 where
-  pub performs : Part old.host new.host (shown link desk old) (shown link desk new) (stands result)
+  pub performs : Part old.host new.host (shown link desk old) (shown link desk new) (standing_after result)
   pub plan : new.plan ≡ old.plan
   pub same_link : new.link.ghost_name ≡ old.link.ghost_name
   pub same_desk : new.desk.ghost_name ≡ old.desk.ghost_name
-  pub comes : Stays link.comes_of old.link.now new.link.now
-  pub stays : Stays desk.comes_of old.desk.now new.desk.now
-  pub told : EndsTold new.plan.now.part (desk.view new.desk.now) result
+  pub comes : Preserves link.started_as old.link.now new.link.now
+  pub stays : Preserves desk.started_as old.desk.now new.desk.now
+  pub told : EndsWithFaultLine new.plan.now.part (desk.view new.desk.now) result
 
 -- These actions of the plan were done in order, up to the first fault.
 abbrev pub Does : {D L : Type 0} → Links L → Desks D → List Action → Session D L → Session D L → Result ⊤ End → Type 0
-Does link desk actions old new result = Proceeds link desk (PlanDoes old.plan.now actions) old new result
+Does link desk actions old new result = RunsSessionPart link desk (DoesPlanActions old.plan.now actions) old new result

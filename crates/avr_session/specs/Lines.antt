@@ -3,7 +3,7 @@ use Rattle.std.specs.Prelude.{ℕ, List, [], ◌∷◌, codes, nat_lt, if◌then
 use Rattle.byteorder.specs.Endian.{big_bytes}
 use Rattle.avr_desk.specs.Record.{Bytes}
 use Rattle.avr_desk.specs.Lines.{digits, spaced_digits, information, warning, error, memory_pieces}
-use Rattle.avr_desk.specs.Said.{OutputEvent, Line}
+use Rattle.avr_desk.specs.OutputEvents.{OutputEvent, PrintsLine}
 use Rattle.avr_part.specs.Mem.{name_of}
 use Rattle.avr_part.specs.Part.{Part}
 use Rattle.avr_part.specs.declared.part.Mem.{Mem}
@@ -13,10 +13,10 @@ use Rattle.stk_host.specs.declared.fault.HostFault.TheVariants.{NoAnswer, LinkEn
 
 -- Information is printed if `quiet` is 0; a warning also if it is 1.
 abbrev pub informs : ℕ → List Bytes → List OutputEvent
-informs quiet pieces = if nat_lt 0 quiet then [] else Line (information pieces) ∷ []
+informs quiet pieces = if nat_lt 0 quiet then [] else PrintsLine (information pieces) ∷ []
 
 abbrev pub warns : ℕ → List Bytes → List OutputEvent
-warns quiet pieces = if nat_lt 1 quiet then [] else Line (warning pieces) ∷ []
+warns quiet pieces = if nat_lt 1 quiet then [] else PrintsLine (warning pieces) ∷ []
 
 abbrev pub other_signature : Part → Bytes → List Bytes
 other_signature part found =
@@ -39,8 +39,8 @@ differs_pieces mem address want found =
 abbrev pub unsent_pieces : List Bytes
 unsent_pieces = codes "link cannot be written" ∷ []
 
-abbrev pub unheard_pieces : List Bytes
-unheard_pieces = codes "link cannot be read" ∷ []
+abbrev pub unreceived_pieces : List Bytes
+unreceived_pieces = codes "link cannot be read" ∷ []
 
 abbrev pub fault_pieces : Part → HostFault → List Bytes
 fault_pieces part NoAnswer = codes "no answer" ∷ []
@@ -53,7 +53,7 @@ fault_pieces part (WrongSignature found) = other_signature part found
 fault_pieces part (Differs mem address want found) = differs_pieces mem address want found
 fault_pieces part (ReadOnly mem) = read_only_pieces mem
 fault_pieces part Memory = memory_pieces
-fault_pieces part RecvFailed = unheard_pieces
+fault_pieces part RecvFailed = unreceived_pieces
 
 unfoldable pub fault_line : Part → HostFault → Bytes
 fault_line part fault = error (fault_pieces part fault)

@@ -11,30 +11,30 @@ use Rattle.avr_session.specs.Lines.{fault_line}
 use Rattle.avr_session.specs.Run.{StopsSession}
 use Rattle.avr_session.specs.Runs.{Devices}
 use Rattle.avr_session.specs.Session.{session}
-use Rattle.avr_session.specs.Stopping.{IsPlayed}
+use Rattle.avr_session.specs.Stopping.{RanToStatus}
 
 abbrev pub outcome_status : Outcome → ℕ
 outcome_status outcome.Done = 0
 outcome_status _ = 1
 
-abbrev pub EndWith : Bytes → Bytes → Type 0
-EndWith line messages = (before : Bytes) × (messages ≡ before ++ line)
+abbrev pub EndWithLine : Bytes → Bytes → Type 0
+EndWithLine line messages = (before : Bytes) × (messages ≡ before ++ line)
 
 -- The contract of `drive_outcome`. Done: the session ran whole, without a fault. Faulty: it ran whole, and this fault's
 -- line is the last one. Stopped: it stopped at once.
 abbrev pub ComesTo : Plan → Devices → Devices → Outcome → Type 0
-ComesTo plan old new outcome.Done = IsPlayed (session plan) old new 0
+ComesTo plan old new outcome.Done = RanToStatus (session plan) old new 0
 ComesTo plan old new (outcome.Faulty fault) =
-    IsPlayed (session plan) old new 1 × EndWith (fault_line plan.part fault) new.desk.kept.messages
+    RanToStatus (session plan) old new 1 × EndWithLine (fault_line plan.part fault) new.desk.kept.messages
 ComesTo plan old new outcome.Stopped = StopsSession plan old new
 
 -- ---- inside: how a session ended
 
 -- If a fault ended the session, the fault's line is the last one reported.
-abbrev pub EndsTold : Part → DeskState → Result ⊤ End → Type 0
-EndsTold part view (Err (ends.Faulty fault)) = EndWith (fault_line part fault) view.kept.messages
-EndsTold part view (Err (ends.Over fault)) = EndWith (fault_line part fault) view.kept.messages
-EndsTold part view result = ⊤
+abbrev pub EndsWithFaultLine : Part → DeskState → Result ⊤ End → Type 0
+EndsWithFaultLine part view (Err (ends.Faulty fault)) = EndWithLine (fault_line part fault) view.kept.messages
+EndsWithFaultLine part view (Err (ends.Over fault)) = EndWithLine (fault_line part fault) view.kept.messages
+EndsWithFaultLine part view result = ⊤
 
 abbrev pub outcome_of : Result ⊤ End → Outcome
 outcome_of (Ok done) = outcome.Done

@@ -1,37 +1,37 @@
 -- How an action of a session ends: for contracts inside this crate.
 use Rattle.std.specs.Prelude.{Bool, true, false, ◌≡◌, ◌≤◌, List, Result, Ok, Err, ⊤}
 use Rattle.std.specs.List.{list_any}
-use Rattle.avr_desk.specs.Fault.{Follows}
+use Rattle.avr_desk.specs.Fault.{CountsNeverFall}
 use Rattle.avr_plan.specs.Plan.{Plan}
 use Rattle.stk_host.specs.Dialog.{Dialog}
 use Rattle.stk_host.specs.Play.{Progress}
 use Rattle.stk_host.specs.State.{HostState}
-use Rattle.avr_desk.specs.Said.{OutputEvent}
-use Rattle.avr_session.specs.Standing.{Standing, Fine}
-use Rattle.avr_session.specs.Actions.{Action, action_takes_memory, actions, takes_memory}
-use Rattle.avr_session.specs.Concluding.{HostServes}
-use Rattle.avr_session.specs.Runs.{Devices, Lacking, Terms, untold, Ran, BrokeOff}
-use Rattle.avr_session.specs.Session.{actions_dialog, ending, playing}
-use Rattle.avr_session.specs.Taking.{AtOnce, AtTaking}
+use Rattle.avr_desk.specs.OutputEvents.{OutputEvent}
+use Rattle.avr_session.specs.Standing.{Standing, NoFault}
+use Rattle.avr_session.specs.Actions.{Action, action_allocates, actions, plan_allocates}
+use Rattle.avr_session.specs.Concluding.{HostIsUsable}
+use Rattle.avr_session.specs.Runs.{Devices, MayAllocate, Terms, before_fault, RanWhole, BrokeOff}
+use Rattle.avr_session.specs.Session.{actions_dialog, ending, session_dialog}
+use Rattle.avr_session.specs.AllocationPoints.{AtStartOnly, AtAllocation}
 
-abbrev pub is_told : Standing → Bool
-is_told Fine = false
-is_told standing = true
+abbrev pub has_fault : Standing → Bool
+has_fault NoFault = false
+has_fault standing = true
 
 -- The result of a call: the dialog ran whole, or it broke off.
-abbrev pub Runs : {R : Type 0} → Dialog OutputEvent R → Progress → Devices → Devices → Terms → Lacking → Result R ⊤
+abbrev pub Runs : {R : Type 0} → Dialog OutputEvent R → Progress → Devices → Devices → Terms → MayAllocate → Result R ⊤
     → Progress → Type 0
-Runs dialog before old new terms Lacks (Ok result) after = Ran dialog before old new result after
+Runs dialog before old new terms Lacks (Ok result) after = RanWhole dialog before old new result after
 Runs dialog before old new terms Lacks (Err stopped) after = BrokeOff dialog before old new terms Lacks
 
 -- A host ran this action on these terms, between these states of the devices.
-pub record PerformsBehind (terms : Terms) (Lacks : Lacking) (dialog : Dialog OutputEvent Standing)
+pub record PerformsOnTerms (terms : Terms) (Lacks : MayAllocate) (dialog : Dialog OutputEvent Standing)
     (host_old host_new : HostState) (old new : Devices) (result : Result Standing ⊤) : Type 0 where
   pub runs : Runs dialog host_old.progress old new terms Lacks result host_new.progress
-  pub serves : HostServes result host_new.broken
+  pub serves : HostIsUsable result host_new.broken
   pub part : host_new.part ≡ host_old.part
   pub link : old.link.failures ≤ new.link.failures
-  pub desk : Follows old.desk new.desk
+  pub desk : CountsNeverFall old.desk new.desk
 
 -- A part of a run, between these states of the host and the devices.
 abbrev pub Performing : Type 1
@@ -39,19 +39,19 @@ Performing = HostState → HostState → Devices → Devices → Result Standing
 
 -- An action before which no fault was reported, and which allocates at its start or never.
 abbrev pub Performs : Bool → Dialog OutputEvent Standing → Performing
-Performs takes dialog = PerformsBehind (untold takes) (AtOnce takes) dialog
+Performs takes dialog = PerformsOnTerms (before_fault takes) (AtStartOnly takes) dialog
 
 -- These actions of a plan, in order, up to the first fault. Allocation can fail only at an action that allocates.
-abbrev pub PlanDoes : Plan → List Action → Performing
-PlanDoes plan actions =
-    PerformsBehind (untold (list_any action_takes_memory actions)) (AtTaking plan.part plan.switches actions)
+abbrev pub DoesPlanActions : Plan → List Action → Performing
+DoesPlanActions plan actions =
+    PerformsOnTerms (before_fault (list_any action_allocates actions)) (AtAllocation plan.part plan.switches actions)
     (actions_dialog plan.part plan.switches actions)
 
 -- The end of a session that is in this state after its actions.
 abbrev pub EndsSession : Plan → Standing → Performing
-EndsSession plan standing = PerformsBehind (record { takes = false; was_told = is_told standing }) (AtOnce false)
+EndsSession plan standing = PerformsOnTerms (record { takes = false; has_reported = has_fault standing }) (AtStartOnly false)
     (ending plan.part plan.switches standing)
 
 abbrev pub PlaysSession : Plan → Performing
 PlaysSession plan =
-    PerformsBehind (untold (takes_memory plan)) (AtTaking plan.part plan.switches (actions plan)) (playing plan)
+    PerformsOnTerms (before_fault (plan_allocates plan)) (AtAllocation plan.part plan.switches (actions plan)) (session_dialog plan)

@@ -1,72 +1,72 @@
 -- How a report ends, whole or at a failure of the desk: for contracts inside this crate.
 use Rattle.std.specs.Prelude.{List, map, ◌≡◌, ◌++◌, [], Result, Ok, Err, ⊤}
 use Rattle.avr_desk.specs.Fault as desk
-use Rattle.avr_desk.specs.Fault.{Follows, HasSameCounts}
-use Rattle.avr_desk.specs.Record.{DeskState, Passes, after_err, Bytes}
-use Rattle.avr_desk.specs.Said.{OutputEvent, TellsFailure, after_all}
-use Rattle.stk_host.specs.Dialog.{Said}
+use Rattle.avr_desk.specs.Fault.{CountsNeverFall, HasSameCounts}
+use Rattle.avr_desk.specs.Record.{DeskState, ChangesRecord, after_err, Bytes}
+use Rattle.avr_desk.specs.OutputEvents.{OutputEvent, ReportsFailureAs, after_events}
+use Rattle.stk_host.specs.Dialog.{Emitted}
 use Rattle.avr_desk.specs.declared.desk.Desk.{Ghosts}
 use Rattle.avr_desk.specs.declared.desk.DeskFault.{DeskFault}
-use Rattle.ghosts.specs.Stays.{Stays}
-use Rattle.avr_session.specs.Runs.{Cause, OfFile, OfPrinting, FileTrouble, cause_line, StopsAt}
+use Rattle.ghosts.specs.Preserves.{Preserves}
+use Rattle.avr_session.specs.Runs.{Cause, FileFailed, PrintingFailed, FileTrouble, cause_line, StopsAt}
 
 -- Only a failure of the desk stops output.
 abbrev pub IsOfDesk : Cause → Type 0
-IsOfDesk (OfFile file trouble) = Unit {0}
-IsOfDesk OfPrinting = Unit {0}
+IsOfDesk (FileFailed file trouble) = Unit {0}
+IsOfDesk PrintingFailed = Unit {0}
 IsOfDesk cause = ⊥
 
 -- A prefix of the output events was done, and perhaps a part of the next one, at which this cause stops them.
-pub record SaysPrefix (cause : Cause) (old new : DeskState) (outputs : List OutputEvent) : Type 0 where
+pub record OutputsPrefix (cause : Cause) (old new : DeskState) (outputs : List OutputEvent) : Type 0 where
   pub whole : List OutputEvent
   pub begun : List OutputEvent
   pub later : List OutputEvent
   pub outputs_are : outputs ≡ whole ++ later
-  pub place : StopsAt cause [] (map Said whole) (map Said begun) (map Said later)
+  pub place : StopsAt cause [] (map Emitted whole) (map Emitted begun) (map Emitted later)
   pub by_desk : IsOfDesk cause
-  pub kept : Passes (after_all (whole ++ begun)) old new
+  pub kept : ChangesRecord (after_events (whole ++ begun)) old new
 
 -- A prefix of the output events was done, and then the cause was reported. `By` states which causes can stop output.
-pub record SaidSome (By : DeskState → DeskState → Cause → Bytes → Type 0) (old new : DeskState)
+pub record OutputsPrefixAndReports (By : DeskState → DeskState → Cause → Bytes → Type 0) (old new : DeskState)
     (outputs : List OutputEvent) : Type 0 where
   pub between : DeskState
   pub cause : Cause
-  pub prefix : SaysPrefix cause old between outputs
+  pub prefix : OutputsPrefix cause old between outputs
   pub told : Bytes
   pub stops : By old new cause told
-  pub kept : Passes (after_err told) between new
+  pub kept : ChangesRecord (after_err told) between new
 
 -- All output events were done and no call failed, or a prefix of them was done.
-abbrev pub SaysOrStops : (DeskState → DeskState → Cause → Bytes → Type 0) → DeskState → DeskState → List OutputEvent
+abbrev pub OutputsOrStops : (DeskState → DeskState → Cause → Bytes → Type 0) → DeskState → DeskState → List OutputEvent
     → Result ⊤ DeskFault → Type 0
-SaysOrStops By old new outputs (Ok done) = Passes (after_all outputs) old new × HasSameCounts old new
-SaysOrStops By old new outputs (Err _) = SaidSome By old new outputs
+OutputsOrStops By old new outputs (Ok done) = ChangesRecord (after_events outputs) old new × HasSameCounts old new
+OutputsOrStops By old new outputs (Err _) = OutputsPrefixAndReports By old new outputs
 
 pub record Reports (By : DeskState → DeskState → Cause → Bytes → Type 0) (old new : DeskState)
     (outputs : List OutputEvent) (result : Result ⊤ DeskFault) : Type 0 where
-  pub says : SaysOrStops By old new outputs result
-  pub follows : Follows old new
+  pub says : OutputsOrStops By old new outputs result
+  pub follows : CountsNeverFall old new
 
 -- A write to the messages failed; nothing reports this.
 abbrev pub PrintStops : DeskState → DeskState → Cause → Bytes → Type 0
-PrintStops old new OfPrinting told = desk.HasFailedToSay old new × (told ≡ [])
+PrintStops old new PrintingFailed told = desk.HasFailedToReport old new × (told ≡ [])
 PrintStops old new cause told = ⊥
 
 -- These output events were done at a desk, or a cause that `By` allows stopped them.
 pub record Outputs {D : Type 0} (desk : Ghosts D) (By : DeskState → DeskState → Cause → Bytes → Type 0)
     (outputs : List OutputEvent) (old new : D) (result : Result ⊤ DeskFault) : Type 0 where
   pub reports : Reports By (desk.view old) (desk.view new) outputs result
-  pub stays : Stays desk.comes_of old new
+  pub stays : Preserves desk.started_as old new
 
 abbrev pub Prints : {D : Type 0} → Ghosts D → List OutputEvent → D → D → Result ⊤ DeskFault → Type 0
 Prints desk outputs old new result = Outputs desk PrintStops outputs old new result
 
 -- The desk failed at a file, and this was reported.
 abbrev pub FileStops : DeskState → DeskState → Bytes → FileTrouble → Bytes → Type 0
-FileStops old new file trouble told = TellsFailure (cause_line (OfFile file trouble)) told old new
+FileStops old new file trouble told = ReportsFailureAs (cause_line (FileFailed file trouble)) told old new
 
 abbrev pub DeskStops : DeskState → DeskState → Cause → Bytes → Type 0
-DeskStops old new (OfFile file trouble) told = FileStops old new file trouble told
+DeskStops old new (FileFailed file trouble) told = FileStops old new file trouble told
 DeskStops old new cause told = PrintStops old new cause told
 
 -- The desk can fail at a file only after a read without a fault, because nothing else is saved.

@@ -4,46 +4,46 @@ use Rattle.avr_cli.specs.declared.settings.Settings.{Settings}
 use Rattle.avr_desk.specs.Record.{DeskState}
 use Rattle.avr_plan.specs.Plan.{Plan}
 use Rattle.avr_plan.specs.Planning.{LacksPart, planned}
-use Rattle.avr_plan.specs.Taking.{AtUpdate}
-use Rattle.avr_desk.specs.Playing.{Goes, Went}
-use Rattle.avr_desk.specs.Stage.{Made}
-use Rattle.avr_session.specs.Actions.{actions, takes_memory}
-use Rattle.avr_session.specs.Runs.{Devices, devices, start, untold, BrokeOff, RunsTo}
+use Rattle.avr_plan.specs.AllocationPoints.{AtAllocatingUpdate}
+use Rattle.avr_desk.specs.Playing.{RunsStage, StageCompleted}
+use Rattle.avr_desk.specs.Stage.{Produced}
+use Rattle.avr_session.specs.Actions.{actions, plan_allocates}
+use Rattle.avr_session.specs.Runs.{Devices, devices, start, before_fault, BrokeOff, RunsWholeOrStops}
 use Rattle.avr_session.specs.Session.{session}
-use Rattle.avr_session.specs.Taking.{AtTaking}
-use Rattle.ghosts.specs.Stays.{Stays}
+use Rattle.avr_session.specs.AllocationPoints.{AtAllocation}
+use Rattle.ghosts.specs.Preserves.{Preserves}
 use Rattle.stk_host.specs.Transcript.{LinkState}
 
 -- The contract of `drive`: the session of a plan ran whole to its status, or it broke off. Allocation can fail only at
 -- an action that allocates.
 abbrev pub RunsSession : Plan → Devices → Devices → ℕ → Type 0
 RunsSession plan old new status =
-    RunsTo (session plan) old new (takes_memory plan) (AtTaking plan.part plan.switches (actions plan)) status
+    RunsWholeOrStops (session plan) old new (plan_allocates plan) (AtAllocation plan.part plan.switches (actions plan)) status
 
 -- The session of a plan broke off.
 abbrev pub StopsSession : Plan → Devices → Devices → Type 0
 StopsSession plan old new =
-    BrokeOff (session plan) start old new (untold (takes_memory plan)) (AtTaking plan.part plan.switches (actions plan))
+    BrokeOff (session plan) start old new (before_fault (plan_allocates plan)) (AtAllocation plan.part plan.switches (actions plan))
 
 -- A plan was made from what the files gave, up to `between`, and then this holds.
 pub record WithPlan (settings : Settings) (old : DeskState) (Then : Plan → DeskState → Type 0) : Type 0 where
   pub plan : Plan
   pub between : DeskState
-  pub made : Went (planned settings) old between (Made plan)
+  pub made : StageCompleted (planned settings) old between (Produced plan)
   pub then_is : Then plan between
 
 -- There is no plan: the refusal was reported, or planning broke off, and the status is 1. Allocation failed only for
 -- the next file, or at an update that allocates without a file. Without a part file and updates the only fault is an
 -- unknown part, which was reported.
 pub record LacksPlan (settings : Settings) (old new : DeskState) (status : ℕ) : Type 0 where
-  pub goes : Goes (AtUpdate settings) (planned settings) old new (Err status)
+  pub goes : RunsStage (AtAllocatingUpdate settings) (planned settings) old new (Err status)
   pub bare : settings.parts ≡ None → settings.updates ≡ [] → LacksPart settings.part [] old new
 
 -- The plan was made from what the files gave, up to `between`, and its session was run from there.
 pub record RunsPlan (settings : Settings) (old : Devices) (between : DeskState) (new : Devices)
     (status : ℕ) : Type 0 where
   pub plan : Plan
-  pub made : Went (planned settings) old.desk between (Made plan)
+  pub made : StageCompleted (planned settings) old.desk between (Produced plan)
   pub runs : RunsSession plan (devices old.link between) new status
 
 -- A plan was made and its session run; or there is no plan, and nothing was sent or received.
@@ -56,5 +56,5 @@ RunsSettings settings old between new status =
 pub record RunsBetween {D Start : Type 0} (view : D → DeskState) (ComesOf : Start → D → Type 0) (settings : Settings)
     (link_old link_new : LinkState) (old new : D) (status : ℕ) : Type 0 where
   pub between : D
-  pub stays : Stays ComesOf old between
+  pub stays : Preserves ComesOf old between
   pub runs : RunsSettings settings (devices link_old (view old)) (view between) (devices link_new (view new)) status

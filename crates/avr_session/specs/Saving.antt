@@ -1,29 +1,29 @@
 -- Bytes written to a file or to standard output: for contracts inside this crate.
 use Rattle.std.specs.Prelude.{◌≡◌, Result, Ok, Err, IfErr, OnErr, OnOk, ⊤}
-use Rattle.avr_desk.specs.Fault.{Counts, HasSameCounts}
-use Rattle.avr_desk.specs.Record.{DeskState, Passes, after_err, Bytes}
+use Rattle.avr_desk.specs.Fault.{CountsFailure, HasSameCounts}
+use Rattle.avr_desk.specs.Record.{DeskState, ChangesRecord, after_err, Bytes}
 use Rattle.avr_desk.specs.Stream.{SendsPart, after_sent}
 use Rattle.avr_desk.specs.declared.stream.Stream.{Stream}
-use Rattle.avr_session.specs.Runs.{Cause, OfFile, NotCreated, NotWritten}
+use Rattle.avr_session.specs.Runs.{Cause, FileFailed, NotCreated, NotWritten}
 use Rattle.avr_session.specs.Reporting.{FileStops}
 use Rattle.avr_desk.specs.declared.desk.Desk.{Ghosts}
 use Rattle.avr_desk.specs.declared.desk.DeskFault.{DeskFault}
 use Rattle.avr_desk.specs.declared.desk.DeskFault.TheVariants.{Failed}
-use Rattle.ghosts.specs.Stays.{Stays}
+use Rattle.ghosts.specs.Preserves.{Preserves}
 
 -- All of the text was written to the stream; or a prefix of it was, and then a call failed.
 pub record SendsText {D : Type 0} (desk : Ghosts D) (stream : Stream) (text : Bytes) (old new : D)
     (result : Result ⊤ DeskFault) : Type 0 where
-  pub all : OnOk result (Passes (after_sent stream text) (desk.view old) (desk.view new))
+  pub all : OnOk result (ChangesRecord (after_sent stream text) (desk.view old) (desk.view new))
   pub part : OnErr result (SendsPart stream (desk.view old) (desk.view new) text)
-  pub counts : Counts stream (desk.view old) (desk.view new) result
+  pub counts : CountsFailure stream (desk.view old) (desk.view new) result
   pub fault : IfErr result (λ fault. fault ≡ Failed)
-  pub stays : Stays desk.comes_of old new
+  pub stays : Preserves desk.started_as old new
 
 -- The desk failed at creating or writing this file, and this was reported.
 abbrev pub SaveStops : Bytes → DeskState → DeskState → Cause → Bytes → Type 0
-SaveStops file old new (OfFile named NotCreated) told = (named ≡ file) × FileStops old new named NotCreated told
-SaveStops file old new (OfFile named NotWritten) told = (named ≡ file) × FileStops old new named NotWritten told
+SaveStops file old new (FileFailed named NotCreated) told = (named ≡ file) × FileStops old new named NotCreated told
+SaveStops file old new (FileFailed named NotWritten) told = (named ≡ file) × FileStops old new named NotWritten told
 SaveStops file old new cause told = ⊥
 
 -- A prefix of the bytes was written. Then the desk failed, and this was reported for this file.
@@ -32,9 +32,9 @@ pub record WritesSome (stream : Stream) (file : Bytes) (old new : DeskState) (by
   pub part : SendsPart stream old between bytes
   pub told : Bytes
   pub stops : FileStops old new file NotWritten told
-  pub kept : Passes (after_err told) between new
+  pub kept : ChangesRecord (after_err told) between new
 
 -- All bytes were written and no call failed, or a prefix of them was written.
 abbrev pub WritesAll : Stream → Bytes → DeskState → DeskState → Bytes → Result ⊤ DeskFault → Type 0
-WritesAll stream file old new bytes (Ok done) = Passes (after_sent stream bytes) old new × HasSameCounts old new
+WritesAll stream file old new bytes (Ok done) = ChangesRecord (after_sent stream bytes) old new × HasSameCounts old new
 WritesAll stream file old new bytes (Err _) = WritesSome stream file old new bytes

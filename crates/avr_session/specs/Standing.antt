@@ -1,6 +1,6 @@
 -- The state of a session after an action. Fine: no fault so far. Faulty: a fault was reported, and the link can still
 -- be used. Over: nothing more is sent, because the link has ended or programming mode was left.
 pub data Standing : Type 0 where
-  Fine : Standing
+  NoFault : Standing
   Faulty : Standing
   Over : Standing

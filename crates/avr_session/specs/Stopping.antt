@@ -1,12 +1,12 @@
 -- What the contract of a run states if no device failed.
 use Rattle.std.specs.Prelude.{ℕ, ◌++◌, ◌≡◌}
-use Rattle.ghosts.specs.Failures.{HasStood}
+use Rattle.ghosts.specs.Failures.{NoFailureCounted}
 use Rattle.avr_desk.specs.Record.{Record, DeskState, showing, Bytes}
 use Rattle.stk_host.specs.Transcript.{Transcript, LinkState}
 use Rattle.stk_host.specs.Dialog.{Dialog}
 use Rattle.stk_host.specs.Play.{Progress}
-use Rattle.avr_desk.specs.Said.{OutputEvent}
-use Rattle.avr_session.specs.Runs.{Devices, OfMemory, cause_line, start, Ran}
+use Rattle.avr_desk.specs.OutputEvents.{OutputEvent}
+use Rattle.avr_session.specs.Runs.{Devices, AllocationFailed, cause_line, start, RanWhole}
 
 abbrev pub keeping : Record → ℕ × ℕ → DeskState
 keeping kept counts = showing kept counts.0 counts.1
@@ -16,13 +16,13 @@ link_state transcript failures = record { transcript = transcript; failures = fa
 
 -- No device failed, by counts of failures that have not reached their end.
 pub record IsSound (old new : Devices) : Type 0 where
-  pub link : HasStood old.link.failures new.link.failures
-  pub desk : HasStood old.desk.failures new.desk.failures
+  pub link : NoFailureCounted old.link.failures new.link.failures
+  pub desk : NoFailureCounted old.desk.failures new.desk.failures
 
 -- The messages end with the out-of-memory line.
-abbrev pub LacksMemory : Bytes → Type 0
-LacksMemory messages = (before : Bytes) × (messages ≡ before ++ cause_line OfMemory)
+abbrev pub EndsOutOfMemory : Bytes → Type 0
+EndsOutOfMemory messages = (before : Bytes) × (messages ≡ before ++ cause_line AllocationFailed)
 
 -- The dialog ran whole to this status.
-abbrev pub IsPlayed : Dialog OutputEvent ℕ → Devices → Devices → ℕ → Type 0
-IsPlayed dialog old new status = (after : Progress) × Ran dialog start old new status after
+abbrev pub RanToStatus : Dialog OutputEvent ℕ → Devices → Devices → ℕ → Type 0
+RanToStatus dialog old new status = (after : Progress) × RanWhole dialog start old new status after

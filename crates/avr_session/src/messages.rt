@@ -1,9 +1,9 @@
 //! The messages of faults: those of the host, and those of the settings.
 ghost use Rattle.std.specs.Prelude.{◌≡◌};
-ghost use Rattle.avr_desk.specs.Said.{Tells};
-ghost use Rattle.avr_session.specs.Lines.{bad_answer_pieces, differs_pieces, fault_pieces, other_signature, refused_pieces, unheard_pieces, unsent_pieces};
+ghost use Rattle.avr_desk.specs.OutputEvents.{ReportsLine};
+ghost use Rattle.avr_session.specs.Lines.{bad_answer_pieces, differs_pieces, fault_pieces, other_signature, refused_pieces, unreceived_pieces, unsent_pieces};
 ghost use Rattle.avr_session.specs.Refusal.{in_update_pieces, port_pieces, refusal_line, refusal_pieces, unknown_pieces, update_pieces};
-ghost use Rattle.ghosts.specs.Stays.{Stays};
+ghost use Rattle.ghosts.specs.Preserves.{Preserves};
 
 use avr_cli::{SettingsFault, Text, UpdateFault};
 use avr_desk::{Desk, Message, Piece, memory_message};
@@ -68,8 +68,8 @@ pub fn unsent_message<'a>() -> Message<'a>
 }
 
 /// Returns the message for a link that failed at receiving: `link cannot be read`.
-pub fn unheard_message<'a>() -> Message<'a>
-    ensures { result ≡ unheard_pieces }
+pub fn unreceived_message<'a>() -> Message<'a>
+    ensures { result ≡ unreceived_pieces }
 {
     Message::text("link cannot be read")
 }
@@ -88,7 +88,7 @@ pub(crate) fn fault_message<'a>(part: &'a Part, fault: HostFault) -> Message<'a>
         HostFault::Differs(mem, addr, want, found) => differs_message(mem, addr, want, found),
         HostFault::ReadOnly(mem) => read_only_message(mem),
         HostFault::Memory => memory_message(),
-        HostFault::RecvFailed => unheard_message(),
+        HostFault::RecvFailed => unreceived_message(),
     }
 }
 
@@ -154,8 +154,8 @@ fn settings_message<'a>(fault: &'a SettingsFault) -> Message<'a>
 #[tactic(auto, unfolding(crate::specs::Refusal::refusal_line))]
 pub fn refuse<D: Desk>(fault: &SettingsFault, desk: &mut D) -> u8
     ensures status { result ≡ 1 }
-    ensures told { Tells (D.view desk.old) (D.view desk.new) (refusal_line fault.now) }
-    ensures stays { Stays D.comes_of desk.old desk.new }
+    ensures told { ReportsLine (D.view desk.old) (D.view desk.new) (refusal_line fault.now) }
+    ensures stays { Preserves D.started_as desk.old desk.new }
 {
     avr_desk::refuse(desk, &settings_message(fault))
 }

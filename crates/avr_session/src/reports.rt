@@ -1,10 +1,10 @@
 ghost use Rattle.std.specs.Prelude.{◌≡◌, ◌∷◌, [], map};
 ghost use Rattle.avr_desk.specs.Lines.{text_of};
-ghost use Rattle.avr_desk.specs.Said.{Line};
+ghost use Rattle.avr_desk.specs.OutputEvents.{PrintsLine};
 ghost use Rattle.avr_image.specs.Image.{byte_count};
 ghost use Rattle.avr_session.specs.Lines.{informs, warns, fault_line};
 ghost use Rattle.avr_session.specs.Reporting.{Prints};
-ghost use Rattle.avr_session.specs.Session.{done_text, fault_or, bytes_say, signature_says, warns_of_signature, opening_says, erased_says, closed_says};
+ghost use Rattle.avr_session.specs.Session.{done_text, fault_line_or, bytes_output, signature_output, warns_of_signature, opening_output, erased_output, closing_output};
 
 use crate::messages::{fault_message, other_signature_message};
 use avr_desk::{Desk, DeskFault, Piece, print_error, print_information, print_warning};
@@ -66,7 +66,7 @@ pub(crate) fn report_bytes<D: Desk>(
     count: u32,
     done: Done,
 ) -> Result<(), DeskFault>
-    ensures { Prints D.Desk (bytes_say quiet mem count (done_text done)) desk.old desk.new result }
+    ensures { Prints D.Desk (bytes_output quiet mem count (done_text done)) desk.old desk.new result }
 {
     let pieces = [
         Piece::Text(mem.name()),
@@ -78,19 +78,19 @@ pub(crate) fn report_bytes<D: Desk>(
 }
 
 #[tactic(auto, unfolding(crate::specs::Lines::fault_line))]
-pub(crate) fn tell_fault<D: Desk>(
+pub(crate) fn report_fault<D: Desk>(
     desk: &mut D,
     part: &Part,
     fault: HostFault,
 ) -> Result<(), DeskFault>
-    ensures { Prints D.Desk (Line (fault_line part.now fault) ∷ []) desk.old desk.new result }
+    ensures { Prints D.Desk (PrintsLine (fault_line part.now fault) ∷ []) desk.old desk.new result }
 {
     let message = fault_message(part, fault);
     print_error(desk, message.pieces())
 }
 
 fn report_found<D: Desk>(desk: &mut D, quiet: u8, found: [u8; 3]) -> Result<(), DeskFault>
-    ensures { Prints D.Desk (signature_says quiet found) desk.old desk.new result }
+    ensures { Prints D.Desk (signature_output quiet found) desk.old desk.new result }
 {
     let pieces = [Piece::Text("device signature = "), Piece::Signature(found)];
     inform(desk, quiet, &pieces)
@@ -118,7 +118,7 @@ pub(crate) fn report_opening<D: Desk>(
     plan: &Plan,
     opened: &Result<[u8; 3], HostFault>,
 ) -> Result<(), DeskFault>
-    ensures { Prints D.Desk (opening_says plan.now.switches.quiet plan.now.part opened.now) desk.old desk.new result }
+    ensures { Prints D.Desk (opening_output plan.now.switches.quiet plan.now.part opened.now) desk.old desk.new result }
 {
     let quiet = plan.switches().quiet;
     match opened {
@@ -128,9 +128,9 @@ pub(crate) fn report_opening<D: Desk>(
         }
         Err(HostFault::WrongSignature(found)) => {
             report_found(desk, quiet, *found)?;
-            tell_fault(desk, plan.part(), HostFault::WrongSignature(*found))
+            report_fault(desk, plan.part(), HostFault::WrongSignature(*found))
         }
-        Err(fault) => tell_fault(desk, plan.part(), *fault),
+        Err(fault) => report_fault(desk, plan.part(), *fault),
     }
 }
 
@@ -139,11 +139,11 @@ pub(crate) fn report_erased<D: Desk>(
     plan: &Plan,
     erased: &Result<(), HostFault>,
 ) -> Result<(), DeskFault>
-    ensures { Prints D.Desk (erased_says plan.now.switches.quiet plan.now.part erased.now) desk.old desk.new result }
+    ensures { Prints D.Desk (erased_output plan.now.switches.quiet plan.now.part erased.now) desk.old desk.new result }
 {
     match erased {
         Ok(()) => inform(desk, plan.switches().quiet, &[Piece::Text("chip erased")]),
-        Err(fault) => tell_fault(desk, plan.part(), *fault),
+        Err(fault) => report_fault(desk, plan.part(), *fault),
     }
 }
 
@@ -155,12 +155,12 @@ pub(crate) fn report_image<D: Desk>(
     image: &Image,
     outcome: &Result<(), HostFault>,
 ) -> Result<(), DeskFault>
-    ensures { Prints D.Desk (fault_or plan.now.part (λ _. bytes_say plan.now.switches.quiet mem (byte_count image.now)
+    ensures { Prints D.Desk (fault_line_or plan.now.part (λ _. bytes_output plan.now.switches.quiet mem (byte_count image.now)
         (done_text done)) outcome.now) desk.old desk.new result }
 {
     match outcome {
         Ok(()) => report_bytes(desk, plan.switches().quiet, mem, image.len(), done),
-        Err(fault) => tell_fault(desk, plan.part(), *fault),
+        Err(fault) => report_fault(desk, plan.part(), *fault),
     }
 }
 
@@ -170,10 +170,10 @@ pub(crate) fn report_closing<D: Desk>(
     plan: &Plan,
     closed: &Result<(), HostFault>,
 ) -> Result<(), DeskFault>
-    ensures { Prints D.Desk (closed_says plan.now.switches.quiet plan.now.part closed.now) desk.old desk.new result }
+    ensures { Prints D.Desk (closing_output plan.now.switches.quiet plan.now.part closed.now) desk.old desk.new result }
 {
     match closed {
         Ok(()) => inform(desk, plan.switches().quiet, &[Piece::Text("done")]),
-        Err(fault) => tell_fault(desk, plan.part(), *fault),
+        Err(fault) => report_fault(desk, plan.part(), *fault),
     }
 }

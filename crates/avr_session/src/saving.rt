@@ -1,14 +1,14 @@
 ghost use Rattle.std.specs.Prelude.{◌≡◌, ◌≤◌, ◌<◌, ◌^◌, length};
-ghost use Rattle.avr_desk.specs.Fault.{Follows};
+ghost use Rattle.avr_desk.specs.Fault.{CountsNeverFall};
 ghost use Rattle.avr_session.specs.FileText.{file_text};
 ghost use Rattle.avr_session.specs.Reporting.{Outputs, ReadStops};
 ghost use Rattle.avr_session.specs.Saving.{SaveStops, SendsText, WritesAll};
-ghost use Rattle.avr_session.specs.Session.{saving_says, kept_of, read_says, fault_or};
-ghost use Rattle.stk_host.specs.Calls.{given_or_fault};
-ghost use Rattle.ghosts.specs.Stays.{Stays};
+ghost use Rattle.avr_session.specs.Session.{saving_output, bytes_to_save, read_output, fault_line_or};
+ghost use Rattle.stk_host.specs.Calls.{value_or_fault};
+ghost use Rattle.ghosts.specs.Preserves.{Preserves};
 
 use crate::file_text::{trimmed, write_text};
-use crate::reports::{Done, report_bytes, tell_fault};
+use crate::reports::{Done, report_bytes, report_fault};
 use avr_cli::Format;
 use avr_desk::{Desk, DeskFault, Stream, not_created_message, not_written_message, refuse};
 use avr_part::Mem;
@@ -52,8 +52,8 @@ fn write_file<D: Desk>(
     requires written { stream ≡ Stream.Messages → ⊥ }
     ensures writes { WritesAll stream target.entry.file.now (D.view desk.old) (D.view desk.new)
         (file_text target.entry.format bytes.now) result }
-    ensures follows { Follows (D.view desk.old) (D.view desk.new) }
-    ensures stays { Stays D.comes_of desk.old desk.new }
+    ensures follows { CountsNeverFall (D.view desk.old) (D.view desk.new) }
+    ensures stays { Preserves D.started_as desk.old desk.new }
 {
     match write_whole(desk, stream, target.format, bytes) {
         Ok(()) => Ok(()),
@@ -67,7 +67,7 @@ fn write_file<D: Desk>(
 pub(crate) fn save<D: Desk>(desk: &mut D, target: Target<'_>, bytes: &[u8]) -> Result<(), DeskFault>
     requires { length bytes.now ≤ 2 ^ 32 }
     ensures { Outputs D.Desk (SaveStops target.entry.file.now)
-        (saving_says target.entry.file.now (file_text target.entry.format bytes.now)) desk.old desk.new result }
+        (saving_output target.entry.file.now (file_text target.entry.format bytes.now)) desk.old desk.new result }
 {
     if target.file == "-" {
         return write_file(desk, Stream::Output, target, bytes);
@@ -82,8 +82,8 @@ pub(crate) fn save<D: Desk>(desk: &mut D, target: Target<'_>, bytes: &[u8]) -> R
 }
 
 /// Drops the trailing FF of flash, unless `all` is set.
-fn kept_of(mem: Mem, all: bool, bytes: &[u8]) -> &[u8]
-    ensures { result.now ≡ kept_of mem all bytes.now }
+fn bytes_to_save(mem: Mem, all: bool, bytes: &[u8]) -> &[u8]
+    ensures { result.now ≡ bytes_to_save mem all bytes.now }
 {
     match (mem, all) {
         (Mem::Flash, false) => trimmed(bytes),
@@ -100,16 +100,16 @@ pub(crate) fn report_read<D: Desk>(
     outcome: &Result<(), HostFault>,
 ) -> Result<(), DeskFault>
     requires { length bytes.now < 2 ^ 32 }
-    ensures { Outputs D.Desk (ReadStops outcome.now) (fault_or plan.now.part (read_says plan.now.switches mem
-        target.entry.format target.entry.file.now) (given_or_fault bytes.now outcome.now)) desk.old desk.new result }
+    ensures { Outputs D.Desk (ReadStops outcome.now) (fault_line_or plan.now.part (read_output plan.now.switches mem
+        target.entry.format target.entry.file.now) (value_or_fault bytes.now outcome.now)) desk.old desk.new result }
 {
     match outcome {
         Ok(()) => {
             let switches = plan.switches();
-            let kept = kept_of(mem, switches.all, bytes);
+            let kept = bytes_to_save(mem, switches.all, bytes);
             save(desk, target, kept)?;
             report_bytes(desk, switches.quiet, mem, kept.len() as u32, Done::Read)
         }
-        Err(fault) => tell_fault(desk, plan.part(), *fault),
+        Err(fault) => report_fault(desk, plan.part(), *fault),
     }
 }

@@ -1,12 +1,12 @@
 ghost use Rattle.std.specs.Prelude.{◌≡◌, None, Err};
-ghost use Rattle.avr_desk.specs.Fault.{Follows};
-ghost use Rattle.avr_session.specs.Standing.{Fine, Faulty};
+ghost use Rattle.avr_desk.specs.Fault.{CountsNeverFall};
+ghost use Rattle.avr_session.specs.Standing.{NoFault, Faulty};
 ghost use Rattle.avr_session.specs.Actions.{actions};
-ghost use Rattle.avr_session.specs.Held.{Does, IsReady, Proceeds};
-ghost use Rattle.avr_session.specs.Outcomes.{ComesTo, EndsTold};
+ghost use Rattle.avr_session.specs.Held.{Does, IsReady, RunsSessionPart};
+ghost use Rattle.avr_session.specs.Outcomes.{ComesTo, EndsWithFaultLine};
 ghost use Rattle.avr_session.specs.Performing.{EndsSession, PlaysSession};
 ghost use Rattle.avr_session.specs.Runs.{devices};
-ghost use Rattle.ghosts.specs.Stays.{Stays};
+ghost use Rattle.ghosts.specs.Preserves.{Preserves};
 ghost use Rattle.avr_session.specs.Run.{RunsSession};
 
 use crate::ending::{End, conclude};
@@ -32,7 +32,7 @@ impl<'a, D: Desk, L: Link> Session<'a, D, L> {
     /// Closes a session without a fault.
     fn close(&mut self) -> Result<(), End>
         requires { self.old.host.broken ≡ None }
-        ensures { Proceeds L.Link D.Desk (EndsSession self.old.plan.now Fine) self.old self.new result }
+        ensures { RunsSessionPart L.Link D.Desk (EndsSession self.old.plan.now NoFault) self.old self.new result }
     {
         let closed = self.host.close(self.link);
         let reported = report_closing(self.desk, self.plan, &closed);
@@ -42,8 +42,8 @@ impl<'a, D: Desk, L: Link> Session<'a, D, L> {
     /// Leaves programming mode after this fault was reported; a second fault is not reported.
     fn leave(&mut self, fault: HostFault) -> End
         requires serves { self.old.host.broken ≡ None }
-        requires told { EndsTold self.old.plan.now.part (D.view self.old.desk.now) (Err (End.Faulty fault)) }
-        ensures { Proceeds L.Link D.Desk (EndsSession self.old.plan.now Faulty) self.old self.new (Err result) }
+        requires told { EndsWithFaultLine self.old.plan.now.part (D.view self.old.desk.now) (Err (End.Faulty fault)) }
+        ensures { RunsSessionPart L.Link D.Desk (EndsSession self.old.plan.now Faulty) self.old self.new (Err result) }
     {
         let closed = self.host.close(self.link);
         match conclude(&closed, Ok(())) {
@@ -56,7 +56,7 @@ impl<'a, D: Desk, L: Link> Session<'a, D, L> {
 
     fn play(&mut self) -> Result<(), End>
         requires { IsReady self.old }
-        ensures { Proceeds L.Link D.Desk (PlaysSession self.old.plan.now) self.old self.new result }
+        ensures { RunsSessionPart L.Link D.Desk (PlaysSession self.old.plan.now) self.old self.new result }
     {
         match self.work() {
             Ok(()) => self.close(),
@@ -95,9 +95,9 @@ pub fn drive_outcome<D: Desk, L: Link>(
 ) -> Outcome
     ensures comes_to { ComesTo plan.now (devices (L.view link.old) (D.view desk.old))
         (devices (L.view link.new) (D.view desk.new)) result }
-    ensures follows { Follows (D.view desk.old) (D.view desk.new) }
-    ensures comes { Stays L.comes_of link.old link.new }
-    ensures stays { Stays D.comes_of desk.old desk.new }
+    ensures follows { CountsNeverFall (D.view desk.old) (D.view desk.new) }
+    ensures comes { Preserves L.started_as link.old link.new }
+    ensures stays { Preserves D.started_as desk.old desk.new }
 {
     let mut session = Session::new(alloc, plan, desk, link);
     outcome_of(session.play())
@@ -119,9 +119,9 @@ pub fn drive_outcome<D: Desk, L: Link>(
 pub fn drive<D: Desk, L: Link>(alloc: Global, plan: &Plan, desk: &mut D, link: &mut L) -> u8
     ensures runs { RunsSession plan.now (devices (L.view link.old) (D.view desk.old))
         (devices (L.view link.new) (D.view desk.new)) result }
-    ensures follows { Follows (D.view desk.old) (D.view desk.new) }
-    ensures comes { Stays L.comes_of link.old link.new }
-    ensures stays { Stays D.comes_of desk.old desk.new }
+    ensures follows { CountsNeverFall (D.view desk.old) (D.view desk.new) }
+    ensures comes { Preserves L.started_as link.old link.new }
+    ensures stays { Preserves D.started_as desk.old desk.new }
 {
     drive_outcome(alloc, plan, desk, link).status()
 }

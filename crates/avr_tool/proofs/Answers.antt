@@ -5,64 +5,64 @@ use Rattle.std.proofs.lemmas.List.{append-nil}
 use Rattle.std.proofs.lemmas.List.Elements.{filter-append}
 use Rattle.stk_frame.specs.Cut.{cut, rest, frames, is_frame}
 use Rattle.stk_frame.proofs.Cuts.{cut_append}
-use Rattle.stk_host.specs.Play.{IsPrefixOf}
-use Rattle.stk_host.specs.Reach.{SaysPart}
+use Rattle.stk_host.specs.Play.{IsBytePrefixOf}
+use Rattle.stk_host.specs.Reach.{SendsOnlyPart}
 use Rattle.stk_host.specs.Tape.{Tape}
 use Rattle.stk_host.specs.Transcript.{Transcript, Got, NoneTaken, sent}
 use Rattle.stk_host.proofs.Transcripts.Laws.{sent_append, none_behind}
 use Rattle.stk_emu.specs.Programmer.{Programmer}
 use Rattle.stk_emu.specs.Device.{device, answers, after_frames}
-use Rattle.stk_emu.specs.Emulator.{Machine, IsFed, Answers, emulate}
+use Rattle.stk_emu.specs.Emulator.{EmulatorState, WasFedText, RepliesToFrame, emulate}
 use Rattle.stk_emu.proofs.Answers.Texts.{answers_more, frames_fed, is_fed, emulated}
-use Rattle.avr_tool.specs.Serving.{AnswersAll, BreaksOff}
+use Rattle.avr_tool.specs.Serving.{RepliesToAll, LastReplyFailed}
 
-pub all_nothing : (p : Programmer) (text : List ℕ) (machine : Machine) → IsFed p text machine
-    → AnswersAll p text [] [] machine
+pub all_nothing : (p : Programmer) (text : List ℕ) (machine : EmulatorState) → WasFedText p text machine
+    → RepliesToAll p text [] [] machine
 all_nothing p text machine f = search (rules, append-nil)
 
 -- what the emulator returns for one call
-pub all_fed : (p : Programmer) (text used out : List ℕ) (old now : Machine) → Answers old used now out
-    → IsFed p text old → AnswersAll p text used out now
+pub all_fed : (p : Programmer) (text used out : List ℕ) (old now : EmulatorState) → RepliesToFrame old used now out
+    → WasFedText p text old → RepliesToAll p text used out now
 all_fed p text used out old now a f = search (rules, is_fed, emulated)
 
-pub all_more : (p : Programmer) (text a x b y : List ℕ) (mid now : Machine) → AnswersAll p text a x mid
-    → AnswersAll p (text ++ a) b y now → AnswersAll p text (a ++ b) (x ++ y) now
+pub all_more : (p : Programmer) (text a x b y : List ℕ) (mid now : EmulatorState) → RepliesToAll p text a x mid
+    → RepliesToAll p (text ++ a) b y now → RepliesToAll p text (a ++ b) (x ++ y) now
 all_more p text a x b y mid now first then = search (rules, append_assoc)
 
-pub breaks_more : (p : Programmer) (text a b : List ℕ) (x y : Transcript) (mid now : Machine)
-    → AnswersAll p text a (sent x) mid
-    → BreaksOff p (text ++ a) b y now → BreaksOff p text (a ++ b) (x ++ y) now
+pub breaks_more : (p : Programmer) (text a b : List ℕ) (x y : Transcript) (mid now : EmulatorState)
+    → RepliesToAll p text a (sent x) mid
+    → LastReplyFailed p (text ++ a) b y now → LastReplyFailed p text (a ++ b) (x ++ y) now
 breaks_more p text a b x y mid now first then = search (rules, append_assoc, sent_append, none_behind)
 
-pub breaks_heard : (p : Programmer) (text bytes : List ℕ) (tape : Tape) (transcript : Transcript) (now : Machine)
-    → BreaksOff p text bytes transcript now → BreaksOff p text bytes (Got tape ∷ transcript) now
+pub breaks_heard : (p : Programmer) (text bytes : List ℕ) (tape : Tape) (transcript : Transcript) (now : EmulatorState)
+    → LastReplyFailed p text bytes transcript now → LastReplyFailed p text bytes (Got tape ∷ transcript) now
 breaks_heard p text bytes tape transcript now b = search rules
 
 -- a reply whose send failed belongs to a frame, the last that was fed
-breaks_found : (p : Programmer) (text used unused part unsent : List ℕ) (transcript : Transcript) (now : Machine)
+breaks_found : (p : Programmer) (text used unused part unsent : List ℕ) (transcript : Transcript) (now : EmulatorState)
     (found : List (List ℕ))
     → length found ≤ 1
     → frames (text ++ used) ≡ frames text ++ found
     → part ++ unsent ≡ answers device found (after_frames device (frames text) p)
-    → IsFed p (text ++ used) now → 0 < length (part ++ unsent) → sent transcript ≡ part
-    → (NoneTaken transcript → 0 < length unsent) → BreaksOff p text (used ++ unused) transcript now
+    → WasFedText p (text ++ used) now → 0 < length (part ++ unsent) → sent transcript ≡ part
+    → (NoneTaken transcript → 0 < length unsent) → LastReplyFailed p text (used ++ unused) transcript now
 breaks_found p text used unused part unsent transcript now [] few fs answered fed some is not_whole = search rules
 breaks_found p text used unused part unsent transcript now (frame ∷ []) few fs answered fed some is not_whole =
     search (rules, append-nil)
 breaks_found p text used unused part unsent transcript now (frame ∷ other ∷ more) few fs answered fed some is not_whole =
     absurd (omega arith)
 
-pub breaks_here : (p : Programmer) (text used unused out : List ℕ) (a b : Transcript) (old now : Machine)
-    → Answers old used now out → IsFed p text old → (s : SaysPart out a b)
-    → BreaksOff p text (used ++ unused) s.during now
+pub breaks_here : (p : Programmer) (text used unused out : List ℕ) (a b : Transcript) (old now : EmulatorState)
+    → RepliesToFrame old used now out → WasFedText p text old → (s : SendsOnlyPart out a b)
+    → LastReplyFailed p text (used ++ unused) s.during now
 breaks_here p text used unused out b c old now a f s =
     breaks_found p text used unused s.part s.unsent s.during now a.found a.few
     (frames_fed old.held used now.held a.found text a.fed a.are_frames f.stands)
-    (sym s.bytes_are ∙ (a.answered ∙ ap (answers device a.found) f.obeyed)) (is_fed old now used out p text a f)
+    (sym s.bytes_are ∙ (a.answered ∙ ap (answers device a.found) f.executed)) (is_fed old now used out p text a f)
     (rw (← s.bytes_are) s.some) s.bytes_sent s.not_whole
 
 -- the replies to a prefix are a prefix of the replies
-answers_prefix : (p : Programmer) (x y : List ℕ) → IsPrefixOf (emulate p x) (emulate p (x ++ y))
+answers_prefix : (p : Programmer) (x y : List ℕ) → IsBytePrefixOf (emulate p x) (emulate p (x ++ y))
 answers_prefix p x y =
     let later : List (List ℕ) = filter is_frame (cut (rest x ++ y)) in
     let all : frames (x ++ y) ≡ frames x ++ later =
@@ -71,9 +71,9 @@ answers_prefix p x y =
       sym (ap (λ fs. answers device fs p) all ∙ answers_more device (frames x) later p),
     )
 
-pub breaks_prefix : (p : Programmer) (text bytes : List ℕ) (transcript : Transcript) (now : Machine)
-    → BreaksOff p text bytes transcript now
-    → IsPrefixOf (emulate p text ++ sent transcript) (emulate p (text ++ bytes))
+pub breaks_prefix : (p : Programmer) (text bytes : List ℕ) (transcript : Transcript) (now : EmulatorState)
+    → LastReplyFailed p text bytes transcript now
+    → IsBytePrefixOf (emulate p text ++ sent transcript) (emulate p (text ++ bytes))
 breaks_prefix p text bytes transcript now b =
     let prefix = answers_prefix p (text ++ b.used) b.unused in
     search (rules, answers_more, append-nil, append_assoc)

@@ -1,25 +1,25 @@
 -- A run over the emulated programmer, from its stages.
 use Rattle.std.proofs.Common.{◌≡◌, ℕ, [], All, subst, rules}
-use Rattle.avr_tool.specs.Holding.{Loaded}
+use Rattle.avr_tool.specs.Holding.{LockedAndLoaded}
 use Rattle.avr_cli.specs.declared.settings.Settings.{Settings}
-use Rattle.avr_desk.specs.Fault.{Follows}
+use Rattle.avr_desk.specs.Fault.{CountsNeverFall}
 use Rattle.avr_desk.specs.Record.{DeskState, Bytes}
 use Rattle.avr_part.specs.ChipFile.{chip_file}
 use Rattle.avr_part.specs.Sound.{IsSoundChip}
 use Rattle.avr_part.specs.State.{ChipState as Chip}
 use Rattle.avr_plan.specs.Plan.{Plan, IsFitted}
 use Rattle.avr_plan.specs.Planning.{planned}
-use Rattle.avr_desk.specs.Playing.{Went}
-use Rattle.avr_desk.specs.Stage.{Made}
-use Rattle.ghosts.specs.Stays.{Stays}
+use Rattle.avr_desk.specs.Playing.{StageCompleted}
+use Rattle.avr_desk.specs.Stage.{Produced}
+use Rattle.ghosts.specs.Preserves.{Preserves}
 use Rattle.stk_host.specs.Transcript.{sent}
 use Rattle.stk_emu.specs.Programmer.{fresh_programmer}
 use Rattle.stk_emu.specs.Wire.{fresh_wire}
 use Rattle.stk_emu.specs.Wired.{WiredState, ComesOf, wired_link}
 use Rattle.avr_session.specs.Run.{RunsSession}
 use Rattle.avr_session.specs.Runs.{devices}
-use Rattle.avr_tool.specs.AnyLine.{OverAnyLine}
-use Rattle.avr_tool.specs.Emulated.{IsSaved, new_wire, RunsOverEmulator}
+use Rattle.avr_tool.specs.OverFaultyLink.{SessionOverWire}
+use Rattle.avr_tool.specs.Emulated.{IsSavedIfSent, new_wire, RunsOverEmulator}
 
 module _ (settings : Settings) (file : Bytes) (plan : Plan) (chip : Chip) (w v : WiredState) (held : w.held ≡ [])
     (begun : w.wire ≡ fresh_wire (fresh_programmer chip) []) (waits : w.waits ≡ []) (silent : w.transcript ≡ [])
@@ -30,11 +30,11 @@ module _ (settings : Settings) (file : Bytes) (plan : Plan) (chip : Chip) (w v :
   is_new = search rules
 
   pub runs_over_emulator : (old planned_desk loaded_desk played_desk now : DeskState) (ran status : ℕ)
-      → Went (planned settings) old planned_desk (Made plan) → Loaded plan.part file planned_desk loaded_desk chip
-      → Follows played_desk now
+      → StageCompleted (planned settings) old planned_desk (Produced plan) → LockedAndLoaded plan.part file planned_desk loaded_desk chip
+      → CountsNeverFall played_desk now
       → RunsSession plan (devices (wired_link w) loaded_desk) (devices (wired_link v) played_desk) ran
-      → Stays ComesOf w v → (w.wire.programmer.chip.part ≡ plan.part → OverAnyLine plan w v loaded_desk played_desk ran)
-      → IsSaved (sent v.transcript) played_desk now file (chip_file v.wire.programmer.chip) ran status
+      → Preserves ComesOf w v → (w.wire.programmer.chip.part ≡ plan.part → SessionOverWire plan w v loaded_desk played_desk ran)
+      → IsSavedIfSent (sent v.transcript) played_desk now file (chip_file v.wire.programmer.chip) ran status
       → RunsOverEmulator settings file old now status
   runs_over_emulator old planned_desk loaded_desk played_desk now ran status made is_loaded by_saving runs
       comes line saved = record {
@@ -51,7 +51,7 @@ module _ (settings : Settings) (file : Bytes) (plan : Plan) (chip : Chip) (w v :
         part = part_is;
         sound = is_sound;
         runs = search (rules, is_new);
-        comes = subst (λ (x : WiredState). Stays ComesOf x v) is_new comes;
+        comes = subst (λ (x : WiredState). Preserves ComesOf x v) is_new comes;
         line = search (rules, is_new);
         saved = saved;
         follows = by_saving;

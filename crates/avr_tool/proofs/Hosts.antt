@@ -1,5 +1,5 @@
 -- What a host does after any exchanges, in the logic of dialogs.
-pub mod AnyTurn
+pub mod AnyExchange
 pub mod Attempts
 pub mod Operations
 pub mod OneLink

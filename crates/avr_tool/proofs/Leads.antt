@@ -4,45 +4,45 @@ use Rattle.avr_part.specs.Part.{Part}
 use Rattle.stk_frame.specs.declared.command.Command.{Command}
 use Rattle.stk_host.specs.Dialog.{Dialog, Done}
 use Rattle.stk_host.specs.Steps.{StepOutcome}
-use Rattle.stk_emu.specs.Turn.{Turn}
+use Rattle.stk_emu.specs.Exchange.{Exchange}
 use Rattle.stk_emu.specs.Programmer.{Programmer}
 use Rattle.stk_emu.specs.Device.{Device}
-use Rattle.stk_emu.specs.Along.{along, LineState}
+use Rattle.stk_emu.specs.DialogOverExchanges.{state_after, StateAfter}
 use Rattle.stk_emu.specs.Effect.{Memories}
-use Rattle.stk_emu.specs.Settled.{Idle, Settled}
-use Rattle.stk_emu.specs.PageWrites.{changed_by}
-use Rattle.stk_emu.specs.Given.{all_given}
-use Rattle.stk_emu.specs.Fits.{Fits}
-use Rattle.avr_tool.specs.Made.{steps_done}
+use Rattle.stk_emu.specs.Settled.{HasMemories, Settled}
+use Rattle.stk_emu.specs.WriteOperations.{memories_after_steps}
+use Rattle.stk_emu.specs.Given.{data_of_steps}
+use Rattle.stk_emu.specs.Fits.{IsRepeatable}
+use Rattle.avr_tool.specs.Made.{steps_completed}
 use Rattle.avr_tool.specs.Tallies.{Count, Tallies}
 
 -- the first condition holds at each moment, and the second if the dialog has a result
-pub record Leads {E R P : Type 0} (m : Device P) (dialog : Dialog E R) (p : P) (turns : List Turn)
+pub record Leads {E R P : Type 0} (m : Device P) (dialog : Dialog E R) (p : P) (exchanges : List Exchange)
     (During : P → Type 0) (After : R → P → Type 0) : Type 0 where
-  pub during : (k : ℕ) → During (along m k dialog p turns).programmer
-  pub after : (k : ℕ) (r : R) → (along m k dialog p turns).dialog ≡ Done r
-      → After r (along m k dialog p turns).programmer
+  pub during : (k : ℕ) → During (state_after m k dialog p exchanges).programmer
+  pub after : (k : ℕ) (r : R) → (state_after m k dialog p exchanges).dialog ≡ Done r
+      → After r (state_after m k dialog p exchanges).programmer
 
 -- the memories after some number of first steps
 pub record Reached (part : Part) (steps : List (List Command)) (m : Memories) (q : Programmer) : Type 0 where
   pub count : ℕ
-  pub stands : Settled part (changed_by part count steps m) q
+  pub stands : Settled part (memories_after_steps part count steps m) q
 
 -- with data, the memories after all steps, and what these give; with a fault, those after some first steps
 abbrev pub AfterSteps : Part → List (List Command) → Memories → List ℕ → StepOutcome → Programmer → Type 0
 AfterSteps part steps m before (Ok got) q =
-    Settled part (changed_by part (length steps) steps m) q × (got ≡ before ++ all_given part steps m)
+    Settled part (memories_after_steps part (length steps) steps m) q × (got ≡ before ++ data_of_steps part steps m)
 AfterSteps part steps m before (Err fault) q = Reached part steps m q
 
 -- after SIGN_ON, ENTER and the reading of the signature
 abbrev pub AfterBeginning : Part → Memories → StepOutcome → Programmer → Type 0
 AfterBeginning part m (Ok found) q = Settled part m q × (found ≡ part.signature)
-AfterBeginning part m (Err fault) q = Idle part m q
+AfterBeginning part m (Err fault) q = HasMemories part m q
 
 -- each step leads from its own condition to the next one
 abbrev pub AllFit : {P : Type 0} → Device P → (ℕ → P → Type 0) → List (List Command) → Type 0
 AllFit m At [] = Unit {0}
-AllFit m At (commands ∷ steps) = Fits m commands (At 0) (At 1) × AllFit m (λ j. At (suc j)) steps
+AllFit m At (commands ∷ steps) = IsRepeatable m commands (At 0) (At 1) × AllFit m (λ j. At (suc j)) steps
 
 -- no step is without a command
 abbrev pub AreSome : List (List Command) → Type 0
@@ -54,17 +54,17 @@ AreSome ((command ∷ commands) ∷ steps) = AreSome steps
 -- perhaps one more. That one counts by the questions before the last, whose reply may not have come. If the run was
 -- completed, these are all steps.
 pub record Climbs {P : Type 0} (m : Device P) (At : ℕ → P → Type 0) (k : ℕ) (steps : List (List Command)) (p : P)
-    (turns : List Turn) (s : LineState ⊥ StepOutcome P) : Type 0 where
+    (exchanges : List Exchange) (s : StateAfter ⊥ StepOutcome P) : Type 0 where
   pub count : ℕ
-  pub at_least : steps_done m steps k p turns ≤ count
-  pub at_most : count ≤ suc (steps_done m steps (k - 1) p turns)
+  pub at_least : steps_completed m steps k p exchanges ≤ count
+  pub at_most : count ≤ suc (steps_completed m steps (k - 1) p exchanges)
   pub none : k ≡ 0 → count ≡ 0
   pub stands : At count s.programmer
   pub whole : (bytes : List ℕ) → s.dialog ≡ Done (Ok bytes) → count ≡ length steps
 
 -- The next dialog makes its write operations after those already made. Either these were completed before the last
 -- question, or the next dialog makes none.
-pub record GoesOn {E A B P : Type 0} (m : Device P) (At : ℕ → P → Type 0) (s : LineState E A P) (made earlier : ℕ)
+pub record GoesOn {E A B P : Type 0} (m : Device P) (At : ℕ → P → Type 0) (s : StateAfter E A P) (made earlier : ℕ)
     (next : Dialog E B) (more : Count P) : Type 0 where
-  pub rest : Tallies m next more (λ j. At (made + j)) s.programmer s.turns
+  pub rest : Tallies m next more (λ j. At (made + j)) s.programmer s.exchanges
   pub sharp : ((l : ℕ) → s.left ≡ suc l → made ≤ earlier) ⊎ ((l : ℕ) → rest.count l ≡ 0)

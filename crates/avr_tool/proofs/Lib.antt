@@ -6,13 +6,13 @@ pub mod Leads
 pub mod Lines
 pub mod Given
 pub mod Hosts
-pub mod PageWrites
+pub mod WriteOperations
 pub mod Plans
 pub mod Memories
-pub mod AnyLine
+pub mod OverFaultyLink
 pub mod Bounds
 pub mod Sure
-pub mod OverTurns
+pub mod OverExchanges
 pub mod WirePlays
 -- chips of files; serving: transcripts and replies, a piece and its replies, read after read; a run over the emulator
 pub mod Chips

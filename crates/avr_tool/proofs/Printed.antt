@@ -4,8 +4,8 @@ use Rattle.std.proofs.Common.{◌≡◌, ◌∙◌, ◌<◌, ◌≤◌, ◌+◌,
 use Rattle.std.specs.List.{concat}
 use Rattle.std.proofs.lemmas.List.{append_assoc, append-nil, take-append-drop}
 use Rattle.std.proofs.lemmas.List.Folds.{concat-append}
-use Rattle.avr_desk.specs.Fault.{Counts, Follows, HasFailedAt, HasSameCounts}
-use Rattle.avr_desk.specs.Record.{Bytes, DeskState, Passes}
+use Rattle.avr_desk.specs.Fault.{CountsFailure, CountsNeverFall, HasFailedAt, HasSameCounts}
+use Rattle.avr_desk.specs.Record.{Bytes, DeskState, ChangesRecord}
 use Rattle.avr_desk.specs.Stream.{SendsPart, after_sent}
 use Rattle.avr_desk.specs.declared.desk.DeskFault.{DeskFault}
 use Rattle.avr_desk.specs.declared.desk.DeskFault.TheVariants.{Failed}
@@ -31,10 +31,10 @@ length_more : (parts : List Bytes) (part : Bytes)
     → length (concat (parts ++ part ∷ [])) ≡ length (concat parts) + length part
 length_more parts part = ap length (concat_more parts part) ∙ length-append (concat parts) part
 
-pub printed_more : (has : Parts) (s : Stream) (a b c : DeskState) (part : Bytes) (n m turns : ℕ)
-    → HasPrinted has s a b n turns → has n part → m ≡ n + length part → 0 < length part → length part ≤ 512
-    → Passes (after_sent s part) b c → HasSameCounts b c → HasPrinted has s a c m (turns + 1)
-printed_more has s a b c part n m turns before given is some few kept same = record {
+pub printed_more : (has : Parts) (s : Stream) (a b c : DeskState) (part : Bytes) (n m rounds : ℕ)
+    → HasPrinted has s a b n rounds → has n part → m ≡ n + length part → 0 < length part → length part ≤ 512
+    → ChangesRecord (after_sent s part) b c → HasSameCounts b c → HasPrinted has s a c m (rounds + 1)
+printed_more has s a b c part n m rounds before given is some few kept same = record {
   parts = before.parts ++ part ∷ [];
   are = parts_more has 0 before.parts n part before.are (omega (arith, before.counted)) given;
   counted = omega (arith, is, before.counted, length_more before.parts part);
@@ -44,10 +44,10 @@ printed_more has s a b c part n m turns before given is some few kept same = rec
   same = (same.0 ∙ before.same.0, same.1 ∙ before.same.1);
 }
 
-pub printed_part : (has : Parts) (s : Stream) (a b c : DeskState) (part : Bytes) (n turns : ℕ) (fault : DeskFault)
-    → HasPrinted has s a b n turns → has n part → SendsPart s b c part → HasFailedAt s b c
-    → Follows b c → PrintsText has s a c (Err fault)
-printed_part has s a b c part n turns fault before given sent failed follows = record {
+pub printed_part : (has : Parts) (s : Stream) (a b c : DeskState) (part : Bytes) (n rounds : ℕ) (fault : DeskFault)
+    → HasPrinted has s a b n rounds → has n part → SendsPart s b c part → HasFailedAt s b c
+    → CountsNeverFall b c → PrintsText has s a c (Err fault)
+printed_part has s a b c part n rounds fault before given sent failed follows = record {
   text = concat before.parts ++ take sent.0 part;
   kept = sent_next s a.kept b.kept c.kept (concat before.parts) (take sent.0 part) before.kept sent.2;
   comes = (
@@ -64,13 +64,13 @@ printed_part has s a b c part n turns fault before given sent failed follows = r
 -- ---- an error whose text no clause knows
 
 pub untold : (has : Parts) (a b c : DeskState) (fault : DeskFault)
-    → Passes (after_sent Messages (codes "avrstk: error: ")) a b → HasSameCounts a b
+    → ChangesRecord (after_sent Messages (codes "avrstk: error: ")) a b → HasSameCounts a b
     → PrintsText has Messages b c (Err fault) → ReportsText has a c
 untold has a b c fault mark same prints = grind (arith, common_steps)
 
 pub reported_by : (has : Parts) (a b c d : DeskState) (count : ℕ) (r : Result (Unit {0}) DeskFault)
-    → Passes (after_sent Messages (codes "avrstk: error: ")) a b → HasSameCounts a b
-    → PrintsText has Messages b c (Ok count) → OnOk r (Passes (after_sent Messages (10 ∷ [])) c d)
-    → OnErr r (SendsPart Messages c d (10 ∷ [])) → Counts Messages c d r → IfErr r (λ e. e ≡ Failed)
+    → ChangesRecord (after_sent Messages (codes "avrstk: error: ")) a b → HasSameCounts a b
+    → PrintsText has Messages b c (Ok count) → OnOk r (ChangesRecord (after_sent Messages (10 ∷ [])) c d)
+    → OnErr r (SendsPart Messages c d (10 ∷ [])) → CountsFailure Messages c d r → IfErr r (λ e. e ≡ Failed)
     → ReportsText has a d
 reported_by has a b c d count r mark same prints all part counts fault = grind (arith, common_steps)

@@ -2,56 +2,56 @@
 use Rattle.std.proofs.Common.{ℕ, ◌+◌, ◌≤◌, List, [], ◌∷◌, ◌++◌, append_assoc, rules}
 use Rattle.std.specs.Prelude.{◌≢◌}
 use Rattle.std.proofs.lemmas.List.{append-nil}
-use Rattle.stk_host.specs.Tape.{on_tape, bytes_of}
+use Rattle.stk_host.specs.Tape.{on_tape, bytes_on_tape}
 use Rattle.stk_host.specs.Transcript.{Transcript, Got, NoneTaken, sent, heard as heard_in, Grows, LinkState}
 use Rattle.stk_host.proofs.Transcripts.Laws.{sent_append, heard_append, heard_quiet, grows_none, grows_on, none_append}
 use Rattle.stk_host.proofs.Tapes.Answers.{bytes_of_append, bytes_of_on_tape}
 use Rattle.stk_emu.specs.Programmer.{Programmer}
-use Rattle.stk_emu.specs.Emulator.{Machine}
+use Rattle.stk_emu.specs.Emulator.{EmulatorState}
 use Rattle.avr_tool.specs.declared.answering.Served.{Served}
 use Rattle.avr_tool.specs.declared.answering.Served.TheVariants.{SendFailed, TooManyReads}
-use Rattle.avr_tool.specs.Serving.{HearsUntil, AnswersAll, BreaksOff, SendsSoundly, ServingLeaves, Serves}
-use Rattle.avr_tool.specs.Replying.{Replies, RepliesPart}
+use Rattle.avr_tool.specs.Serving.{ReceivesUntil, RepliesToAll, LastReplyFailed, NoSendFailed, ServingLeaves, Serves}
+use Rattle.avr_tool.specs.Replying.{SendsAllReplies, SendsPartOfReplies}
 use Rattle.avr_tool.proofs.Transcripts.{no_end_append, no_end_on_tape, reads_append, reads_quiet, in_turn_quiet, in_turn_append}
 use Rattle.avr_tool.proofs.Answers.{all_nothing, all_more, breaks_more, breaks_prefix, breaks_heard}
 
-breaks_transcript : (p : Programmer) (text : List ℕ) (x y : Transcript) (mid now : Machine)
-    → AnswersAll p text (bytes_of (heard_in x)) (sent x) mid
-    → BreaksOff p (text ++ bytes_of (heard_in x)) (bytes_of (heard_in y)) y now
-    → BreaksOff p text (bytes_of (heard_in (x ++ y))) (x ++ y) now
+breaks_transcript : (p : Programmer) (text : List ℕ) (x y : Transcript) (mid now : EmulatorState)
+    → RepliesToAll p text (bytes_on_tape (heard_in x)) (sent x) mid
+    → LastReplyFailed p (text ++ bytes_on_tape (heard_in x)) (bytes_on_tape (heard_in y)) y now
+    → LastReplyFailed p text (bytes_on_tape (heard_in (x ++ y))) (x ++ y) now
 breaks_transcript p text x y mid now first then = search (rules, breaks_more, heard_append, bytes_of_append)
 
-leaves_more : (served : Served) (p : Programmer) (text : List ℕ) (x y : Transcript) (mid now : Machine)
-    → AnswersAll p text (bytes_of (heard_in x)) (sent x) mid
-    → ServingLeaves served p (text ++ bytes_of (heard_in x)) y now → ServingLeaves served p text (x ++ y) now
+leaves_more : (served : Served) (p : Programmer) (text : List ℕ) (x y : Transcript) (mid now : EmulatorState)
+    → RepliesToAll p text (bytes_on_tape (heard_in x)) (sent x) mid
+    → ServingLeaves served p (text ++ bytes_on_tape (heard_in x)) y now → ServingLeaves served p text (x ++ y) now
 leaves_more served p text x y mid now first then =
     search (rules, breaks_transcript, breaks_prefix, sent_append, all_more, heard_append, bytes_of_append)
 
-hears_more : (served : Served) (turns : ℕ) (x y : Transcript) → HearsUntil TooManyReads turns x → HearsUntil served 1 y
-    → HearsUntil served (turns + 1) (x ++ y)
-hears_more served turns x y first then = search (rules, no_end_append, heard_append, append_assoc, reads_append)
+hears_more : (served : Served) (most_reads : ℕ) (x y : Transcript) → ReceivesUntil TooManyReads most_reads x → ReceivesUntil served 1 y
+    → ReceivesUntil served (most_reads + 1) (x ++ y)
+hears_more served most_reads x y first then = search (rules, no_end_append, heard_append, append_assoc, reads_append)
 
-sends_more : (served : Served) (x y : Transcript) → NoneTaken x → SendsSoundly served y
-    → SendsSoundly served (x ++ y)
+sends_more : (served : Served) (x y : Transcript) → NoneTaken x → NoSendFailed served y
+    → NoSendFailed served (x ++ y)
 sends_more served x y first then = search (rules, none_append)
 
-pub serves_none : (machine : Machine) (o : LinkState) → Serves machine 0 TooManyReads o o machine
+pub serves_none : (machine : EmulatorState) (o : LinkState) → Serves machine 0 TooManyReads o o machine
 serves_none machine o = search (rules, all_nothing, grows_none o.transcript)
 
-pub serves_more : (served : Served) (turns : ℕ) (old mid now : Machine) (a b c : LinkState)
-    → Serves old turns TooManyReads a b mid → Serves mid 1 served b c now
-    → Serves old (turns + 1) served a c now
-serves_more served turns old mid now a b c first then =
+pub serves_more : (served : Served) (most_reads : ℕ) (old mid now : EmulatorState) (a b c : LinkState)
+    → Serves old most_reads TooManyReads a b mid → Serves mid 1 served b c now
+    → Serves old (most_reads + 1) served a c now
+serves_more served most_reads old mid now a b c first then =
     search (rules, grows_on, hears_more, sends_more, in_turn_append, leaves_more)
 
-pub serves_within : (served : Served) (few many : ℕ) (old now : Machine) (a b : LinkState) → served ≢ TooManyReads
+pub serves_within : (served : Served) (few many : ℕ) (old now : EmulatorState) (a b : LinkState) → served ≢ TooManyReads
     → few ≤ many → Serves old few served a b now → Serves old many served a b now
 serves_within served few many old now a b other le s = search rules
 
 -- the outcome of one read
 
-pub read_answered : (piece : List ℕ) (old now : Machine) (a b c : LinkState)
-    → Grows a.transcript (Got (on_tape piece) ∷ []) b.transcript → Replies old piece b c now
+pub read_answered : (piece : List ℕ) (old now : EmulatorState) (a b c : LinkState)
+    → Grows a.transcript (Got (on_tape piece) ∷ []) b.transcript → SendsAllReplies old piece b c now
     → Serves old 1 TooManyReads a c now
 read_answered piece old now a b c g r =
     let transcript : Transcript = r.says.during in
@@ -64,8 +64,8 @@ read_answered piece old now a b c g r =
       leaves = search (rules, bytes_of_on_tape, heard_quiet, append-nil);
     }
 
-pub read_broken : (piece : List ℕ) (old now : Machine) (a b c : LinkState)
-    → Grows a.transcript (Got (on_tape piece) ∷ []) b.transcript → RepliesPart old piece b c now
+pub read_broken : (piece : List ℕ) (old now : EmulatorState) (a b c : LinkState)
+    → Grows a.transcript (Got (on_tape piece) ∷ []) b.transcript → SendsPartOfReplies old piece b c now
     → Serves old 1 SendFailed a c now
 read_broken piece old now a b c g r =
     let transcript : Transcript = r.during in

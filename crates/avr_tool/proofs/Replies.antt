@@ -4,37 +4,37 @@ use Rattle.std.proofs.Common.{◌≡◌, ℕ, ◌+◌, List, ◌++◌, take, dro
 use Rattle.std.proofs.lemmas.List.{take-append-drop}
 use Rattle.std.proofs.Math.Seq.{take-add}
 use Rattle.stk_host.specs.Transcript.{LinkState, sent}
-use Rattle.stk_host.specs.Reach.{Says, SaysPart}
+use Rattle.stk_host.specs.Reach.{SendsExactly, SendsOnlyPart}
 use Rattle.stk_host.proofs.Transcripts.Laws.{sent_append, grows_on, quiet_append, none_append}
-use Rattle.stk_emu.specs.Emulator.{Machine, Answers}
-use Rattle.avr_tool.specs.Serving.{AnswersAll, BreaksOff}
-use Rattle.avr_tool.specs.Replying.{Replies, RepliesPart}
+use Rattle.stk_emu.specs.Emulator.{EmulatorState, RepliesToFrame}
+use Rattle.avr_tool.specs.Serving.{RepliesToAll, LastReplyFailed}
+use Rattle.avr_tool.specs.Replying.{SendsAllReplies, SendsPartOfReplies}
 use Rattle.avr_tool.proofs.Answers.{all_fed, all_more, breaks_here, breaks_more}
 
 -- the bytes after the first n are fed, up to the first reply
-module _ (piece part out : List ℕ) (n used : ℕ) (old mid now : Machine) (a b c : LinkState)
-    (r : Replies old (take n piece) a b mid) (is : part ≡ drop n piece)
-    (one : Answers mid (take used part) now out) where
-  pub replies_more : Says out b.transcript c.transcript → Replies old (take (n + used) piece) a c now
+module _ (piece part out : List ℕ) (n used : ℕ) (old mid now : EmulatorState) (a b c : LinkState)
+    (r : SendsAllReplies old (take n piece) a b mid) (is : part ≡ drop n piece)
+    (one : RepliesToFrame mid (take used part) now out) where
+  pub replies_more : SendsExactly out b.transcript c.transcript → SendsAllReplies old (take (n + used) piece) a c now
   replies_more says = record {
     out = r.out ++ out;
     says = grind (arith, common_steps, grows_on, quiet_append, none_append, sent_append);
     answers = λ p text f.
         let first = r.answers p text f in
-        subst (λ bs. AnswersAll p text bs (r.out ++ out) now)
+        subst (λ bs. RepliesToAll p text bs (r.out ++ out) now)
         (ap (λ bs. take n piece ++ take used bs) is ∙ sym (take-add n used piece))
         (search (rules, all_more, all_fed));
   }
 
-  pub replies_part : SaysPart out b.transcript c.transcript → RepliesPart old piece a c now
+  pub replies_part : SendsOnlyPart out b.transcript c.transcript → SendsPartOfReplies old piece a c now
   replies_part s = record {
     during = r.says.during ++ s.during;
     grows = grows_on a.transcript b.transcript c.transcript r.says.during s.during r.says.grows s.grows;
     quiet = quiet_append r.says.during s.during r.says.none_taken r.says.quiet s.quiet;
     breaks = λ p text f.
-        let first : AnswersAll p text (take n piece) (sent r.says.during) mid =
+        let first : RepliesToAll p text (take n piece) (sent r.says.during) mid =
         rw r.says.bytes_sent (r.answers p text f) in
-        subst (λ bs. BreaksOff p text bs (r.says.during ++ s.during) now)
+        subst (λ bs. LastReplyFailed p text bs (r.says.during ++ s.during) now)
         (ap (λ bs. take n piece ++ bs) (take-append-drop used part ∙ is) ∙ take-append-drop n piece)
         (search (rules, breaks_more, breaks_here));
   }

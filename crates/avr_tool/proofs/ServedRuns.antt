@@ -5,22 +5,22 @@ use Rattle.avr_desk.specs.Record.{DeskState, Bytes}
 use Rattle.avr_part.specs.Part.{Part}
 use Rattle.avr_part.specs.State as chips
 use Rattle.avr_plan.specs.Planning.{parts_stage, part_stage}
-use Rattle.avr_desk.specs.Playing.{AtStart, Goes, Went}
-use Rattle.avr_desk.specs.Stage.{Made}
-use Rattle.avr_desk.proofs.Stages.Files.{taken_never}
-use Rattle.avr_desk.proofs.Stages.Played.{goes_on}
+use Rattle.avr_desk.specs.Playing.{OnlyAtStart, RunsStage, StageCompleted}
+use Rattle.avr_desk.specs.Stage.{Produced}
+use Rattle.avr_desk.proofs.Stages.Files.{never_allocates}
+use Rattle.avr_desk.proofs.Stages.Played.{runs_then}
 use Rattle.stk_emu.specs.Programmer.{fresh_programmer}
-use Rattle.stk_emu.specs.Emulator.{Machine}
+use Rattle.stk_emu.specs.Emulator.{EmulatorState}
 use Rattle.avr_tool.specs.ServedRun.{settings_part, fresh_machine}
 
 pub goes_with_parts : (s : Settings) (id : Bytes) (old mid new : DeskState) (parts : List Part) (result : Result Part ℕ)
     → id ≡ s.part
-    → Went (parts_stage s.parts) old mid (Made parts) → Goes (AtStart false) (part_stage id parts) mid new result
-    → Goes (AtStart false) (settings_part s) old new result
+    → StageCompleted (parts_stage s.parts) old mid (Produced parts) → RunsStage (OnlyAtStart false) (part_stage id parts) mid new result
+    → RunsStage (OnlyAtStart false) (settings_part s) old new result
 goes_with_parts s id old mid new parts result same went goes =
-    goes_on (AtStart false) (AtStart false) _ (λ parts. part_stage s.part parts) old mid new parts result went
-    (λ passed said never. absurd (taken_never passed said never)) (rw same at goes)
+    runs_then (OnlyAtStart false) (OnlyAtStart false) _ (λ parts. part_stage s.part parts) old mid new parts result went
+    (λ passed said never. absurd (never_allocates passed said never)) (rw same at goes)
 
-pub is_fresh : (chip : chips.ChipState) (machine : Machine) → machine.held ≡ []
+pub is_fresh : (chip : chips.ChipState) (machine : EmulatorState) → machine.held ≡ []
     → machine.programmer ≡ fresh_programmer chip → machine ≡ fresh_machine chip
 is_fresh chip machine held programmer = ap₂ (λ h p. record { held = h; programmer = p }) held programmer

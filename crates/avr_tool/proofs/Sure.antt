@@ -1,5 +1,5 @@
 -- A session over a link on which every step gives its data goes as its expected run.
-pub mod Turns
+pub mod Exchanges
 pub mod Good
 pub mod Calls
 pub mod Sessions

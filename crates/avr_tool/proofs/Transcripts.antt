@@ -2,12 +2,12 @@
 use Rattle.std.proofs.Common.{◌≡◌, ℕ, ◌+◌, List, [], ◌∷◌, ◌++◌, refl, sym, subst, append_assoc, arith, rules}
 use Rattle.std.proofs.lemmas.List.{append-nil}
 use Rattle.stk_host.specs.declared.link.Item.TheVariants.{Byte, Silence, End}
-use Rattle.stk_host.specs.Tape.{Tape, on_tape, bytes_of}
+use Rattle.stk_host.specs.Tape.{Tape, on_tape, bytes_on_tape}
 use Rattle.stk_host.specs.Transcript.{Transcript, Sent, Taken, Got, NoneTaken, sent, heard}
-use Rattle.stk_host.specs.Reach.{IsQuiet}
+use Rattle.stk_host.specs.Reach.{NothingReceived}
 use Rattle.stk_host.proofs.Tapes.Answers.{bytes_of_append}
 use Rattle.stk_emu.specs.Programmer.{Programmer}
-use Rattle.avr_tool.specs.Serving.{HasNoEnd, reads, AnswersInTurn}
+use Rattle.avr_tool.specs.Serving.{HasNoEnd, reads, RepliesInTurn}
 
 pub no_end_append : (x y : Tape) → HasNoEnd x → HasNoEnd y → HasNoEnd (x ++ y)
 no_end_append [] y f g = g
@@ -25,27 +25,27 @@ reads_append (Got tape ∷ x) y = omega (arith, reads_append x y)
 reads_append (other ∷ x) y = reads_append x y
 
 -- nothing is read in a quiet transcript, so its replies are in turn
-pub reads_quiet : (transcript : Transcript) → IsQuiet transcript → reads transcript ≡ 0
+pub reads_quiet : (transcript : Transcript) → NothingReceived transcript → reads transcript ≡ 0
 reads_quiet [] quiet = refl
 reads_quiet (Sent bytes ∷ transcript) quiet = reads_quiet transcript quiet
 reads_quiet transcript quiet = search rules
 
-pub in_turn_quiet : (p : Programmer) (text out : List ℕ) (transcript : Transcript) → IsQuiet transcript
-    → AnswersInTurn p text out transcript
+pub in_turn_quiet : (p : Programmer) (text out : List ℕ) (transcript : Transcript) → NothingReceived transcript
+    → RepliesInTurn p text out transcript
 in_turn_quiet p text out [] quiet = tt
 in_turn_quiet p text out (Sent bytes ∷ transcript) quiet = in_turn_quiet p text (out ++ bytes) transcript quiet
 in_turn_quiet p text out transcript quiet = search rules
 
 pub in_turn_append : (p : Programmer) (text out : List ℕ) (x y : Transcript) → NoneTaken x
-    → AnswersInTurn p text out x → AnswersInTurn p (text ++ bytes_of (heard x)) (out ++ sent x) y
-    → AnswersInTurn p text out (x ++ y)
+    → RepliesInTurn p text out x → RepliesInTurn p (text ++ bytes_on_tape (heard x)) (out ++ sent x) y
+    → RepliesInTurn p text out (x ++ y)
 in_turn_append p text out [] y none f g = search (rules, append-nil)
 in_turn_append p text out (Sent bytes ∷ x) y none f g =
     in_turn_append p text (out ++ bytes) x y none f
-    (subst (λ o. AnswersInTurn p (text ++ bytes_of (heard x)) o y) (sym (append_assoc out bytes (sent x))) g)
+    (subst (λ o. RepliesInTurn p (text ++ bytes_on_tape (heard x)) o y) (sym (append_assoc out bytes (sent x))) g)
 in_turn_append p text out (Taken bytes ∷ x) y none f g = absurd none
 in_turn_append p text out (Got tape ∷ x) y none f g = (
   f.0,
-  in_turn_append p (text ++ bytes_of tape) out x y none f.1
+  in_turn_append p (text ++ bytes_on_tape tape) out x y none f.1
       (search (rules, bytes_of_append, append_assoc)),
 )

@@ -1,33 +1,33 @@
 -- A session that ran over a wire went along the exchanges of its fates.
 use Rattle.std.proofs.Common.{◌≡◌, ℕ, [], List, All, length, sym, ap, ◌∙◌, inl, inr, rules}
 use Rattle.std.proofs.lemmas.List.{append-nil}
-use Rattle.avr_desk.specs.Said.{OutputEvent, SaidPart, after_all}
+use Rattle.avr_desk.specs.OutputEvents.{OutputEvent, IsPartOfEvent, after_events}
 use Rattle.avr_part.specs.Sound.{IsSoundChip}
 use Rattle.avr_plan.specs.Plan.{Plan, IsFitted}
-use Rattle.avr_desk.specs.Record.{DeskState, Passes}
+use Rattle.avr_desk.specs.Record.{DeskState, ChangesRecord}
 use Rattle.stk_frame.specs.Cut.{frames}
 use Rattle.stk_host.specs.Dialog.{Done, bytes_sent, played, outputs}
-use Rattle.stk_host.specs.Play.{InTurn, IsPrefixOf, Plays}
-use Rattle.ghosts.specs.Stays.{Stays}
+use Rattle.stk_host.specs.Play.{InTurn, IsBytePrefixOf, Plays}
+use Rattle.ghosts.specs.Preserves.{Preserves}
 use Rattle.stk_host.specs.Transcript.{Transcript, Grows, sent, heard}
 use Rattle.avr_session.specs.Run.{RunsSession}
 use Rattle.avr_session.specs.Runs.{Devices, start, devices}
 use Rattle.avr_session.specs.Session.{session}
-use Rattle.avr_session.specs.Stopping.{IsPlayed}
-use Rattle.stk_emu.specs.Along.{along, said_along, AsksBodies}
+use Rattle.avr_session.specs.Stopping.{RanToStatus}
+use Rattle.stk_emu.specs.DialogOverExchanges.{state_after, outputs_after, SendsValidBodies}
 use Rattle.stk_emu.specs.Device.{device}
 use Rattle.stk_emu.specs.Programmer.{Programmer, fresh_programmer}
-use Rattle.stk_emu.specs.Turn.{Turn}
-use Rattle.stk_emu.specs.Wire.{turns_of}
+use Rattle.stk_emu.specs.Exchange.{Exchange}
+use Rattle.stk_emu.specs.Wire.{exchanges_of_fates}
 use Rattle.stk_emu.specs.Wired.{WiredState, FollowsFates, ComesOf, IsFresh, wired_link}
-use Rattle.avr_tool.specs.AnyLine.{memories, events_over, OverTurns, ComesOverTurns, OverAnyLine}
+use Rattle.avr_tool.specs.OverFaultyLink.{memories, events_over, OverExchanges, EndsOverExchanges, SessionOverWire}
 use Rattle.avr_tool.proofs.Lines.InTurn.{shown_prefix, stands_along, whole_said, whole_done}
-use Rattle.avr_tool.proofs.OverTurns.{asks, over_turns, comes_over_turns}
+use Rattle.avr_tool.proofs.OverExchanges.{asks, over_exchanges, ends_over_exchanges}
 
 -- the transcript of a session is in turn, and the bytes sent are a prefix of what it sends over what was received
 abbrev pub IsFirst : Plan → Transcript → Type 0
 IsFirst plan transcript = InTurn (session plan) start transcript
-    × IsPrefixOf (sent transcript) (bytes_sent (played (session plan) 1 (heard transcript)).events)
+    × IsBytePrefixOf (sent transcript) (bytes_sent (played (session plan) 1 (heard transcript)).events)
 
 pub sent_first : (plan : Plan) (old new : Devices) (status : ℕ) → old.link.transcript ≡ []
     → RunsSession plan old new status
@@ -46,7 +46,7 @@ sent_first plan old new status silent runs = elim runs [
       )
   | inr broke ↦
       let b = broke.0 in
-      let prefix = shown_prefix SaidPart b.shown (played (session plan) 1 (heard b.during)).events b.breaks.prefix in
+      let prefix = shown_prefix IsPartOfEvent b.shown (played (session plan) 1 (heard b.during)).events b.breaks.prefix in
       search rules
 ]
   where
@@ -59,17 +59,17 @@ sent_first plan old new status silent runs = elim runs [
 fresh_follows : (w : WiredState) → IsFresh w → FollowsFates (fresh_programmer w.wire.programmer.chip) w.wire.fates w
 fresh_follows w fresh = search rules
 
-module _ (plan : Plan) (w v : WiredState) (fresh : IsFresh w) (stays : Stays ComesOf w v)
+module _ (plan : Plan) (w v : WiredState) (fresh : IsFresh w) (stays : Preserves ComesOf w v)
     (is_sound : IsSoundChip w.wire.programmer.chip)
     (part_is : w.wire.programmer.chip.part ≡ plan.part) (fitted : All (IsFitted plan.part) plan.tasks)
     (old now : DeskState) (status : ℕ) where
   abbrev pub begun : Programmer
   begun = fresh_programmer w.wire.programmer.chip
 
-  abbrev pub turns : List Turn
-  turns = turns_of w.wire.fates
+  abbrev pub exchanges : List Exchange
+  exchanges = exchanges_of_fates w.wire.fates
 
-  pub asks_bodies : AsksBodies (session plan)
+  pub asks_bodies : SendsValidBodies (session plan)
   asks_bodies = asks plan begun is_sound part_is fitted
 
   pub keeps : FollowsFates begun w.wire.fates v
@@ -82,21 +82,21 @@ module _ (plan : Plan) (w v : WiredState) (fresh : IsFresh w) (stays : Stays Com
   first runs = sent_first plan (devices (wired_link w) old) (devices (wired_link v) now) status fresh.silent runs
 
   pub stands : Runs → v.wire.programmer
-      ≡ (along device (length (frames (sent v.transcript))) (session plan) begun turns).programmer
+      ≡ (state_after device (length (frames (sent v.transcript))) (session plan) begun exchanges).programmer
   stands runs = search (rules, stands_along, asks_bodies, keeps, first)
 
-  over : Runs → OverTurns plan begun v.wire.programmer turns (sent v.transcript)
-  over runs = over_turns plan begun is_sound part_is fitted turns v.wire.programmer (sent v.transcript) (stands runs)
+  over : Runs → OverExchanges plan begun v.wire.programmer exchanges (sent v.transcript)
+  over runs = over_exchanges plan begun is_sound part_is fitted exchanges v.wire.programmer (sent v.transcript) (stands runs)
       (heard v.transcript) (first runs).1
 
   -- if it ran whole, it has come to its status there, and all its output was done
   pub record ComesWhole : Type 0 where
-    pub done : (along device (length (frames (sent v.transcript))) (session plan) begun turns).dialog ≡ Done status
+    pub done : (state_after device (length (frames (sent v.transcript))) (session plan) begun exchanges).dialog ≡ Done status
     pub said : outputs (events_over plan v)
-        ≡ said_along device (length (frames (sent v.transcript))) (session plan) begun turns
-    pub kept : Passes (after_all (outputs (events_over plan v))) old now
+        ≡ outputs_after device (length (frames (sent v.transcript))) (session plan) begun exchanges
+    pub kept : ChangesRecord (after_events (outputs (events_over plan v))) old now
 
-  pub whole_comes : IsPlayed (session plan) (devices (wired_link w) old) (devices (wired_link v) now) status → ComesWhole
+  pub whole_comes : RanToStatus (session plan) (devices (wired_link w) old) (devices (wired_link v) now) status → ComesWhole
   whole_comes whole =
       let plays : Plays (session plan) start v.transcript whole.1.events status whole.0 =
       search rules
@@ -108,19 +108,19 @@ module _ (plan : Plan) (w v : WiredState) (fresh : IsFresh w) (stays : Stays Com
         done = search (rules, whole_done, asks_bodies, keeps);
         said = ap outputs (sym same) ∙ whole_said (session plan) 1 begun w.wire.fates v asks_bodies fresh.lawful keeps
             plays.in_turn whole.1.events status whole.0 plays prefix;
-        kept = whole.1.kept ∙ ap (λ events. after_all (outputs events) old.kept) same;
+        kept = whole.1.kept ∙ ap (λ events. after_events (outputs events) old.kept) same;
       }
 
-  came : (whole : IsPlayed (session plan) (devices (wired_link w) old) (devices (wired_link v) now) status)
-      → ComesOverTurns plan (memories w) (memories v) turns (outputs (events_over plan v)) status
-      × Passes (after_all (outputs (events_over plan v))) old now
+  came : (whole : RanToStatus (session plan) (devices (wired_link w) old) (devices (wired_link v) now) status)
+      → EndsOverExchanges plan (memories w) (memories v) exchanges (outputs (events_over plan v)) status
+      × ChangesRecord (after_events (outputs (events_over plan v))) old now
   came whole =
       let c = whole_comes whole in (
-        comes_over_turns plan begun is_sound part_is fitted turns v.wire.programmer (sent v.transcript)
+        ends_over_exchanges plan begun is_sound part_is fitted exchanges v.wire.programmer (sent v.transcript)
             (stands (inl whole)) (outputs (events_over plan v)) status c.done c.said,
         c.kept,
       )
 
-  pub over_any_line : Runs → OverAnyLine plan w v old now status
+  pub over_any_line : Runs → SessionOverWire plan w v old now status
   over_any_line (inl whole) = record { line = over (inl whole); end = inl (came whole) }
   over_any_line (inr broke) = record { line = over (inr broke); end = inr broke }

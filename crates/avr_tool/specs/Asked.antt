@@ -3,13 +3,13 @@ use Rattle.std.specs.Prelude.{◌≡◌, ◌≢◌, ℕ, true, List, [], Result,
 use Rattle.clap.specs.Words.{takes, fault_of, kind_of, HasKind}
 use Rattle.clap.specs.declared.error.Error.{Error}
 use Rattle.clap.specs.declared.error.kind.ErrorKind.TheVariants.{OutOfMemory}
-use Rattle.avr_cli.specs.Command.{avrstk, asked_by}
-use Rattle.avr_cli.specs.Settings.{GivesOrMemory, TellsAnyway}
+use Rattle.avr_cli.specs.Command.{avrstk, settings_from_arguments}
+use Rattle.avr_cli.specs.Settings.{GivesUnlessOutOfMemory, ReportsAnyway}
 use Rattle.avr_cli.specs.declared.settings.Settings.{Settings}
 use Rattle.avr_cli.specs.declared.settings.SettingsFault.{SettingsFault}
 use Rattle.avr_cli.specs.declared.settings.SettingsFault.TheVariants.{Memory}
 use Rattle.avr_desk.specs.Record.{DeskState, Bytes}
-use Rattle.avr_desk.specs.Said.{Tells}
+use Rattle.avr_desk.specs.OutputEvents.{ReportsLine}
 use Rattle.avr_session.specs.Refusal.{refusal_line}
 use Rattle.avr_tool.specs.declared.asking.NotAsked.{NotAsked}
 use Rattle.avr_tool.specs.declared.asking.NotAsked.TheVariants.{Words, Refused}
@@ -17,25 +17,25 @@ use Rattle.avr_tool.specs.declared.asking.NotAsked.TheVariants.{Words, Refused}
 -- A fault of the settings, or a failed allocation, was reported, and the status is 1.
 pub record IsRefused (words : List Bytes) (old new : DeskState) (status : ℕ) : Type 0 where
   pub fault : SettingsFault
-  pub is : GivesOrMemory (asked_by words) (Err fault)
-  pub anyway : TellsAnyway (asked_by words) (Err fault)
-  pub told : Tells old new (refusal_line fault)
+  pub is : GivesUnlessOutOfMemory (settings_from_arguments words) (Err fault)
+  pub anyway : ReportsAnyway (settings_from_arguments words) (Err fault)
+  pub told : ReportsLine old new (refusal_line fault)
   pub status_is : status ≡ 1
 
 -- The contract of `asked`. With settings, the command takes the command line, which asks for these settings. With a
 -- status, a fault of the settings was reported. An error of `clap` is of a kind that the command line calls for; if the
 -- command takes the command line, it is that allocation failed. With settings or an error nothing was done at the desk.
-abbrev pub Asks : List Bytes → DeskState → DeskState → Result Settings NotAsked → Type 0
-Asks words old new (Ok settings) = (Ok settings ≡ asked_by words) × (fault_of avrstk words ≡ []) × (new ≡ old)
-Asks words old new (Err (Refused status)) = IsRefused words old new status
-Asks words old new (Err (Words error)) =
+abbrev pub GivesSettings : List Bytes → DeskState → DeskState → Result Settings NotAsked → Type 0
+GivesSettings words old new (Ok settings) = (Ok settings ≡ settings_from_arguments words) × (fault_of avrstk words ≡ []) × (new ≡ old)
+GivesSettings words old new (Err (Refused status)) = IsRefused words old new status
+GivesSettings words old new (Err (Words error)) =
     HasKind (fault_of avrstk words) error × (takes avrstk words ≡ true → kind_of error ≡ OutOfMemory) × (new ≡ old)
 
 -- An error of `clap`: a failed allocation was reported, any other error is returned.
-abbrev pub LeavesWords : Error → DeskState → DeskState → Result ℕ Error → Type 0
-LeavesWords error old new (Ok status) =
-    (kind_of error ≡ OutOfMemory) × Tells old new (refusal_line Memory) × (status ≡ 1)
-LeavesWords error old new (Err left) = (kind_of error ≢ OutOfMemory) × (left ≡ error) × (new ≡ old)
+abbrev pub ReportsOnlyAllocation : Error → DeskState → DeskState → Result ℕ Error → Type 0
+ReportsOnlyAllocation error old new (Ok status) =
+    (kind_of error ≡ OutOfMemory) × ReportsLine old new (refusal_line Memory) × (status ≡ 1)
+ReportsOnlyAllocation error old new (Err left) = (kind_of error ≢ OutOfMemory) × (left ≡ error) × (new ≡ old)
 
 abbrev pub not_asked_number : NotAsked → ℕ
 not_asked_number (Words error) = 1

@@ -1,30 +1,30 @@
 -- A run over the emulator, whose chip has a file.
 use Rattle.std.specs.Prelude.{◌≡◌, ◌⊎◌, ℕ, List, [], ◌∷◌, All, Err}
-use Rattle.avr_tool.specs.Holding.{HoldsAndLoads, Loaded}
-use Rattle.avr_tool.specs.Saving.{SavesAfter}
+use Rattle.avr_tool.specs.Holding.{LocksAndLoads, LockedAndLoaded}
+use Rattle.avr_tool.specs.Saving.{SavesAfterRun}
 use Rattle.avr_cli.specs.declared.settings.Settings.{Settings}
-use Rattle.avr_desk.specs.Fault.{Follows}
+use Rattle.avr_desk.specs.Fault.{CountsNeverFall}
 use Rattle.avr_desk.specs.Record.{DeskState, Bytes, released}
 use Rattle.avr_part.specs.ChipFile.{chip_file}
 use Rattle.avr_part.specs.Sound.{IsSoundChip}
 use Rattle.avr_part.specs.State.{ChipState as Chip}
 use Rattle.avr_plan.specs.Plan.{Plan, IsFitted}
 use Rattle.avr_plan.specs.Planning.{planned}
-use Rattle.avr_desk.specs.Playing.{Went}
-use Rattle.avr_desk.specs.Stage.{Made}
-use Rattle.ghosts.specs.Stays.{Stays}
+use Rattle.avr_desk.specs.Playing.{StageCompleted}
+use Rattle.avr_desk.specs.Stage.{Produced}
+use Rattle.ghosts.specs.Preserves.{Preserves}
 use Rattle.stk_host.specs.Transcript.{sent}
 use Rattle.stk_emu.specs.Programmer.{fresh_programmer}
 use Rattle.stk_emu.specs.Wire.{fresh_wire}
 use Rattle.stk_emu.specs.Wired.{WiredState, ComesOf}
 use Rattle.stk_emu.specs.declared.fate.Fate.{Fate}
 use Rattle.avr_session.specs.Run.{LacksPlan, RunsSession, WithPlan}
-use Rattle.avr_tool.specs.AnyLine.{OverAnyLine, wire_and_desk}
+use Rattle.avr_tool.specs.OverFaultyLink.{SessionOverWire, wire_and_desk}
 
 -- The chip's file is replaced if anything was sent, otherwise only unlocked. If it can't be replaced, the status is 1.
-abbrev pub IsSaved : List ℕ → DeskState → DeskState → Bytes → Bytes → ℕ → ℕ → Type 0
-IsSaved [] old now file bytes ran status = (now ≡ released old) × (status ≡ ran)
-IsSaved (byte ∷ sent) old now file bytes ran status = SavesAfter ran old now file bytes status
+abbrev pub IsSavedIfSent : List ℕ → DeskState → DeskState → Bytes → Bytes → ℕ → ℕ → Type 0
+IsSavedIfSent [] old now file bytes ran status = (now ≡ released old) × (status ≡ ran)
+IsSavedIfSent (byte ∷ sent) old now file bytes ran status = SavesAfterRun ran old now file bytes status
 
 -- A fresh wire to a chip, with these fates.
 abbrev pub new_wire : Chip → List Fate → WiredState
@@ -43,21 +43,21 @@ pub record RunsOverEmulator (settings : Settings) (file : Bytes) (old now : Desk
   pub planned_desk : DeskState
   pub loaded_desk : DeskState
   pub played_desk : DeskState
-  pub made : Went (planned settings) old planned_desk (Made plan)
+  pub made : StageCompleted (planned settings) old planned_desk (Produced plan)
   pub fitted : All (IsFitted plan.part) plan.tasks
-  pub loaded : Loaded plan.part file planned_desk loaded_desk chip
+  pub loaded : LockedAndLoaded plan.part file planned_desk loaded_desk chip
   pub part : chip.part ≡ plan.part
   pub sound : IsSoundChip chip
   pub runs : RunsSession plan (wire_and_desk (new_wire chip []) loaded_desk) (wire_and_desk after played_desk) ran
-  pub comes : Stays ComesOf (new_wire chip []) after
-  pub line : OverAnyLine plan (new_wire chip []) after loaded_desk played_desk ran
-  pub saved : IsSaved (sent after.transcript) played_desk now file (chip_file after.wire.programmer.chip) ran status
-  pub follows : Follows played_desk now
+  pub comes : Preserves ComesOf (new_wire chip []) after
+  pub line : SessionOverWire plan (new_wire chip []) after loaded_desk played_desk ran
+  pub saved : IsSavedIfSent (sent after.transcript) played_desk now file (chip_file after.wire.programmer.chip) ran status
+  pub follows : CountsNeverFall played_desk now
 
 -- The contract of `run_emu`: that run; or there is a plan but no chip; or there is no plan. Without a chip nothing was
 -- sent.
 abbrev pub RunsEmulator : Settings → Bytes → DeskState → DeskState → ℕ → Type 0
 RunsEmulator settings file old now status =
     RunsOverEmulator settings file old now status
-    ⊎ (WithPlan settings old (λ plan desk. HoldsAndLoads plan.part file desk now (Err status))
+    ⊎ (WithPlan settings old (λ plan desk. LocksAndLoads plan.part file desk now (Err status))
     ⊎ LacksPlan settings old now status)

@@ -1,38 +1,38 @@
 -- The expected run: a run over a link on which few frames go wrong, as output and memories alone.
 use Rattle.std.specs.Prelude.{ℕ, List, [], ◌∷◌, ◌++◌, Result, Ok}
 use Rattle.avr_cli.specs.declared.settings.Switches.{Switches}
-use Rattle.avr_desk.specs.Said.{OutputEvent}
+use Rattle.avr_desk.specs.OutputEvents.{OutputEvent}
 use Rattle.avr_part.specs.Part.{Part}
 use Rattle.avr_plan.specs.Plan.{Plan}
 use Rattle.stk_host.specs.declared.fault.HostFault.{HostFault}
 use Rattle.stk_host.specs.Operations.{comparison}
 use Rattle.stk_emu.specs.Effect.{Memories, Erase, Write, effect, memory_in}
-use Rattle.avr_session.specs.Standing.{Standing, Fine}
-use Rattle.avr_session.specs.Actions.{Action, OpenSession, EraseChip, WriteImage, CompareImage, SaveMemory, LeaveOut, actions}
-use Rattle.avr_session.specs.Session.{standing, fault_or, opening_says, left_out_says, erased_says, written_says, verified_says, closed_says, read_says, status_of}
+use Rattle.avr_session.specs.Standing.{Standing, NoFault}
+use Rattle.avr_session.specs.Actions.{Action, OpenSession, EraseChip, WriteImage, CompareImage, SaveMemory, SkipAction, actions}
+use Rattle.avr_session.specs.Session.{standing, fault_line_or, opening_output, skipped_output, erased_output, written_output, verified_output, closing_output, read_output, status_of}
 
 -- The output, and the session's state and the memories after it.
 pub record Expected : Type 0 where
-  pub says : List OutputEvent
+  pub emits : List OutputEvent
   pub standing : Standing
   pub memories : Memories
 
 abbrev pub fine : List OutputEvent → Memories → Expected
-fine says m = record { says = says; standing = Fine; memories = m }
+fine emits m = record { emits = emits; standing = NoFault; memories = m }
 
 -- An operation with this outcome, which leaves these memories.
 abbrev pub reported_expected : {A : Type 0} → (Result A HostFault → List OutputEvent) → Result A HostFault → Memories
     → Expected
 reported_expected outcome_says outcome m = record {
-  says = outcome_says outcome;
+  emits = outcome_says outcome;
   standing = standing outcome;
   memories = m;
 }
 
 -- The next action, which a fault skips.
 abbrev pub then_from : Expected → Standing → (Memories → Expected) → Expected
-then_from first Fine next = record {
-  says = first.says ++ (next first.memories).says;
+then_from first NoFault next = record {
+  emits = first.emits ++ (next first.memories).emits;
   standing = (next first.memories).standing;
   memories = (next first.memories).memories;
 }
@@ -44,15 +44,15 @@ first then next = then_from first first.standing next
 
 -- What each action leads to; the signature is the part's.
 abbrev pub action_expected : Part → Switches → Action → Memories → Expected
-action_expected part s OpenSession m = reported_expected (opening_says s.quiet part) (Ok part.signature) m
-action_expected part s EraseChip m = reported_expected (erased_says s.quiet part) (Ok tt) (effect part Erase m)
+action_expected part s OpenSession m = reported_expected (opening_output s.quiet part) (Ok part.signature) m
+action_expected part s EraseChip m = reported_expected (erased_output s.quiet part) (Ok tt) (effect part Erase m)
 action_expected part s (WriteImage mem image) m =
-    reported_expected (written_says s.quiet part mem image) (Ok tt) (effect part (Write mem image) m)
+    reported_expected (written_output s.quiet part mem image) (Ok tt) (effect part (Write mem image) m)
 action_expected part s (CompareImage mem image) m =
-    reported_expected (verified_says s.quiet part mem image) (comparison mem image (memory_in part mem m)) m
+    reported_expected (verified_output s.quiet part mem image) (comparison mem image (memory_in part mem m)) m
 action_expected part s (SaveMemory mem format file) m =
-    reported_expected (fault_or part (read_says s mem format file)) (Ok (memory_in part mem m)) m
-action_expected part s (LeaveOut what) m = fine (left_out_says s.quiet what) m
+    reported_expected (fault_line_or part (read_output s mem format file)) (Ok (memory_in part mem m)) m
+action_expected part s (SkipAction what) m = fine (skipped_output s.quiet what) m
 
 abbrev pub actions_expected : Part → Switches → List Action → Memories → Expected
 actions_expected part s [] m = fine [] m
@@ -63,18 +63,18 @@ working_expected plan m = actions_expected plan.part plan.switches (actions plan
 
 -- The output at the end of a session: nothing after a fault, because a second fault is not reported.
 abbrev pub ending_says : Plan → Standing → List OutputEvent
-ending_says plan Fine = closed_says plan.switches.quiet plan.part (Ok tt)
+ending_says plan NoFault = closing_output plan.switches.quiet plan.part (Ok tt)
 ending_says plan _ = []
 
 pub record ExpectedRun : Type 0 where
-  pub says : List OutputEvent
+  pub emits : List OutputEvent
   pub status : ℕ
   pub memories : Memories
 
 -- The run of a plan over a perfect link to a chip with these memories.
 abbrev pub expected_run : Plan → Memories → ExpectedRun
 expected_run plan m = record {
-  says = (working_expected plan m).says ++ ending_says plan (working_expected plan m).standing;
+  emits = (working_expected plan m).emits ++ ending_says plan (working_expected plan m).standing;
   status = status_of (working_expected plan m).standing;
   memories = (working_expected plan m).memories;
 }

@@ -5,7 +5,7 @@ pub use Rattle.avr_desk.specs.Memory
 pub use Rattle.avr_desk.specs.Named
 pub use Rattle.avr_desk.specs.Playing
 pub use Rattle.avr_desk.specs.Record
-pub use Rattle.avr_desk.specs.Said
+pub use Rattle.avr_desk.specs.OutputEvents
 pub use Rattle.avr_desk.specs.Shown
 pub use Rattle.avr_desk.specs.Truth
 pub use Rattle.avr_part.specs.ChipFile
@@ -17,14 +17,14 @@ pub use Rattle.avr_session.specs.Run
 pub use Rattle.avr_session.specs.Runs
 pub use Rattle.avr_session.specs.Session
 pub use Rattle.avr_session.specs.Stopping
-pub use Rattle.ghosts.specs.Stays
-pub use Rattle.stk_emu.specs.Along
+pub use Rattle.ghosts.specs.Preserves
+pub use Rattle.stk_emu.specs.DialogOverExchanges
 pub use Rattle.stk_emu.specs.Device
 pub use Rattle.stk_emu.specs.Effect
 pub use Rattle.stk_emu.specs.Emulator
 pub use Rattle.stk_emu.specs.Programmer
 pub use Rattle.stk_emu.specs.Settled
-pub use Rattle.stk_emu.specs.Turn
+pub use Rattle.stk_emu.specs.Exchange
 pub use Rattle.stk_emu.specs.Wire
 pub use Rattle.stk_emu.specs.Wired
 pub use Rattle.stk_frame.specs.Cut
@@ -36,14 +36,14 @@ pub use Rattle.stk_host.specs.Tape
 -- what a plan makes of a chip, over any link
 pub mod Items
 pub mod Tallies
-pub mod Agrees
+pub mod ComparisonsAgree
 pub mod ExpectedRun
-pub mod Foretold
-pub mod Honest
+pub mod ExpectedOutput
+pub mod Authentic
 pub mod Written
 pub mod Made
 pub mod Outcome
-pub mod AnyLine
+pub mod OverFaultyLink
 -- the chip file; serving; inside, contracts of private functions
 pub mod Lines
 pub mod Loading

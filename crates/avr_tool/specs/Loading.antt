@@ -4,35 +4,35 @@ use Rattle.avr_desk.specs.Record.{Bytes}
 use Rattle.avr_desk.specs.declared.record.Opening.{Opening}
 use Rattle.avr_desk.specs.declared.record.Opening.TheVariants.{Absent, Found}
 use Rattle.avr_desk.specs.Lines.{too_long_line}
-use Rattle.avr_part.specs.ChipFile.{chip_file_size, state_in}
+use Rattle.avr_part.specs.ChipFile.{chip_file_size, state_from_file}
 use Rattle.avr_part.specs.Part.{Part}
 use Rattle.avr_part.specs.State.{ChipState, fresh_state}
-use Rattle.avr_desk.specs.Playing.{Taking}
-use Rattle.avr_desk.specs.Said.{Opens}
-use Rattle.avr_desk.specs.Stage.{Stage, ◌>>=◌, verdict_stage, open_stage, content_stage}
+use Rattle.avr_desk.specs.Playing.{AllocationPoints}
+use Rattle.avr_desk.specs.OutputEvents.{Opens}
+use Rattle.avr_desk.specs.Stage.{Stage, ◌>>=◌, result_stage, open_stage, content_stage}
 use Rattle.avr_tool.specs.declared.loading.TheConstants.{LARGEST_CHIP_FILE}
 use Rattle.avr_tool.specs.Lines.{length_line}
 
 -- The chip with these bytes; any length but the part's is refused.
 abbrev pub chip_or_line : Part → Bytes → Bytes → Result ChipState Bytes
 chip_or_line part file bytes =
-    if length bytes == chip_file_size part then Ok (state_in part bytes)
+    if length bytes == chip_file_size part then Ok (state_from_file part bytes)
     else Err (length_line file (length bytes) (chip_file_size part))
 
 -- A file past the limit is refused, whatever the part.
-abbrev pub judged_chip : Part → Bytes → Bytes → Result ChipState Bytes
-judged_chip part file bytes =
+abbrev pub checked_chip : Part → Bytes → Bytes → Result ChipState Bytes
+checked_chip part file bytes =
     if nat_le (length bytes) LARGEST_CHIP_FILE then chip_or_line part file bytes
     else Err (too_long_line file LARGEST_CHIP_FILE)
 
 -- If the file doesn't exist, the chip is fresh.
 abbrev pub chip_given : Part → Bytes → Opening → Stage ChipState
-chip_given part file (Absent name) = verdict_stage (Ok (fresh_state part))
-chip_given part file (Found reading) = content_stage file LARGEST_CHIP_FILE (judged_chip part file) (Found reading)
+chip_given part file (Absent name) = result_stage (Ok (fresh_state part))
+chip_given part file (Found reading) = content_stage file LARGEST_CHIP_FILE (checked_chip part file) (Found reading)
 
 abbrev pub chip_stage : Part → Bytes → Stage ChipState
 chip_stage part file = open_stage file >>= chip_given part file
 
 -- Allocation can fail after the file was opened or found missing.
-abbrev pub AtOpened : Taking
+abbrev pub AtOpened : AllocationPoints
 AtOpened passed said = (opening : Opening) × (passed ≡ opening ∷ []) × (said ≡ Opens opening ∷ [])

@@ -5,15 +5,15 @@ use Rattle.avr_part.specs.Part.{Part}
 use Rattle.avr_plan.specs.Plan.{Plan}
 use Rattle.avr_session.specs.Actions.{Action, actions}
 use Rattle.avr_session.specs.Session.{action_dialog}
-use Rattle.avr_session.specs.Standing.{Standing, Fine}
-use Rattle.stk_emu.specs.Along.{along}
+use Rattle.avr_session.specs.Standing.{Standing, NoFault}
+use Rattle.stk_emu.specs.DialogOverExchanges.{state_after}
 use Rattle.stk_emu.specs.Device.{Device, device}
-use Rattle.stk_emu.specs.Turn.{Turn}
+use Rattle.stk_emu.specs.Exchange.{Exchange}
 use Rattle.stk_frame.specs.declared.command.Command.{Command}
-use Rattle.stk_host.specs.Dialog.{Dialog, Done, Say, Ask}
+use Rattle.stk_host.specs.Dialog.{Dialog, Done, Emit, Ask}
 use Rattle.stk_host.specs.Steps.{StepOutcome, step}
 use Rattle.stk_emu.specs.Programmer.{Programmer}
-use Rattle.stk_emu.specs.PageWrites.{all_steps}
+use Rattle.stk_emu.specs.WriteOperations.{steps_of_items}
 use Rattle.avr_tool.specs.Tallies.{Count, then_count}
 use Rattle.avr_tool.specs.Items.{action_items}
 
@@ -21,26 +21,26 @@ use Rattle.avr_tool.specs.Items.{action_items}
 abbrev pub step_count : Dialog ⊥ StepOutcome → ℕ → ℕ
 step_count (Done (Ok bytes)) more = suc more
 step_count (Done (Err fault)) more = 0
-step_count (Say e dialog) more = 0
+step_count (Emit e dialog) more = 0
 step_count (Ask bytes go_on) more = 0
 
 -- The number of steps completed after `k` questions along the link, by what its exchanges bring, not by what was
 -- received.
-abbrev pub steps_done : {P : Type 0} → Device P → List (List Command) → ℕ → P → List Turn → ℕ
-steps_done m [] k p turns = 0
-steps_done m (commands ∷ steps) k p turns =
-    let s = along m k (step commands) p turns in
-    step_count s.dialog (steps_done m steps s.left s.programmer s.turns)
+abbrev pub steps_completed : {P : Type 0} → Device P → List (List Command) → ℕ → P → List Exchange → ℕ
+steps_completed m [] k p exchanges = 0
+steps_completed m (commands ∷ steps) k p exchanges =
+    let s = state_after m k (step commands) p exchanges in
+    step_count s.dialog (steps_completed m steps s.left s.programmer s.exchanges)
 
 abbrev pub none_made : Count Programmer
-none_made k p turns = 0
+none_made k p exchanges = 0
 
 -- An action makes the write operations of its items; opening, comparing and saving make none.
 abbrev pub action_made : Part → Action → Count Programmer
-action_made part action = steps_done device (all_steps part (action_items action))
+action_made part action = steps_completed device (steps_of_items part (action_items action))
 
 abbrev pub made_unless_fault : Count Programmer → Standing → Count Programmer
-made_unless_fault next Fine = next
+made_unless_fault next NoFault = next
 made_unless_fault next _ = none_made
 
 abbrev pub actions_made : Part → Switches → List Action → Count Programmer
@@ -50,5 +50,5 @@ actions_made part s (action ∷ actions) =
     (made_unless_fault (actions_made part s actions))
 
 -- The end of a session makes none.
-abbrev pub made_by : Plan → Count Programmer
-made_by plan = actions_made plan.part plan.switches (actions plan)
+abbrev pub operations_completed : Plan → Count Programmer
+operations_completed plan = actions_made plan.part plan.switches (actions plan)

@@ -2,7 +2,7 @@
 use Rattle.std.specs.Prelude.{ℕ, ◌≡◌, ◌⊎◌, [], Option, Some, None, codes}
 use Rattle.avr_cli.specs.declared.settings.Settings.{Settings}
 use Rattle.avr_desk.specs.Record.{DeskState, Bytes}
-use Rattle.avr_desk.specs.Said.{Tells}
+use Rattle.avr_desk.specs.OutputEvents.{ReportsLine}
 use Rattle.avr_session.specs.Run.{LacksPlan, RunsSession, WithPlan}
 use Rattle.avr_session.specs.Runs.{devices}
 use Rattle.stk_host.specs.Transcript.{LinkState}
@@ -19,6 +19,6 @@ abbrev pub RunsOverNet : Type 0 → (Option LinkState → Type 0) → Settings �
 RunsOverNet unused over settings address old new status =
     ((link : LinkState) × over (Some link) × WithPlan settings old (λ plan desk.
     RunsSession plan (devices new_link desk) (devices link new) status))
-    ⊎ ((over None × WithPlan settings old (λ plan desk. Tells desk new (unopened_line (codes "net:") address))
+    ⊎ ((over None × WithPlan settings old (λ plan desk. ReportsLine desk new (unopened_line (codes "net:") address))
     × (status ≡ 1))
     ⊎ (LacksPlan settings old new status × unused))

@@ -27,7 +27,7 @@ chip_file_of (Served port chip) = chip
 chip_file_of port = []
 
 -- HOST:PORT of a connection, or the digits of a service
-abbrev pub port_place : Port → List ℕ
-port_place (Network address) = address
-port_place (Served port chip) = port
-port_place port = []
+abbrev pub port_address : Port → List ℕ
+port_address (Network address) = address
+port_address (Served port chip) = port
+port_address port = []

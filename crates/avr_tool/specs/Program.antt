@@ -4,14 +4,14 @@ use Rattle.clap.specs.Words.{fault_of, kind_of, takes, HasKind}
 use Rattle.clap.specs.declared.error.Error.{Error}
 use Rattle.clap.specs.declared.error.kind.ErrorKind.{ErrorKind}
 use Rattle.clap.specs.declared.error.kind.ErrorKind.TheVariants.{OutOfMemory, DisplayHelp, DisplayVersion}
-use Rattle.avr_cli.specs.Command.{avrstk, asked_by}
+use Rattle.avr_cli.specs.Command.{avrstk, settings_from_arguments}
 use Rattle.avr_cli.specs.Port.{port_number}
 use Rattle.avr_cli.specs.declared.settings.Port.{Port}
 use Rattle.avr_cli.specs.declared.settings.Port.TheVariants.{Stdio, Emulated, Network, Served}
 use Rattle.avr_cli.specs.declared.settings.Settings.{Settings}
 use Rattle.avr_cli.specs.declared.settings.SettingsFault.TheVariants.{Memory}
 use Rattle.avr_desk.specs.Record.{Bytes}
-use Rattle.avr_desk.specs.Said.{Tells}
+use Rattle.avr_desk.specs.OutputEvents.{ReportsLine}
 use Rattle.avr_tool.specs.Emulated.{RunsEmulator}
 use Rattle.avr_session.specs.Refusal.{refusal_line}
 use Rattle.avr_session.specs.Runs.{Devices}
@@ -42,31 +42,31 @@ ActsAtPort peers (Served port chip) settings old new status =
     × (new.link ≡ old.link)
 
 -- The command takes the command line, which asks for these settings, and they were run.
-pub record TakesWords (peers : Peers) (words : List Bytes) (old new : Devices) (status : ℕ) : Type 0 where
+pub record RunsCommandLine (peers : Peers) (words : List Bytes) (old new : Devices) (status : ℕ) : Type 0 where
   pub settings : Settings
-  pub asked : Ok settings ≡ asked_by words
+  pub asked : Ok settings ≡ settings_from_arguments words
   pub taken : fault_of avrstk words ≡ []
   pub runs : ActsAtPort peers settings.port settings old new status
 
 -- The settings have a fault, or allocation failed. This was reported, and nothing else was done.
-pub record RefusesWords (peers : Peers) (words : List Bytes) (old new : Devices) (status : ℕ) : Type 0 where
-  pub why : IsRefused words old.desk new.desk status ⊎ Tells old.desk new.desk (refusal_line Memory)
+pub record RefusesCommandLine (peers : Peers) (words : List Bytes) (old new : Devices) (status : ℕ) : Type 0 where
+  pub why : IsRefused words old.desk new.desk status ⊎ ReportsLine old.desk new.desk (refusal_line Memory)
   pub untouched : new.link ≡ old.link
   pub unused : peers.unused
   pub status_is : status ≡ 1
 
 -- The command refuses the command line, or this asks for help. The error is of a kind that the command line calls for.
-pub record LeavesError (words : List Bytes) (error : Error) : Type 0 where
+pub record ReturnsClapError (words : List Bytes) (error : Error) : Type 0 where
   pub kind : HasKind (fault_of avrstk words) error
   pub not_memory : kind_of error ≢ OutOfMemory
   pub not_taken : takes avrstk words ≢ true
 
 -- An error is left to be printed, and nothing was done.
-abbrev pub ActsOnWords : Peers → List Bytes → Devices → Devices → Result ℕ Error → Type 0
-ActsOnWords peers words old new (Ok status) =
-    TakesWords peers words old new status ⊎ RefusesWords peers words old new status
-ActsOnWords peers words old new (Err error) =
-    LeavesError words error × (new.desk ≡ old.desk) × (new.link ≡ old.link) × peers.unused
+abbrev pub ActsOnCommandLine : Peers → List Bytes → Devices → Devices → Result ℕ Error → Type 0
+ActsOnCommandLine peers words old new (Ok status) =
+    RunsCommandLine peers words old new status ⊎ RefusesCommandLine peers words old new status
+ActsOnCommandLine peers words old new (Err error) =
+    ReturnsClapError words error × (new.desk ≡ old.desk) × (new.link ≡ old.link) × peers.unused
 
 -- Help and the version are no mistake if some bytes were printed, and no write failed.
 abbrev pub usage_status : ErrorKind → Result ℕ DeskFault → ℕ
@@ -81,9 +81,9 @@ usage_stream kind = Messages
 
 -- The text of the error was printed there, whole or up to a failure, and nothing else was done. No clause knows the
 -- text.
-pub record TellsUsage (peers : Peers) (words : List Bytes) (old new : Devices) (status : ℕ) : Type 0 where
+pub record PrintsClapText (peers : Peers) (words : List Bytes) (old new : Devices) (status : ℕ) : Type 0 where
   pub error : Error
-  pub leaves : LeavesError words error
+  pub leaves : ReturnsClapError words error
   pub printed : Result ℕ DeskFault
   pub prints : PrintsText AnyPart (usage_stream (kind_of error)) old.desk new.desk printed
   pub untouched : new.link ≡ old.link
@@ -93,7 +93,7 @@ pub record TellsUsage (peers : Peers) (words : List Bytes) (old new : Devices) (
 -- The contract of `run_program`: from a command line to a status.
 abbrev pub RunsProgram : Peers → List Bytes → Devices → Devices → ℕ → Type 0
 RunsProgram peers words old new status =
-    ActsOnWords peers words old new (Ok status) ⊎ TellsUsage peers words old new status
+    ActsOnCommandLine peers words old new (Ok status) ⊎ PrintsClapText peers words old new status
 
 -- The contract of `run_command_line`: the process's command line was read and run. Or it could not be read, this was
 -- reported, and the status is 1.

@@ -2,12 +2,12 @@
 use Rattle.std.specs.Prelude.{ℕ, List, [], ◌∷◌, ◌++◌, ◌+◌, ◌≡◌, ◌<◌, ◌≤◌, length}
 use Rattle.stk_frame.specs.Cut.{frames}
 use Rattle.stk_host.specs.declared.link.Item.TheVariants.{Byte, Silence, End}
-use Rattle.stk_host.specs.Tape.{Tape, bytes_of}
+use Rattle.stk_host.specs.Tape.{Tape, bytes_on_tape}
 use Rattle.stk_host.specs.Transcript.{Transcript, LinkState, Sent, Taken, Got, NoneTaken, sent, heard, Grows, HasFailed}
-use Rattle.stk_host.specs.Play.{IsPrefixOf}
+use Rattle.stk_host.specs.Play.{IsBytePrefixOf}
 use Rattle.stk_emu.specs.Programmer.{Programmer}
-use Rattle.stk_emu.specs.Device.{device, answers, answer_frame, after_frames}
-use Rattle.stk_emu.specs.Emulator.{Machine, IsFed, emulate}
+use Rattle.stk_emu.specs.Device.{device, answers, reply_frame, after_frames}
+use Rattle.stk_emu.specs.Emulator.{EmulatorState, WasFedText, emulate}
 use Rattle.avr_tool.specs.declared.answering.Served.{Served}
 use Rattle.avr_tool.specs.declared.answering.Served.TheVariants.{Ended, RecvFailed, SendFailed, TooManyReads}
 
@@ -22,67 +22,67 @@ reads [] = 0
 reads (Got tape ∷ transcript) = reads transcript + 1
 reads (other ∷ transcript) = reads transcript
 
--- What was received in at most `turns` reads: an end only as its last item, and only if serving ended with it.
-abbrev pub HearsUntil : Served → ℕ → Transcript → Type 0
-HearsUntil Ended turns transcript = (before : Tape) × HasNoEnd before × (heard transcript ≡ before ++ End ∷ [])
-    × (reads transcript ≤ turns)
-HearsUntil RecvFailed turns transcript = HasNoEnd (heard transcript) × (reads transcript < turns)
-HearsUntil SendFailed turns transcript = HasNoEnd (heard transcript) × (reads transcript ≤ turns)
-HearsUntil TooManyReads turns transcript = HasNoEnd (heard transcript) × (reads transcript ≡ turns)
+-- What was received in at most `most_reads` reads: an end only as its last item, and only if serving ended with it.
+abbrev pub ReceivesUntil : Served → ℕ → Transcript → Type 0
+ReceivesUntil Ended most_reads transcript = (before : Tape) × HasNoEnd before × (heard transcript ≡ before ++ End ∷ [])
+    × (reads transcript ≤ most_reads)
+ReceivesUntil RecvFailed most_reads transcript = HasNoEnd (heard transcript) × (reads transcript < most_reads)
+ReceivesUntil SendFailed most_reads transcript = HasNoEnd (heard transcript) × (reads transcript ≤ most_reads)
+ReceivesUntil TooManyReads most_reads transcript = HasNoEnd (heard transcript) × (reads transcript ≡ most_reads)
 
 -- Unless serving ended because a send failed, no send did.
-abbrev pub SendsSoundly : Served → Transcript → Type 0
-SendsSoundly SendFailed transcript = Unit {0}
-SendsSoundly _ transcript = NoneTaken transcript
+abbrev pub NoSendFailed : Served → Transcript → Type 0
+NoSendFailed SendFailed transcript = Unit {0}
+NoSendFailed _ transcript = NoneTaken transcript
 
 -- Before each piece received, all replies to what was fed before had been sent. After a send that failed nothing
 -- passes. The programmer was fed `text` and had sent `answered` when the transcript began.
-abbrev pub AnswersInTurn : Programmer → List ℕ → List ℕ → Transcript → Type 0
-AnswersInTurn p text answered [] = Unit {0}
-AnswersInTurn p text answered (Sent bytes ∷ transcript) = AnswersInTurn p text (answered ++ bytes) transcript
-AnswersInTurn p text answered (Taken bytes ∷ transcript) = transcript ≡ []
-AnswersInTurn p text answered (Got tape ∷ transcript) =
-    (answered ≡ emulate p text) × AnswersInTurn p (text ++ bytes_of tape) answered transcript
+abbrev pub RepliesInTurn : Programmer → List ℕ → List ℕ → Transcript → Type 0
+RepliesInTurn p text answered [] = Unit {0}
+RepliesInTurn p text answered (Sent bytes ∷ transcript) = RepliesInTurn p text (answered ++ bytes) transcript
+RepliesInTurn p text answered (Taken bytes ∷ transcript) = transcript ≡ []
+RepliesInTurn p text answered (Got tape ∷ transcript) =
+    (answered ≡ emulate p text) × RepliesInTurn p (text ++ bytes_on_tape tape) answered transcript
 
 -- An emulator that was fed `text` was fed these bytes, and `out` is exactly its replies to them.
-pub record AnswersAll (p : Programmer) (text bytes out : List ℕ) (now : Machine) : Type 0 where
-  pub fed : IsFed p (text ++ bytes) now
+pub record RepliesToAll (p : Programmer) (text bytes out : List ℕ) (now : EmulatorState) : Type 0 where
+  pub fed : WasFedText p (text ++ bytes) now
   pub answered : emulate p (text ++ bytes) ≡ emulate p text ++ out
 
 -- The emulator was fed a prefix of these bytes, and sending the reply to the last frame in it failed. All replies to
 -- the frames before were sent, and a part of this one. It was sent whole only if the send that failed had taken its
 -- end.
-pub record BreaksOff (p : Programmer) (text bytes : List ℕ) (transcript : Transcript) (now : Machine) : Type 0 where
+pub record LastReplyFailed (p : Programmer) (text bytes : List ℕ) (transcript : Transcript) (now : EmulatorState) : Type 0 where
   pub used : List ℕ
   pub unused : List ℕ
   pub bytes_are : bytes ≡ used ++ unused
-  pub fed : IsFed p (text ++ used) now
+  pub fed : WasFedText p (text ++ used) now
   pub earlier : List (List ℕ)
   pub last : List ℕ
   pub frames_are : frames (text ++ used) ≡ earlier ++ last ∷ []
   pub part : List ℕ
   pub unsent : List ℕ
-  pub answer_is : answer_frame device last (after_frames device earlier p) ≡ part ++ unsent
+  pub answer_is : reply_frame device last (after_frames device earlier p) ≡ part ++ unsent
   pub not_whole : NoneTaken transcript → 0 < length unsent
   pub sent_is : emulate p text ++ sent transcript ≡ answers device earlier p ++ part
 
 -- What was sent, and the emulator after it. If a send failed, only a prefix of all replies was sent.
-abbrev pub ServingLeaves : Served → Programmer → List ℕ → Transcript → Machine → Type 0
+abbrev pub ServingLeaves : Served → Programmer → List ℕ → Transcript → EmulatorState → Type 0
 ServingLeaves SendFailed p text transcript now =
-    IsPrefixOf (emulate p text ++ sent transcript) (emulate p (text ++ bytes_of (heard transcript)))
-    × BreaksOff p text (bytes_of (heard transcript)) transcript now
-ServingLeaves _ p text transcript now = AnswersAll p text (bytes_of (heard transcript)) (sent transcript) now
+    IsBytePrefixOf (emulate p text ++ sent transcript) (emulate p (text ++ bytes_on_tape (heard transcript)))
+    × LastReplyFailed p text (bytes_on_tape (heard transcript)) transcript now
+ServingLeaves _ p text transcript now = RepliesToAll p text (bytes_on_tape (heard transcript)) (sent transcript) now
 
--- An emulator served a link between these states, in at most `turns` reads, and ended like this. This holds whatever
+-- An emulator served a link between these states, in at most `most_reads` reads, and ended like this. This holds whatever
 -- programmer it began with and whatever text it was fed before.
-pub record Serves (old : Machine) (turns : ℕ) (served : Served) (before after : LinkState)
-    (now : Machine) : Type 0 where
+pub record Serves (old : EmulatorState) (most_reads : ℕ) (served : Served) (before after : LinkState)
+    (now : EmulatorState) : Type 0 where
   pub during : Transcript
   pub grows : Grows before.transcript during after.transcript
-  pub hears : HearsUntil served turns during
-  pub sends : SendsSoundly served during
-  pub in_turn : (p : Programmer) (text : List ℕ) → IsFed p text old → AnswersInTurn p text (emulate p text) during
-  pub leaves : (p : Programmer) (text : List ℕ) → IsFed p text old → ServingLeaves served p text during now
+  pub hears : ReceivesUntil served most_reads during
+  pub sends : NoSendFailed served during
+  pub in_turn : (p : Programmer) (text : List ℕ) → WasFedText p text old → RepliesInTurn p text (emulate p text) during
+  pub leaves : (p : Programmer) (text : List ℕ) → WasFedText p text old → ServingLeaves served p text during now
 
 -- If the link failed, its count of failures rose or is at its end. Otherwise the count is what it was.
 abbrev pub FailsBy : Served → LinkState → LinkState → Type 0

@@ -38,17 +38,17 @@ IsOverAddress network reads writes closed address (Some now) =
 IsOverAddress network reads writes closed address None = network.misses address
 
 -- A connection accepted at this listener.
-abbrev pub IsOverCaller : {L S : Type 0} → Called L S → Reads S → Writes S → (S → Type 0) → L → Option LinkState
+abbrev pub IsOverClient : {L S : Type 0} → Called L S → Reads S → Writes S → (S → Type 0) → L → Option LinkState
     → Type 0
-IsOverCaller called reads writes closed listener (Some now) = IsOver reads writes closed (called.calls listener) now
-IsOverCaller called reads writes closed listener None = called.lacks listener
+IsOverClient called reads writes closed listener (Some now) = IsOver reads writes closed (called.calls listener) now
+IsOverClient called reads writes closed listener None = called.lacks listener
 
 -- A connection accepted at a listener at this port.
 abbrev pub IsAtPort : {N S L : Type 0} → Networks N S L → Called L S → Reads S → Writes S → (S → Type 0) → ℕ
     → Option LinkState
     → Type 0
 IsAtPort {L = L} network called reads writes closed port seen =
-    (listener : L) × network.listens listener port × IsOverCaller called reads writes closed listener seen
+    (listener : L) × network.listens listener port × IsOverClient called reads writes closed listener seen
 
 -- Without a link there was no listener, or no client could be accepted. Or the port's text is no number, and the
 -- network was left unused.

@@ -1,9 +1,9 @@
 -- Texts of `clap` and of the system, printed at a desk part by part. What has no clause here is which text a value has.
 use Rattle.std.specs.Prelude.{◌≡◌, ◌⊎◌, ◌<◌, ◌≤◌, ◌+◌, ◌*◌, ◌^◌, ℕ, ⊤, List, Result, Ok, Err, [], ◌∷◌, ◌++◌, codes, length}
 use Rattle.std.specs.List.{concat}
-use Rattle.avr_desk.specs.Fault.{Follows, HasFailedAt, HasFailedToSay, HasSameCounts}
-use Rattle.avr_desk.specs.Record.{DeskState, Bytes, Passes, after_err}
-use Rattle.avr_desk.specs.Said.{IsPrefixOf}
+use Rattle.avr_desk.specs.Fault.{CountsNeverFall, HasFailedAt, HasFailedToReport, HasSameCounts}
+use Rattle.avr_desk.specs.Record.{DeskState, Bytes, ChangesRecord, after_err}
+use Rattle.avr_desk.specs.OutputEvents.{IsPrefixOf}
 use Rattle.avr_desk.specs.Stream.{after_sent}
 use Rattle.avr_desk.specs.declared.desk.DeskFault.{DeskFault}
 use Rattle.avr_desk.specs.declared.stream.Stream.{Stream}
@@ -35,31 +35,31 @@ pub record IsTextFront (has : Parts) (front : Bytes) : Type 0 where
   pub begins : IsPrefixOf front (concat parts)
 
 -- The text was printed whole, and has `count` bytes; or a write failed after a prefix of it.
-abbrev pub ComesOut : Parts → Stream → Bytes → DeskState → DeskState → Result ℕ DeskFault → Type 0
-ComesOut has stream text old new (Ok count) = IsText has text × (count ≡ length text) × HasSameCounts old new
-ComesOut has stream text old new (Err fault) = IsTextFront has text × HasFailedAt stream old new
+abbrev pub IsPrintedOrCut : Parts → Stream → Bytes → DeskState → DeskState → Result ℕ DeskFault → Type 0
+IsPrintedOrCut has stream text old new (Ok count) = IsText has text × (count ≡ length text) × HasSameCounts old new
+IsPrintedOrCut has stream text old new (Err fault) = IsTextFront has text × HasFailedAt stream old new
 
 -- The text was printed, and nothing else happened.
 pub record PrintsText (has : Parts) (stream : Stream) (old new : DeskState) (printed : Result ℕ DeskFault) : Type 0 where
   pub text : Bytes
-  pub kept : Passes (after_sent stream text) old new
-  pub comes : ComesOut has stream text old new printed
-  pub follows : Follows old new
+  pub kept : ChangesRecord (after_sent stream text) old new
+  pub comes : IsPrintedOrCut has stream text old new printed
+  pub follows : CountsNeverFall old new
 
 -- An error was reported by its text and LF, in part if a write to the messages failed. Nothing else happened.
 pub record ReportsText (has : Parts) (old new : DeskState) : Type 0 where
   pub told : Bytes
-  pub kept : Passes (after_err told) old new
+  pub kept : ChangesRecord (after_err told) old new
   pub tells : ((text : Bytes) × IsText has text × (told ≡ codes "avrstk: error: " ++ (text ++ 10 ∷ [])))
-      ⊎ HasFailedToSay old new
-  pub follows : Follows old new
+      ⊎ HasFailedToReport old new
+  pub follows : CountsNeverFall old new
 
 -- inside: after some rounds of the loop `count` bytes of the text were printed
-pub record HasPrinted (has : Parts) (stream : Stream) (old new : DeskState) (count turns : ℕ) : Type 0 where
+pub record HasPrinted (has : Parts) (stream : Stream) (old new : DeskState) (count rounds : ℕ) : Type 0 where
   pub parts : List Bytes
   pub are : HasParts has 0 parts
   pub counted : count ≡ length (concat parts)
-  pub least : turns ≤ count
-  pub most : count ≤ 512 * turns
-  pub kept : Passes (after_sent stream (concat parts)) old new
+  pub least : rounds ≤ count
+  pub most : count ≤ 512 * rounds
+  pub kept : ChangesRecord (after_sent stream (concat parts)) old new
   pub same : HasSameCounts old new

@@ -8,7 +8,7 @@ use Rattle.avr_part.specs.declared.part.Mem.TheVariants.{Flash, Eeprom, Lfuse, H
 use Rattle.avr_plan.specs.Plan.{Plan}
 use Rattle.avr_plan.specs.declared.planned.Task.TheVariants as task
 use Rattle.stk_emu.specs.Effect.{Image, Item, Erase, Write, Memories, erase_keeps_eeprom, memory_in}
-use Rattle.avr_tool.specs.Agrees.{Shows}
+use Rattle.avr_tool.specs.ComparisonsAgree.{MemoryHoldsImage}
 use Rattle.avr_tool.specs.Items.{asked_items, has_erase}
 
 abbrev pub memory_number : Mem → ℕ
@@ -38,7 +38,7 @@ byte_in part mem addr m = slice_index (memory_in part mem m) addr
 pub record IsWritten (part : Part) (items : List Item) (before after : Memories) : Type 0 where
   pub flash_size : length after.flash ≡ part.flash_size
   pub eeprom_size : length after.eeprom ≡ part.eeprom_size
-  pub images : (mem : Mem) → Shows part mem (written_to part mem items) after
+  pub images : (mem : Mem) → MemoryHoldsImage part mem (written_to part mem items) after
   pub rest_of_flash : (addr : ℕ) → addr < part.flash_size
       → byte_at (written_to part Flash items) addr ≡ None
       → byte_in part Flash addr after ≡ (if has_erase items then 255

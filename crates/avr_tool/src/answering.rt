@@ -1,8 +1,8 @@
 ghost use Rattle.std.specs.Prelude.{◌≤◌, OnOk, OnErr};
-ghost use Rattle.ghosts.specs.Stays.{Stays};
+ghost use Rattle.ghosts.specs.Preserves.{Preserves};
 ghost use Rattle.stk_host.specs.Transcript.{LinkCounts};
 ghost use Rattle.avr_tool.specs.Serving.{Serves, FailsBy};
-ghost use Rattle.avr_tool.specs.Replying.{Replies, RepliesPart};
+ghost use Rattle.avr_tool.specs.Replying.{SendsAllReplies, SendsPartOfReplies};
 
 use arrayvec::ArrayVec;
 use stk_emu::Emulator;
@@ -23,15 +23,15 @@ pub enum Served {
 }
 
 /// Feeds a piece to the emulator, and sends each reply before it feeds more.
-fn answer_piece<L: Link>(
+fn reply_to_piece<L: Link>(
     emulator: &mut Emulator,
     link: &mut L,
     piece: &[u8],
 ) -> Result<(), LinkFault>
-    ensures ok { OnOk result (Replies emulator.old piece.now (L.view link.old) (L.view link.new) emulator.new) }
-    ensures err { OnErr result (RepliesPart emulator.old piece.now (L.view link.old) (L.view link.new) emulator.new) }
+    ensures ok { OnOk result (SendsAllReplies emulator.old piece.now (L.view link.old) (L.view link.new) emulator.new) }
+    ensures err { OnErr result (SendsPartOfReplies emulator.old piece.now (L.view link.old) (L.view link.new) emulator.new) }
     ensures counts { LinkCounts (L.view link.old) (L.view link.new) result }
-    ensures comes { Stays L.comes_of link.old link.new }
+    ensures comes { Preserves L.started_as link.old link.new }
 {
     let mut answer = ArrayVec::new();
     let mut used = 0;
@@ -42,22 +42,22 @@ fn answer_piece<L: Link>(
     Ok(())
 }
 
-/// Serves a link in at most `turns` reads: feeds what is received to the emulator, and sends all replies before the
+/// Serves a link in at most `most_reads` reads: feeds what is received to the emulator, and sends all replies before the
 /// next read.
 ///
 /// A timeout counts as a read. The bytes of the last read still get their replies.
 #[tactic(auto, using(crate::proofs::ReadByRead::read_answered, crate::proofs::ReadByRead::read_broken))]
-pub fn answer_all<L: Link>(emulator: &mut Emulator, link: &mut L, turns: u32) -> Served
-    ensures serves { Serves emulator.old turns result (L.view link.old) (L.view link.new) emulator.new }
+pub fn answer_all<L: Link>(emulator: &mut Emulator, link: &mut L, most_reads: u32) -> Served
+    ensures serves { Serves emulator.old most_reads result (L.view link.old) (L.view link.new) emulator.new }
     ensures counted { (L.view link.old).failures ≤ (L.view link.new).failures }
     ensures failed { FailsBy result (L.view link.old) (L.view link.new) }
-    ensures comes { Stays L.comes_of link.old link.new }
+    ensures comes { Preserves L.started_as link.old link.new }
 {
     let mut buffer = [0; LARGEST_FRAME];
-    for turn in 0..turns {
+    for reads_done in 0..most_reads {
         match link.recv(&mut buffer) {
             Ok(Heard::Bytes(count)) => {
-                let Ok(()) = answer_piece(emulator, link, &buffer[..count]) else {
+                let Ok(()) = reply_to_piece(emulator, link, &buffer[..count]) else {
                     return Served::SendFailed;
                 };
             }

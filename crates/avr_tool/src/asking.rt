@@ -1,6 +1,6 @@
 ghost use Rattle.std.specs.Prelude.{◌≡◌, map, string_bytes};
-ghost use Rattle.avr_tool.specs.Asked.{Asks, not_asked_number};
-ghost use Rattle.ghosts.specs.Stays.{Stays};
+ghost use Rattle.avr_tool.specs.Asked.{GivesSettings, not_asked_number};
+ghost use Rattle.ghosts.specs.Preserves.{Preserves};
 
 use avr_cli::{Settings, read_settings, read_words};
 use avr_desk::Desk;
@@ -64,8 +64,8 @@ impl NotAsked {
 /// assert!(rt; settings.updates.as_slice().len() == 1);
 /// ```
 pub fn asked<D: Desk>(alloc: Global, words: &[String], desk: &mut D) -> Result<Settings, NotAsked>
-    ensures asks { Asks (map string_bytes words.now) (D.view desk.old) (D.view desk.new) result }
-    ensures stays { Stays D.comes_of desk.old desk.new }
+    ensures asks { GivesSettings (map string_bytes words.now) (D.view desk.old) (D.view desk.new) result }
+    ensures stays { Preserves D.started_as desk.old desk.new }
 {
     let matches = match read_words(alloc, words) {
         Ok(matches) => matches,

@@ -1,28 +1,28 @@
 ghost use Rattle.std.specs.Prelude.{◌≡◌};
-ghost use Rattle.avr_desk.specs.Fault.{Follows};
-ghost use Rattle.avr_tool.specs.ServedRun.{TellsEnd, end_pieces, status_of_end};
-ghost use Rattle.ghosts.specs.Stays.{Stays};
+ghost use Rattle.avr_desk.specs.Fault.{CountsNeverFall};
+ghost use Rattle.avr_tool.specs.ServedRun.{ReportsEnd, end_pieces, status_of_end};
+ghost use Rattle.ghosts.specs.Preserves.{Preserves};
 
 use crate::answering::Served;
 use avr_desk::{Desk, Message, refuse};
-use avr_session::{unheard_message, unsent_message};
+use avr_session::{unreceived_message, unsent_message};
 
 fn end_message(served: Served) -> Option<Message<'static>>
     ensures { result ≡ end_pieces served }
 {
     match served {
         Served::Ended => None,
-        Served::RecvFailed => Some(unheard_message()),
+        Served::RecvFailed => Some(unreceived_message()),
         Served::SendFailed => Some(unsent_message()),
         Served::TooManyReads => Some(Message::text("too many reads")),
     }
 }
 
 /// Reports how serving ended, unless the link ended.
-pub(crate) fn tell_end<D: Desk>(desk: &mut D, served: Served)
-    ensures told { TellsEnd served (D.view desk.old) (D.view desk.new) }
-    ensures follows { Follows (D.view desk.old) (D.view desk.new) }
-    ensures stays { Stays D.comes_of desk.old desk.new }
+pub(crate) fn report_end<D: Desk>(desk: &mut D, served: Served)
+    ensures told { ReportsEnd served (D.view desk.old) (D.view desk.new) }
+    ensures follows { CountsNeverFall (D.view desk.old) (D.view desk.new) }
+    ensures stays { Preserves D.started_as desk.old desk.new }
 {
     if let Some(message) = end_message(served) {
         refuse(desk, &message);

@@ -1,7 +1,7 @@
 ghost use Rattle.std.specs.Prelude.{◌≡◌, IfOk};
-ghost use Rattle.avr_desk.specs.Fault.{Follows};
-ghost use Rattle.avr_tool.specs.Holding.{HoldsAndLoads};
-ghost use Rattle.ghosts.specs.Stays.{Stays};
+ghost use Rattle.avr_desk.specs.Fault.{CountsNeverFall};
+ghost use Rattle.avr_tool.specs.Holding.{LocksAndLoads};
+ghost use Rattle.ghosts.specs.Preserves.{Preserves};
 
 use crate::loading::load_chip;
 use crate::messages::in_use_message;
@@ -23,10 +23,10 @@ pub fn hold_chip<D: ChipDesk>(
     file: &str,
     desk: &mut D,
 ) -> Result<Chip, u8>
-    ensures loads { HoldsAndLoads part.now file.now (D.view desk.old) (D.view desk.new) result }
+    ensures loads { LocksAndLoads part.now file.now (D.view desk.old) (D.view desk.new) result }
     ensures part { IfOk result (λ c. c.part ≡ part.now) }
-    ensures follows { Follows (D.view desk.old) (D.view desk.new) }
-    ensures stays { Stays D.comes_of desk.old desk.new }
+    ensures follows { CountsNeverFall (D.view desk.old) (D.view desk.new) }
+    ensures stays { Preserves D.started_as desk.old desk.new }
 {
     match desk.hold(file) {
         Ok(true) => {}

@@ -2,18 +2,18 @@
 
 ghost use Rattle.std.specs.Prelude.{◌≡◌, ◌⊎◌, ℕ, All};
 ghost use Rattle.avr_cli.specs.declared.settings.Settings.{Settings as AnySettings};
-ghost use Rattle.avr_desk.specs.Fault.{Follows};
-ghost use Rattle.avr_desk.specs.Playing.{Went};
+ghost use Rattle.avr_desk.specs.Fault.{CountsNeverFall};
+ghost use Rattle.avr_desk.specs.Playing.{StageCompleted};
 ghost use Rattle.avr_desk.specs.Record.{DeskState};
-ghost use Rattle.avr_desk.specs.Stage.{Made};
+ghost use Rattle.avr_desk.specs.Stage.{Produced};
 ghost use Rattle.avr_part.specs.Sound.{IsSoundChip};
 ghost use Rattle.avr_plan.specs.Plan.{Plan, IsFitted};
 ghost use Rattle.avr_plan.specs.Planning.{planned};
 ghost use Rattle.avr_session.specs.Run.{RunsSession, RunsSettings, StopsSession};
 ghost use Rattle.avr_session.specs.Runs.{Devices, devices};
-ghost use Rattle.avr_tool.specs.AnyLine.{OverAnyLine, wire_and_desk};
+ghost use Rattle.avr_tool.specs.OverFaultyLink.{SessionOverWire, wire_and_desk};
 ghost use Rattle.avr_tool.specs.Headline.{IsRun, IsStopped, IsPrefixOfRun};
-ghost use Rattle.ghosts.specs.Stays.{Stays};
+ghost use Rattle.ghosts.specs.Preserves.{Preserves};
 ghost use Rattle.stk_emu.specs.Wired.{WiredState, ComesOf, IsFresh};
 ghost use Rattle.stk_host.specs.Transcript.{heard};
 
@@ -24,8 +24,8 @@ pub fn a_run_is_one_function()
     ensures run { (s : AnySettings) (x : Devices) (between : DeskState) (y : Devices) (status : ℕ)
         → RunsSettings s x between y status → IsRun s x y status ⊎ IsStopped s x y status }
     ensures session { (s : AnySettings) (plan : Plan) (x : Devices) (between : DeskState) (y : Devices) (status : ℕ)
-        (made : Went (planned s) x.desk between (Made plan)) → RunsSession plan (devices x.link between) y status
-        → Follows between y.desk × (((r : IsRun s x y status) × (r.openings ≡ made.passed))
+        (made : StageCompleted (planned s) x.desk between (Produced plan)) → RunsSession plan (devices x.link between) y status
+        → CountsNeverFall between y.desk × (((r : IsRun s x y status) × (r.openings ≡ made.passed))
         ⊎ (StopsSession plan (devices x.link between) y × (status ≡ 1))) }
 {}
 
@@ -40,12 +40,12 @@ pub fn a_stop_is_a_prefix()
 
 /// States what becomes of a chip behind a wire. Any session of a plan runs over a new wire to a chip of its part, with
 /// any fates of its frames, and ends in any way.
-// Proof: `over_any_line` (WirePlays), by `over_turns` and `comes_over_turns` (OverTurns).
+// Proof: `over_any_line` (WirePlays), by `over_exchanges` and `ends_over_exchanges` (OverExchanges).
 pub fn a_session_over_a_wire()
     ensures { (plan : Plan) (before now : WiredState) (desk desk_now : DeskState) (status : ℕ)
-        → IsFresh before → Stays ComesOf before now
+        → IsFresh before → Preserves ComesOf before now
         → IsSoundChip before.wire.programmer.chip → before.wire.programmer.chip.part ≡ plan.part
         → All (IsFitted plan.part) plan.tasks
         → RunsSession plan (wire_and_desk before desk) (wire_and_desk now desk_now) status
-        → OverAnyLine plan before now desk desk_now status }
+        → SessionOverWire plan before now desk desk_now status }
 {}

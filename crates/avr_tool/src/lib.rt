@@ -77,7 +77,7 @@ pub use over_net::run_net;
 pub use ports::{accept, listen};
 pub use program::{run_command_line, run_program, run_words};
 pub use running::{run, run_wired};
-pub use served_run::{READS, judge_part, serve, serve_chip, serve_for, serve_part};
+pub use served_run::{READS, check_part, serve, serve_chip, serve_for, serve_part};
 pub use serving::{serve_net, serve_on};
 pub use texts::refuse_text;
 // the emulated programmer and the chip file

@@ -1,9 +1,9 @@
 ghost use Rattle.std.specs.Prelude.{◌≡◌, ◌≤◌, true, IfOk, Ok, length};
 ghost use Rattle.avr_part.specs.State.{fresh_state};
-ghost use Rattle.avr_desk.specs.Playing.{AtStart, Goes};
-ghost use Rattle.avr_desk.specs.Stage.{verdict_stage};
+ghost use Rattle.avr_desk.specs.Playing.{OnlyAtStart, RunsStage};
+ghost use Rattle.avr_desk.specs.Stage.{result_stage};
 ghost use Rattle.avr_tool.specs.Loading.{AtOpened, chip_or_line, chip_stage};
-ghost use Rattle.ghosts.specs.Stays.{Stays};
+ghost use Rattle.ghosts.specs.Preserves.{Preserves};
 
 use crate::messages::length_message;
 use avr_desk::{
@@ -15,10 +15,10 @@ use std::alloc::Global;
 const LARGEST_CHIP_FILE: usize = 4_194_304;
 
 fn fresh_chip<D: Desk>(alloc: Global, part: &Part, desk: &mut D) -> Result<Chip, u8>
-    ensures goes { Goes (AtStart true) (verdict_stage (Ok (fresh_state part.now))) (D.view desk.old)
+    ensures goes { RunsStage (OnlyAtStart true) (result_stage (Ok (fresh_state part.now))) (D.view desk.old)
         (D.view desk.new) result }
     ensures part { IfOk result (λ c. c.part ≡ part.now) }
-    ensures stays { Stays D.comes_of desk.old desk.new }
+    ensures stays { Preserves D.started_as desk.old desk.new }
 {
     match Chip::fresh(alloc, part.copied()) {
         Ok(chip) => Ok(chip),
@@ -34,10 +34,10 @@ fn chip_of<D: Desk>(
     desk: &mut D,
 ) -> Result<Chip, u8>
     requires { length bytes.now ≤ LARGEST_CHIP_FILE }
-    ensures goes { Goes (AtStart true) (verdict_stage (chip_or_line part.now file.now bytes.now))
+    ensures goes { RunsStage (OnlyAtStart true) (result_stage (chip_or_line part.now file.now bytes.now))
         (D.view desk.old) (D.view desk.new) result }
     ensures part { IfOk result (λ c. c.part ≡ part.now) }
-    ensures stays { Stays D.comes_of desk.old desk.new }
+    ensures stays { Preserves D.started_as desk.old desk.new }
 {
     match Chip::from_bytes(alloc, part.copied(), bytes) {
         Ok(chip) => Ok(chip),
@@ -60,9 +60,9 @@ fn chip_of<D: Desk>(
 /// file has any length but the part's: flash, EEPROM and 4 bytes, 33,796 for `m328p`. The line of the reason was
 /// printed, as far as the desk takes it.
 pub fn load_chip<D: Desk>(alloc: Global, part: &Part, file: &str, desk: &mut D) -> Result<Chip, u8>
-    ensures goes { Goes AtOpened (chip_stage part.now file.now) (D.view desk.old) (D.view desk.new) result }
+    ensures goes { RunsStage AtOpened (chip_stage part.now file.now) (D.view desk.old) (D.view desk.new) result }
     ensures part { IfOk result (λ c. c.part ≡ part.now) }
-    ensures stays { Stays D.comes_of desk.old desk.new }
+    ensures stays { Preserves D.started_as desk.old desk.new }
 {
     let contents = match read_file(alloc, desk, file, LARGEST_CHIP_FILE) {
         Ok(contents) => contents,

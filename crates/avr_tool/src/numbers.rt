@@ -5,34 +5,34 @@ ghost use Rattle.avr_cli.specs.Settings.{updates_from, updates_of};
 ghost use Rattle.avr_cli.specs.declared.settings.SettingsFault.TheVariants.{TooMany};
 ghost use Rattle.avr_cli.specs.declared.update.Format.{Format as AnyFormat};
 ghost use Rattle.avr_desk.specs.Lines.{too_long_line};
-ghost use Rattle.avr_tool.specs.Loading.{chip_or_line, judged_chip};
+ghost use Rattle.avr_tool.specs.Loading.{chip_or_line, checked_chip};
 ghost use Rattle.avr_tool.specs.declared.served_run.TheConstants.{READS};
 ghost use Rattle.avr_part.specs.Part.{Part as PartData};
 ghost use Rattle.avr_part.specs.PartFile.{parts_of};
 ghost use Rattle.avr_plan.specs.ImageFile.{image_within};
-ghost use Rattle.avr_plan.specs.Planning.{image_or_line, judged_image, judged_parts, parts_or_line};
+ghost use Rattle.avr_plan.specs.Planning.{image_or_line, checked_image, checked_parts, parts_or_line};
 ghost use Rattle.avr_records.specs.Record.{longest};
 ghost use Rattle.stk_frame.specs.declared.protocol.TheConstants.{MESSAGE_START, TOKEN, LARGEST_BODY, LARGEST_FRAME, EXTENDED_ADDRESS};
 ghost use Rattle.stk_frame.specs.declared.protocol.TheConstants.{CMD_SIGN_ON, CMD_SET_PARAMETER, CMD_GET_PARAMETER, CMD_LOAD_ADDRESS, CMD_ENTER_PROGMODE_ISP, CMD_LEAVE_PROGMODE_ISP, CMD_CHIP_ERASE_ISP, CMD_PROGRAM_FLASH_ISP, CMD_READ_FLASH_ISP, CMD_PROGRAM_EEPROM_ISP, CMD_READ_EEPROM_ISP, CMD_PROGRAM_FUSE_ISP, CMD_READ_FUSE_ISP, CMD_PROGRAM_LOCK_ISP, CMD_READ_LOCK_ISP, CMD_READ_SIGNATURE_ISP, CMD_READ_OSCCAL_ISP, CMD_SPI_MULTI};
 ghost use Rattle.stk_frame.specs.declared.protocol.TheConstants.{STATUS_CMD_OK, STATUS_CMD_TOUT, STATUS_RDY_BSY_TOUT, STATUS_SET_PARAM_MISSING, STATUS_CMD_FAILED, STATUS_CKSUM_ERROR, STATUS_CMD_UNKNOWN, ANSWER_CKSUM_ERROR};
 ghost use Rattle.stk_host.specs.Places.{flash_address};
-ghost use Rattle.stk_host.specs.Tape.{limit};
+ghost use Rattle.stk_host.specs.Tape.{reply_byte_limit};
 
 /// States the limits of files, frames and runs, and the bytes of commands and statuses (AVR068).
 pub fn the_numbers_are()
     ensures line { longest ≡ 600 }
     ensures image_file { (file : List ℕ) (format : AnyFormat) (size : ℕ) (bytes : List ℕ)
-        → judged_image file format size bytes ≡ image_or_line file (image_within 4194304 format bytes size) }
-    ensures part_file { (file bytes : List ℕ) → judged_parts file bytes ≡
+        → checked_image file format size bytes ≡ image_or_line file (image_within 4194304 format bytes size) }
+    ensures part_file { (file bytes : List ℕ) → checked_parts file bytes ≡
         (if nat_le (length bytes) 65536 then parts_or_line file (parts_of bytes) else Err (too_long_line file 65536)) }
-    ensures chip_file { (part : PartData) (file bytes : List ℕ) → judged_chip part file bytes ≡
+    ensures chip_file { (part : PartData) (file bytes : List ℕ) → checked_chip part file bytes ≡
         (if nat_le (length bytes) 4194304 then chip_or_line part file bytes else Err (too_long_line file 4194304)) }
     ensures updates { (texts : List (List ℕ)) → updates_of texts ≡
         (if nat_lt 16 (length texts) then Err TooMany else updates_from 1 texts) }
     ensures body { LARGEST_BODY ≡ 275 }
     ensures frame { LARGEST_FRAME ≡ 281 }
     ensures begins { MESSAGE_START ∷ TOKEN ∷ [] ≡ 0x1B ∷ 0x0E ∷ [] }
-    ensures received { limit ≡ 4096 }
+    ensures received { reply_byte_limit ≡ 4096 }
     ensures narrow { (part : PartData) (start : ℕ) → flash_address part start ≡
         (if nat_lt 131072 part.flash_size then start / 2 + EXTENDED_ADDRESS else start / 2) }
     ensures extended { EXTENDED_ADDRESS ≡ 2147483648 }

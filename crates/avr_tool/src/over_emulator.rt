@@ -1,13 +1,13 @@
 ghost use Rattle.std.specs.Prelude.{◌≡◌};
-ghost use Rattle.avr_desk.specs.Fault.{Follows};
-ghost use Rattle.avr_tool.specs.AnyLine.{OverAnyLine};
+ghost use Rattle.avr_desk.specs.Fault.{CountsNeverFall};
+ghost use Rattle.avr_tool.specs.OverFaultyLink.{SessionOverWire};
 ghost use Rattle.avr_session.specs.Run.{RunsSession};
 ghost use Rattle.avr_session.specs.Runs.{devices};
 ghost use Rattle.stk_emu.specs.Wired.{ComesOf, IsFresh, wired_link};
-ghost use Rattle.ghosts.specs.Stays.{Stays};
+ghost use Rattle.ghosts.specs.Preserves.{Preserves};
 ghost use Rattle.stk_host.specs.Transcript.{sent};
 ghost use Rattle.avr_part.specs.ChipFile.{chip_file};
-ghost use Rattle.avr_tool.specs.Emulated.{IsSaved, RunsEmulator};
+ghost use Rattle.avr_tool.specs.Emulated.{IsSavedIfSent, RunsEmulator};
 ghost use Rattle.avr_tool.specs.Ports.{IsEmulated, chip_file_of};
 
 use crate::holding::hold_chip;
@@ -35,13 +35,13 @@ pub fn drive_wired<D: Desk, R: Recorder>(
     ensures runs { RunsSession plan.now (devices (wired_link wire.old) (D.view desk.old))
         (devices (wired_link wire.new) (D.view desk.new)) result }
     // The counts of the desk's failures never fall.
-    ensures follows { Follows (D.view desk.old) (D.view desk.new) }
-    ensures comes { Stays ComesOf wire.old wire.new }
+    ensures follows { CountsNeverFall (D.view desk.old) (D.view desk.new) }
+    ensures comes { Preserves ComesOf wire.old wire.new }
     // This holds if the chip is of the plan's part, whatever the wire loses, delays and corrupts. Proof:
     // `over_any_line` (WirePlays).
     ensures line { wire.old.wire.programmer.chip.part ≡ plan.now.part
-        → OverAnyLine plan.now wire.old wire.new (D.view desk.old) (D.view desk.new) result }
-    ensures stays { Stays D.comes_of desk.old desk.new }
+        → SessionOverWire plan.now wire.old wire.new (D.view desk.old) (D.view desk.new) result }
+    ensures stays { Preserves D.started_as desk.old desk.new }
 {
     // two laws that the proof cites
     plan.is_sound();
@@ -56,10 +56,10 @@ fn save_if_sent<D: ChipDesk, R: Recorder>(
     desk: &mut D,
     status: u8,
 ) -> u8
-    ensures saved { IsSaved (sent wire.now.transcript) (D.view desk.old) (D.view desk.new) file.now
+    ensures saved { IsSavedIfSent (sent wire.now.transcript) (D.view desk.old) (D.view desk.new) file.now
         (chip_file wire.now.wire.programmer.chip) status result }
-    ensures follows { Follows (D.view desk.old) (D.view desk.new) }
-    ensures stays { Stays D.comes_of desk.old desk.new }
+    ensures follows { CountsNeverFall (D.view desk.old) (D.view desk.new) }
+    ensures stays { Preserves D.started_as desk.old desk.new }
 {
     if wire.sent_nothing() {
         desk.release();
@@ -86,7 +86,7 @@ pub fn run_emu<D: ChipDesk>(alloc: Global, settings: &Settings, desk: &mut D) ->
     requires port { IsEmulated settings.now.port }
     // Proof: `runs_over_emulator` (Emulating), from the `line` of `drive_wired`.
     ensures runs { RunsEmulator settings.now (chip_file_of settings.now.port) (D.view desk.old) (D.view desk.new) result }
-    ensures stays { Stays D.comes_of desk.old desk.new }
+    ensures stays { Preserves D.started_as desk.old desk.new }
 {
     let plan = match plan(alloc, settings, desk) {
         Ok(plan) => plan,

@@ -1,7 +1,7 @@
 ghost use Rattle.avr_tool.specs.OverNet.{RunsOverNet};
-ghost use Rattle.avr_tool.specs.Ports.{IsNetwork, port_place};
+ghost use Rattle.avr_tool.specs.Ports.{IsNetwork, port_address};
 ghost use Rattle.avr_tool.specs.Sockets.{IsOverAddress};
-ghost use Rattle.ghosts.specs.Stays.{Stays};
+ghost use Rattle.ghosts.specs.Preserves.{Preserves};
 
 use crate::messages::unopened_message;
 use crate::network::Network;
@@ -34,9 +34,9 @@ pub fn run_net<N: Network, D: Desk>(
 ) -> u8
     requires port { IsNetwork settings.now.port }
     ensures runs { RunsOverNet N.unused (IsOverAddress N.Network N.Stream.Read N.Stream.Write N.Stream.closed
-        (port_place settings.now.port)) settings.now (port_place settings.now.port) (D.view desk.old)
+        (port_address settings.now.port)) settings.now (port_address settings.now.port) (D.view desk.old)
         (D.view desk.new) result }
-    ensures stays { Stays D.comes_of desk.old desk.new }
+    ensures stays { Preserves D.started_as desk.old desk.new }
 {
     let plan = match plan(alloc, settings, desk) {
         Ok(plan) => plan,

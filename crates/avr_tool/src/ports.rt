@@ -1,6 +1,6 @@
 //! Ports of settings, and links over sockets.
 ghost use Rattle.std.specs.Prelude.{◌≡◌, IfOk, OnErr};
-ghost use Rattle.avr_tool.specs.Ports.{chip_file_of, port_place};
+ghost use Rattle.avr_tool.specs.Ports.{chip_file_of, port_address};
 ghost use Rattle.avr_tool.specs.Sockets.{IsNewLink};
 
 use crate::network::{Callers, Network, Side};
@@ -21,7 +21,7 @@ pub(crate) fn chip_file(port: &Port) -> &str
 
 /// Returns where a port is: `HOST:PORT` of a connection, the digits of a service, otherwise the empty text.
 pub(crate) fn place_of(port: &Port) -> &str
-    ensures { result.now ≡ port_place port.now }
+    ensures { result.now ≡ port_address port.now }
 {
     match port {
         Port::Network(address) => address.as_str(),

@@ -1,13 +1,13 @@
 //! The program: from a command line to a status.
 ghost use Rattle.std.specs.Prelude.{◌≡◌, map, string_bytes};
 ghost use Rattle.clap.specs.Words.{kind_of};
-ghost use Rattle.avr_tool.specs.Asked.{LeavesWords};
-ghost use Rattle.avr_tool.specs.Program.{ActsAtPort, RunsProgram, ActsOnWords, StartsProgram, usage_status, usage_stream};
-ghost use Rattle.avr_desk.specs.Shown.{IsTrueSince as IsTrueDesk, TellsAll, shown_state};
+ghost use Rattle.avr_tool.specs.Asked.{ReportsOnlyAllocation};
+ghost use Rattle.avr_tool.specs.Program.{ActsAtPort, RunsProgram, ActsOnCommandLine, StartsProgram, usage_status, usage_stream};
+ghost use Rattle.avr_desk.specs.Shown.{IsTrueSince as IsTrueDesk, RecordsAll, system_desk_view};
 ghost use Rattle.avr_session.specs.Runs.{devices};
 ghost use Rattle.avr_tool.specs.Sockets.{peers_of};
 ghost use Rattle.stk_host.specs.Links.{IsTrueSince, stream_state};
-ghost use Rattle.ghosts.specs.Stays.{Stays};
+ghost use Rattle.ghosts.specs.Preserves.{Preserves};
 
 use crate::asking::{NotAsked, asked};
 use crate::command_line::CommandLine;
@@ -41,7 +41,7 @@ fn run_port<N: Network, D: ChipDesk, R: Read + Drop, W: Write + Drop>(
         settings.now (devices (stream_state link.old) (D.view desk.old))
         (devices (stream_state link.new) (D.view desk.new)) result }
     ensures tells { IsTrueSince R.remaining W.contents link.old link.new }
-    ensures stays { Stays D.comes_of desk.old desk.new }
+    ensures stays { Preserves D.started_as desk.old desk.new }
 {
     match &settings.port {
         Port::Stdio => {
@@ -58,9 +58,9 @@ fn run_port<N: Network, D: ChipDesk, R: Read + Drop, W: Write + Drop>(
 }
 
 /// Reports that allocation failed in `clap`, and returns any other error as it is.
-fn words_untaken<D: Desk>(error: Error, desk: &mut D) -> Result<u8, Error>
-    ensures leaves { LeavesWords error (D.view desk.old) (D.view desk.new) result }
-    ensures stays { Stays D.comes_of desk.old desk.new }
+fn report_allocation_only<D: Desk>(error: Error, desk: &mut D) -> Result<u8, Error>
+    ensures leaves { ReportsOnlyAllocation error (D.view desk.old) (D.view desk.new) result }
+    ensures stays { Preserves D.started_as desk.old desk.new }
 {
     if error.kind() == ErrorKind::OutOfMemory {
         return Ok(refuse(&SettingsFault::Memory, desk));
@@ -95,12 +95,12 @@ pub fn run_words<N: Network, D: ChipDesk, R: Read + Drop, W: Write + Drop>(
     desk: &mut D,
     link: &mut StreamLink<R, W>,
 ) -> Result<u8, Error>
-    ensures runs { ActsOnWords (peers_of N.Network N.Listener.Callers N.Stream.Read N.Stream.Write
+    ensures runs { ActsOnCommandLine (peers_of N.Network N.Listener.Callers N.Stream.Read N.Stream.Write
         N.Stream.closed)
         (map string_bytes words.now) (devices (stream_state link.old) (D.view desk.old))
         (devices (stream_state link.new) (D.view desk.new)) result }
     ensures tells { IsTrueSince R.remaining W.contents link.old link.new }
-    ensures stays { Stays D.comes_of desk.old desk.new }
+    ensures stays { Preserves D.started_as desk.old desk.new }
 {
     match asked(alloc, words, desk) {
         Ok(settings) => Ok(run_port(network, alloc, &settings, desk, link)),
@@ -110,7 +110,7 @@ pub fn run_words<N: Network, D: ChipDesk, R: Read + Drop, W: Write + Drop>(
         }
         Err(NotAsked::Words(error)) => {
             network.leave();
-            words_untaken(error, desk)
+            report_allocation_only(error, desk)
         }
     }
 }
@@ -160,7 +160,7 @@ pub fn run_program<N: Network, D: ChipDesk, R: Read + Drop, W: Write + Drop>(
         (map string_bytes words.now) (devices (stream_state link.old) (D.view desk.old))
         (devices (stream_state link.new) (D.view desk.new)) result }
     ensures tells { IsTrueSince R.remaining W.contents link.old link.new }
-    ensures stays { Stays D.comes_of desk.old desk.new }
+    ensures stays { Preserves D.started_as desk.old desk.new }
 {
     match run_words(network, alloc, words, desk, link) {
         Ok(status) => status,
@@ -191,12 +191,12 @@ pub fn run_command_line<
 ) -> u8
     ensures starts { StartsProgram C.CommandLine (peers_of N.Network N.Listener.Callers N.Stream.Read
         N.Stream.Write N.Stream.closed)
-        (devices (stream_state link.old) (shown_state desk.old))
-        (devices (stream_state link.new) (shown_state desk.new)) result }
+        (devices (stream_state link.old) (system_desk_view desk.old))
+        (devices (stream_state link.new) (system_desk_view desk.new)) result }
     ensures tells { IsTrueSince R.remaining W.contents link.old link.new }
     ensures shows { IsTrueDesk S.FileSystem S.File.Read S.File.Write S.Input.Read O.Write M.Write desk.old
         desk.new }
-    ensures all { TellsAll S.FileSystem S.File.Read S.File.Write S.Input.Read desk.old desk.new }
+    ensures all { RecordsAll S.FileSystem S.File.Read S.File.Write S.Input.Read desk.old desk.new }
 {
     match line.words(alloc) {
         Ok(words) => run_program(network, alloc, words.as_slice(), desk, link),

@@ -1,10 +1,10 @@
 ghost use Rattle.std.specs.Prelude.{◌⊎◌};
-ghost use Rattle.avr_desk.specs.Fault.{Follows};
+ghost use Rattle.avr_desk.specs.Fault.{CountsNeverFall};
 ghost use Rattle.avr_session.specs.Run.{RunsBetween};
 ghost use Rattle.avr_session.specs.Runs.{devices};
 ghost use Rattle.avr_tool.specs.Headline.{IsRun, IsStopped, RunsWired};
 ghost use Rattle.stk_emu.specs.Wired.{IsFresh};
-ghost use Rattle.ghosts.specs.Stays.{Stays};
+ghost use Rattle.ghosts.specs.Preserves.{Preserves};
 
 use crate::over_emulator::drive_wired;
 use avr_cli::Settings;
@@ -44,11 +44,11 @@ pub fn run<D: Desk, L: Link>(alloc: Global, settings: &Settings, desk: &mut D, l
         ⊎ IsStopped settings.now (devices (L.view link.old) (D.view desk.old))
         (devices (L.view link.new) (D.view desk.new)) result }
     // The plan and its session, with the desk between them.
-    ensures between { RunsBetween D.view D.comes_of settings.now (L.view link.old) (L.view link.new)
+    ensures between { RunsBetween D.view D.started_as settings.now (L.view link.old) (L.view link.new)
         desk.old desk.new result }
-    ensures follows { Follows (D.view desk.old) (D.view desk.new) }
-    ensures comes { Stays L.comes_of link.old link.new }
-    ensures stays { Stays D.comes_of desk.old desk.new }
+    ensures follows { CountsNeverFall (D.view desk.old) (D.view desk.new) }
+    ensures comes { Preserves L.started_as link.old link.new }
+    ensures stays { Preserves D.started_as desk.old desk.new }
 {
     match plan(alloc, settings, desk) {
         Ok(plan) => drive(alloc, &plan, desk, link),
@@ -80,7 +80,7 @@ pub fn run_wired<D: Desk, R: Recorder>(
 ) -> u8
     requires fresh { IsFresh wire.old }
     ensures runs { RunsWired settings.now wire.old wire.new (D.view desk.old) (D.view desk.new) result }
-    ensures stays { Stays D.comes_of desk.old desk.new }
+    ensures stays { Preserves D.started_as desk.old desk.new }
 {
     let plan = match plan(alloc, settings, desk) {
         Ok(plan) => plan,

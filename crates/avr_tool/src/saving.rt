@@ -1,7 +1,7 @@
-ghost use Rattle.avr_desk.specs.Fault.{Follows};
+ghost use Rattle.avr_desk.specs.Fault.{CountsNeverFall};
 ghost use Rattle.avr_part.specs.ChipFile.{chip_file};
-ghost use Rattle.avr_tool.specs.Saving.{Saves, SavesAfter};
-ghost use Rattle.ghosts.specs.Stays.{Stays};
+ghost use Rattle.avr_tool.specs.Saving.{SavesChip, SavesAfterRun};
+ghost use Rattle.ghosts.specs.Preserves.{Preserves};
 
 use avr_desk::{ChipDesk, memory_message, not_written_message, refuse};
 use avr_part::Chip;
@@ -14,9 +14,9 @@ use avr_part::Chip;
 /// The status 1 if the file can't be replaced or allocation fails. The line of the reason was printed, as far as the
 /// desk takes it. The file is as it was, unless the desk replaced it before it failed.
 pub fn save_chip<D: ChipDesk>(chip: &Chip, file: &str, desk: &mut D) -> Result<(), u8>
-    ensures saves { Saves (D.view desk.old) (D.view desk.new) file.now (chip_file chip.now) result }
-    ensures follows { Follows (D.view desk.old) (D.view desk.new) }
-    ensures stays { Stays D.comes_of desk.old desk.new }
+    ensures saves { SavesChip (D.view desk.old) (D.view desk.new) file.now (chip_file chip.now) result }
+    ensures follows { CountsNeverFall (D.view desk.old) (D.view desk.new) }
+    ensures stays { Preserves D.started_as desk.old desk.new }
 {
     let bytes = match chip.to_bytes() {
         Ok(bytes) => bytes,
@@ -36,9 +36,9 @@ pub fn save_chip<D: ChipDesk>(chip: &Chip, file: &str, desk: &mut D) -> Result<(
 
 /// Saves a chip, and returns this status, or 1 if the chip can't be saved.
 pub(crate) fn save_after<D: ChipDesk>(chip: &Chip, file: &str, desk: &mut D, status: u8) -> u8
-    ensures saved { SavesAfter status (D.view desk.old) (D.view desk.new) file.now (chip_file chip.now) result }
-    ensures follows { Follows (D.view desk.old) (D.view desk.new) }
-    ensures stays { Stays D.comes_of desk.old desk.new }
+    ensures saved { SavesAfterRun status (D.view desk.old) (D.view desk.new) file.now (chip_file chip.now) result }
+    ensures follows { CountsNeverFall (D.view desk.old) (D.view desk.new) }
+    ensures stays { Preserves D.started_as desk.old desk.new }
 {
     match save_chip(chip, file, desk) {
         Ok(()) => status,

@@ -1,15 +1,15 @@
 ghost use Rattle.std.specs.Prelude.{◌≡◌, ◌≤◌, [], None, IfErr, false};
-ghost use Rattle.avr_desk.specs.Fault.{Follows};
-ghost use Rattle.avr_desk.specs.Playing.{AtStart, Goes};
+ghost use Rattle.avr_desk.specs.Fault.{CountsNeverFall};
+ghost use Rattle.avr_desk.specs.Playing.{OnlyAtStart, RunsStage};
 ghost use Rattle.avr_plan.specs.Planning.{LacksPart};
-ghost use Rattle.avr_tool.specs.ServedRun.{JudgesPart, settings_part};
+ghost use Rattle.avr_tool.specs.ServedRun.{ChecksPart, settings_part};
 ghost use Rattle.avr_tool.specs.ServedRun.{RunsServed, RunsServedFor, ServesChip, ServesPart};
 ghost use Rattle.avr_tool.specs.Ports.{HasChip, chip_file_of};
 ghost use Rattle.avr_session.specs.Runs.{devices};
-ghost use Rattle.ghosts.specs.Stays.{Stays};
+ghost use Rattle.ghosts.specs.Preserves.{Preserves};
 
 use crate::answering::answer_all;
-use crate::ending::{status_of, tell_end};
+use crate::ending::{status_of, report_end};
 use crate::holding::hold_chip;
 use crate::ports::chip_file;
 use crate::saving::save_after;
@@ -26,10 +26,10 @@ pub const READS: u32 = 16_777_216;
 
 /// Finds the part of the settings: in their part file, if there is one, then in the built-in parts.
 fn find_part<D: Desk>(alloc: Global, desk: &mut D, settings: &Settings) -> Result<Part, u8>
-    ensures goes { Goes (AtStart false) (settings_part settings.now) (D.view desk.old) (D.view desk.new) result }
+    ensures goes { RunsStage (OnlyAtStart false) (settings_part settings.now) (D.view desk.old) (D.view desk.new) result }
     ensures bare { settings.now.parts ≡ None
         → IfErr result (λ status. LacksPart settings.now.part [] (D.view desk.old) (D.view desk.new)) }
-    ensures stays { Stays D.comes_of desk.old desk.new }
+    ensures stays { Preserves D.started_as desk.old desk.new }
 {
     let parts = match given_parts(alloc, desk, &settings.parts) {
         Ok(parts) => parts,
@@ -46,10 +46,10 @@ fn find_part<D: Desk>(alloc: Global, desk: &mut D, settings: &Settings) -> Resul
 /// The status 1 if the part file, the part's name or the chip file is refused, or if another run has locked the chip
 /// file. It is also 1 if the chip file could not be saved later, or if the desk or allocation fails. The line of the
 /// reason was printed, as far as the desk takes it.
-pub fn judge_part<D: ChipDesk>(alloc: Global, settings: &Settings, desk: &mut D) -> Result<Part, u8>
+pub fn check_part<D: ChipDesk>(alloc: Global, settings: &Settings, desk: &mut D) -> Result<Part, u8>
     requires port { HasChip settings.now.port }
-    ensures judges { JudgesPart settings.now (chip_file_of settings.now.port) (D.view desk.old) (D.view desk.new) result }
-    ensures stays { Stays D.comes_of desk.old desk.new }
+    ensures judges { ChecksPart settings.now (chip_file_of settings.now.port) (D.view desk.old) (D.view desk.new) result }
+    ensures stays { Preserves D.started_as desk.old desk.new }
 {
     let part = match find_part(alloc, desk, settings) {
         Ok(part) => part,
@@ -63,7 +63,7 @@ pub fn judge_part<D: ChipDesk>(alloc: Global, settings: &Settings, desk: &mut D)
     Ok(part)
 }
 
-/// Serves a chip over a link in at most `turns` reads, reports how that ended, and saves the chip to this file.
+/// Serves a chip over a link in at most `most_reads` reads, reports how that ended, and saves the chip to this file.
 ///
 /// A fresh programmer with this chip replies to what is received; all replies are sent before the next read. If the
 /// link ends, no line is printed; any other ending prints its line. In each case the chip is saved as the frames
@@ -76,18 +76,18 @@ pub fn serve_chip<D: ChipDesk, L: Link>(
     file: &str,
     desk: &mut D,
     link: &mut L,
-    turns: u32,
+    most_reads: u32,
 ) -> u8
-    ensures serves { ServesChip chip file.now turns (devices (L.view link.old) (D.view desk.old))
+    ensures serves { ServesChip chip file.now most_reads (devices (L.view link.old) (D.view desk.old))
         (devices (L.view link.new) (D.view desk.new)) result }
-    ensures follows { Follows (D.view desk.old) (D.view desk.new) }
+    ensures follows { CountsNeverFall (D.view desk.old) (D.view desk.new) }
     ensures counted { (L.view link.old).failures ≤ (L.view link.new).failures }
-    ensures comes { Stays L.comes_of link.old link.new }
-    ensures stays { Stays D.comes_of desk.old desk.new }
+    ensures comes { Preserves L.started_as link.old link.new }
+    ensures stays { Preserves D.started_as desk.old desk.new }
 {
     let mut emulator = Emulator::new(chip);
-    let served = answer_all(&mut emulator, link, turns);
-    tell_end(desk, served);
+    let served = answer_all(&mut emulator, link, most_reads);
+    report_end(desk, served);
     save_after(emulator.chip(), file, desk, status_of(served))
 }
 
@@ -101,23 +101,23 @@ pub fn serve_part<D: ChipDesk, L: Link>(
     file: &str,
     desk: &mut D,
     link: &mut L,
-    turns: u32,
+    most_reads: u32,
 ) -> u8
-    ensures runs { ServesPart part.now file.now turns
+    ensures runs { ServesPart part.now file.now most_reads
         (devices (L.view link.old) (D.view desk.old)) (devices (L.view link.new) (D.view desk.new)) result }
-    ensures follows { Follows (D.view desk.old) (D.view desk.new) }
+    ensures follows { CountsNeverFall (D.view desk.old) (D.view desk.new) }
     ensures counted { (L.view link.old).failures ≤ (L.view link.new).failures }
-    ensures comes { Stays L.comes_of link.old link.new }
-    ensures stays { Stays D.comes_of desk.old desk.new }
+    ensures comes { Preserves L.started_as link.old link.new }
+    ensures stays { Preserves D.started_as desk.old desk.new }
 {
     match hold_chip(alloc, part, file, desk) {
-        Ok(chip) => serve_chip(alloc, chip, file, desk, link, turns),
+        Ok(chip) => serve_chip(alloc, chip, file, desk, link, most_reads),
         Err(status) => status,
     }
 }
 
 /// Serves the emulated programmer of the settings' part over a link, as [`serve_part`] does with the chip file of their
-/// port, in at most `turns` reads. The port must have a chip file.
+/// port, in at most `most_reads` reads. The port must have a chip file.
 ///
 /// If the part is refused, the status is 1. Nothing is received or sent, and no file is written.
 ///
@@ -135,18 +135,18 @@ pub fn serve_for<D: ChipDesk, L: Link>(
     settings: &Settings,
     desk: &mut D,
     link: &mut L,
-    turns: u32,
+    most_reads: u32,
 ) -> u8
     requires port { HasChip settings.now.port }
-    ensures runs { RunsServedFor settings.now (chip_file_of settings.now.port) turns
+    ensures runs { RunsServedFor settings.now (chip_file_of settings.now.port) most_reads
         (devices (L.view link.old) (D.view desk.old)) (devices (L.view link.new) (D.view desk.new)) result }
-    ensures follows { Follows (D.view desk.old) (D.view desk.new) }
+    ensures follows { CountsNeverFall (D.view desk.old) (D.view desk.new) }
     ensures counted { (L.view link.old).failures ≤ (L.view link.new).failures }
-    ensures comes { Stays L.comes_of link.old link.new }
-    ensures stays { Stays D.comes_of desk.old desk.new }
+    ensures comes { Preserves L.started_as link.old link.new }
+    ensures stays { Preserves D.started_as desk.old desk.new }
 {
     match find_part(alloc, desk, settings) {
-        Ok(part) => serve_part(alloc, &part, chip_file(&settings.port), desk, link, turns),
+        Ok(part) => serve_part(alloc, &part, chip_file(&settings.port), desk, link, most_reads),
         Err(status) => status,
     }
 }
@@ -173,10 +173,10 @@ pub fn serve<D: ChipDesk, L: Link>(
     requires port { HasChip settings.now.port }
     ensures runs { RunsServed settings.now (chip_file_of settings.now.port)
         (devices (L.view link.old) (D.view desk.old)) (devices (L.view link.new) (D.view desk.new)) result }
-    ensures follows { Follows (D.view desk.old) (D.view desk.new) }
+    ensures follows { CountsNeverFall (D.view desk.old) (D.view desk.new) }
     ensures counted { (L.view link.old).failures ≤ (L.view link.new).failures }
-    ensures comes { Stays L.comes_of link.old link.new }
-    ensures stays { Stays D.comes_of desk.old desk.new }
+    ensures comes { Preserves L.started_as link.old link.new }
+    ensures stays { Preserves D.started_as desk.old desk.new }
 {
     serve_for(alloc, settings, desk, link, READS)
 }

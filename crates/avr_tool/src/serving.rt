@@ -1,14 +1,14 @@
 ghost use Rattle.std.specs.Prelude.{IfOk, OnErr};
 ghost use Rattle.avr_cli.specs.Port.{port_number as number_of};
-ghost use Rattle.avr_tool.specs.Ports.{IsServed, chip_file_of, port_place};
+ghost use Rattle.avr_tool.specs.Ports.{IsServed, chip_file_of, port_address};
 ghost use Rattle.avr_tool.specs.ServedNet.{ServesNet, ServesOn};
-ghost use Rattle.avr_tool.specs.Sockets.{IsNewLink, IsOverCaller, IsOverPort};
-ghost use Rattle.ghosts.specs.Stays.{Stays};
+ghost use Rattle.avr_tool.specs.Sockets.{IsNewLink, IsOverClient, IsOverPort};
+ghost use Rattle.ghosts.specs.Preserves.{Preserves};
 
 use crate::messages::unopened_message;
 use crate::network::{Callers, Network};
 use crate::ports::{accept, chip_file, close, listen, place_of};
-use crate::served_run::{READS, judge_part, serve_part};
+use crate::served_run::{READS, check_part, serve_part};
 use avr_cli::{Settings, port_number};
 use avr_desk::{ChipDesk, refuse};
 use avr_part::Part;
@@ -19,7 +19,7 @@ use stk_host::StreamLink;
 /// Serves a chip of this part to the client that a listener accepted, or reports that it accepted none.
 ///
 /// The chip is loaded after the client has connected, so it holds what other runs saved before.
-fn serve_called<L: Callers, D: ChipDesk>(
+fn serve_client<L: Callers, D: ChipDesk>(
     alloc: Global,
     part: &Part,
     port: &str,
@@ -28,9 +28,9 @@ fn serve_called<L: Callers, D: ChipDesk>(
     desk: &mut D,
 ) -> u8
     ensures serves { (listener : L) → IfOk called (IsNewLink (L.calls listener)) → OnErr called (L.lacks listener)
-        → ServesOn (IsOverCaller L.Callers L.Stream.Read L.Stream.Write L.Stream.closed listener) part.now port.now
+        → ServesOn (IsOverClient L.Callers L.Stream.Read L.Stream.Write L.Stream.closed listener) part.now port.now
         file.now (D.view desk.old) (D.view desk.new) result }
-    ensures stays { Stays D.comes_of desk.old desk.new }
+    ensures stays { Preserves D.started_as desk.old desk.new }
 {
     let mut link = match called {
         Ok(link) => link,
@@ -69,18 +69,18 @@ pub fn serve_on<N: Network, D: ChipDesk>(
     desk: &mut D,
 ) -> u8
     requires port { IsServed settings.now.port }
-    ensures serves { ServesNet N.unused (IsOverCaller N.Listener.Callers N.Stream.Read N.Stream.Write N.Stream.closed
-        listener) settings.now (port_place settings.now.port) (chip_file_of settings.now.port) (D.view desk.old)
+    ensures serves { ServesNet N.unused (IsOverClient N.Listener.Callers N.Stream.Read N.Stream.Write N.Stream.closed
+        listener) settings.now (port_address settings.now.port) (chip_file_of settings.now.port) (D.view desk.old)
         (D.view desk.new) result }
-    ensures stays { Stays D.comes_of desk.old desk.new }
+    ensures stays { Preserves D.started_as desk.old desk.new }
 {
     network.leave();
-    let part = match judge_part(alloc, settings, desk) {
+    let part = match check_part(alloc, settings, desk) {
         Ok(part) => part,
         Err(status) => return status,
     };
     let (port, file) = (place_of(&settings.port), chip_file(&settings.port));
-    serve_called::<N::Listener, D>(alloc, &part, port, file, accept(listener), desk)
+    serve_client::<N::Listener, D>(alloc, &part, port, file, accept(listener), desk)
 }
 
 /// Opens the port and serves a chip of this part to the first client. The port is closed when that client has
@@ -95,7 +95,7 @@ fn serve_at<N: Network, D: ChipDesk>(
 ) -> u8
     ensures serves { ServesOn (IsOverPort N.Network N.Listener.Callers N.Stream.Read N.Stream.Write N.Stream.closed
         (number_of port.now)) part.now port.now file.now (D.view desk.old) (D.view desk.new) result }
-    ensures stays { Stays D.comes_of desk.old desk.new }
+    ensures stays { Preserves D.started_as desk.old desk.new }
 {
     let Some(number) = port_number(port) else {
         network.leave();
@@ -106,7 +106,7 @@ fn serve_at<N: Network, D: ChipDesk>(
         Err(_) => return refuse(desk, &unopened_message("", port)),
     };
     let called = accept(listener);
-    serve_called::<N::Listener, D>(alloc, part, port, file, called, desk)
+    serve_client::<N::Listener, D>(alloc, part, port, file, called, desk)
 }
 
 /// Serves the emulated programmer of the settings' part at a port of 127.0.0.1, to the first client, as [`serve_on`]
@@ -132,11 +132,11 @@ pub fn serve_net<N: Network, D: ChipDesk>(
 ) -> u8
     requires port { IsServed settings.now.port }
     ensures serves { ServesNet N.unused (IsOverPort N.Network N.Listener.Callers N.Stream.Read N.Stream.Write
-        N.Stream.closed (number_of (port_place settings.now.port))) settings.now (port_place settings.now.port)
+        N.Stream.closed (number_of (port_address settings.now.port))) settings.now (port_address settings.now.port)
         (chip_file_of settings.now.port) (D.view desk.old) (D.view desk.new) result }
-    ensures stays { Stays D.comes_of desk.old desk.new }
+    ensures stays { Preserves D.started_as desk.old desk.new }
 {
-    let part = match judge_part(alloc, settings, desk) {
+    let part = match check_part(alloc, settings, desk) {
         Ok(part) => part,
         Err(status) => {
             network.leave();

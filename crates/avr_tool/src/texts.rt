@@ -1,7 +1,7 @@
 //! Prints texts of `clap` and of the system, which no clause knows, at a desk. So these calls can print nowhere else.
 ghost use Rattle.std.specs.Prelude.{◌≡◌, ℕ, List};
 ghost use Rattle.avr_tool.specs.Texts.{AnyPart, PrintsText, ReportsText};
-ghost use Rattle.ghosts.specs.Stays.{Stays};
+ghost use Rattle.ghosts.specs.Preserves.{Preserves};
 
 use arrayvec::ArrayVec;
 use avr_desk::{Desk, DeskFault, Stream, write_all};
@@ -69,7 +69,7 @@ pub(crate) fn print_text<D: Desk, T: Parted>(
     text: &T,
 ) -> Result<usize, DeskFault>
     ensures prints { PrintsText (T.has_part text.now) stream (D.view desk.old) (D.view desk.new) result }
-    ensures stays { Stays D.comes_of desk.old desk.new }
+    ensures stays { Preserves D.started_as desk.old desk.new }
 {
     let mut at = 0usize;
     for _turn in 0..PARTS {
@@ -86,7 +86,7 @@ pub(crate) fn print_text<D: Desk, T: Parted>(
 /// Prints a text after `avrstk: error: `, and LF, up to the first failure.
 fn report<D: Desk, T: Parted>(desk: &mut D, error: &T) -> Result<(), DeskFault>
     ensures reports { ReportsText (T.has_part error.now) (D.view desk.old) (D.view desk.new) }
-    ensures stays { Stays D.comes_of desk.old desk.new }
+    ensures stays { Preserves D.started_as desk.old desk.new }
 {
     write_all(desk, Stream::Messages, b"avrstk: error: ")?;
     print_text(desk, Stream::Messages, error)?;
@@ -96,7 +96,7 @@ fn report<D: Desk, T: Parted>(desk: &mut D, error: &T) -> Result<(), DeskFault>
 /// Reports an error that isn't this program's own as `avrstk: error: ` and its text, and returns the status 1.
 pub fn refuse_text<D: Desk, T: Display>(desk: &mut D, error: &T) -> u8
     ensures reports { ReportsText AnyPart (D.view desk.old) (D.view desk.new) }
-    ensures stays { Stays D.comes_of desk.old desk.new }
+    ensures stays { Preserves D.started_as desk.old desk.new }
     ensures status { result ≡ 1 }
 {
     let _ = report(desk, error);

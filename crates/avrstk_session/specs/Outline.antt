@@ -2,9 +2,9 @@
 use Rattle.std.specs.Prelude.{◌≡◌, ◌⊎◌, ◌+◌, ◌-◌, ◌*◌, ◌/◌, ◌^◌, ◌++◌, min, ℕ, zero, suc, List, [], ◌∷◌, Option, Result, Ok, Err, codes, decimal, if◌then◌else◌}
 use Rattle.avr_cli.specs.declared.settings.Settings.{Settings}
 use Rattle.avr_desk.specs.Lines.{error, memory_pieces}
-use Rattle.avr_desk.specs.Playing.{Goes}
-use Rattle.avr_desk.specs.Record.{Bytes, DeskState, Passes}
-use Rattle.avr_desk.specs.Said.{Tells}
+use Rattle.avr_desk.specs.Playing.{RunsStage}
+use Rattle.avr_desk.specs.Record.{Bytes, DeskState, ChangesRecord}
+use Rattle.avr_desk.specs.OutputEvents.{ReportsLine}
 use Rattle.avr_desk.specs.Stream.{SendsPart, after_sent}
 use Rattle.avr_desk.specs.declared.stream.Stream.TheVariants.{Output}
 use Rattle.avr_image.specs.Image.{holds_any}
@@ -12,7 +12,7 @@ use Rattle.avr_part.specs.Part.{Part}
 use Rattle.avr_part.specs.declared.part.Mem.TheVariants.{Flash}
 use Rattle.avr_plan.specs.Plan.{Plan}
 use Rattle.avr_plan.specs.Planning.{planned}
-use Rattle.avr_plan.specs.Taking.{AtUpdate}
+use Rattle.avr_plan.specs.AllocationPoints.{AtAllocatingUpdate}
 use Rattle.avr_plan.specs.declared.planned.Task.{Task}
 use Rattle.avr_plan.specs.declared.planned.Task.TheVariants.{Write}
 use Rattle.avr_session.specs.PlanSteps.{run_steps}
@@ -48,9 +48,9 @@ outline_text plan =
 
 -- The text was printed with status 0, or a prefix of it with status 1; or allocation failed, and this was reported.
 abbrev pub PrintsOutline : Bytes → DeskState → DeskState → ℕ → Type 0
-PrintsOutline text old new zero = Passes (after_sent Output text) old new
+PrintsOutline text old new zero = ChangesRecord (after_sent Output text) old new
 PrintsOutline text old new status =
-    (status ≡ 1) × (SendsPart Output old new text ⊎ Tells old new (error memory_pieces))
+    (status ≡ 1) × (SendsPart Output old new text ⊎ ReportsLine old new (error memory_pieces))
 
 abbrev pub AfterPlan : Result Plan ℕ → DeskState → DeskState → ℕ → Type 0
 AfterPlan (Ok plan) old new status = PrintsOutline (outline_text plan) old new status
@@ -60,5 +60,5 @@ AfterPlan (Err failed) old new status = (new ≡ old) × (status ≡ failed)
 pub record Outlines (settings : Settings) (old new : DeskState) (status : ℕ) : Type 0 where
   pub outcome : Result Plan ℕ
   pub planned_desk : DeskState
-  pub goes : Goes (AtUpdate settings) (planned settings) old planned_desk outcome
+  pub goes : RunsStage (AtAllocatingUpdate settings) (planned settings) old planned_desk outcome
   pub then_is : AfterPlan outcome planned_desk new status

@@ -7,12 +7,12 @@
 
 ghost use Rattle.std.specs.Prelude.{◌≡◌, map, string_bytes};
 ghost use Rattle.clap.specs.Words.{kind_of};
-ghost use Rattle.avr_desk.specs.Shown.{IsTrueSince, TellsAll, shown_state};
+ghost use Rattle.avr_desk.specs.Shown.{IsTrueSince, RecordsAll, system_desk_view};
 ghost use Rattle.avr_session.specs.Runs.{devices};
 ghost use Rattle.avrstk_session.specs.Outline.{Outlines, PrintsOutline, outline_text};
 ghost use Rattle.avr_tool.specs.Ports.{HasChip, chip_file_of};
-ghost use Rattle.avrstk_session.specs.Session.{JudgesOnly, ServesPort, ServesWords, StartsSession, TellsUsage, usage_pieces};
-ghost use Rattle.ghosts.specs.Stays.{Stays};
+ghost use Rattle.avrstk_session.specs.Session.{ChecksOnly, ServesPort, ServesWords, StartsSession, ReportsUsage, usage_pieces};
+ghost use Rattle.ghosts.specs.Preserves.{Preserves};
 
 mod outline;
 
@@ -21,7 +21,7 @@ use avr_desk::{
     ChipDesk, Desk, FileSystem, Message, Stream, SystemDesk, memory_message, refuse, write_all,
 };
 use avr_plan::{Plan, plan};
-use avr_tool::{CommandLine, NotAsked, asked, judge_part, serve};
+use avr_tool::{CommandLine, NotAsked, asked, check_part, serve};
 use clap::Error;
 use clap::error::ErrorKind;
 use ghosts::{Inlet, Outlet};
@@ -46,10 +46,10 @@ fn take_closed_streams(rt: &HostRuntime) -> [io::Result<File>; 3] {
 /// Checks that the part and the chip file of these settings can be served, and returns the status.
 fn judge<D: ChipDesk>(alloc: Global, settings: &Settings, desk: &mut D) -> u8
     requires { HasChip settings.now.port }
-    ensures judges { JudgesOnly settings.now (chip_file_of settings.now.port) (D.view desk.old) (D.view desk.new) result }
-    ensures stays { Stays D.comes_of desk.old desk.new }
+    ensures judges { ChecksOnly settings.now (chip_file_of settings.now.port) (D.view desk.old) (D.view desk.new) result }
+    ensures stays { Preserves D.started_as desk.old desk.new }
 {
-    match judge_part(alloc, settings, desk) {
+    match check_part(alloc, settings, desk) {
         Ok(_) => 0,
         Err(status) => status,
     }
@@ -65,7 +65,7 @@ fn usage_message<'a>() -> Message<'a>
 
 fn print_outline<D: Desk>(alloc: Global, desk: &mut D, plan: &Plan) -> u8
     ensures prints { PrintsOutline (outline_text plan.now) (D.view desk.old) (D.view desk.new) result }
-    ensures stays { Stays D.comes_of desk.old desk.new }
+    ensures stays { Preserves D.started_as desk.old desk.new }
 {
     let Ok(text) = outline_text(alloc, plan) else {
         return refuse(desk, &memory_message());
@@ -79,7 +79,7 @@ fn print_outline<D: Desk>(alloc: Global, desk: &mut D, plan: &Plan) -> u8
 /// Reads the files that the settings name, and prints the outline of their session. No file is created.
 fn outline_session<D: Desk>(alloc: Global, settings: &Settings, desk: &mut D) -> u8
     ensures outlines { Outlines settings.now (D.view desk.old) (D.view desk.new) result }
-    ensures stays { Stays D.comes_of desk.old desk.new }
+    ensures stays { Preserves D.started_as desk.old desk.new }
 {
     match plan(alloc, settings, desk) {
         Ok(plan) => print_outline(alloc, desk, &plan),
@@ -97,8 +97,8 @@ fn serve_port<D: ChipDesk, L: Link>(
 ) -> u8
     ensures serves { ServesPort settings.now.port settings.now (devices (L.view link.old) (D.view desk.old))
         (devices (L.view link.new) (D.view desk.new)) result }
-    ensures comes { Stays L.comes_of link.old link.new }
-    ensures stays { Stays D.comes_of desk.old desk.new }
+    ensures comes { Preserves L.started_as link.old link.new }
+    ensures stays { Preserves D.started_as desk.old desk.new }
 {
     match &settings.port {
         Port::Emulated(_) => {
@@ -114,9 +114,9 @@ fn serve_port<D: ChipDesk, L: Link>(
 }
 
 /// Reports an error of `clap`, and returns the status: 0 for help, otherwise 1.
-fn tell_usage<D: Desk>(desk: &mut D, error: &Error) -> u8
-    ensures tells { TellsUsage (kind_of error.now) (D.view desk.old) (D.view desk.new) result }
-    ensures stays { Stays D.comes_of desk.old desk.new }
+fn report_usage<D: Desk>(desk: &mut D, error: &Error) -> u8
+    ensures tells { ReportsUsage (kind_of error.now) (D.view desk.old) (D.view desk.new) result }
+    ensures stays { Preserves D.started_as desk.old desk.new }
 {
     match error.kind() {
         ErrorKind::DisplayHelp => {
@@ -137,13 +137,13 @@ fn serve_words<D: ChipDesk, L: Link>(
 ) -> u8
     ensures serves { ServesWords (map string_bytes words.now) (devices (L.view link.old) (D.view desk.old))
         (devices (L.view link.new) (D.view desk.new)) result }
-    ensures comes { Stays L.comes_of link.old link.new }
-    ensures stays { Stays D.comes_of desk.old desk.new }
+    ensures comes { Preserves L.started_as link.old link.new }
+    ensures stays { Preserves D.started_as desk.old desk.new }
 {
     match asked(alloc, words, desk) {
         Ok(settings) => serve_port(alloc, &settings, desk, link),
         Err(NotAsked::Refused(status)) => status,
-        Err(NotAsked::Words(error)) => tell_usage(desk, &error),
+        Err(NotAsked::Words(error)) => report_usage(desk, &error),
     }
 }
 
@@ -168,12 +168,12 @@ fn run<C: CommandLine, S: FileSystem + Drop, O: Outlet + Drop, M: Outlet + Drop,
     desk: &mut SystemDesk<S, O, M>,
     link: &mut L,
 ) -> u8
-    ensures starts { StartsSession C.CommandLine (devices (L.view link.old) (shown_state desk.old))
-        (devices (L.view link.new) (shown_state desk.new)) result }
-    ensures comes { Stays L.comes_of link.old link.new }
+    ensures starts { StartsSession C.CommandLine (devices (L.view link.old) (system_desk_view desk.old))
+        (devices (L.view link.new) (system_desk_view desk.new)) result }
+    ensures comes { Preserves L.started_as link.old link.new }
     ensures shows { IsTrueSince S.FileSystem S.File.Read S.File.Write S.Input.Read O.Write M.Write desk.old
         desk.new }
-    ensures all { TellsAll S.FileSystem S.File.Read S.File.Write S.Input.Read desk.old desk.new }
+    ensures all { RecordsAll S.FileSystem S.File.Read S.File.Write S.Input.Read desk.old desk.new }
 {
     match line.words(alloc) {
         Ok(words) => serve_words(alloc, words.as_slice(), desk, link),

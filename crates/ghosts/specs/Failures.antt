@@ -6,9 +6,9 @@ abbrev pub counted : ℕ → ℕ
 counted failures = min failures (2 ^ 64 - 1)
 
 -- One failure was counted.
-abbrev pub HasRisen : ℕ → ℕ → Type 0
-HasRisen before now = now ≡ counted (before + 1)
+abbrev pub OneFailureCounted : ℕ → ℕ → Type 0
+OneFailureCounted before now = now ≡ counted (before + 1)
 
 -- No failure was counted. At 2^64 - 1 the count couldn't show one.
-abbrev pub HasStood : ℕ → ℕ → Type 0
-HasStood before now = (now ≡ before) × (now < 2 ^ 64 - 1)
+abbrev pub NoFailureCounted : ℕ → ℕ → Type 0
+NoFailureCounted before now = (now ≡ before) × (now < 2 ^ 64 - 1)

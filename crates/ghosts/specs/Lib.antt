@@ -1,2 +1,2 @@
 pub mod Failures
-pub mod Stays
+pub mod Preserves

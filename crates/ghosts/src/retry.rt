@@ -19,8 +19,8 @@ pub fn read_some<R: Inlet>(reader: &mut R, buffer: &mut [u8]) -> io::Result<usiz
     ensures end { IfOk result (λ n. n ≡ 0 → 0 < length buffer.new → IsAtEnd (R.remaining reader.new)) }
     ensures err { OnErr result (Keeps (R.remaining reader.old) (R.remaining reader.new)) }
     ensures again { IfErr result (λ error. error_kind error ≢ ErrorKind.Interrupted) }
-    ensures blocked { IfErr result (λ error. error_kind error ≡ ErrorKind.WouldBlock → R.is_silent reader.new) }
-    ensures timed { IfErr result (λ error. error_kind error ≡ ErrorKind.TimedOut → R.is_silent reader.new) }
+    ensures blocked { IfErr result (λ error. error_kind error ≡ ErrorKind.WouldBlock → R.has_timed_out reader.new) }
+    ensures timed { IfErr result (λ error. error_kind error ≡ ErrorKind.TimedOut → R.has_timed_out reader.new) }
 {
     for _ in 0..u64::MAX {
         match reader.read_in(buffer) {
@@ -61,7 +61,7 @@ pub fn write_some<W: Write>(writer: &mut W, bytes: &[u8]) -> io::Result<usize>
 /// The writer's error, which is never `Interrupted`; `Other` after 2^64 - 1 interruptions.
 pub fn flush<W: Outlet>(writer: &mut W) -> io::Result<()>
     ensures bytes { Keeps (W.contents writer.old) (W.contents writer.new) }
-    ensures out { OnOk result (W.is_out writer.new) }
+    ensures out { OnOk result (W.is_flushed writer.new) }
     ensures again { IfErr result (λ error. error_kind error ≢ ErrorKind.Interrupted) }
 {
     for _ in 0..u64::MAX {

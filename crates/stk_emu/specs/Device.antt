@@ -2,7 +2,7 @@
 use Rattle.std.specs.Prelude.{ℕ, List, [], ◌∷◌, ◌++◌, if◌then◌else◌}
 use Rattle.stk_frame.specs.Frame.{frame}
 use Rattle.stk_frame.specs.Cut.{is_good, seq_of, body_of}
-use Rattle.stk_emu.specs.Programmer.{Programmer, obey, restarted_programmer}
+use Rattle.stk_emu.specs.Programmer.{Programmer, execute, restarted_programmer}
 
 -- The body of the reply to a command's body, the device after that command, and the device after a restart.
 pub record Device (P : Type 0) : Type 0 where
@@ -12,8 +12,8 @@ pub record Device (P : Type 0) : Type 0 where
 
 abbrev pub device : Device Programmer
 device = record {
-  answer = λ bytes p. (obey bytes p).0;
-  after = λ bytes p. (obey bytes p).1;
+  answer = λ bytes p. (execute bytes p).0;
+  after = λ bytes p. (execute bytes p).1;
   reset = restarted_programmer;
 }
 
@@ -21,20 +21,20 @@ abbrev pub refusal : List ℕ
 refusal = 0xB0 ∷ 0xC1 ∷ []
 
 -- A good frame is executed; any other is refused and changes nothing.
-abbrev pub answer_body : {P : Type 0} → Device P → List ℕ → P → List ℕ
-answer_body m piece p = if is_good piece then m.answer (body_of piece) p else refusal
+abbrev pub reply_body : {P : Type 0} → Device P → List ℕ → P → List ℕ
+reply_body m piece p = if is_good piece then m.answer (body_of piece) p else refusal
 
 abbrev pub after_frame : {P : Type 0} → Device P → List ℕ → P → P
 after_frame m piece p = if is_good piece then m.after (body_of piece) p else p
 
 -- A reply's frame has the sequence number of the command's frame.
-abbrev pub answer_frame : {P : Type 0} → Device P → List ℕ → P → List ℕ
-answer_frame m piece p = frame (seq_of piece) (answer_body m piece p)
+abbrev pub reply_frame : {P : Type 0} → Device P → List ℕ → P → List ℕ
+reply_frame m piece p = frame (seq_of piece) (reply_body m piece p)
 
 -- The replies to whole frames, joined; below, the device after them.
 abbrev pub answers : {P : Type 0} → Device P → List (List ℕ) → P → List ℕ
 answers m [] p = []
-answers m (piece ∷ pieces) p = answer_frame m piece p ++ answers m pieces (after_frame m piece p)
+answers m (piece ∷ pieces) p = reply_frame m piece p ++ answers m pieces (after_frame m piece p)
 
 abbrev pub after_frames : {P : Type 0} → Device P → List (List ℕ) → P → P
 after_frames m [] p = p

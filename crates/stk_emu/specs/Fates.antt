@@ -10,6 +10,6 @@ fates_fault_number UnlawfulNoise = 1
 fates_fault_number Memory = 2
 
 -- Why the fate is not added: its noise is not lawful, or it is lawful and allocation failed.
-abbrev pub Refuses : FatesFault → Fate → Type 0
-Refuses UnlawfulNoise fate = IsLawfulFate fate → ⊥
-Refuses Memory fate = IsLawfulFate fate
+abbrev pub ExplainsRefusal : FatesFault → Fate → Type 0
+ExplainsRefusal UnlawfulNoise fate = IsLawfulFate fate → ⊥
+ExplainsRefusal Memory fate = IsLawfulFate fate

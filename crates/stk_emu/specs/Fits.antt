@@ -15,11 +15,11 @@ after_commands m (suc i) (command ∷ commands) p = after_commands m i commands 
 -- The commands of a step lead from `Before` to `After`, also if the step is cut short and repeated. A prefix of them
 -- keeps `After`, and leads from `Before` to either. All of them lead to `After` if each brought its data. A restart
 -- keeps both conditions.
-pub record Fits {P : Type 0} (m : Device P) (commands : List Command) (Before After : P → Type 0) : Type 0 where
+pub record IsRepeatable {P : Type 0} (m : Device P) (commands : List Command) (Before After : P → Type 0) : Type 0 where
   pub prefix : (p : P) (i : ℕ) → Before p → Before (after_commands m i commands p)
       ⊎ After (after_commands m i commands p)
   pub again : (p : P) (i : ℕ) → After p → After (after_commands m i commands p)
   pub whole : (p : P) (bytes : List ℕ) → joined_reply m commands [] p ≡ Data bytes → Before p
       → After (after_commands m (length commands) commands p)
-  pub anew : (p : P) → Before p → Before (m.reset p)
-  pub anew_again : (p : P) → After p → After (m.reset p)
+  pub restart_keeps : (p : P) → Before p → Before (m.reset p)
+  pub restart_keeps_after : (p : P) → After p → After (m.reset p)

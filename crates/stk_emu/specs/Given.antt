@@ -9,11 +9,11 @@ use Rattle.stk_frame.specs.declared.command.Command.{Command}
 use Rattle.stk_frame.specs.declared.command.Command.TheVariants.{LoadAddress, ReadFlash, ReadEeprom, ReadFuse, ReadLock, ReadSignature, ReadOsccal}
 use Rattle.stk_frame.specs.Commands.{body}
 use Rattle.stk_host.specs.Tape.{Answered}
-use Rattle.stk_host.specs.Steps.{Reply, Data, Again, Stop, reading_reply}
+use Rattle.stk_host.specs.Steps.{Reply, Data, Again, Stop, reply_from_reading}
 use Rattle.stk_emu.specs.Device.{Device}
 use Rattle.avr_image.specs.Image.{byte_at}
 use Rattle.stk_emu.specs.Effect.{Memories, Image}
-use Rattle.stk_emu.specs.PageWrites.{changed}
+use Rattle.stk_emu.specs.WriteOperations.{memories_after_step}
 
 -- The byte that an instruction reads without an address.
 abbrev pub read_by : Part → Instruction → Memories → List ℕ
@@ -32,17 +32,17 @@ block_at address (ReadEeprom f ∷ []) m = take f.count (drop address m.eeprom)
 block_at address commands m = []
 
 -- The data of a step over these memories; a step that writes has none.
-abbrev pub given_by : Part → List Command → Memories → List ℕ
-given_by part (LoadAddress address ∷ commands) m = block_at address commands m
-given_by part (ReadFuse f ∷ []) m = read_by part (instruction_of f.instruction) m
-given_by part (ReadLock f ∷ []) m = read_by part (instruction_of f.instruction) m
-given_by part (ReadSignature f ∷ []) m = read_by part (instruction_of f.instruction) m
-given_by part (ReadOsccal f ∷ []) m = read_by part (instruction_of f.instruction) m
-given_by part commands m = []
+abbrev pub data_of_step : Part → List Command → Memories → List ℕ
+data_of_step part (LoadAddress address ∷ commands) m = block_at address commands m
+data_of_step part (ReadFuse f ∷ []) m = read_by part (instruction_of f.instruction) m
+data_of_step part (ReadLock f ∷ []) m = read_by part (instruction_of f.instruction) m
+data_of_step part (ReadSignature f ∷ []) m = read_by part (instruction_of f.instruction) m
+data_of_step part (ReadOsccal f ∷ []) m = read_by part (instruction_of f.instruction) m
+data_of_step part commands m = []
 
-abbrev pub all_given : Part → List (List Command) → Memories → List ℕ
-all_given part [] m = []
-all_given part (commands ∷ steps) m = given_by part commands m ++ all_given part steps (changed part commands m)
+abbrev pub data_of_steps : Part → List (List Command) → Memories → List ℕ
+data_of_steps part [] m = []
+data_of_steps part (commands ∷ steps) m = data_of_step part commands m ++ data_of_steps part steps (memories_after_step part commands m)
 
 abbrev pub on_data : Reply → (List ℕ → Reply) → Reply
 on_data (Data bytes) go_on = go_on bytes
@@ -50,7 +50,7 @@ on_data (Again fault) go_on = Again fault
 on_data (Stop fault) go_on = Stop fault
 
 abbrev pub reply_to : {P : Type 0} → Device P → Command → P → Reply
-reply_to m command p = reading_reply command (Answered (m.answer (body command) p))
+reply_to m command p = reply_from_reading command (Answered (m.answer (body command) p))
 
 -- The result of commands that are all executed and replied to: their data joined, after `before`.
 abbrev pub joined_reply : {P : Type 0} → Device P → List Command → List ℕ → P → Reply
@@ -59,7 +59,7 @@ joined_reply m (command ∷ commands) before p =
     on_data (reply_to m command p) (λ bytes. joined_reply m commands (before ++ bytes) (m.after (body command) p))
 
 -- These are the data of one attempt, which began in either condition, and whose commands were all executed in order.
-pub record Gives {P : Type 0} (m : Device P) (commands : List Command) (Before After : P → Type 0)
+pub record IsDataOfAttempt {P : Type 0} (m : Device P) (commands : List Command) (Before After : P → Type 0)
     (bytes : List ℕ) : Type 0 where
   pub from : P
   pub stood : Before from ⊎ After from

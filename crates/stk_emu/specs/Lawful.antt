@@ -12,7 +12,7 @@ pub record IsLawful (noise : List ℕ) : Type 0 where
   pub no_frame : filter is_good (cut noise) ≡ []
 
 -- A body that a frame can carry: 1 to 275 bytes.
-pub record IsBody (body : List ℕ) : Type 0 where
+pub record IsFrameBody (body : List ℕ) : Type 0 where
   pub some : 0 < length body
   pub few : length body ≤ LARGEST_BODY
 
@@ -22,12 +22,12 @@ pub record Late : Type 0 where
   pub second : List ℕ
   pub third : List ℕ
 
-abbrev pub none_late : Late
-none_late = record { first = []; second = []; third = [] }
+abbrev pub no_late_replies : Late
+no_late_replies = record { first = []; second = []; third = [] }
 
 -- One more reply; a fourth one drops the first.
-abbrev pub behind_late : Late → List ℕ → Late
-behind_late late answered = record { first = late.second; second = late.third; third = answered }
+abbrev pub with_late_reply : Late → List ℕ → Late
+with_late_reply late answered = record { first = late.second; second = late.third; third = answered }
 
 abbrev pub waiting : Late → List ℕ
 waiting late = late.first ++ (late.second ++ late.third)
@@ -38,19 +38,19 @@ later zero n = n
 later (suc k) n = next (later k n)
 
 -- One whole good frame, whose number is `k` before `n`.
-pub record IsLate (k n : ℕ) (late : List ℕ) : Type 0 where
+pub record IsEarlierReply (k n : ℕ) (late : List ℕ) : Type 0 where
   pub seq : ℕ
   pub before : later k seq ≡ n
   pub bytes : List ℕ
-  pub carried : IsBody bytes
+  pub carried : IsFrameBody bytes
   pub is : late ≡ frame seq bytes
 
 -- Nothing, or the reply to the frame `k` before.
-abbrev pub IsPast : ℕ → ℕ → List ℕ → Type 0
-IsPast k n late = (late ≡ []) ⊎ IsLate k n late
+abbrev pub IsEmptyOrEarlier : ℕ → ℕ → List ℕ → Type 0
+IsEmptyOrEarlier k n late = (late ≡ []) ⊎ IsEarlierReply k n late
 
 -- The late replies are those to the last three frames before frame `n`, so none has its sequence number.
-pub record IsClear (n : ℕ) (late : Late) : Type 0 where
-  pub first : IsPast 3 n late.first
-  pub second : IsPast 2 n late.second
-  pub third : IsPast 1 n late.third
+pub record NoneHasNumber (n : ℕ) (late : Late) : Type 0 where
+  pub first : IsEmptyOrEarlier 3 n late.first
+  pub second : IsEmptyOrEarlier 2 n late.second
+  pub third : IsEmptyOrEarlier 1 n late.third

@@ -43,15 +43,15 @@ abbrev pub fail : ℕ → Programmer → Response
 fail code p = (code ∷ 0xC0 ∷ [], p)
 
 -- Outside programming mode a command fails.
-abbrev pub in_mode : ℕ → Programmer → Response → Response
-in_mode code p done = if p.mode then done else fail code p
+abbrev pub if_programming : ℕ → Programmer → Response → Response
+if_programming code p done = if p.mode then done else fail code p
 
-abbrev pub sent_to : List (List ℕ) → ChipState → ChipState
-sent_to [] chip = chip
-sent_to (x ∷ xs) chip = sent_to xs ((spi_of x chip).1)
+abbrev pub after_instructions : List (List ℕ) → ChipState → ChipState
+after_instructions [] chip = chip
+after_instructions (x ∷ xs) chip = after_instructions xs ((spi_of x chip).1)
 
 abbrev pub with_instructions : List (List ℕ) → Programmer → Programmer
-with_instructions xs p = record p { chip = sent_to xs p.chip }
+with_instructions xs p = record p { chip = after_instructions xs p.chip }
 
 -- Addresses are below this. A LOAD_ADDRESS at or above it asks for the extended address.
 abbrev pub bit_31 : ℕ
@@ -116,16 +116,16 @@ abbrev pub leave_progmode : Programmer → Response
 leave_progmode p = (0x11 ∷ 0 ∷ [], record p { mode = false })
 
 abbrev pub chip_erase : List ℕ → Programmer → Response
-chip_erase instruction p = in_mode 0x12 p (0x12 ∷ 0 ∷ [], with_instructions (instruction ∷ []) p)
+chip_erase instruction p = if_programming 0x12 p (0x12 ∷ 0 ∷ [], with_instructions (instruction ∷ []) p)
 
 -- Writes a fuse or the lock.
 abbrev pub program_byte : ℕ → List ℕ → Programmer → Response
-program_byte code instruction p = in_mode code p (code ∷ 0 ∷ 0 ∷ [], with_instructions (instruction ∷ []) p)
+program_byte code instruction p = if_programming code p (code ∷ 0 ∷ 0 ∷ [], with_instructions (instruction ∷ []) p)
 
 -- Reads a fuse, the lock, a signature byte or the calibration.
 abbrev pub read_byte : ℕ → ReadByte → Programmer → Response
 read_byte code f p =
-    in_mode code p (if nat_le 1 f.return_address && nat_le f.return_address 4
+    if_programming code p (if nat_le 1 f.return_address && nat_le f.return_address 4
     then (
       code ∷ 0 ∷ slice_index (spi_of f.instruction p.chip).0 (f.return_address - 1) ∷ 0
           ∷ [],
@@ -158,7 +158,7 @@ flash_fits f = not (f.count == 0) && f.count % 2 == 0 && f.count == length f.byt
 
 abbrev pub program_flash : ProgramBlock → Programmer → Response
 program_flash f p =
-    in_mode 0x13 p (if flash_fits f
+    if_programming 0x13 p (if flash_fits f
     then (
       0x13 ∷ 0 ∷ [],
       with_address_moved (f.count / 2) (with_instructions
@@ -180,7 +180,7 @@ eeprom_fits f = not (f.count == 0) && f.count == length f.bytes
 
 abbrev pub program_eeprom : ProgramBlock → Programmer → Response
 program_eeprom f p =
-    in_mode 0x15 p (if eeprom_fits f
+    if_programming 0x15 p (if eeprom_fits f
     then (
       0x15 ∷ 0 ∷ [],
       with_address_moved f.count (with_instructions
@@ -188,52 +188,52 @@ program_eeprom f p =
     )
     else fail 0x15 p)
 
-abbrev pub Looked : Type 0
-Looked = List ℕ × ChipState
+abbrev pub BytesAndChip : Type 0
+BytesAndChip = List ℕ × ChipState
 
-abbrev pub behind_byte : ℕ → Looked → Looked
-behind_byte b looked = (b ∷ looked.0, looked.1)
+abbrev pub with_first_byte : ℕ → BytesAndChip → BytesAndChip
+with_first_byte b looked = (b ∷ looked.0, looked.1)
 
 -- The fourth output byte of an instruction, and then what is read from the chip after it.
-abbrev pub look : List ℕ → ChipState → (ChipState → Looked) → Looked
-look x chip more = behind_byte (slice_index (spi_of x chip).0 3) (more (spi_of x chip).1)
+abbrev pub read_then : List ℕ → ChipState → (ChipState → BytesAndChip) → BytesAndChip
+read_then x chip more = with_first_byte (slice_index (spi_of x chip).0 3) (more (spi_of x chip).1)
 
-abbrev pub flash_looks : Bool → ℕ → ℕ → ℕ → ℕ → ChipState → Looked
-flash_looks wide cmd address i zero chip = ([], chip)
-flash_looks wide cmd address i (suc n) chip =
-    look (at_address (for_half cmd i) (word_at address i) 0) (sent_to (extension wide (word_at address i)) chip)
-    (flash_looks wide cmd address (suc i) n)
+abbrev pub flash_reads : Bool → ℕ → ℕ → ℕ → ℕ → ChipState → BytesAndChip
+flash_reads wide cmd address i zero chip = ([], chip)
+flash_reads wide cmd address i (suc n) chip =
+    read_then (at_address (for_half cmd i) (word_at address i) 0) (after_instructions (extension wide (word_at address i)) chip)
+    (flash_reads wide cmd address (suc i) n)
 
 -- The instructions that load a block of flash, and the bytes read of one.
 abbrev pub block_loads : Block → List ℕ → List (List ℕ)
 block_loads block bytes = flash_loads block.wide block.command block.address 0 bytes
 
-abbrev pub block_looks : Block → ℕ → ChipState → Looked
-block_looks block count chip = flash_looks block.wide block.command block.address 0 count chip
+abbrev pub block_reads : Block → ℕ → ChipState → BytesAndChip
+block_reads block count chip = flash_reads block.wide block.command block.address 0 count chip
 
-abbrev pub eeprom_looks : ℕ → ℕ → ℕ → ℕ → ChipState → Looked
-eeprom_looks cmd address i zero chip = ([], chip)
-eeprom_looks cmd address i (suc n) chip =
-    look (at_address cmd (byte_address address i) 0) chip (eeprom_looks cmd address (suc i) n)
+abbrev pub eeprom_reads : ℕ → ℕ → ℕ → ℕ → ChipState → BytesAndChip
+eeprom_reads cmd address i zero chip = ([], chip)
+eeprom_reads cmd address i (suc n) chip =
+    read_then (at_address cmd (byte_address address i) 0) chip (eeprom_reads cmd address (suc i) n)
 
-abbrev pub block : ℕ → Looked → Programmer → Response
+abbrev pub block : ℕ → BytesAndChip → Programmer → Response
 block code looked p = (code ∷ 0 ∷ (looked.0 ++ 0 ∷ []), record p { chip = looked.1 })
 
 abbrev pub read_flash : ReadBlock → Programmer → Response
 read_flash f p =
-    in_mode 0x14 p (if not (f.count == 0) && f.count % 2 == 0 && nat_le f.count LARGEST_READ
-    then block 0x14 (flash_looks p.wide f.cmd1 p.address 0 f.count p.chip) (with_address_moved (f.count / 2) p)
+    if_programming 0x14 p (if not (f.count == 0) && f.count % 2 == 0 && nat_le f.count LARGEST_READ
+    then block 0x14 (flash_reads p.wide f.cmd1 p.address 0 f.count p.chip) (with_address_moved (f.count / 2) p)
     else fail 0x14 p)
 
 abbrev pub read_eeprom : ReadBlock → Programmer → Response
 read_eeprom f p =
-    in_mode 0x16 p (if not (f.count == 0) && nat_le f.count LARGEST_READ
-    then block 0x16 (eeprom_looks f.cmd1 p.address 0 f.count p.chip) (with_address_moved f.count p)
+    if_programming 0x16 p (if not (f.count == 0) && nat_le f.count LARGEST_READ
+    then block 0x16 (eeprom_reads f.cmd1 p.address 0 f.count p.chip) (with_address_moved f.count p)
     else fail 0x16 p)
 
 abbrev pub spi_multi : ℕ → ℕ → ℕ → List ℕ → Programmer → Response
 spi_multi send_count receive_count receive_start bytes p =
-    in_mode 0x1D p (if send_count == 4 && length bytes == 4 && nat_le (receive_start + receive_count) 4
+    if_programming 0x1D p (if send_count == 4 && length bytes == 4 && nat_le (receive_start + receive_count) 4
     then (
       0x1D ∷ 0 ∷ (take receive_count (drop receive_start (spi_of bytes p.chip).0) ++ 0 ∷ []),
       with_instructions
@@ -241,38 +241,38 @@ spi_multi send_count receive_count receive_start bytes p =
     )
     else fail 0x1D p)
 
-abbrev pub obey_command : Command → Programmer → Response
-obey_command SignOn p = sign_on p
-obey_command (SetParameter number value) p = set_parameter number value p
-obey_command (GetParameter number) p = get_parameter number p
-obey_command (LoadAddress address) p = load_address address p
-obey_command (EnterProgmode f) p = enter_progmode f p
-obey_command (LeaveProgmode pre_delay post_delay) p = leave_progmode p
-obey_command (ChipErase erase_delay poll_method instruction) p = chip_erase instruction p
-obey_command (ProgramFlash f) p = program_flash f p
-obey_command (ReadFlash f) p = read_flash f p
-obey_command (ProgramEeprom f) p = program_eeprom f p
-obey_command (ReadEeprom f) p = read_eeprom f p
-obey_command (ProgramFuse instruction) p = program_byte 0x17 instruction p
-obey_command (ReadFuse f) p = read_byte 0x18 f p
-obey_command (ProgramLock instruction) p = program_byte 0x19 instruction p
-obey_command (ReadLock f) p = read_byte 0x1A f p
-obey_command (ReadSignature f) p = read_byte 0x1B f p
-obey_command (ReadOsccal f) p = read_byte 0x1C f p
-obey_command (SpiMulti send_count receive_count receive_start bytes) p =
+abbrev pub execute_command : Command → Programmer → Response
+execute_command SignOn p = sign_on p
+execute_command (SetParameter number value) p = set_parameter number value p
+execute_command (GetParameter number) p = get_parameter number p
+execute_command (LoadAddress address) p = load_address address p
+execute_command (EnterProgmode f) p = enter_progmode f p
+execute_command (LeaveProgmode pre_delay post_delay) p = leave_progmode p
+execute_command (ChipErase erase_delay poll_method instruction) p = chip_erase instruction p
+execute_command (ProgramFlash f) p = program_flash f p
+execute_command (ReadFlash f) p = read_flash f p
+execute_command (ProgramEeprom f) p = program_eeprom f p
+execute_command (ReadEeprom f) p = read_eeprom f p
+execute_command (ProgramFuse instruction) p = program_byte 0x17 instruction p
+execute_command (ReadFuse f) p = read_byte 0x18 f p
+execute_command (ProgramLock instruction) p = program_byte 0x19 instruction p
+execute_command (ReadLock f) p = read_byte 0x1A f p
+execute_command (ReadSignature f) p = read_byte 0x1B f p
+execute_command (ReadOsccal f) p = read_byte 0x1C f p
+execute_command (SpiMulti send_count receive_count receive_start bytes) p =
     spi_multi send_count receive_count receive_start bytes p
 
 abbrev pub is_known : ℕ → Bool
 is_known code = nat_le 0x01 code && nat_le code 0x03 || code == 0x06 || nat_le 0x10 code && nat_le code 0x1D
 
 -- A body that is no command fails if its first byte is a command's, and is unknown otherwise.
-abbrev pub not_read : ℕ → Programmer → Response
-not_read code p = (code ∷ (if is_known code then 0xC0 else 0xC9) ∷ [], p)
+abbrev pub undecoded_response : ℕ → Programmer → Response
+undecoded_response code p = (code ∷ (if is_known code then 0xC0 else 0xC9) ∷ [], p)
 
-abbrev pub read_as : Option Command → List ℕ → Programmer → Response
-read_as (Some command) bytes p = obey_command command p
-read_as None bytes p = not_read (slice_index bytes 0) p
+abbrev pub execute_decoded : Option Command → List ℕ → Programmer → Response
+execute_decoded (Some command) bytes p = execute_command command p
+execute_decoded None bytes p = undecoded_response (slice_index bytes 0) p
 
 -- The programmer's reply to the body of a frame, and the programmer after it.
-abbrev pub obey : List ℕ → Programmer → Response
-obey bytes p = read_as (command_of bytes) bytes p
+abbrev pub execute : List ℕ → Programmer → Response
+execute bytes p = execute_decoded (command_of bytes) bytes p

@@ -6,11 +6,11 @@ use Rattle.stk_emu.specs.Programmer.{Programmer}
 use Rattle.stk_emu.specs.Effect.{Memories, memories_of}
 
 -- Flash of at most 128 kB needs no extended address.
-abbrev pub IsNarrow : Part → Type 0
-IsNarrow part = part.flash_size ≤ 131072
+abbrev pub NeedsNoExtendedAddress : Part → Type 0
+NeedsNoExtendedAddress part = part.flash_size ≤ 131072
 
 -- A programmer in any mode, with a chip of this part that has these memories.
-pub record Idle (part : Part) (m : Memories) (p : Programmer) : Type 0 where
+pub record HasMemories (part : Part) (m : Memories) (p : Programmer) : Type 0 where
   pub memories : memories_of p.chip ≡ m
   pub part_is : p.chip.part ≡ part
   pub flash_buffer : length p.chip.flash_buffer ≡ part.flash_page
@@ -24,7 +24,7 @@ pub record Settled (part : Part) (m : Memories) (p : Programmer) : Type 0 where
   pub part_is : p.chip.part ≡ part
   pub flash_buffer : p.chip.flash_buffer ≡ replicate part.flash_page 255
   pub eeprom_buffer : p.chip.eeprom_buffer ≡ replicate part.eeprom_page None
-  pub extended : IsNarrow part → p.chip.extended ≡ 0
+  pub extended : NeedsNoExtendedAddress part → p.chip.extended ≡ 0
 
 -- A settled programmer in programming mode.
 pub record Ready (part : Part) (m : Memories) (p : Programmer) : Type 0 where
@@ -33,7 +33,7 @@ pub record Ready (part : Part) (m : Memories) (p : Programmer) : Type 0 where
   pub mode : p.mode ≡ true
   pub flash_buffer : p.chip.flash_buffer ≡ replicate part.flash_page 255
   pub eeprom_buffer : p.chip.eeprom_buffer ≡ replicate part.eeprom_page None
-  pub extended : IsNarrow part → p.chip.extended ≡ 0
+  pub extended : NeedsNoExtendedAddress part → p.chip.extended ≡ 0
 
 -- Memories of the part's sizes, and flash of bytes.
 pub record FitsPart (part : Part) (m : Memories) : Type 0 where

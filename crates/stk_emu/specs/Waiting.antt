@@ -28,7 +28,7 @@ AreWithin at [] count = Unit {0}
 AreWithin at (place ∷ places) count = (at ≤ place) × (place ≤ count) × AreWithin place places count
 
 -- Nothing waits, or a timeout is next.
-abbrev pub BeginsSilent : Tape → Type 0
-BeginsSilent [] = Unit {0}
-BeginsSilent (Silence ∷ tape) = Unit {0}
-BeginsSilent (other ∷ tape) = ⊥
+abbrev pub HasNoLeadingByte : Tape → Type 0
+HasNoLeadingByte [] = Unit {0}
+HasNoLeadingByte (Silence ∷ tape) = Unit {0}
+HasNoLeadingByte (other ∷ tape) = ⊥

@@ -6,9 +6,9 @@ use Rattle.stk_host.specs.declared.link.Item.TheVariants.{Silence}
 use Rattle.stk_host.specs.Tape.{Tape, on_tape}
 use Rattle.stk_emu.specs.declared.fate.Fate.{Fate}
 use Rattle.stk_emu.specs.declared.fate.Fate.TheVariants.{Good, LostCommand, LateAnswer, HeldAnswer, Reset, CommandRefused, AnswerSpoiled}
-use Rattle.stk_emu.specs.Lawful.{IsLawful, Late, none_late, behind_late, waiting}
-use Rattle.stk_emu.specs.Turn.{Turn, Became, became_in, Kept, Obeyed, Anew, Refusal, Nothing, Right, Wrong, after_turn}
-use Rattle.stk_emu.specs.Device.{Device, refusal, answer_frame, after_frame}
+use Rattle.stk_emu.specs.Lawful.{IsLawful, Late, no_late_replies, with_late_reply, waiting}
+use Rattle.stk_emu.specs.Exchange.{Exchange, Execution, execution_in, NotExecuted, Executed, ThenRestarted, Refusal, NoReply, AsIntended, Disturbed, after_exchange}
+use Rattle.stk_emu.specs.Device.{Device, refusal, reply_frame, after_frame}
 
 abbrev pub IsLawfulFate : Fate → Type 0
 IsLawfulFate (AnswerSpoiled noise) = IsLawful noise.items
@@ -26,42 +26,42 @@ abbrev pub other_fates : List Fate → List Fate
 other_fates [] = []
 other_fates (fate ∷ fates) = fates
 
-abbrev pub turn_of : Fate → Turn
-turn_of Good = Right
-turn_of LostCommand = Wrong Kept Nothing
-turn_of Reset = Wrong (Anew Kept) Nothing
-turn_of CommandRefused = Wrong Kept Refusal
-turn_of _ = Wrong Obeyed Nothing
+abbrev pub exchange_of_fate : Fate → Exchange
+exchange_of_fate Good = AsIntended
+exchange_of_fate LostCommand = Disturbed NotExecuted NoReply
+exchange_of_fate Reset = Disturbed (ThenRestarted NotExecuted) NoReply
+exchange_of_fate CommandRefused = Disturbed NotExecuted Refusal
+exchange_of_fate _ = Disturbed Executed NoReply
 
-abbrev pub turns_of : List Fate → List Turn
-turns_of [] = []
-turns_of (fate ∷ fates) = turn_of fate ∷ turns_of fates
+abbrev pub exchanges_of_fates : List Fate → List Exchange
+exchanges_of_fates [] = []
+exchanges_of_fates (fate ∷ fates) = exchange_of_fate fate ∷ exchanges_of_fates fates
 
 -- What becomes of the command in each of the next `k` frames.
-abbrev pub becames_of : ℕ → List Fate → List Became
-becames_of zero fates = []
-becames_of (suc k) fates = became_in (turn_of (first_fate fates)) ∷ becames_of k (other_fates fates)
+abbrev pub executions_of_fates : ℕ → List Fate → List Execution
+executions_of_fates zero fates = []
+executions_of_fates (suc k) fates = execution_in (exchange_of_fate (first_fate fates)) ∷ executions_of_fates k (other_fates fates)
 
 -- What a fate brings back, given the frames of the reply and of the refusal.
-abbrev pub back : Fate → List ℕ → List ℕ → Tape
-back Good answered refused = on_tape answered
-back CommandRefused answered refused = on_tape refused
-back (AnswerSpoiled noise) answered refused = on_tape noise.items ++ Silence ∷ []
-back _ answered refused = Silence ∷ []
+abbrev pub brought_by_fate : Fate → List ℕ → List ℕ → Tape
+brought_by_fate Good answered refused = on_tape answered
+brought_by_fate CommandRefused answered refused = on_tape refused
+brought_by_fate (AnswerSpoiled noise) answered refused = on_tape noise.items ++ Silence ∷ []
+brought_by_fate _ answered refused = Silence ∷ []
 
-abbrev pub is_held : Fate → Bool
-is_held HeldAnswer = true
-is_held _ = false
+abbrev pub holds_replies : Fate → Bool
+holds_replies HeldAnswer = true
+holds_replies _ = false
 
 -- The late replies that arrive before what this frame brings.
-abbrev pub let_go : Fate → Late → List ℕ
-let_go fate late = if is_held fate then [] else waiting late
+abbrev pub released_replies : Fate → Late → List ℕ
+released_replies fate late = if holds_replies fate then [] else waiting late
 
 -- The late replies that wait after it.
-abbrev pub late_of : Fate → List ℕ → Late → Late
-late_of LateAnswer answered late = behind_late none_late answered
-late_of HeldAnswer answered late = behind_late late answered
-late_of _ answered late = none_late
+abbrev pub late_after : Fate → List ℕ → Late → Late
+late_after LateAnswer answered late = with_late_reply no_late_replies answered
+late_after HeldAnswer answered late = with_late_reply late answered
+late_after _ answered late = no_late_replies
 
 -- The programmer, the fates to come, and the late replies that wait.
 pub record Wire (P : Type 0) : Type 0 where
@@ -71,24 +71,24 @@ pub record Wire (P : Type 0) : Type 0 where
 
 abbrev pub arrival : {P : Type 0} → Device P → List ℕ → Wire P → Tape
 arrival m piece w =
-    on_tape (let_go (first_fate w.fates) w.late)
-    ++ back (first_fate w.fates) (answer_frame m piece w.programmer) (frame (seq_of piece) refusal)
+    on_tape (released_replies (first_fate w.fates) w.late)
+    ++ brought_by_fate (first_fate w.fates) (reply_frame m piece w.programmer) (frame (seq_of piece) refusal)
 
-abbrev pub wire_behind : {P : Type 0} → Device P → List ℕ → Wire P → Wire P
-wire_behind m piece w = record {
-  programmer = after_turn (turn_of (first_fate w.fates)) (after_frame m piece w.programmer) w.programmer m.reset;
+abbrev pub wire_after_frame : {P : Type 0} → Device P → List ℕ → Wire P → Wire P
+wire_after_frame m piece w = record {
+  programmer = after_exchange (exchange_of_fate (first_fate w.fates)) (after_frame m piece w.programmer) w.programmer m.reset;
   fates = other_fates w.fates;
-  late = late_of (first_fate w.fates) (answer_frame m piece w.programmer) w.late;
+  late = late_after (first_fate w.fates) (reply_frame m piece w.programmer) w.late;
 }
 
 -- The arrivals of whole frames, joined; below, the wire after them.
 abbrev pub tape_of : {P : Type 0} → Device P → List (List ℕ) → Wire P → Tape
 tape_of m [] w = []
-tape_of m (piece ∷ pieces) w = arrival m piece w ++ tape_of m pieces (wire_behind m piece w)
+tape_of m (piece ∷ pieces) w = arrival m piece w ++ tape_of m pieces (wire_after_frame m piece w)
 
-abbrev pub wire_after : {P : Type 0} → Device P → List (List ℕ) → Wire P → Wire P
-wire_after m [] w = w
-wire_after m (piece ∷ pieces) w = wire_after m pieces (wire_behind m piece w)
+abbrev pub wire_after_frames : {P : Type 0} → Device P → List (List ℕ) → Wire P → Wire P
+wire_after_frames m [] w = w
+wire_after_frames m (piece ∷ pieces) w = wire_after_frames m pieces (wire_after_frame m piece w)
 
 abbrev pub fresh_wire : {P : Type 0} → P → List Fate → Wire P
-fresh_wire p fates = record { programmer = p; fates = fates; late = none_late }
+fresh_wire p fates = record { programmer = p; fates = fates; late = no_late_replies }

@@ -1,14 +1,14 @@
 -- A wire as a link: its fates decide what arrives.
 use Rattle.std.specs.Prelude.{ℕ, List, [], ◌∷◌, ◌++◌, ◌≡◌, ◌≢◌, length, take, drop, ◌<◌, filter}
 use Rattle.stk_frame.specs.Cut.{frames, is_frame}
-use Rattle.stk_frame.specs.Reader.{MayHold, Fed}
+use Rattle.stk_frame.specs.Reader.{MayHaveBeenFed, Fed}
 use Rattle.stk_host.specs.declared.link.Item.TheVariants.{Silence}
 use Rattle.stk_host.specs.Tape.{Tape}
 use Rattle.stk_host.specs.Transcript.{Transcript, LinkState, Sent, Got, sent, heard}
 use Rattle.stk_emu.specs.declared.fate.Fate.{Fate}
 use Rattle.stk_emu.specs.Programmer.{Programmer, fresh_programmer}
 use Rattle.stk_emu.specs.Device.{device}
-use Rattle.stk_emu.specs.Wire.{Wire, AreLawful, fresh_wire, tape_of, wire_after}
+use Rattle.stk_emu.specs.Wire.{Wire, AreLawful, fresh_wire, tape_of, wire_after_frames}
 
 -- The bytes of the frame that is arriving, the wire, the items that wait, the transcript, and the number of failures.
 pub record WiredState : Type 0 where
@@ -34,8 +34,8 @@ NeverIdle p fates transcript =
 -- A wire that began with this programmer and these fates, as the frames sent have left it. If the host received only
 -- when something waited, the items received and those that wait are what these frames bring.
 pub record FollowsFates (p : Programmer) (fates : List Fate) (w : WiredState) : Type 0 where
-  pub held : MayHold w.held (sent w.transcript)
-  pub stands : w.wire ≡ wire_after device (frames (sent w.transcript)) (fresh_wire p fates)
+  pub held : MayHaveBeenFed w.held (sent w.transcript)
+  pub stands : w.wire ≡ wire_after_frames device (frames (sent w.transcript)) (fresh_wire p fates)
   pub brings : NeverIdle p fates w.transcript → brought p fates (sent w.transcript) ≡ heard w.transcript ++ w.waits
 
 -- The programmer of a wire at its start, and the fates of its frames.
@@ -50,7 +50,7 @@ ComesOf start w = FollowsFates start.programmer start.fates w
 -- programmer has done nothing yet, and noise in place of a reply has no good frame.
 pub record IsFresh (w : WiredState) : Type 0 where
   pub silent : w.transcript ≡ []
-  pub held : MayHold w.held []
+  pub held : MayHaveBeenFed w.held []
   pub waits : w.waits ≡ []
   pub wire : w.wire ≡ fresh_wire (fresh_programmer w.wire.programmer.chip) w.wire.fates
   pub lawful : AreLawful w.wire.fates
@@ -61,14 +61,14 @@ pub record PassesBytes (old new : WiredState) (used : List ℕ) : Type 0 where
   pub are_frames : filter is_frame found ≡ found
   pub fed : Fed old.held used new.held found
   pub waits : new.waits ≡ old.waits ++ tape_of device found old.wire
-  pub wire : new.wire ≡ wire_after device found old.wire
+  pub wire : new.wire ≡ wire_after_frames device found old.wire
   pub transcript : new.transcript ≡ old.transcript ++ Sent used ∷ []
 
 -- These items were received.
-abbrev pub after_hearing : Tape → WiredState → WiredState
-after_hearing items w = record w { transcript = w.transcript ++ Got items ∷ []; waits = drop (length items) w.waits }
+abbrev pub after_receiving : Tape → WiredState → WiredState
+after_receiving items w = record w { transcript = w.transcript ++ Got items ∷ []; waits = drop (length items) w.waits }
 
 -- What is received next: some of the first items that wait, or a timeout if nothing waits.
-abbrev pub IsNext : Tape → Tape → Type 0
-IsNext items [] = items ≡ Silence ∷ []
-IsNext items (item ∷ waits) = (0 < length items) × (items ≡ take (length items) (item ∷ waits))
+abbrev pub IsReceivedNext : Tape → Tape → Type 0
+IsReceivedNext items [] = items ≡ Silence ∷ []
+IsReceivedNext items (item ∷ waits) = (0 < length items) × (items ≡ take (length items) (item ∷ waits))

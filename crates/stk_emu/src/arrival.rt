@@ -2,10 +2,10 @@
 ghost use Rattle.std.specs.Prelude.{◌≡◌, ◌+◌, ◌*◌, ◌<◌, ◌≤◌, ◌++◌, [], ◌∷◌, length, take, drop, max, if◌then◌else◌, OnOk};
 ghost use Rattle.stk_frame.specs.declared.protocol.TheConstants.{LARGEST_FRAME};
 ghost use Rattle.stk_host.specs.declared.link.Item.TheVariants.{Silence};
-ghost use Rattle.stk_host.specs.Tape.{on_tape, bytes_in};
-ghost use Rattle.stk_emu.specs.Waiting.{BeginsSilent, HasRoom};
-ghost use Rattle.stk_emu.specs.Lawful.{none_late, behind_late};
-ghost use Rattle.stk_emu.specs.Wire.{let_go, is_held};
+ghost use Rattle.stk_host.specs.Tape.{on_tape, leading_bytes};
+ghost use Rattle.stk_emu.specs.Waiting.{HasNoLeadingByte, HasRoom};
+ghost use Rattle.stk_emu.specs.Lawful.{no_late_replies, with_late_reply};
+ghost use Rattle.stk_emu.specs.Wire.{released_replies, holds_replies};
 
 use crate::emulator::Frame;
 use crate::fate::{Fate, LARGEST_NOISE};
@@ -94,8 +94,8 @@ impl Arrivals {
 
     /// Returns the bytes that wait before the first timeout.
     fn leading(&self) -> &[u8]
-        ensures bytes { result.now ≡ bytes_in self.now.tape }
-        ensures silent { result.now ≡ [] → BeginsSilent self.now.tape }
+        ensures bytes { result.now ≡ leading_bytes self.now.tape }
+        ensures silent { result.now ≡ [] → HasNoLeadingByte self.now.tape }
     {
         let bytes = &self.bytes[self.at..];
         match self.timeouts.front() {
@@ -108,8 +108,8 @@ impl Arrivals {
     pub fn copy_to(&self, buffer: &mut [u8]) -> usize
         ensures within { result ≤ length buffer.new }
         ensures taken { on_tape (take result buffer.new) ≡ take result self.now.tape }
-        ensures inside { result ≤ length (bytes_in self.now.tape) }
-        ensures some { 0 < length buffer.old → result ≡ 0 → BeginsSilent self.now.tape }
+        ensures inside { result ≤ length (leading_bytes self.now.tape) }
+        ensures some { 0 < length buffer.old → result ≡ 0 → HasNoLeadingByte self.now.tape }
     {
         let leading = self.leading();
         let count = leading.len().min(buffer.len());
@@ -119,8 +119,8 @@ impl Arrivals {
 
     /// Drops `count` leading bytes, or the leading timeout if `count` is 0.
     pub fn drop_next(&mut self, count: usize)
-        requires inside { count ≤ length (bytes_in self.old.tape) }
-        requires silent { count ≡ 0 → BeginsSilent self.old.tape }
+        requires inside { count ≤ length (leading_bytes self.old.tape) }
+        requires silent { count ≡ 0 → HasNoLeadingByte self.old.tape }
         ensures { self.new.tape ≡ drop (max 1 count) self.old.tape }
     {
         if count == 0 {
@@ -153,7 +153,7 @@ impl Model for Late {
 
 impl Late {
     pub fn new() -> Late
-        ensures { result ≡ none_late }
+        ensures { result ≡ no_late_replies }
     {
         Late {
             first: Frame::new(),
@@ -164,19 +164,19 @@ impl Late {
 
     /// Adds a reply; a fourth one drops the first.
     pub fn hold(&mut self, answered: Frame)
-        ensures { self.new ≡ behind_late self.old answered.items }
+        ensures { self.new ≡ with_late_reply self.old answered.items }
     {
         let third = mem::replace(&mut self.third, answered);
         self.first = mem::replace(&mut self.second, third);
     }
 
     /// Moves the late replies to `out`, unless this fate of a frame keeps them waiting.
-    pub fn bring(&mut self, fate: &Fate, out: &mut Arrivals)
+    pub fn release_replies(&mut self, fate: &Fate, out: &mut Arrivals)
         requires { HasRoom out.old }
-        ensures tape { out.new.tape ≡ out.old.tape ++ on_tape (let_go fate.now self.old) }
+        ensures tape { out.new.tape ≡ out.old.tape ++ on_tape (released_replies fate.now self.old) }
         ensures bytes { out.old.byte_room ≤ out.new.byte_room + 3 * LARGEST_FRAME }
         ensures timeouts { out.new.timeout_room ≡ out.old.timeout_room }
-        ensures late { self.new ≡ (if is_held fate.now then self.old else none_late) }
+        ensures late { self.new ≡ (if holds_replies fate.now then self.old else no_late_replies) }
     {
         if matches!(fate, Fate::HeldAnswer) {
             return;

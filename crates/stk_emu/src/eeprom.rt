@@ -2,7 +2,7 @@
 
 ghost use Rattle.std.specs.Prelude.{◌≡◌, ◌<◌, ◌≤◌, ◌+◌, ◌++◌, length};
 ghost use Rattle.stk_frame.specs.declared.protocol.TheConstants.{LARGEST_BODY};
-ghost use Rattle.stk_emu.specs.Programmer.{bit_31, sent_to, eeprom_loads, eeprom_writes, eeprom_looks};
+ghost use Rattle.stk_emu.specs.Programmer.{bit_31, after_instructions, eeprom_loads, eeprom_writes, eeprom_reads};
 
 use crate::programmer::Body;
 use crate::spi::{at_address, byte_at};
@@ -12,7 +12,7 @@ use avr_part::Chip;
 pub(crate) fn load_bytes(chip: &mut Chip, command: u8, address: u32, bytes: &[u8])
     requires address { address < bit_31 }
     requires count { length bytes.now < 65536 }
-    ensures { chip.new ≡ sent_to (eeprom_loads command address 0 bytes.now) chip.old }
+    ensures { chip.new ≡ after_instructions (eeprom_loads command address 0 bytes.now) chip.old }
 {
     for (i, byte) in bytes.iter().enumerate() {
         let at = byte_at(address, i as u16);
@@ -21,7 +21,7 @@ pub(crate) fn load_bytes(chip: &mut Chip, command: u8, address: u32, bytes: &[u8
 }
 
 pub(crate) fn write_page(chip: &mut Chip, command: u8, address: u32, is_asked: bool)
-    ensures { chip.new ≡ sent_to (eeprom_writes command address is_asked) chip.old }
+    ensures { chip.new ≡ after_instructions (eeprom_writes command address is_asked) chip.old }
 {
     if is_asked {
         chip.spi(at_address(command, address, 0));
@@ -31,8 +31,8 @@ pub(crate) fn write_page(chip: &mut Chip, command: u8, address: u32, is_asked: b
 pub(crate) fn read(chip: &mut Chip, command: u8, address: u32, count: u16, out: &mut Body)
     requires address { address < bit_31 }
     requires room { length out.old.items + count ≤ LARGEST_BODY }
-    ensures bytes { out.new.items ≡ out.old.items ++ (eeprom_looks command address 0 count chip.old).0 }
-    ensures chip { chip.new ≡ (eeprom_looks command address 0 count chip.old).1 }
+    ensures bytes { out.new.items ≡ out.old.items ++ (eeprom_reads command address 0 count chip.old).0 }
+    ensures chip { chip.new ≡ (eeprom_reads command address 0 count chip.old).1 }
 {
     for place in 0..count {
         let at = byte_at(address, place);

@@ -3,10 +3,10 @@
 ghost use Rattle.std.specs.Prelude.{◌≡◌, ◌<◌, ◌≤◌, ◌++◌, [], ℕ, ◌+◌, List, length, take, OnOk, OnErr};
 ghost use Rattle.stk_frame.specs.Frame.{frame};
 ghost use Rattle.stk_frame.specs.Cut.{is_good, seq_of};
-ghost use Rattle.stk_frame.specs.Reader.{HoldsFrame, TellsEvent, frames_of_event};
+ghost use Rattle.stk_frame.specs.Reader.{HoldsFrame, EventMatchesHeld, frames_of_event};
 ghost use Rattle.stk_emu.specs.Programmer.{Programmer as ProgrammerState, fresh_programmer};
-ghost use Rattle.stk_emu.specs.Device.{device, refusal, answer_frame, after_frame, answers, after_frames};
-ghost use Rattle.stk_emu.specs.Emulator.{Answers, AppendsAnswers, AnswersPrefix, IsFed, emulate};
+ghost use Rattle.stk_emu.specs.Device.{device, refusal, reply_frame, after_frame, answers, after_frames};
+ghost use Rattle.stk_emu.specs.Emulator.{RepliesToFrame, AppendsReplies, AppendsRepliesToPrefix, WasFedText, emulate};
 
 use crate::programmer::{Body, Programmer};
 use arrayvec::ArrayVec;
@@ -34,20 +34,20 @@ pub(crate) fn refuse(reader: &FrameReader, out: &mut Frame)
 pub(crate) fn answer(reader: &FrameReader, good: bool, programmer: &mut Programmer, out: &mut Frame)
     requires holds { HoldsFrame reader.now }
     requires tells { is_good reader.now ≡ good }
-    ensures answer { out.new.items ≡ answer_frame device reader.now programmer.old }
+    ensures answer { out.new.items ≡ reply_frame device reader.now programmer.old }
     ensures after { programmer.new ≡ after_frame device reader.now programmer.old }
 {
     if !good {
         return refuse(reader, out);
     }
     let mut body = Body::new();
-    programmer.obey(reader.body(), &mut body);
+    programmer.execute(reader.body(), &mut body);
     put_frame(reader.seq(), body.as_slice(), out);
 }
 
 /// Makes `out` the reply to the frame that the event reports, or empty if it reports none.
-fn answer_event(reader: &FrameReader, event: Event, programmer: &mut Programmer, out: &mut Frame)
-    requires { TellsEvent event reader.now }
+fn reply_to_event(reader: &FrameReader, event: Event, programmer: &mut Programmer, out: &mut Frame)
+    requires { EventMatchesHeld event reader.now }
     ensures answers { out.new.items ≡ answers device (frames_of_event event reader.now) programmer.old }
     ensures after { programmer.new ≡ after_frames device (frames_of_event event reader.now) programmer.old }
 {
@@ -78,9 +78,9 @@ pub struct Emulator {
 }
 
 impl Model for Emulator {
-    ghost use Rattle.stk_emu.specs.Emulator.{Machine};
+    ghost use Rattle.stk_emu.specs.Emulator.{EmulatorState};
 
-    ghost Value = { Machine };
+    ghost Value = { EmulatorState };
 
     ghost view = { λ emulator. record { held = emulator.reader; programmer = emulator.programmer } };
 }
@@ -96,7 +96,7 @@ impl Emulator {
     pub fn new(chip: Chip) -> Emulator
         ensures held { result.held ≡ [] }
         ensures programmer { result.programmer ≡ fresh_programmer chip }
-        ensures begins { IsFed (fresh_programmer chip) [] result }
+        ensures begins { WasFedText (fresh_programmer chip) [] result }
     {
         Emulator {
             reader: FrameReader::new(),
@@ -145,15 +145,15 @@ impl Emulator {
         ensures within { result ≤ length piece.now }
         ensures all { out.new.items ≡ [] → result ≡ length piece.now }
         ensures progress { 0 < length piece.now → 0 < result }
-        ensures one { Answers self.old (take result piece.now) self.new out.new.items }
+        ensures one { RepliesToFrame self.old (take result piece.now) self.new out.new.items }
         // However the text was cut into pieces, the replies are those to the whole text.
-        ensures fed { (p : ProgrammerState) (text : List ℕ) → IsFed p text self.old
-            → IsFed p (text ++ take result piece.now) self.new }
-        ensures emulated { (p : ProgrammerState) (text : List ℕ) → IsFed p text self.old
+        ensures fed { (p : ProgrammerState) (text : List ℕ) → WasFedText p text self.old
+            → WasFedText p (text ++ take result piece.now) self.new }
+        ensures emulated { (p : ProgrammerState) (text : List ℕ) → WasFedText p text self.old
             → emulate p (text ++ take result piece.now) ≡ emulate p text ++ out.new.items }
     {
         let (used, event) = self.reader.feed(piece);
-        answer_event(&self.reader, event, &mut self.programmer, out);
+        reply_to_event(&self.reader, event, &mut self.programmer, out);
         used
     }
 
@@ -174,13 +174,13 @@ impl Emulator {
     /// assert!(rt; answers.as_slice() == refused.as_slice());
     /// ```
     pub fn answer_all(&mut self, bytes: &[u8], answers: &mut Vec<u8>) -> Result<(), AllocError>
-        ensures appends { OnOk result (AppendsAnswers self.old bytes.now self.new
+        ensures appends { OnOk result (AppendsReplies self.old bytes.now self.new
             answers.old.items answers.new.items) }
-        ensures prefix { OnErr result (AnswersPrefix self.old bytes.now self.new
+        ensures prefix { OnErr result (AppendsRepliesToPrefix self.old bytes.now self.new
             answers.old.items answers.new.items) }
-        ensures fed { (p : ProgrammerState) (text : List ℕ) → IsFed p text self.old
-            → OnOk result (IsFed p (text ++ bytes.now) self.new) }
-        ensures all { (p : ProgrammerState) (text : List ℕ) → IsFed p text self.old
+        ensures fed { (p : ProgrammerState) (text : List ℕ) → WasFedText p text self.old
+            → OnOk result (WasFedText p (text ++ bytes.now) self.new) }
+        ensures all { (p : ProgrammerState) (text : List ℕ) → WasFedText p text self.old
             → answers.old.items ≡ emulate p text → OnOk result (answers.new.items ≡ emulate p (text ++ bytes.now)) }
     {
         let mut used = 0;

@@ -1,7 +1,7 @@
 //! A list of fates, which are checked when they are added.
 ghost use Rattle.std.specs.Prelude.{◌≡◌, ◌++◌, ◌∷◌, ◌↔◌, [], length, IsTrue, IfErr, OnOk, OnErr};
 ghost use Rattle.stk_emu.specs.Wire.{AreLawful, IsLawfulFate};
-ghost use Rattle.stk_emu.specs.Fates.{Refuses, fates_fault_number};
+ghost use Rattle.stk_emu.specs.Fates.{ExplainsRefusal, fates_fault_number};
 
 use crate::fate::{Fate, noise_is_lawful};
 use std::alloc::Global;
@@ -111,7 +111,7 @@ impl Fates {
     pub fn push(&mut self, fate: Fate) -> Result<(), FatesFault>
         ensures pushed { OnOk result (self.new ≡ self.old ++ fate ∷ []) }
         ensures lawful { OnOk result (IsLawfulFate fate) }
-        ensures refused { IfErr result (λ fault. Refuses fault fate) }
+        ensures refused { IfErr result (λ fault. ExplainsRefusal fault fate) }
         ensures same { OnErr result (self.new ≡ self.old) }
     {
         if !is_lawful(&fate) {

@@ -2,7 +2,7 @@
 
 ghost use Rattle.std.specs.Prelude.{◌≡◌, ◌<◌, ◌≤◌, ◌+◌, ◌++◌, length};
 ghost use Rattle.stk_frame.specs.declared.protocol.TheConstants.{LARGEST_BODY};
-ghost use Rattle.stk_emu.specs.Programmer.{bit_31, sent_to, flash_writes, block_loads, block_looks};
+ghost use Rattle.stk_emu.specs.Programmer.{bit_31, after_instructions, flash_writes, block_loads, block_reads};
 
 use crate::programmer::Body;
 use crate::spi::{at_address, extend, for_half, word_at};
@@ -25,7 +25,7 @@ pub(crate) struct Block {
 pub(crate) fn load_page(chip: &mut Chip, block: Block, bytes: &[u8])
     requires address { block.address < bit_31 }
     requires count { length bytes.now < 65536 }
-    ensures { chip.new ≡ sent_to (block_loads block bytes.now) chip.old }
+    ensures { chip.new ≡ after_instructions (block_loads block bytes.now) chip.old }
 {
     if block.command == LOAD && !bytes.is_empty() {
         if chip.load_block((block.address % 256) as u8, bytes) {
@@ -42,7 +42,7 @@ pub(crate) fn load_page(chip: &mut Chip, block: Block, bytes: &[u8])
 }
 
 pub(crate) fn write_page(chip: &mut Chip, block: Block, is_asked: bool)
-    ensures { chip.new ≡ sent_to (flash_writes block.wide block.command block.address is_asked) chip.old }
+    ensures { chip.new ≡ after_instructions (flash_writes block.wide block.command block.address is_asked) chip.old }
 {
     if is_asked {
         extend(chip, block.wide, block.address);
@@ -54,8 +54,8 @@ pub(crate) fn write_page(chip: &mut Chip, block: Block, is_asked: bool)
 pub(crate) fn read(chip: &mut Chip, block: Block, count: u16, out: &mut Body)
     requires address { block.address < bit_31 }
     requires room { length out.old.items + count ≤ LARGEST_BODY }
-    ensures bytes { out.new.items ≡ out.old.items ++ (block_looks block count chip.old).0 }
-    ensures chip { chip.new ≡ (block_looks block count chip.old).1 }
+    ensures bytes { out.new.items ≡ out.old.items ++ (block_reads block count chip.old).0 }
+    ensures chip { chip.new ≡ (block_reads block count chip.old).1 }
 {
     if block.command == READ && count != 0 {
         // The first instruction sends the extended address again.

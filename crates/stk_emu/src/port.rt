@@ -5,8 +5,8 @@ ghost use Rattle.std.specs.IoError.{error_kind};
 ghost use Rattle.std.specs.Io.{ReadsAtMost, WritesAtMost};
 ghost use Rattle.std.specs.Io.KnownBytes.{Keeps, ReadConsumes, WriteAppends};
 ghost use Rattle.stk_emu.specs.Programmer.{Programmer as ProgrammerState};
-ghost use Rattle.stk_emu.specs.Emulator.{AppendsAnswers};
-ghost use Rattle.stk_emu.specs.Port.{IsPassed};
+ghost use Rattle.stk_emu.specs.Emulator.{AppendsReplies};
+ghost use Rattle.stk_emu.specs.Port.{IsPortAfter};
 
 use crate::emulator::{Emulator, Frame};
 use avr_part::Chip;
@@ -112,8 +112,8 @@ impl Read for EmulatedPort {
         ensures blocks { OnErr result (self.old.waits ≡ []) }
         ensures kind { IfErr result (λ e. error_kind e ≡ ErrorKind.WouldBlock) }
         ensures some { IfOk result (λ n. 0 < length buf.new → 0 < n) }
-        ensures passed { (p : ProgrammerState) (written given : List ℕ) → IsPassed p written given self.old
-            → IfOk result (λ n. IsPassed p written (given ++ take n buf.new) self.new) }
+        ensures passed { (p : ProgrammerState) (written given : List ℕ) → IsPortAfter p written given self.old
+            → IfOk result (λ n. IsPortAfter p written (given ++ take n buf.new) self.new) }
     {
         if self.waits.is_empty() {
             return Err(ErrorKind::WouldBlock.into());
@@ -127,10 +127,10 @@ impl Write for EmulatedPort {
         ensures bound { WritesAtMost result buf.now }
         ensures bytes { WriteAppends None None result buf.now }
         ensures some { IfOk result (λ n. 0 < length buf.now → 0 < n) }
-        ensures answers { IfOk result (λ n. AppendsAnswers self.old.machine (take n buf.now) self.new.machine
+        ensures answers { IfOk result (λ n. AppendsReplies self.old.machine (take n buf.now) self.new.machine
             self.old.waits self.new.waits) }
-        ensures passed { (p : ProgrammerState) (written given : List ℕ) → IsPassed p written given self.old
-            → IfOk result (λ n. IsPassed p (written ++ take n buf.now) given self.new) }
+        ensures passed { (p : ProgrammerState) (written given : List ℕ) → IsPortAfter p written given self.old
+            → IfOk result (λ n. IsPortAfter p (written ++ take n buf.now) given self.new) }
         ensures kind { IfErr result (λ e. error_kind e ≡ ErrorKind.OutOfMemory) }
         ensures same { OnErr result (self.new ≡ self.old) }
     {

@@ -2,7 +2,7 @@
 
 ghost use Rattle.std.specs.Prelude.{◌≡◌, ◌<◌, ◌≤◌, ◌∷◌, [], ◌+◌, ◌%◌, length, false, true};
 ghost use Rattle.stk_frame.specs.declared.protocol.TheConstants.{LARGEST_BODY, STATUS_CMD_FAILED};
-ghost use Rattle.stk_emu.specs.Programmer.{fresh_programmer, restarted_programmer, set_parameter, get_parameter, load_address, enter_progmode, leave_progmode, chip_erase, program_byte, read_byte, program_flash, program_eeprom, is_paged, is_written, read_flash, read_eeprom, spi_multi, obey_command, is_known, obey, bit_31};
+ghost use Rattle.stk_emu.specs.Programmer.{fresh_programmer, restarted_programmer, set_parameter, get_parameter, load_address, enter_progmode, leave_progmode, chip_erase, program_byte, read_byte, program_flash, program_eeprom, is_paged, is_written, read_flash, read_eeprom, spi_multi, execute_command, is_known, execute, bit_31};
 
 use crate::flash::Block;
 use crate::{eeprom, flash};
@@ -58,7 +58,7 @@ impl Model for Programmer {
     ghost invariant = { λ p. p.address < bit_31 };
 }
 
-fn answer_with(out: &mut Body, bytes: &[u8])
+fn reply_with(out: &mut Body, bytes: &[u8])
     requires { length bytes.now ≤ LARGEST_BODY }
     ensures { out.new.items ≡ bytes.now }
 {
@@ -69,7 +69,7 @@ fn answer_with(out: &mut Body, bytes: &[u8])
 fn fail(out: &mut Body, code: u8)
     ensures { out.new.items ≡ code ∷ STATUS_CMD_FAILED ∷ [] }
 {
-    answer_with(out, &[code, STATUS_CMD_FAILED]);
+    reply_with(out, &[code, STATUS_CMD_FAILED]);
 }
 
 fn is_known(code: u8) -> bool
@@ -132,13 +132,13 @@ impl Programmer {
         ensures { (out.new.items, self.new) ≡ set_parameter number value self.old }
     {
         self.parameters[usize::from(number)] = value;
-        answer_with(out, &[CMD_SET_PARAMETER, STATUS_CMD_OK]);
+        reply_with(out, &[CMD_SET_PARAMETER, STATUS_CMD_OK]);
     }
 
     fn get_parameter(&self, number: u8, out: &mut Body)
         ensures { (out.new.items, self.now) ≡ get_parameter number self.now }
     {
-        answer_with(
+        reply_with(
             out,
             &[
                 CMD_GET_PARAMETER,
@@ -153,7 +153,7 @@ impl Programmer {
     {
         self.address = address % EXTENDED_ADDRESS;
         self.wide = EXTENDED_ADDRESS <= address;
-        answer_with(out, &[CMD_LOAD_ADDRESS, STATUS_CMD_OK]);
+        reply_with(out, &[CMD_LOAD_ADDRESS, STATUS_CMD_OK]);
     }
 
     fn enter_progmode(&mut self, fields: &EnterProgmode, out: &mut Body)
@@ -171,14 +171,14 @@ impl Programmer {
             return fail(out, CMD_ENTER_PROGMODE_ISP);
         }
         self.mode = true;
-        answer_with(out, &[CMD_ENTER_PROGMODE_ISP, STATUS_CMD_OK]);
+        reply_with(out, &[CMD_ENTER_PROGMODE_ISP, STATUS_CMD_OK]);
     }
 
     fn leave_progmode(&mut self, out: &mut Body)
         ensures { (out.new.items, self.new) ≡ leave_progmode self.old }
     {
         self.mode = false;
-        answer_with(out, &[CMD_LEAVE_PROGMODE_ISP, STATUS_CMD_OK]);
+        reply_with(out, &[CMD_LEAVE_PROGMODE_ISP, STATUS_CMD_OK]);
     }
 
     fn chip_erase(&mut self, instruction: [u8; 4], out: &mut Body)
@@ -188,7 +188,7 @@ impl Programmer {
             return fail(out, CMD_CHIP_ERASE_ISP);
         }
         self.chip.spi(instruction);
-        answer_with(out, &[CMD_CHIP_ERASE_ISP, STATUS_CMD_OK]);
+        reply_with(out, &[CMD_CHIP_ERASE_ISP, STATUS_CMD_OK]);
     }
 
     fn program_byte(&mut self, code: u8, instruction: [u8; 4], out: &mut Body)
@@ -198,7 +198,7 @@ impl Programmer {
             return fail(out, code);
         }
         self.chip.spi(instruction);
-        answer_with(out, &[code, STATUS_CMD_OK, STATUS_CMD_OK]);
+        reply_with(out, &[code, STATUS_CMD_OK, STATUS_CMD_OK]);
     }
 
     fn read_byte(&mut self, code: u8, fields: &ReadByte, out: &mut Body)
@@ -209,7 +209,7 @@ impl Programmer {
             return fail(out, code);
         }
         let bytes = self.chip.spi(fields.instruction);
-        answer_with(
+        reply_with(
             out,
             &[
                 code,
@@ -220,7 +220,7 @@ impl Programmer {
         );
     }
 
-    fn move_on(&mut self, count: u16)
+    fn advance_address(&mut self, count: u16)
         ensures { self.new ≡ record self.old { address = (self.old.address + count) % bit_31 } }
     {
         self.address = (self.address + u32::from(count)) % EXTENDED_ADDRESS;
@@ -253,8 +253,8 @@ impl Programmer {
         flash::load_page(&mut self.chip, block, bytes);
         let page = self.block(fields.cmd2);
         flash::write_page(&mut self.chip, page, is_written(fields));
-        self.move_on(count / 2);
-        answer_with(out, &[CMD_PROGRAM_FLASH_ISP, STATUS_CMD_OK]);
+        self.advance_address(count / 2);
+        reply_with(out, &[CMD_PROGRAM_FLASH_ISP, STATUS_CMD_OK]);
     }
 
     fn program_eeprom(&mut self, fields: &ProgramBlock<'_>, out: &mut Body)
@@ -273,8 +273,8 @@ impl Programmer {
             address,
             is_paged(fields) && is_written(fields),
         );
-        self.move_on(count);
-        answer_with(out, &[CMD_PROGRAM_EEPROM_ISP, STATUS_CMD_OK]);
+        self.advance_address(count);
+        reply_with(out, &[CMD_PROGRAM_EEPROM_ISP, STATUS_CMD_OK]);
     }
 
     fn read_flash(&mut self, fields: &ReadBlock, out: &mut Body)
@@ -284,11 +284,11 @@ impl Programmer {
         if !self.mode || count == 0 || count % 2 != 0 || count > LARGEST_READ {
             return fail(out, CMD_READ_FLASH_ISP);
         }
-        answer_with(out, &[CMD_READ_FLASH_ISP, STATUS_CMD_OK]);
+        reply_with(out, &[CMD_READ_FLASH_ISP, STATUS_CMD_OK]);
         let block = self.block(fields.cmd1);
         flash::read(&mut self.chip, block, count, out);
         out.push(STATUS_CMD_OK);
-        self.move_on(count / 2);
+        self.advance_address(count / 2);
     }
 
     fn read_eeprom(&mut self, fields: &ReadBlock, out: &mut Body)
@@ -298,10 +298,10 @@ impl Programmer {
         if !self.mode || count == 0 || count > LARGEST_READ {
             return fail(out, CMD_READ_EEPROM_ISP);
         }
-        answer_with(out, &[CMD_READ_EEPROM_ISP, STATUS_CMD_OK]);
+        reply_with(out, &[CMD_READ_EEPROM_ISP, STATUS_CMD_OK]);
         eeprom::read(&mut self.chip, fields.cmd1, self.address, count, out);
         out.push(STATUS_CMD_OK);
-        self.move_on(count);
+        self.advance_address(count);
     }
 
     fn spi_multi(&mut self, send: u8, receive: u8, start: u8, bytes: &[u8], out: &mut Body)
@@ -315,16 +315,16 @@ impl Programmer {
             return fail(out, CMD_SPI_MULTI);
         };
         let received = self.chip.spi([*a, *b, *c, *d]);
-        answer_with(out, &[CMD_SPI_MULTI, STATUS_CMD_OK]);
+        reply_with(out, &[CMD_SPI_MULTI, STATUS_CMD_OK]);
         let _ = out.try_extend_from_slice(&received[usize::from(start)..end]);
         out.push(STATUS_CMD_OK);
     }
 
-    fn obey_command(&mut self, command: &Command<'_>, out: &mut Body)
-        ensures { (out.new.items, self.new) ≡ obey_command command.now self.old }
+    fn execute_command(&mut self, command: &Command<'_>, out: &mut Body)
+        ensures { (out.new.items, self.new) ≡ execute_command command.now self.old }
     {
         match command {
-            Command::SignOn => answer_with(out, b"\x01\x00\x08STK500_2"),
+            Command::SignOn => reply_with(out, b"\x01\x00\x08STK500_2"),
             Command::SetParameter { number, value } => self.set_parameter(*number, *value, out),
             Command::GetParameter { number } => self.get_parameter(*number, out),
             Command::LoadAddress { address } => self.load_address(*address, out),
@@ -367,11 +367,11 @@ impl Programmer {
     }
 
     /// Executes the command with this body, and makes `out` the body of the reply.
-    pub fn obey(&mut self, body: &[u8], out: &mut Body)
-        ensures { (out.new.items, self.new) ≡ obey body.now self.old }
+    pub fn execute(&mut self, body: &[u8], out: &mut Body)
+        ensures { (out.new.items, self.new) ≡ execute body.now self.old }
     {
         match Command::read(body) {
-            Some(command) => self.obey_command(&command, out),
+            Some(command) => self.execute_command(&command, out),
             None => {
                 let code = body.first().copied().unwrap_or(0);
                 let status = if is_known(code) {
@@ -379,7 +379,7 @@ impl Programmer {
                 } else {
                     STATUS_CMD_UNKNOWN
                 };
-                answer_with(out, &[code, status]);
+                reply_with(out, &[code, status]);
             }
         }
     }

@@ -24,12 +24,12 @@ pub trait Recorder: Drop {
         ensures room { OnOk result ((n : ℕ) → n ≤ count → HasRoom self.new n) };
 
     /// Records these bytes as sent.
-    fn say(&mut self, bytes: &[u8])
+    fn add_sent(&mut self, bytes: &[u8])
         requires { HasRoom self.old (length bytes.now) }
         ensures { transcript self.new ≡ transcript self.old ++ piece.Sent bytes.now ∷ [] };
 
     /// Records what was received; its bytes are at the start of the buffer. If allocation fails, nothing changes.
-    fn hear(&mut self, heard: Heard, buffer: &[u8]) -> Result<(), AllocError>
+    fn receive_piece(&mut self, heard: Heard, buffer: &[u8]) -> Result<(), AllocError>
         requires { FitsBuffer heard (length buffer.now) }
         ensures ok { OnOk result (transcript self.new ≡ transcript self.old ++ piece.Got
             (piece.items_of heard buffer.now) ∷ []) }
@@ -51,12 +51,12 @@ impl Recorder for Log {
         Log::reserve(self, count)
     }
 
-    fn say(&mut self, bytes: &[u8]) {
-        Log::say(self, bytes);
+    fn add_sent(&mut self, bytes: &[u8]) {
+        Log::add_sent(self, bytes);
     }
 
-    fn hear(&mut self, heard: Heard, buffer: &[u8]) -> Result<(), AllocError> {
-        Log::hear(self, heard, buffer)
+    fn receive_piece(&mut self, heard: Heard, buffer: &[u8]) -> Result<(), AllocError> {
+        Log::receive_piece(self, heard, buffer)
     }
 }
 
@@ -103,12 +103,12 @@ impl Recorder for Unlogged {
         Ok(())
     }
 
-    fn say(&mut self, bytes: &[u8]) {
+    fn add_sent(&mut self, bytes: &[u8]) {
         self.unsent = self.unsent && bytes.is_empty();
         self.history = self.history.then(&Piece::Sent(bytes, bytes.len()));
     }
 
-    fn hear(&mut self, heard: Heard, buffer: &[u8]) -> Result<(), AllocError> {
+    fn receive_piece(&mut self, heard: Heard, buffer: &[u8]) -> Result<(), AllocError> {
         self.history = self.history.then(&Piece::Received(&heard, buffer));
         Ok(())
     }

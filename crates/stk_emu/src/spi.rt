@@ -1,7 +1,7 @@
 //! Serial programming instructions for an address.
 
 ghost use Rattle.std.specs.Prelude.{◌≡◌, ◌<◌};
-ghost use Rattle.stk_emu.specs.Programmer.{bit_31, at_address, word_at, byte_address, for_half, extension, sent_to};
+ghost use Rattle.stk_emu.specs.Programmer.{bit_31, at_address, word_at, byte_address, for_half, extension, after_instructions};
 
 use avr_part::Chip;
 use stk_frame::protocol::EXTENDED_ADDRESS;
@@ -39,7 +39,7 @@ pub(crate) fn byte_at(address: u32, place: u16) -> u32
 
 /// Sends bits 23 to 16 of an address if the extended address is used.
 pub(crate) fn extend(chip: &mut Chip, wide: bool, address: u32)
-    ensures { chip.new ≡ sent_to (extension wide address) chip.old }
+    ensures { chip.new ≡ after_instructions (extension wide address) chip.old }
 {
     if wide {
         let byte = (address / 65536 % 256) as u8;

@@ -2,13 +2,13 @@
 ghost use Rattle.std.specs.Prelude.{◌≡◌, ◌++◌};
 ghost use Rattle.stk_frame.specs.Frame.{frame};
 ghost use Rattle.stk_frame.specs.Cut.{is_good, seq_of};
-ghost use Rattle.stk_frame.specs.Reader.{HoldsFrame, TellsEvent, frames_of_event};
+ghost use Rattle.stk_frame.specs.Reader.{HoldsFrame, EventMatchesHeld, frames_of_event};
 ghost use Rattle.stk_host.specs.Tape.{on_tape};
 ghost use Rattle.stk_emu.specs.Programmer.{fresh_programmer, restarted_programmer};
-ghost use Rattle.stk_emu.specs.Device.{device, refusal, answer_frame, after_frame};
+ghost use Rattle.stk_emu.specs.Device.{device, refusal, reply_frame, after_frame};
 ghost use Rattle.stk_emu.specs.Waiting.{HasRoom};
-ghost use Rattle.stk_emu.specs.Wire.{AreLawful, IsLawfulFate, fresh_wire, tape_of, wire_after, let_go, late_of, turn_of, back};
-ghost use Rattle.stk_emu.specs.Turn.{after_turn};
+ghost use Rattle.stk_emu.specs.Wire.{AreLawful, IsLawfulFate, fresh_wire, tape_of, wire_after_frames, released_replies, late_after, exchange_of_fate, brought_by_fate};
+ghost use Rattle.stk_emu.specs.Exchange.{after_exchange};
 
 use crate::arrival::{Arrivals, Late};
 use crate::emulator::{Frame, answer, refuse};
@@ -56,14 +56,14 @@ fn pass_with(
     requires lawful { IsLawfulFate fate.now }
     requires holds { HoldsFrame reader.now }
     requires tells { is_good reader.now ≡ good }
-    ensures tape { out.new.tape ≡ out.old.tape ++ (on_tape (let_go fate.now late.old)
-        ++ back fate.now (answer_frame device reader.now programmer.old) (frame (seq_of reader.now) refusal)) }
-    ensures programmer { programmer.new ≡ after_turn (turn_of fate.now) (after_frame device reader.now programmer.old)
+    ensures tape { out.new.tape ≡ out.old.tape ++ (on_tape (released_replies fate.now late.old)
+        ++ brought_by_fate fate.now (reply_frame device reader.now programmer.old) (frame (seq_of reader.now) refusal)) }
+    ensures programmer { programmer.new ≡ after_exchange (exchange_of_fate fate.now) (after_frame device reader.now programmer.old)
         programmer.old restarted_programmer }
-    ensures late { late.new ≡ late_of fate.now (answer_frame device reader.now programmer.old) late.old }
+    ensures late { late.new ≡ late_after fate.now (reply_frame device reader.now programmer.old) late.old }
 {
     let mut frame = Frame::new();
-    late.bring(fate, out);
+    late.release_replies(fate, out);
     match fate {
         Fate::Good => {
             answer(reader, good, programmer, &mut frame);
@@ -123,11 +123,11 @@ impl Wire {
     }
 
     /// Passes the frame that the event reports, if it reports one.
-    pub fn pass_event(&mut self, reader: &FrameReader, event: Event, out: &mut Arrivals)
+    pub fn pass_frame(&mut self, reader: &FrameReader, event: Event, out: &mut Arrivals)
         requires room { HasRoom out.old }
-        requires tells { TellsEvent event reader.now }
+        requires tells { EventMatchesHeld event reader.now }
         ensures tape { out.new.tape ≡ out.old.tape ++ tape_of device (frames_of_event event reader.now) self.old }
-        ensures wire { self.new ≡ wire_after device (frames_of_event event reader.now) self.old }
+        ensures wire { self.new ≡ wire_after_frames device (frames_of_event event reader.now) self.old }
     {
         let good = match event {
             Event::More => return,

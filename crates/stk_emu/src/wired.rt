@@ -1,14 +1,14 @@
 //! An emulated programmer as a link, with injected faults.
 
 ghost use Rattle.std.specs.Prelude.{◌≡◌, ◌==◌, ◌+◌, ◌<◌, ◌≤◌, [], length, take, drop, IfOk, OnOk, OnErr};
-ghost use Rattle.stk_host.specs.Tape.{bytes_of};
+ghost use Rattle.stk_host.specs.Tape.{bytes_on_tape};
 ghost use Rattle.stk_host.specs.Transcript as transcript;
 ghost use Rattle.ghosts.specs.Failures.{counted};
-ghost use Rattle.ghosts.specs.Stays.{Stays};
+ghost use Rattle.ghosts.specs.Preserves.{Preserves};
 ghost use Rattle.stk_host.specs.Transcript.{Sends, Receives, items_of};
 ghost use Rattle.stk_emu.specs.Programmer.{fresh_programmer};
 ghost use Rattle.stk_emu.specs.Wire.{AreLawful, fresh_wire};
-ghost use Rattle.stk_emu.specs.Wired.{Start, wired_link, ComesOf, IsFresh, PassesBytes, IsNext, after_hearing};
+ghost use Rattle.stk_emu.specs.Wired.{Start, wired_link, ComesOf, IsFresh, PassesBytes, IsReceivedNext, after_receiving};
 
 use crate::arrival::Arrivals;
 use crate::fate::Fate;
@@ -126,7 +126,7 @@ impl Wired {
     /// assert!(rt; wire.heard() == b"\x1B\x01\x00".as_slice());
     /// ```
     pub fn heard(&self) -> &[u8]
-        ensures { result.now ≡ bytes_of (transcript.heard self.now.transcript) }
+        ensures { result.now ≡ bytes_on_tape (transcript.heard self.now.transcript) }
     {
         self.log.heard()
     }
@@ -229,7 +229,7 @@ impl<R: Recorder> Link for Wired<R> {
 
     ghost Start = { Start };
 
-    ghost comes_of = { ComesOf };
+    ghost started_as = { ComesOf };
 
     fn send(&mut self, bytes: &[u8]) -> Result<usize, LinkFault>
         ensures sends { Sends bytes.now (wired_link self.old) (wired_link self.new) result }
@@ -237,7 +237,7 @@ impl<R: Recorder> Link for Wired<R> {
         // What the frames bring waits behind what waited.
         ensures passes { IfOk result (λ n. PassesBytes self.old self.new (take n bytes.now)) }
         ensures same { OnErr result (self.new ≡ record self.old { failures = self.new.failures }) }
-        ensures comes { Stays ComesOf self.old self.new }
+        ensures comes { Preserves ComesOf self.old self.new }
     {
         let Ok(()) = self.waits.reserve() else {
             return Err(self.fail());
@@ -246,8 +246,8 @@ impl<R: Recorder> Link for Wired<R> {
             return Err(self.fail());
         };
         let (used, event) = self.reader.feed(bytes);
-        self.wire.pass_event(&self.reader, event, &mut self.waits);
-        self.log.say(&bytes[..used]);
+        self.wire.pass_frame(&self.reader, event, &mut self.waits);
+        self.log.add_sent(&bytes[..used]);
         Ok(used)
     }
 
@@ -255,10 +255,10 @@ impl<R: Recorder> Link for Wired<R> {
         requires { 0 < length buffer.old }
         ensures receives { Receives buffer.new (wired_link self.old) (wired_link self.new) result }
         // What waited first is received; if nothing waited, a timeout.
-        ensures heard { IfOk result (λ heard. self.new ≡ after_hearing (items_of heard buffer.new) self.old) }
-        ensures next { IfOk result (λ heard. IsNext (items_of heard buffer.new) self.old.waits) }
+        ensures heard { IfOk result (λ heard. self.new ≡ after_receiving (items_of heard buffer.new) self.old) }
+        ensures next { IfOk result (λ heard. IsReceivedNext (items_of heard buffer.new) self.old.waits) }
         ensures same { OnErr result (self.new ≡ record self.old { failures = self.new.failures }) }
-        ensures comes { Stays ComesOf self.old self.new }
+        ensures comes { Preserves ComesOf self.old self.new }
     {
         let count = self.waits.copy_to(buffer);
         let heard = if count == 0 {
@@ -266,7 +266,7 @@ impl<R: Recorder> Link for Wired<R> {
         } else {
             Heard::Bytes(count)
         };
-        let Ok(()) = self.log.hear(heard, &buffer[..count]) else {
+        let Ok(()) = self.log.receive_piece(heard, &buffer[..count]) else {
             return Err(self.fail());
         };
         self.waits.drop_next(count);

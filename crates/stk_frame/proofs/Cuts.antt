@@ -6,11 +6,11 @@ use Rattle.std.proofs.lemmas.List.{take-append-le, drop-append-le, take-append-d
 use Rattle.std.proofs.lemmas.List.Elements.{All-nil}
 use Rattle.std.specs.List.{concat}
 use Rattle.std.specs.Prelude.{◌==◌, All}
-use Rattle.stk_frame.specs.Cut.{cut, rest, cut_behind, rest_behind, piece_size, has_piece, IsPiece, Cuts}
+use Rattle.stk_frame.specs.Cut.{cut, rest, pieces_after, rest_after, piece_size, has_piece, IsPiece, Cuts}
 
 -- the bytes already taken are only counted
 behind_is : (taken : ℕ) (bytes : List ℕ)
-    → (cut_behind taken bytes ≡ cut (drop taken bytes)) × (rest_behind taken bytes ≡ rest (drop taken bytes))
+    → (pieces_after taken bytes ≡ cut (drop taken bytes)) × (rest_after taken bytes ≡ rest (drop taken bytes))
 behind_is zero [] = (refl, refl)
 behind_is (suc taken) [] = (refl, refl)
 behind_is zero (b ∷ bs) = (refl, refl)

@@ -89,11 +89,11 @@ shape (SpiMulti send_count receive_count receive_start bytes) = Closed receive_c
 shape _ = Bytes 0
 
 -- The data of a reply, from what follows its first status.
-abbrev pub data_of : Shape → List ℕ → Result (List ℕ) FrameFault
-data_of Name [] = Err WrongLength
-data_of Name (size ∷ name) = if length name == size then Ok name else Err WrongLength
-data_of (Bytes n) more = if length more == n then Ok more else Err WrongLength
-data_of (Closed n) more =
+abbrev pub data_in_shape : Shape → List ℕ → Result (List ℕ) FrameFault
+data_in_shape Name [] = Err WrongLength
+data_in_shape Name (size ∷ name) = if length name == size then Ok name else Err WrongLength
+data_in_shape (Bytes n) more = if length more == n then Ok more else Err WrongLength
+data_in_shape (Closed n) more =
     if length more == n + 1
     then (if slice_index more n == STATUS_CMD_OK then Ok (take n more) else Err (Status (slice_index more n)))
     else Err WrongLength
@@ -106,10 +106,10 @@ judge command (first ∷ status ∷ more) =
     if first == ANSWER_CKSUM_ERROR && status == STATUS_CKSUM_ERROR && length more == 0 then Err CheckSum
     else if not (first == code command) then Err WrongCommand
     else if not (status == STATUS_CMD_OK) then Err (Status status)
-    else data_of (shape command) more
+    else data_in_shape (shape command) more
 
 -- Data have the size that the shape fixes.
-abbrev pub SizedBy : Shape → List ℕ → Type 0
-SizedBy Name bytes = Unit {0}
-SizedBy (Bytes n) bytes = length bytes ≡ n
-SizedBy (Closed n) bytes = length bytes ≡ n
+abbrev pub FitsShape : Shape → List ℕ → Type 0
+FitsShape Name bytes = Unit {0}
+FitsShape (Bytes n) bytes = length bytes ≡ n
+FitsShape (Closed n) bytes = length bytes ≡ n

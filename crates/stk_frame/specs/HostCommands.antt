@@ -27,8 +27,8 @@ abbrev pub erase : Command
 erase = ChipErase 0x09 0x00 (0xAC ∷ 0x80 ∷ 0x00 ∷ 0x00 ∷ [])
 
 -- A block in page mode: it is written at its end, and RDY/BSY is polled.
-abbrev pub programming : ℕ → ℕ → ℕ → List ℕ → ProgramBlock
-programming cmd1 cmd2 cmd3 bytes =
+abbrev pub page_mode_block : ℕ → ℕ → ℕ → List ℕ → ProgramBlock
+page_mode_block cmd1 cmd2 cmd3 bytes =
     record {
       count = length bytes;
       mode = 0xC1;
@@ -42,13 +42,13 @@ programming cmd1 cmd2 cmd3 bytes =
     }
 
 abbrev pub program_page : List ℕ → Command
-program_page bytes = ProgramFlash (programming 0x40 0x4C 0x20 bytes)
+program_page bytes = ProgramFlash (page_mode_block 0x40 0x4C 0x20 bytes)
 
 abbrev pub read_flash_block : ℕ → Command
 read_flash_block count = ReadFlash (record { count = count; cmd1 = 0x20 })
 
 abbrev pub program_eeprom_block : List ℕ → Command
-program_eeprom_block bytes = ProgramEeprom (programming 0xC1 0xC2 0xA0 bytes)
+program_eeprom_block bytes = ProgramEeprom (page_mode_block 0xC1 0xC2 0xA0 bytes)
 
 abbrev pub read_eeprom_block : ℕ → Command
 read_eeprom_block count = ReadEeprom (record { count = count; cmd1 = 0xA0 })
@@ -64,23 +64,23 @@ read_instruction High = 0x58 ∷ 0x08 ∷ 0x00 ∷ 0x00 ∷ []
 read_instruction Extended = 0x50 ∷ 0x08 ∷ 0x00 ∷ 0x00 ∷ []
 
 -- A command whose result is the fourth byte that the instruction shifts out.
-abbrev pub fourth : List ℕ → ReadByte
-fourth instruction = record { return_address = 4; instruction = instruction }
+abbrev pub read_fourth_byte : List ℕ → ReadByte
+read_fourth_byte instruction = record { return_address = 4; instruction = instruction }
 
 abbrev pub program_fuse : Fuse → ℕ → Command
 program_fuse fuse value = ProgramFuse (0xAC ∷ write_address fuse ∷ 0x00 ∷ value ∷ [])
 
 abbrev pub read_fuse : Fuse → Command
-read_fuse fuse = ReadFuse (fourth (read_instruction fuse))
+read_fuse fuse = ReadFuse (read_fourth_byte (read_instruction fuse))
 
 abbrev pub program_lock : ℕ → Command
 program_lock value = ProgramLock (0xAC ∷ 0xE0 ∷ 0x00 ∷ value ∷ [])
 
 abbrev pub read_lock : Command
-read_lock = ReadLock (fourth (0x58 ∷ 0x00 ∷ 0x00 ∷ 0x00 ∷ []))
+read_lock = ReadLock (read_fourth_byte (0x58 ∷ 0x00 ∷ 0x00 ∷ 0x00 ∷ []))
 
 abbrev pub read_signature : ℕ → Command
-read_signature place = ReadSignature (fourth (0x30 ∷ 0x00 ∷ place ∷ 0x00 ∷ []))
+read_signature place = ReadSignature (read_fourth_byte (0x30 ∷ 0x00 ∷ place ∷ 0x00 ∷ []))
 
 abbrev pub read_calibration : Command
-read_calibration = ReadOsccal (fourth (0x38 ∷ 0x00 ∷ 0x00 ∷ 0x00 ∷ []))
+read_calibration = ReadOsccal (read_fourth_byte (0x38 ∷ 0x00 ∷ 0x00 ∷ 0x00 ∷ []))

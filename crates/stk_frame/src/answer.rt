@@ -1,5 +1,5 @@
 ghost use Rattle.std.specs.Prelude.{◌≡◌, ◌≤◌, length, MatchResult, IfOk, Ok, Err};
-ghost use Rattle.stk_frame.specs.Commands.{judge, shape, data_of, SizedBy};
+ghost use Rattle.stk_frame.specs.Commands.{judge, shape, data_in_shape, FitsShape};
 ghost use Rattle.stk_frame.specs.Faults.{frame_fault_number};
 
 use crate::command::Command;
@@ -116,10 +116,10 @@ impl Shape {
     /// assert!(rt; Shape::Closed(1).data_in(&[0x62, 0xC0]).err() == Some(FrameFault::Status(0xC0)));
     /// ```
     pub fn data_in<'a>(&self, more: &'a [u8]) -> Result<&'a [u8], FrameFault>
-        ensures judged { MatchResult result (λ found. data_of self.now more.now ≡ Ok found.now)
-            (λ fault. data_of self.now more.now ≡ Err fault) }
+        ensures judged { MatchResult result (λ found. data_in_shape self.now more.now ≡ Ok found.now)
+            (λ fault. data_in_shape self.now more.now ≡ Err fault) }
         ensures fits { IfOk result (λ found. length found.now ≤ length more.now) }
-        ensures sized { IfOk result (λ found. SizedBy self.now found.now) }
+        ensures sized { IfOk result (λ found. FitsShape self.now found.now) }
     {
         match self {
             Shape::Name => match more {
@@ -168,7 +168,7 @@ impl<'a> Answer<'a> {
         ensures judged { MatchResult result (λ answer. judge command.now body.now ≡ Ok answer.data.now)
             (λ fault. judge command.now body.now ≡ Err fault) }
         ensures fits { IfOk result (λ answer. length answer.data.now ≤ length body.now) }
-        ensures sized { IfOk result (λ answer. SizedBy (shape command.now) answer.data.now) }
+        ensures sized { IfOk result (λ answer. FitsShape (shape command.now) answer.data.now) }
     {
         match body {
             [] => Err(FrameFault::WrongCommand),

@@ -1,7 +1,7 @@
 ghost use Rattle.std.specs.Prelude.{◌≡◌, ◌≤◌, ◌∷◌, [], ◌++◌, length};
 ghost use Rattle.byteorder.specs.Endian.{big_bytes};
 ghost use Rattle.stk_frame.specs.Commands.{body};
-ghost use Rattle.stk_frame.specs.HostCommands.{enter, leave, erase, programming, program_page, read_flash_block, program_eeprom_block, read_eeprom_block, write_address, read_instruction, program_fuse, read_fuse, program_lock, read_lock, read_signature, read_calibration};
+ghost use Rattle.stk_frame.specs.HostCommands.{enter, leave, erase, page_mode_block, program_page, read_flash_block, program_eeprom_block, read_eeprom_block, write_address, read_instruction, program_fuse, read_fuse, program_lock, read_lock, read_signature, read_calibration};
 
 use crate::command::{Command, Data, EnterProgmode, ProgramBlock, ReadBlock, ReadByte};
 use crate::protocol::{
@@ -19,9 +19,9 @@ pub enum Fuse {
     Extended,
 }
 
-fn programming<'a>(cmd1: u8, cmd2: u8, cmd3: u8, bytes: &'a [u8]) -> ProgramBlock<'a>
+fn page_mode_block<'a>(cmd1: u8, cmd2: u8, cmd3: u8, bytes: &'a [u8]) -> ProgramBlock<'a>
     requires { length bytes.now ≤ LARGEST_BLOCK }
-    ensures { result ≡ programming cmd1 cmd2 cmd3 bytes.now }
+    ensures { result ≡ page_mode_block cmd1 cmd2 cmd3 bytes.now }
 {
     ProgramBlock {
         count: bytes.len() as u16,
@@ -111,7 +111,7 @@ impl<'a> Command<'a> {
         ensures bytes { body result ≡ CMD_PROGRAM_FLASH_ISP ∷ (big_bytes 2 (length bytes.now) ++ 0xC1 ∷ 0x0A
             ∷ 0x40 ∷ 0x4C ∷ 0x20 ∷ 0xFF ∷ 0xFF ∷ bytes.now) }
     {
-        Command::ProgramFlash(programming(0x40, 0x4C, 0x20, bytes))
+        Command::ProgramFlash(page_mode_block(0x40, 0x4C, 0x20, bytes))
     }
 
     /// Reads `count` bytes of flash from the loaded address on.
@@ -142,7 +142,7 @@ impl<'a> Command<'a> {
         ensures bytes { body result ≡ CMD_PROGRAM_EEPROM_ISP ∷ (big_bytes 2 (length bytes.now) ++ 0xC1 ∷ 0x0A
             ∷ 0xC1 ∷ 0xC2 ∷ 0xA0 ∷ 0xFF ∷ 0xFF ∷ bytes.now) }
     {
-        Command::ProgramEeprom(programming(0xC1, 0xC2, 0xA0, bytes))
+        Command::ProgramEeprom(page_mode_block(0xC1, 0xC2, 0xA0, bytes))
     }
 
     /// Reads `count` bytes of EEPROM from the loaded address on.

@@ -5,11 +5,11 @@ use Rattle.stk_frame.specs.declared.protocol.TheConstants.{LARGEST_BODY, LARGEST
 use Rattle.stk_frame.specs.declared.command.Command.{Command}
 use Rattle.stk_frame.specs.declared.answer.Shape.{Shape}
 use Rattle.stk_frame.specs.declared.answer.Shape.TheVariants.{Name, Bytes, Closed}
-use Rattle.stk_frame.specs.Commands.{body, shape, SizedBy}
+use Rattle.stk_frame.specs.Commands.{body, shape, FitsShape}
 use Rattle.stk_frame.specs.Cut.{body_of}
 use Rattle.stk_frame.specs.Reader.{HoldsFrame}
 use Rattle.stk_frame.specs.Names.{command_names, name_in, status_names}
-use Rattle.ghosts.specs.Stays.{Stays}
+use Rattle.ghosts.specs.Preserves.{Preserves}
 use Rattle.stk_host.specs.declared.link.Link.{Ghosts}
 use Rattle.stk_host.specs.declared.link.Heard.{Heard}
 use Rattle.stk_host.specs.declared.link.Heard.TheVariants as heard
@@ -26,11 +26,11 @@ use Rattle.stk_host.specs.Tape as tape
 use Rattle.stk_host.specs.Tape.{on_tape}
 use Rattle.stk_host.specs.Steps as steps
 use Rattle.stk_host.specs.Steps.{play}
-use Rattle.stk_host.specs.Operations.{host_fault, signature_judged, comparison}
+use Rattle.stk_host.specs.Operations.{host_fault, signature_checked, comparison}
 use Rattle.stk_host.specs.Transcript.{LinkState, Got, Grows, LinkCounts}
 use Rattle.stk_host.specs.Dialog.{Dialog}
-use Rattle.stk_host.specs.Play.{Progress, PlaysOver, FailsOver}
-use Rattle.stk_host.specs.Reach.{Reaches, Hears, HearsNone}
+use Rattle.stk_host.specs.Play.{Progress, RunsOverLink, BreaksOverLink}
+use Rattle.stk_host.specs.Reach.{Reaches, ReceivesReply, ReceivesNoReply}
 use Rattle.stk_host.specs.State.{ConversationState, HostState, data_held, lasting_fault}
 
 -- At most 281 bytes are unread: those of one piece.
@@ -38,22 +38,22 @@ abbrev pub HasFewUnread : Progress → Type 0
 HasFewUnread progress = length progress.unread ≤ LARGEST_FRAME
 
 -- What was received, and is the end of the transcript. Bytes received are unread.
-abbrev pub HearsPiece : Heard → List ℕ → LinkState → LinkState → Type 0
-HearsPiece (heard.Bytes n) unread old new =
+abbrev pub ReceivesPiece : Heard → List ℕ → LinkState → LinkState → Type 0
+ReceivesPiece (heard.Bytes n) unread old new =
     (0 < length unread) × Grows old.transcript (Got (on_tape unread) ∷ []) new.transcript
-HearsPiece heard.Silence unread old new =
+ReceivesPiece heard.Silence unread old new =
     (unread ≡ []) × Grows old.transcript (Got (item.Silence ∷ []) ∷ []) new.transcript
-HearsPiece heard.End unread old new = (unread ≡ []) × Grows old.transcript (Got (item.End ∷ []) ∷ []) new.transcript
+ReceivesPiece heard.End unread old new = (unread ≡ []) × Grows old.transcript (Got (item.End ∷ []) ∷ []) new.transcript
 
--- What `Unread::hear` ensures: it receives a piece of at most `most` bytes, and only that piece is unread then.
-pub record HearsNext {L : Type 0} (link : Ghosts L) (most : ℕ) (old new : L) (unread : List ℕ)
+-- What `Unread::receive_piece` ensures: it receives a piece of at most `most` bytes, and only that piece is unread then.
+pub record ReceivesNextPiece {L : Type 0} (link : Ghosts L) (most : ℕ) (old new : L) (unread : List ℕ)
     (result : Result Heard LinkFault) : Type 0 where
   pub within : length unread ≤ most
   pub fits : length unread ≤ LARGEST_FRAME
-  pub ok : IfOk result (λ heard. HearsPiece heard unread (link.view old) (link.view new))
+  pub ok : IfOk result (λ heard. ReceivesPiece heard unread (link.view old) (link.view new))
   pub err : OnErr result (Grows (link.view old).transcript [] (link.view new).transcript)
   pub counts : LinkCounts (link.view old) (link.view new) result
-  pub comes : Stays link.comes_of old new
+  pub comes : Preserves link.started_as old new
 
 -- How listening ended; the reader holds the reply.
 abbrev pub reading_of : Reading → List ℕ → tape.Reading
@@ -62,19 +62,19 @@ reading_of read.Silent held = tape.Silent
 reading_of read.Ended held = tape.Ended
 reading_of read.Babbled held = tape.Babbled
 
-abbrev pub HoldsAnswer : Reading → List ℕ → Type 0
-HoldsAnswer read.Answered held = HoldsFrame held
-HoldsAnswer _ held = Unit {0}
+abbrev pub HoldsReply : Reading → List ℕ → Type 0
+HoldsReply read.Answered held = HoldsFrame held
+HoldsReply _ held = Unit {0}
 
 -- What `listen` ensures: how it ends, what the reader holds, and which bytes are unread then.
-pub record HearsAnswer {L : Type 0} (link : Ghosts L) (seq : ℕ) (old new : L) (before after held : List ℕ)
+pub record ListensForReply {L : Type 0} (link : Ghosts L) (seq : ℕ) (old new : L) (before after held : List ℕ)
     (result : Result Reading LinkFault) : Type 0 where
-  pub ok : IfOk result (λ reading. Hears seq before (link.view old) (link.view new) (reading_of reading held) after)
-  pub holds : IfOk result (λ reading. HoldsAnswer reading held)
-  pub err : OnErr result (HearsNone seq before (link.view old) (link.view new))
+  pub ok : IfOk result (λ reading. ReceivesReply seq before (link.view old) (link.view new) (reading_of reading held) after)
+  pub holds : IfOk result (λ reading. HoldsReply reading held)
+  pub err : OnErr result (ReceivesNoReply seq before (link.view old) (link.view new))
   pub counts : LinkCounts (link.view old) (link.view new) result
   pub fits : length after ≤ LARGEST_FRAME
-  pub comes : Stays link.comes_of old new
+  pub comes : Preserves link.started_as old new
 
 -- A reply of the code, with its data, as a reply of a dialog.
 abbrev pub reply_of : Reply → List ℕ → steps.Reply
@@ -85,32 +85,32 @@ reply_of (said.Stop fault) bytes = steps.Stop fault
 -- These steps stopped with this fault: the link failed, or the dialog returned the step's fault of the same name.
 abbrev pub StopsSteps : Dialog ⊥ steps.StepOutcome → Progress → LinkState → LinkState → HostFault → Progress → Type 0
 StopsSteps dialog before old new fault after =
-    FailsOver fault dialog before old new
-    ⊎ ((of : StepFault) × (fault ≡ host_fault of) × PlaysOver dialog before old new (Err of) after)
+    BreaksOverLink fault dialog before old new
+    ⊎ ((of : StepFault) × (fault ≡ host_fault of) × RunsOverLink dialog before old new (Err of) after)
 
 -- These steps ended: the dialog returned these data, or it stopped.
 abbrev pub EndsSteps : {A : Type 0} → Dialog ⊥ steps.StepOutcome → (A → List ℕ) → Progress → LinkState → LinkState
     → Result A HostFault → Progress → Type 0
-EndsSteps dialog bytes before old new (Ok a) after = PlaysOver dialog before old new (Ok (bytes a)) after
+EndsSteps dialog bytes before old new (Ok a) after = RunsOverLink dialog before old new (Ok (bytes a)) after
 EndsSteps dialog bytes before old new (Err fault) after = StopsSteps dialog before old new fault after
 
 -- All of these steps were run and brought these data, or they stopped.
-abbrev pub Gets : List (List Command) → List ℕ → Progress → LinkState → LinkState → Result (Unit {0}) HostFault
+abbrev pub RunsSteps : List (List Command) → List ℕ → Progress → LinkState → LinkState → Result (Unit {0}) HostFault
     → Progress → Type 0
-Gets these brought = EndsSteps (play these []) (λ done. brought)
+RunsSteps these brought = EndsSteps (play these []) (λ done. brought)
 
 -- These steps were run, and then any others may follow, with all data so far. If these stop, all stop.
-abbrev pub GoesOnWith : List (List Command) → List ℕ → List ℕ → Progress → LinkState → LinkState
+abbrev pub CompletesStepsWithData : List (List Command) → List ℕ → List ℕ → Progress → LinkState → LinkState
     → Result (Unit {0}) HostFault → Progress → Type 0
-GoesOnWith these given brought before old new (Ok done) after =
+CompletesStepsWithData these given brought before old new (Ok done) after =
     (steps : List (List Command)) → Reaches (play (these ++ steps) given) before old (play steps brought) after new
-GoesOnWith these given brought before old new (Err fault) after =
+CompletesStepsWithData these given brought before old new (Err fault) after =
     (steps : List (List Command)) → StopsSteps (play (these ++ steps) given) before old new fault after
 
 -- The same of steps that bring no data.
-abbrev pub GoesOn : List (List Command) → Progress → LinkState → LinkState → Result (Unit {0}) HostFault → Progress
+abbrev pub CompletesSteps : List (List Command) → Progress → LinkState → LinkState → Result (Unit {0}) HostFault → Progress
     → Type 0
-GoesOn these = GoesOnWith these [] []
+CompletesSteps these = CompletesStepsWithData these [] []
 
 -- The data bytes that a reply of this shape brings, if the shape fixes them.
 abbrev pub data_count : Shape → ℕ
@@ -124,39 +124,39 @@ IsSizedShape (Bytes n) = Unit {0}
 IsSizedShape (Closed n) = Unit {0}
 
 -- What each call of a conversation ensures: it ends as `Ends` states, and at most one piece stays unread.
-pub record Asks {A L : Type 0} (link : Ghosts L)
+pub record Converses {A L : Type 0} (link : Ghosts L)
     (Ends : Progress → LinkState → LinkState → Result A HostFault → Progress → Type 0)
     (before after : ConversationState) (old new : L) (result : Result A HostFault) : Type 0 where
   pub played : Ends before.progress (link.view old) (link.view new) result after.progress
   pub counted : (link.view old).failures ≤ (link.view new).failures
   pub bound : HasFewUnread before.progress → HasFewUnread after.progress
-  pub comes : Stays link.comes_of old new
+  pub comes : Preserves link.started_as old new
 
 -- What `exchange` and `attempt` ensure: the dialog returned this reply, or it broke off because the link failed. The
 -- data have the size that the last command asks for.
-pub record GetsReply {L : Type 0} (link : Ghosts L) (dialog : Dialog ⊥ steps.Reply) (last : Command)
+pub record ReturnsReply {L : Type 0} (link : Ghosts L) (dialog : Dialog ⊥ steps.Reply) (last : Command)
     (before after : ConversationState) (old new : L) (result : Result Reply HostFault) : Type 0 where
-  pub ok : IfOk result (λ reply. PlaysOver dialog before.progress (link.view old) (link.view new)
+  pub ok : IfOk result (λ reply. RunsOverLink dialog before.progress (link.view old) (link.view new)
       (reply_of reply (data_held last after.held)) after.progress)
-  pub err : IfErr result (λ fault. FailsOver fault dialog before.progress (link.view old) (link.view new))
-  pub sized : IsOkAnd result (λ reply. reply ≡ said.Data) → SizedBy (shape last) (data_held last after.held)
+  pub err : IfErr result (λ fault. BreaksOverLink fault dialog before.progress (link.view old) (link.view new))
+  pub sized : IsOkAnd result (λ reply. reply ≡ said.Data) → FitsShape (shape last) (data_held last after.held)
   pub counted : (link.view old).failures ≤ (link.view new).failures
   pub bound : HasFewUnread after.progress
-  pub comes : Stays link.comes_of old new
+  pub comes : Preserves link.started_as old new
 
 -- How a call of a host ends. Its dialog broke off if and only if the link failed, while sending or while receiving.
 -- If `takes` is true, the call allocates. If that fails, nothing was sent or received. Else the dialog ran to its end.
 abbrev pub EndsCall : {A : Type 0} → Bool → Dialog ⊥ (Result A HostFault) → Progress → LinkState → LinkState
     → Result A HostFault → Progress → Type 0
-EndsCall takes dialog before old new (Err SendFailed) after = FailsOver SendFailed dialog before old new
-EndsCall takes dialog before old new (Err RecvFailed) after = FailsOver RecvFailed dialog before old new
+EndsCall takes dialog before old new (Err SendFailed) after = BreaksOverLink SendFailed dialog before old new
+EndsCall takes dialog before old new (Err RecvFailed) after = BreaksOverLink RecvFailed dialog before old new
 EndsCall takes dialog before old new (Err Memory) after = (takes ≡ true) × (new ≡ old) × (after ≡ before)
-EndsCall takes dialog before old new result after = PlaysOver dialog before old new result after
+EndsCall takes dialog before old new result after = RunsOverLink dialog before old new result after
 
 -- This value if the call succeeded, else its fault. `Host::read` has its bytes in a vector, not in its result.
-abbrev pub given_or_fault : {A : Type 0} → A → Result (Unit {0}) HostFault → Result A HostFault
-given_or_fault a (Ok done) = Ok a
-given_or_fault a (Err fault) = Err fault
+abbrev pub value_or_fault : {A : Type 0} → A → Result (Unit {0}) HostFault → Result A HostFault
+value_or_fault a (Ok done) = Ok a
+value_or_fault a (Err fault) = Err fault
 
 abbrev pub FitsFrame : Command → Type 0
 FitsFrame command = length (body command) ≤ LARGEST_BODY
@@ -166,8 +166,8 @@ pub record BringsNoData (command : Command) : Type 0 where
   pub fits : FitsFrame command
   pub quiet : shape command ≡ Bytes 0
 
-abbrev pub step_brings : Command → ℕ
-step_brings last = data_count (shape last)
+abbrev pub step_data_count : Command → ℕ
+step_data_count last = data_count (shape last)
 
 -- A step whose first command brings no data, and whose last brings as many bytes as its shape fixes.
 pub record IsSizedStep (first : Option Command) (last : Command) : Type 0 where
@@ -210,12 +210,12 @@ status_named (Refused command status) = name_in status_names status
 status_named fault = None
 
 abbrev pub opening_result : List ℕ → Bool → Result (List ℕ) HostFault → Result (List ℕ) HostFault
-opening_result wanted force (Ok found) = signature_judged wanted force (Ok found)
+opening_result wanted force (Ok found) = signature_checked wanted force (Ok found)
 opening_result wanted force (Err fault) = Err fault
 
-abbrev pub vector_after : Result (Unit {0}) HostFault → List ℕ → List ℕ
-vector_after (Ok done) bytes = bytes
-vector_after (Err fault) bytes = []
+abbrev pub emptied_on_fault : Result (Unit {0}) HostFault → List ℕ → List ℕ
+emptied_on_fault (Ok done) bytes = bytes
+emptied_on_fault (Err fault) bytes = []
 
 abbrev pub verifying_result : Mem → List (Option ℕ) → List ℕ → Result (Unit {0}) HostFault
     → Result (Unit {0}) HostFault

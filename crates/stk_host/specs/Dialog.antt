@@ -7,26 +7,26 @@ use Rattle.stk_host.specs.Tape.{Tape, Reading, answer}
 -- command's body, and goes on with the reading of the reply.
 pub data Dialog (E R : Type 0) : Type 0 where
   Done : R → Dialog E R
-  Say : E → Dialog E R → Dialog E R
+  Emit : E → Dialog E R → Dialog E R
   Ask : List ℕ → (Reading → Dialog E R) → Dialog E R
 
 -- Runs a dialog, then the one that its result chooses.
 infixl 10 ◌>>=◌
 abbrev pub ◌>>=◌ : {E A B : Type 0} → Dialog E A → (A → Dialog E B) → Dialog E B
 (Done a) >>= go_on = go_on a
-(Say e dialog) >>= go_on = Say e (dialog >>= go_on)
+(Emit e dialog) >>= go_on = Emit e (dialog >>= go_on)
 (Ask body answered) >>= go_on = Ask body (λ reading. answered reading >>= go_on)
 
 -- A dialog without output events, for use in one that has them.
 abbrev pub lifted : {E R : Type 0} → Dialog ⊥ R → Dialog E R
 lifted (Done r) = Done r
-lifted (Say e dialog) = absurd e
+lifted (Emit e dialog) = absurd e
 lifted (Ask body answered) = Ask body (λ reading. lifted (answered reading))
 
 -- A frame is sent, or an event is output beside the link.
 pub data Event (E : Type 0) : Type 0 where
   Frame : List ℕ → Event E
-  Said : E → Event E
+  Emitted : E → Event E
 
 -- The events of a run, and its result with the next sequence number and the tape that remains. None: the run waits
 -- for more.
@@ -35,13 +35,13 @@ pub record Played (E R : Type 0) : Type 0 where
   pub outcome : Option (R × ℕ × Tape)
 
 -- A run after these events.
-abbrev pub behind : {E R : Type 0} → List (Event E) → Played E R → Played E R
-behind events p = record { events = events ++ p.events; outcome = p.outcome }
+abbrev pub prepend_events : {E R : Type 0} → List (Event E) → Played E R → Played E R
+prepend_events events p = record { events = events ++ p.events; outcome = p.outcome }
 
 -- The run that a reading chooses, or one that waits.
-abbrev pub by_answer : {E R : Type 0} → (Reading → Tape → Played E R) → Option (Reading × Tape) → Played E R
-by_answer go_on None = record { events = []; outcome = None }
-by_answer go_on (Some (reading, tape)) = go_on reading tape
+abbrev pub continue_with_reading : {E R : Type 0} → (Reading → Tape → Played E R) → Option (Reading × Tape) → Played E R
+continue_with_reading go_on None = record { events = []; outcome = None }
+continue_with_reading go_on (Some (reading, tape)) = go_on reading tape
 
 abbrev pub next : ℕ → ℕ
 next seq = (seq + 1) % 256
@@ -49,22 +49,22 @@ next seq = (seq + 1) % 256
 -- The run of a dialog over a tape, with its frames numbered from `seq`.
 abbrev pub played : {E R : Type 0} → Dialog E R → ℕ → Tape → Played E R
 played (Done r) seq tape = record { events = []; outcome = Some (r, seq, tape) }
-played (Say e dialog) seq tape = behind (Said e ∷ []) (played dialog seq tape)
+played (Emit e dialog) seq tape = prepend_events (Emitted e ∷ []) (played dialog seq tape)
 played (Ask body answered) seq tape =
-    behind (Frame (frame seq body) ∷ []) (by_answer (λ reading. played (answered reading) (next seq)) (answer seq tape))
+    prepend_events (Frame (frame seq body) ∷ []) (continue_with_reading (λ reading. played (answered reading) (next seq)) (answer seq tape))
 
 abbrev pub frames_in : {E : Type 0} → List (Event E) → List (List ℕ)
 frames_in [] = []
 frames_in (Frame bytes ∷ events) = bytes ∷ frames_in events
-frames_in (Said e ∷ events) = frames_in events
+frames_in (Emitted e ∷ events) = frames_in events
 
 -- The bytes of all frames; below, the output events alone.
 abbrev pub bytes_sent : {E : Type 0} → List (Event E) → List ℕ
 bytes_sent [] = []
 bytes_sent (Frame bytes ∷ events) = bytes ++ bytes_sent events
-bytes_sent (Said e ∷ events) = bytes_sent events
+bytes_sent (Emitted e ∷ events) = bytes_sent events
 
 abbrev pub outputs : {E : Type 0} → List (Event E) → List E
 outputs [] = []
 outputs (Frame bytes ∷ events) = outputs events
-outputs (Said e ∷ events) = e ∷ outputs events
+outputs (Emitted e ∷ events) = e ∷ outputs events

@@ -18,4 +18,4 @@ pub mod Watching
 pub mod Log
 -- of the crates below, the definitions that public contracts cite
 pub use Rattle.avr_part.specs.Part
-pub use Rattle.ghosts.specs.Stays
+pub use Rattle.ghosts.specs.Preserves

@@ -9,8 +9,8 @@ use Rattle.stk_host.specs.declared.link.Item.{Item}
 use Rattle.stk_host.specs.declared.link.Item.TheVariants.{Byte, Silence, End}
 use Rattle.stk_host.specs.declared.link.LinkFault.{LinkFault}
 use Rattle.stk_host.specs.declared.link.LinkFault.TheVariants.{Failed}
-use Rattle.stk_host.specs.Tape.{Tape, on_tape, bytes_in, bytes_of}
-use Rattle.ghosts.specs.Failures.{HasRisen}
+use Rattle.stk_host.specs.Tape.{Tape, on_tape, leading_bytes, bytes_on_tape}
+use Rattle.ghosts.specs.Failures.{OneFailureCounted}
 use Rattle.stk_host.specs.Transcript.{Transcript, LinkState, TakesPart, HasFailed, heard, sent}
 
 -- A log: the transcript, and its room for pieces and for bytes sent.
@@ -27,8 +27,8 @@ pub record TapeState : Type 0 where
   pub failures : ℕ
 
 -- The items received since `old`, followed by those left, are the items that were left. After the last come only ends.
--- It is `comes_of` of a `TapeLink`.
-pub record IsOfTape (old new : TapeState) : Type 0 where
+-- It is `started_as` of a `TapeLink`.
+pub record ConsumesTape (old new : TapeState) : Type 0 where
   pub during : Transcript
   pub grows : new.transcript ≡ old.transcript ++ during
   pub ends : ℕ
@@ -43,7 +43,7 @@ abbrev pub next_piece : ℕ → Tape → Tape
 next_piece most [] = End ∷ []
 next_piece most (End ∷ tape) = End ∷ []
 next_piece most (Silence ∷ tape) = Silence ∷ []
-next_piece most (Byte byte ∷ tape) = on_tape (take most (byte ∷ bytes_in tape))
+next_piece most (Byte byte ∷ tape) = on_tape (take most (byte ∷ leading_bytes tape))
 
 abbrev pub byte_of : Option Item → Option ℕ
 byte_of (Some (Byte byte)) = Some byte
@@ -60,29 +60,29 @@ pub record StreamState (R W : Type 0) : Type 0 where
 abbrev pub stream_state : {R W : Type 0} → StreamState R W → LinkState
 stream_state link = record { transcript = link.transcript; failures = link.failures }
 
--- The transcript since `old` is true: `comes_of` of a `StreamLink`. The bytes received are those that the reader gave,
+-- The transcript since `old` is true: `started_as` of a `StreamLink`. The bytes received are those that the reader gave,
 -- in order and none lost. The bytes sent are those that the writer took, also in a send that failed.
 pub record IsTrueSince {R W : Type 0} (remaining : R → Option (List ℕ)) (contents : W → Option (List ℕ))
     (old new : StreamState R W) : Type 0 where
   pub during : Transcript
   pub grows : new.transcript ≡ old.transcript ++ during
-  pub gave : Consumes (remaining old.reader) (remaining new.reader) (bytes_of (heard during))
+  pub gave : Consumes (remaining old.reader) (remaining new.reader) (bytes_on_tape (heard during))
   pub took : Appends (contents old.writer) (contents new.writer) (sent during)
   pub counted : old.failures ≤ new.failures
 
 -- An error kind that makes `recv` fail: neither a timeout nor an interruption, which is retried.
-abbrev pub IsOfListening : Option ErrorKind → Type 0
-IsOfListening None = ⊥
-IsOfListening (Some kind) = (kind ≢ WouldBlock) × (kind ≢ TimedOut) × (kind ≢ Interrupted)
+abbrev pub IsListeningFailure : Option ErrorKind → Type 0
+IsListeningFailure None = ⊥
+IsListeningFailure (Some kind) = (kind ≢ WouldBlock) × (kind ≢ TimedOut) × (kind ≢ Interrupted)
 
 -- Received from a reader whose bytes are known: its next bytes, or an end after the last.
-abbrev pub HearsKnown : Heard → List ℕ → Option (List ℕ) → Option (List ℕ) → Type 0
-HearsKnown (hears.Bytes count) buffer old new = Consumes old new (take count buffer)
-HearsKnown hears.Silence buffer old new = Keeps old new
-HearsKnown hears.End buffer old new = Keeps old new × IsAtEnd new
+abbrev pub ReceivesKnownBytes : Heard → List ℕ → Option (List ℕ) → Option (List ℕ) → Type 0
+ReceivesKnownBytes (hears.Bytes count) buffer old new = Consumes old new (take count buffer)
+ReceivesKnownBytes hears.Silence buffer old new = Keeps old new
+ReceivesKnownBytes hears.End buffer old new = Keeps old new × IsAtEnd new
 
 -- A failed send took a part of the bytes, and a writer whose bytes are known took exactly that part.
-pub record TakesKnown (bytes : List ℕ) (before now : Transcript) (old new : Option (List ℕ)) : Type 0 where
+pub record TakesKnownBytes (bytes : List ℕ) (before now : Transcript) (old new : Option (List ℕ)) : Type 0 where
   pub takes : TakesPart bytes before now
   pub took : Appends old new (sent takes.last)
 
@@ -99,7 +99,7 @@ pub record CountsCall {L : Type 0} (old new : FailingState L) (is_due : Bool) : 
   pub due : new.due ≡ old.due - 1
   pub inner : new.inner ≡ old.inner
   pub cut : new.cut ≡ old.cut
-  pub failed : old.due ≡ 1 → HasRisen old.failed new.failed
+  pub failed : old.due ≡ 1 → OneFailureCounted old.failed new.failed
   pub sound : old.due ≢ 1 → new.failed ≡ old.failed
   pub counted : old.failed ≤ new.failed
 

@@ -12,7 +12,7 @@ use Rattle.stk_host.specs.declared.fault.StepFault.TheVariants as of_step
 use Rattle.stk_host.specs.declared.fault.HostFault.{HostFault}
 use Rattle.stk_host.specs.declared.fault.HostFault.TheVariants.{NoAnswer, LinkEnded, Babble, Refused, BadAnswer, WrongSignature, Differs, ReadOnly}
 use Rattle.stk_host.specs.Dialog.{Dialog, Done, ◌>>=◌}
-use Rattle.stk_host.specs.Steps.{StepOutcome, if_done, step, play}
+use Rattle.stk_host.specs.Steps.{StepOutcome, unless_step_fault, step, play}
 use Rattle.stk_host.specs.WriteSteps.{write_steps}
 use Rattle.stk_host.specs.ReadSteps.{signature_steps, read_steps}
 
@@ -27,15 +27,15 @@ host_fault (of_step.BadAnswer command) = BadAnswer command
 -- Signs on, enters programming mode and reads the signature.
 unfoldable pub handshake : Dialog ⊥ StepOutcome
 handshake =
-    step (SignOn ∷ []) >>= if_done (λ name. step (enter ∷ []) >>= if_done (λ nothing. play signature_steps []))
+    step (SignOn ∷ []) >>= unless_step_fault (λ name. step (enter ∷ []) >>= unless_step_fault (λ nothing. play signature_steps []))
 
-abbrev pub signature_judged : List ℕ → Bool → StepOutcome → Result (List ℕ) HostFault
-signature_judged wanted force (Ok found) =
+abbrev pub signature_checked : List ℕ → Bool → StepOutcome → Result (List ℕ) HostFault
+signature_checked wanted force (Ok found) =
     if force then Ok found else if bytes_eq found wanted then Ok found else Err (WrongSignature found)
-signature_judged wanted force (Err fault) = Err (host_fault fault)
+signature_checked wanted force (Err fault) = Err (host_fault fault)
 
 unfoldable pub opening : List ℕ → Bool → Dialog ⊥ (Result (List ℕ) HostFault)
-opening wanted force = handshake >>= λ outcome. Done (signature_judged wanted force outcome)
+opening wanted force = handshake >>= λ outcome. Done (signature_checked wanted force outcome)
 
 abbrev pub without_bytes : StepOutcome → Result ⊤ HostFault
 without_bytes (Ok bytes) = Ok tt
@@ -44,14 +44,14 @@ without_bytes (Err fault) = Err (host_fault fault)
 unfoldable pub closing : Dialog ⊥ (Result ⊤ HostFault)
 closing = step (leave ∷ []) >>= λ outcome. Done (without_bytes outcome)
 
-abbrev pub judged_by : {A : Type 0} → (List ℕ → Result A HostFault) → StepOutcome → Result A HostFault
-judged_by judge (Ok bytes) = judge bytes
-judged_by judge (Err fault) = Err (host_fault fault)
+abbrev pub checked_by : {A : Type 0} → (List ℕ → Result A HostFault) → StepOutcome → Result A HostFault
+checked_by judge (Ok bytes) = judge bytes
+checked_by judge (Err fault) = Err (host_fault fault)
 
 -- Runs the steps, and makes the result from their data.
 unfoldable pub operation : {A : Type 0} → List (List Command) → (List ℕ → Result A HostFault)
     → Dialog ⊥ (Result A HostFault)
-operation steps judge = play steps [] >>= λ outcome. Done (judged_by judge outcome)
+operation steps judge = play steps [] >>= λ outcome. Done (checked_by judge outcome)
 
 abbrev pub no_result : List ℕ → Result ⊤ HostFault
 no_result bytes = Ok tt

@@ -4,7 +4,7 @@ use Rattle.stk_host.specs.declared.fault.HostFault.{HostFault}
 use Rattle.stk_host.specs.declared.fault.HostFault.TheVariants.{SendFailed, RecvFailed}
 use Rattle.stk_host.specs.Tape.{Tape, on_tape}
 use Rattle.stk_host.specs.Transcript.{Transcript, LinkState, Sent, Taken, Got, NoneTaken, sent, heard, Grows, HasFailed}
-use Rattle.stk_host.specs.Dialog.{Dialog, Event, Frame, Said, Played, played, bytes_sent}
+use Rattle.stk_host.specs.Dialog.{Dialog, Event, Frame, Emitted, Played, played, bytes_sent}
 
 -- A conversation's state: the next sequence number, and the bytes received and not yet read.
 pub record Progress : Type 0 where
@@ -15,22 +15,22 @@ abbrev pub progress_at : ℕ → List ℕ → Progress
 progress_at next unread = record { next = next; unread = unread }
 
 -- The run waits for a reply, and the bytes sent are exactly its frames: it is time to listen.
-pub record IsDue {E R : Type 0} (dialog : Dialog E R) (seq : ℕ) (tape : Tape) (bytes : List ℕ) : Type 0 where
+pub record IsDueToListen {E R : Type 0} (dialog : Dialog E R) (seq : ℕ) (tape : Tape) (bytes : List ℕ) : Type 0 where
   pub waits : (played dialog seq tape).outcome ≡ None
   pub all_sent : bytes_sent (played dialog seq tape).events ≡ bytes
 
 -- Before each piece received it was time to listen: the dialog's run over all received so far waits. Nothing passes
 -- after a send that failed.
-abbrev pub TurnsFrom : {E R : Type 0} → Dialog E R → ℕ → Tape → List ℕ → Transcript → Type 0
-TurnsFrom dialog seq tape bytes [] = Unit {0}
-TurnsFrom dialog seq tape bytes (Sent more ∷ transcript) = TurnsFrom dialog seq tape (bytes ++ more) transcript
-TurnsFrom dialog seq tape bytes (Taken more ∷ transcript) = transcript ≡ []
-TurnsFrom dialog seq tape bytes (Got items ∷ transcript) =
-    IsDue dialog seq tape bytes × TurnsFrom dialog seq (tape ++ items) bytes transcript
+abbrev pub InTurnFrom : {E R : Type 0} → Dialog E R → ℕ → Tape → List ℕ → Transcript → Type 0
+InTurnFrom dialog seq tape bytes [] = Unit {0}
+InTurnFrom dialog seq tape bytes (Sent more ∷ transcript) = InTurnFrom dialog seq tape (bytes ++ more) transcript
+InTurnFrom dialog seq tape bytes (Taken more ∷ transcript) = transcript ≡ []
+InTurnFrom dialog seq tape bytes (Got items ∷ transcript) =
+    IsDueToListen dialog seq tape bytes × InTurnFrom dialog seq (tape ++ items) bytes transcript
 
 -- The dialog sends and listens in turn: each piece is received only when it is due.
 abbrev pub InTurn : {E R : Type 0} → Dialog E R → Progress → Transcript → Type 0
-InTurn dialog before transcript = TurnsFrom dialog before.next (on_tape before.unread) [] transcript
+InTurn dialog before transcript = InTurnFrom dialog before.next (on_tape before.unread) [] transcript
 
 -- The run over the unread bytes and the items received.
 abbrev pub played_over : {E R : Type 0} → Dialog E R → Progress → Transcript → Played E R
@@ -47,35 +47,35 @@ pub record Plays {E R : Type 0} (dialog : Dialog E R) (before : Progress) (trans
   pub none_taken : NoneTaken transcript
   pub in_turn : InTurn dialog before transcript
 
-abbrev pub IsPrefixOf : List ℕ → List ℕ → Type 0
-IsPrefixOf prefix bytes = (back : List ℕ) × (prefix ++ back ≡ bytes)
+abbrev pub IsBytePrefixOf : List ℕ → List ℕ → Type 0
+IsBytePrefixOf prefix bytes = (back : List ℕ) × (prefix ++ back ≡ bytes)
 
 -- The first event is a part of the second: a prefix of its frame, or a part of its output.
 abbrev pub IsPartOf : {E : Type 0} → (E → E → Type 0) → Event E → Event E → Type 0
-IsPartOf SaidPart (Frame part) (Frame whole) = IsPrefixOf part whole
-IsPartOf SaidPart (Said part) (Said whole) = SaidPart part whole
-IsPartOf SaidPart _ _ = ⊥
+IsPartOf IsPartOfEvent (Frame part) (Frame whole) = IsBytePrefixOf part whole
+IsPartOf IsPartOfEvent (Emitted part) (Emitted whole) = IsPartOfEvent part whole
+IsPartOf IsPartOfEvent _ _ = ⊥
 
 -- Nothing, or a part of the first event.
-abbrev pub IsBegun : {E : Type 0} → (E → E → Type 0) → List (Event E) → List (Event E) → Type 0
-IsBegun SaidPart [] events = Unit {0}
-IsBegun SaidPart (part ∷ []) (event ∷ events) = IsPartOf SaidPart part event
-IsBegun SaidPart _ _ = ⊥
+abbrev pub IsPartOfFirst : {E : Type 0} → (E → E → Type 0) → List (Event E) → List (Event E) → Type 0
+IsPartOfFirst IsPartOfEvent [] events = Unit {0}
+IsPartOfFirst IsPartOfEvent (part ∷ []) (event ∷ events) = IsPartOf IsPartOfEvent part event
+IsPartOfFirst IsPartOfEvent _ _ = ⊥
 
 -- A prefix of the events, and perhaps a part of the next one.
-pub record IsPrefixOfEvents {E : Type 0} (SaidPart : E → E → Type 0) (shown events : List (Event E)) : Type 0 where
+pub record IsPrefixOfEvents {E : Type 0} (IsPartOfEvent : E → E → Type 0) (shown events : List (Event E)) : Type 0 where
   pub whole : List (Event E)
   pub begun : List (Event E)
   pub later : List (Event E)
   pub shown_is : shown ≡ whole ++ begun
   pub events_are : events ≡ whole ++ later
-  pub part : IsBegun SaidPart begun later
+  pub part : IsPartOfFirst IsPartOfEvent begun later
 
 -- The run broke off: what happened is a prefix of its events over the items received.
-pub record Breaks {E R : Type 0} (SaidPart : E → E → Type 0) (dialog : Dialog E R) (before : Progress)
+pub record Breaks {E R : Type 0} (IsPartOfEvent : E → E → Type 0) (dialog : Dialog E R) (before : Progress)
     (transcript : Transcript)
     (shown : List (Event E)) : Type 0 where
-  pub prefix : IsPrefixOfEvents SaidPart shown (played_over dialog before transcript).events
+  pub prefix : IsPrefixOfEvents IsPartOfEvent shown (played_over dialog before transcript).events
   pub all_sent : bytes_sent shown ≡ sent transcript
   pub in_turn : InTurn dialog before transcript
 
@@ -113,7 +113,7 @@ abbrev pub NoPart : ⊥ → ⊥ → Type 0
 NoPart part whole = ⊥
 
 -- A call ran a dialog to its end, between these states of the link, which has not failed.
-pub record PlaysOver {R : Type 0} (dialog : Dialog ⊥ R) (before : Progress) (old new : LinkState) (result : R)
+pub record RunsOverLink {R : Type 0} (dialog : Dialog ⊥ R) (before : Progress) (old new : LinkState) (result : R)
     (after : Progress) : Type 0 where
   pub during : Transcript
   pub events : List (Event ⊥)
@@ -122,7 +122,7 @@ pub record PlaysOver {R : Type 0} (dialog : Dialog ⊥ R) (before : Progress) (o
   pub sound : new.failures ≡ old.failures
 
 -- A call broke off because the link failed, with this fault.
-pub record FailsOver {R : Type 0} (fault : HostFault) (dialog : Dialog ⊥ R) (before : Progress)
+pub record BreaksOverLink {R : Type 0} (fault : HostFault) (dialog : Dialog ⊥ R) (before : Progress)
     (old new : LinkState) : Type 0 where
   pub during : Transcript
   pub shown : List (Event ⊥)

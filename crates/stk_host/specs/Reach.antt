@@ -1,9 +1,9 @@
 -- How far a call has come in a dialog: for contracts of private functions, and of code that sends and listens
 -- without a host.
 use Rattle.std.specs.Prelude.{ℕ, List, [], ◌∷◌, ◌++◌, ◌+◌, ◌≡◌, ◌<◌, ◌≤◌, length, Some, None, Result, OnOk, OnErr}
-use Rattle.stk_host.specs.Tape.{Tape, Reading, on_tape, answer, limit}
+use Rattle.stk_host.specs.Tape.{Tape, Reading, on_tape, answer, reply_byte_limit}
 use Rattle.stk_host.specs.Transcript.{Transcript, LinkState, Sent, Taken, Got, NoneTaken, sent, heard, Grows, LinkCounts}
-use Rattle.stk_host.specs.Dialog.{Dialog, Event, played, behind, bytes_sent}
+use Rattle.stk_host.specs.Dialog.{Dialog, Event, played, prepend_events, bytes_sent}
 use Rattle.stk_host.specs.Play.{InTurn, Progress}
 
 -- A transcript leads from a dialog to its rest: the dialog's run is these events, then the run of the rest, whatever
@@ -11,7 +11,7 @@ use Rattle.stk_host.specs.Play.{InTurn, Progress}
 pub record TranscriptLeads {E R : Type 0} (dialog : Dialog E R) (before : Progress) (transcript : Transcript)
     (events : List (Event E)) (rest : Dialog E R) (after : Progress) : Type 0 where
   pub goes_on : (more : Tape) → played dialog before.next (on_tape before.unread ++ (heard transcript ++ more))
-      ≡ behind events (played rest after.next (on_tape after.unread ++ more))
+      ≡ prepend_events events (played rest after.next (on_tape after.unread ++ more))
   pub all_sent : bytes_sent events ≡ sent transcript
   pub none_taken : NoneTaken transcript
   pub in_turn : InTurn dialog before transcript
@@ -26,37 +26,37 @@ pub record Reaches {R : Type 0} (dialog : Dialog ⊥ R) (before : Progress) (old
   pub sound : new.failures ≡ old.failures
 
 -- Nothing was received, and nothing passed after a send that failed.
-abbrev pub IsQuiet : Transcript → Type 0
-IsQuiet [] = Unit {0}
-IsQuiet (Sent bytes ∷ transcript) = IsQuiet transcript
-IsQuiet (Taken bytes ∷ transcript) = transcript ≡ []
-IsQuiet (Got tape ∷ transcript) = ⊥
+abbrev pub NothingReceived : Transcript → Type 0
+NothingReceived [] = Unit {0}
+NothingReceived (Sent bytes ∷ transcript) = NothingReceived transcript
+NothingReceived (Taken bytes ∷ transcript) = transcript ≡ []
+NothingReceived (Got tape ∷ transcript) = ⊥
 
 -- These bytes were sent, and nothing was received.
-pub record Says (bytes : List ℕ) (old new : Transcript) : Type 0 where
+pub record SendsExactly (bytes : List ℕ) (old new : Transcript) : Type 0 where
   pub during : Transcript
   pub grows : Grows old during new
-  pub quiet : IsQuiet during
+  pub quiet : NothingReceived during
   pub none_taken : NoneTaken during
   pub bytes_sent : sent during ≡ bytes
 
 -- A part of these bytes was sent, perhaps nothing, and nothing was received. All were sent only if the send that
 -- failed took the last of them.
-pub record SaysPart (bytes : List ℕ) (old new : Transcript) : Type 0 where
+pub record SendsOnlyPart (bytes : List ℕ) (old new : Transcript) : Type 0 where
   pub part : List ℕ
   pub unsent : List ℕ
   pub bytes_are : bytes ≡ part ++ unsent
   pub some : 0 < length bytes
   pub during : Transcript
   pub grows : Grows old during new
-  pub quiet : IsQuiet during
+  pub quiet : NothingReceived during
   pub bytes_sent : sent during ≡ part
   pub not_whole : NoneTaken during → 0 < length unsent
 
 -- What `send_all` ensures: it sends all of these bytes, or a part if the link fails.
 pub record SendsAll {E : Type 0} (bytes : List ℕ) (old new : LinkState) (result : Result (Unit {0}) E) : Type 0 where
-  pub ok : OnOk result (Says bytes old.transcript new.transcript)
-  pub err : OnErr result (SaysPart bytes old.transcript new.transcript)
+  pub ok : OnOk result (SendsExactly bytes old.transcript new.transcript)
+  pub err : OnErr result (SendsOnlyPart bytes old.transcript new.transcript)
   pub counts : LinkCounts old new result
 
 -- At each piece received there was no reply yet, and nothing was sent.
@@ -66,18 +66,18 @@ WaitsFrom seq tape (Got items ∷ transcript) = (answer seq tape ≡ None) × Wa
 WaitsFrom seq tape (other ∷ transcript) = ⊥
 
 -- The reply was waited for within the limit of bytes, and `left` is unread after it.
-pub record Hears (seq : ℕ) (unread : List ℕ) (old new : LinkState) (reading : Reading) (left : List ℕ) : Type 0 where
+pub record ReceivesReply (seq : ℕ) (unread : List ℕ) (old new : LinkState) (reading : Reading) (left : List ℕ) : Type 0 where
   pub during : Transcript
   pub grows : Grows old.transcript during new.transcript
   pub waits : WaitsFrom seq (on_tape unread) during
-  pub few : length unread + length (heard during) ≤ limit
+  pub few : length unread + length (heard during) ≤ reply_byte_limit
   pub answers : (more : Tape) → answer seq (on_tape unread ++ (heard during ++ more))
       ≡ Some (reading, on_tape left ++ more)
 
 -- The wait broke off before the reply arrived.
-pub record HearsNone (seq : ℕ) (unread : List ℕ) (old new : LinkState) : Type 0 where
+pub record ReceivesNoReply (seq : ℕ) (unread : List ℕ) (old new : LinkState) : Type 0 where
   pub during : Transcript
   pub grows : Grows old.transcript during new.transcript
   pub waits : WaitsFrom seq (on_tape unread) during
-  pub few : length unread + length (heard during) ≤ limit
+  pub few : length unread + length (heard during) ≤ reply_byte_limit
   pub no_answer : answer seq (on_tape unread ++ heard during) ≡ None

@@ -22,23 +22,23 @@ read_count part mem = div_ceil (size_of mem part) (read_unit mem)
 abbrev pub block_size : ℕ → ℕ → ℕ
 block_size size start = min 256 (size - start)
 
-abbrev pub load_at : Part → Mem → ℕ → Option Command
-load_at part Flash number = Some (load_flash part (number * 256))
-load_at part Eeprom number = Some (load_eeprom (number * 256))
-load_at part mem number = None
+abbrev pub load_command_at : Part → Mem → ℕ → Option Command
+load_command_at part Flash number = Some (load_flash part (number * 256))
+load_command_at part Eeprom number = Some (load_eeprom (number * 256))
+load_command_at part mem number = None
 
-abbrev pub read_at : Part → Mem → ℕ → Command
-read_at part Flash number = read_flash_block (block_size part.flash_size (number * 256))
-read_at part Eeprom number = read_eeprom_block (block_size part.eeprom_size (number * 256))
-read_at part Lfuse number = read_fuse Low
-read_at part Hfuse number = read_fuse High
-read_at part Efuse number = read_fuse Extended
-read_at part Lock number = read_lock
-read_at part Signature number = read_signature number
-read_at part Calibration number = read_calibration
+abbrev pub read_command_at : Part → Mem → ℕ → Command
+read_command_at part Flash number = read_flash_block (block_size part.flash_size (number * 256))
+read_command_at part Eeprom number = read_eeprom_block (block_size part.eeprom_size (number * 256))
+read_command_at part Lfuse number = read_fuse Low
+read_command_at part Hfuse number = read_fuse High
+read_command_at part Efuse number = read_fuse Extended
+read_command_at part Lock number = read_lock
+read_command_at part Signature number = read_signature number
+read_command_at part Calibration number = read_calibration
 
 abbrev pub read_step : Part → Mem → ℕ → List (List Command)
-read_step part mem number = commands_by (load_at part mem number) (read_at part mem number) ∷ []
+read_step part mem number = commands_by (load_command_at part mem number) (read_command_at part mem number) ∷ []
 
 abbrev pub read_steps : Part → Mem → List (List Command)
 read_steps part mem = each_from (read_step part mem) 0 (read_count part mem)

@@ -17,23 +17,23 @@ pub data Reply : Type 0 where
   Again : StepFault → Reply
   Stop : StepFault → Reply
 
-abbrev pub answer_reply : Command → Result (List ℕ) FrameFault → Reply
-answer_reply command (Ok bytes) = Data bytes
-answer_reply command (Err CheckSum) = Again (Refused (code command) STATUS_CKSUM_ERROR)
-answer_reply command (Err (Status status)) = Stop (Refused (code command) status)
-answer_reply command (Err WrongCommand) = Stop (BadAnswer (code command))
-answer_reply command (Err WrongLength) = Stop (BadAnswer (code command))
+abbrev pub reply_from_check : Command → Result (List ℕ) FrameFault → Reply
+reply_from_check command (Ok bytes) = Data bytes
+reply_from_check command (Err CheckSum) = Again (Refused (code command) STATUS_CKSUM_ERROR)
+reply_from_check command (Err (Status status)) = Stop (Refused (code command) status)
+reply_from_check command (Err WrongCommand) = Stop (BadAnswer (code command))
+reply_from_check command (Err WrongLength) = Stop (BadAnswer (code command))
 
 -- What follows from how listening for the reply to this command ended.
-abbrev pub reading_reply : Command → Reading → Reply
-reading_reply command (Answered bytes) = answer_reply command (judge command bytes)
-reading_reply command Silent = Again NoAnswer
-reading_reply command Babbled = Again Babble
-reading_reply command Ended = Stop LinkEnded
+abbrev pub reply_from_reading : Command → Reading → Reply
+reply_from_reading command (Answered bytes) = reply_from_check command (judge command bytes)
+reply_from_reading command Silent = Again NoAnswer
+reply_from_reading command Babbled = Again Babble
+reply_from_reading command Ended = Stop LinkEnded
 
 -- Sends a command once and reads its reply.
 unfoldable pub exchange : Command → Dialog ⊥ Reply
-exchange command = Ask (body command) (λ reading. Done (reading_reply command reading))
+exchange command = Ask (body command) (λ reading. Done (reply_from_reading command reading))
 
 abbrev pub with_data : (List ℕ → Dialog ⊥ Reply) → Reply → Dialog ⊥ Reply
 with_data go_on (Data bytes) = go_on bytes
@@ -50,15 +50,15 @@ attempt (command ∷ commands) data_before =
 abbrev pub StepOutcome : Type 0
 StepOutcome = Result (List ℕ) StepFault
 
-abbrev pub end_or_again : (StepFault → Dialog ⊥ StepOutcome) → Reply → Dialog ⊥ StepOutcome
-end_or_again again (Data bytes) = Done (Ok bytes)
-end_or_again again (Again fault) = again fault
-end_or_again again (Stop fault) = Done (Err fault)
+abbrev pub retry_or_end : (StepFault → Dialog ⊥ StepOutcome) → Reply → Dialog ⊥ StepOutcome
+retry_or_end again (Data bytes) = Done (Ok bytes)
+retry_or_end again (Again fault) = again fault
+retry_or_end again (Stop fault) = Done (Err fault)
 
 -- At most this many attempts; if all fail, the last fault. `fault` is that of the attempt before.
-unfoldable pub tries : ℕ → List Command → StepFault → Dialog ⊥ StepOutcome
-tries zero commands fault = Done (Err fault)
-tries (suc more) commands fault = attempt commands [] >>= end_or_again (tries more commands)
+unfoldable pub attempts_or_fault : ℕ → List Command → StepFault → Dialog ⊥ StepOutcome
+attempts_or_fault zero commands fault = Done (Err fault)
+attempts_or_fault (suc more) commands fault = attempt commands [] >>= retry_or_end (attempts_or_fault more commands)
 
 abbrev pub commands_by : Option Command → Command → List Command
 commands_by None last = last ∷ []
@@ -66,14 +66,14 @@ commands_by (Some first) last = first ∷ last ∷ []
 
 -- A transaction: at most four attempts at these commands.
 abbrev pub step : List Command → Dialog ⊥ StepOutcome
-step commands = tries 4 commands NoAnswer
+step commands = attempts_or_fault 4 commands NoAnswer
 
 -- Goes on with a step's data, or ends with its fault.
-abbrev pub if_done : (List ℕ → Dialog ⊥ StepOutcome) → StepOutcome → Dialog ⊥ StepOutcome
-if_done go_on (Ok bytes) = go_on bytes
-if_done go_on (Err fault) = Done (Err fault)
+abbrev pub unless_step_fault : (List ℕ → Dialog ⊥ StepOutcome) → StepOutcome → Dialog ⊥ StepOutcome
+unless_step_fault go_on (Ok bytes) = go_on bytes
+unless_step_fault go_on (Err fault) = Done (Err fault)
 
 -- Runs the steps in order, up to the first fault. The result is all data joined, or the fault.
 unfoldable pub play : List (List Command) → List ℕ → Dialog ⊥ StepOutcome
 play [] data_before = Done (Ok data_before)
-play (commands ∷ steps) data_before = step commands >>= if_done (λ bytes. play steps (data_before ++ bytes))
+play (commands ∷ steps) data_before = step commands >>= unless_step_fault (λ bytes. play steps (data_before ++ bytes))

@@ -5,10 +5,10 @@ use Rattle.stk_host.specs.declared.watched_link.LinkCall.{LinkCall}
 use Rattle.stk_host.specs.declared.watched_link.LinkCall.TheVariants as call
 
 -- A call of a link that has returned: its argument and its result.
-pub data ToldOfLink : Type 0 where
-  Sent : List ℕ → Result ℕ LinkFault → ToldOfLink
-  Listened : List ℕ → Result Heard LinkFault → ToldOfLink
+pub data LinkCallReport : Type 0 where
+  Sent : List ℕ → Result ℕ LinkFault → LinkCallReport
+  Listened : List ℕ → Result Heard LinkFault → LinkCallReport
 
-abbrev pub link_told : LinkCall → ToldOfLink
-link_told (call.Sent bytes answer) = Sent bytes.now answer
-link_told (call.Listened buffer answer) = Listened buffer.now answer
+abbrev pub link_call_report : LinkCall → LinkCallReport
+link_call_report (call.Sent bytes answer) = Sent bytes.now answer
+link_call_report (call.Listened buffer answer) = Listened buffer.now answer

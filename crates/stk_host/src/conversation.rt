@@ -1,9 +1,9 @@
 //! Commands and their replies, attempts, and steps.
 ghost use Rattle.std.specs.Prelude.{◌≡◌, ◌<◌, ◌≤◌, ◌∷◌, [], length, OnOk, IfSome, ◌+◌, vec_capacity};
-ghost use Rattle.stk_frame.specs.Commands.{shape, SizedBy};
-ghost use Rattle.stk_host.specs.Steps.{exchange, attempt, step, commands_by, reading_reply};
+ghost use Rattle.stk_frame.specs.Commands.{shape, FitsShape};
+ghost use Rattle.stk_host.specs.Steps.{exchange, attempt, step, commands_by, reply_from_reading};
 ghost use Rattle.stk_host.specs.State.{data_held};
-ghost use Rattle.stk_host.specs.Calls.{reading_of, reply_of, EndsSteps, Asks, GetsReply, FitsFrame, BringsNoData, GoesOn, GoesOnWith, IsSizedStep, step_brings};
+ghost use Rattle.stk_host.specs.Calls.{reading_of, reply_of, EndsSteps, Converses, ReturnsReply, FitsFrame, BringsNoData, CompletesSteps, CompletesStepsWithData, IsSizedStep, step_data_count};
 
 use crate::fault::{HostFault, StepFault};
 use crate::link::{Link, send_all};
@@ -50,8 +50,8 @@ impl Model for Conversation {
 
 fn reply_to(reader: &FrameReader, reading: Reading, command: &Command<'_>) -> Reply
     ensures reply { reply_of result (data_held command.now reader.now)
-        ≡ reading_reply command.now (reading_of reading reader.now) }
-    ensures sized { result ≡ Reply.Data → SizedBy (shape command.now) (data_held command.now reader.now) }
+        ≡ reply_from_reading command.now (reading_of reading reader.now) }
+    ensures sized { result ≡ Reply.Data → FitsShape (shape command.now) (data_held command.now reader.now) }
 {
     match reading {
         Reading::Answered => match Answer::read(command, reader.body()) {
@@ -95,7 +95,7 @@ impl Conversation {
 
     fn exchange<L: Link>(&mut self, link: &mut L, command: &Command<'_>) -> Result<Reply, HostFault>
         requires { FitsFrame command.now }
-        ensures { GetsReply L.Link (exchange command.now) command.now self.old self.new link.old link.new result }
+        ensures { ReturnsReply L.Link (exchange command.now) command.now self.old self.new link.old link.new result }
     {
         let seq = self.next;
         let mut frame = ArrayVec::new();
@@ -119,7 +119,7 @@ impl Conversation {
     ) -> Result<Reply, HostFault>
         requires quiet { IfSome first.now BringsNoData }
         requires fits { FitsFrame last.now }
-        ensures { GetsReply L.Link (attempt (commands_by first.now last.now) []) last.now
+        ensures { ReturnsReply L.Link (attempt (commands_by first.now last.now) []) last.now
             self.old self.new link.old link.new result }
     {
         match first {
@@ -141,10 +141,10 @@ impl Conversation {
     ) -> Result<(), HostFault>
         requires quiet { IfSome first.now BringsNoData }
         requires fits { FitsFrame last.now }
-        ensures asks { Asks L.Link
+        ensures asks { Converses L.Link
             (EndsSteps (step (commands_by first.now last.now)) (λ done. data_held last.now self.new.held))
             self.old self.new link.old link.new result }
-        ensures sized { OnOk result (SizedBy (shape last.now) (data_held last.now self.new.held)) }
+        ensures sized { OnOk result (FitsShape (shape last.now) (data_held last.now self.new.held)) }
     {
         // Each attempt that doesn't return replaces this fault.
         let mut fault = StepFault::NoAnswer;
@@ -167,8 +167,8 @@ pub(crate) fn play_step<L: Link>(
     last: &Command<'_>,
 ) -> Result<(), HostFault>
     requires sized { IsSizedStep first.now last.now }
-    requires none { step_brings last.now ≡ 0 }
-    ensures { Asks L.Link (GoesOn (commands_by first.now last.now ∷ [])) talk.old talk.new link.old link.new result }
+    requires none { step_data_count last.now ≡ 0 }
+    ensures { Converses L.Link (CompletesSteps (commands_by first.now last.now ∷ [])) talk.old talk.new link.old link.new result }
 {
     talk.step(link, first, last)
 }
@@ -182,10 +182,10 @@ pub(crate) fn read_step<L: Link>(
     out: &mut Vec<u8>,
 ) -> Result<(), HostFault>
     requires sized { IsSizedStep first.now last.now }
-    requires room { length out.old.items + step_brings last.now ≤ vec_capacity out.old }
-    ensures asks { Asks L.Link (GoesOnWith (commands_by first.now last.now ∷ []) out.old.items out.new.items)
+    requires room { length out.old.items + step_data_count last.now ≤ vec_capacity out.old }
+    ensures asks { Converses L.Link (CompletesStepsWithData (commands_by first.now last.now ∷ []) out.old.items out.new.items)
         talk.old talk.new link.old link.new result }
-    ensures size { OnOk result (length out.new.items ≡ length out.old.items + step_brings last.now) }
+    ensures size { OnOk result (length out.new.items ≡ length out.old.items + step_data_count last.now) }
     ensures room { vec_capacity out.old ≤ vec_capacity out.new }
 {
     talk.step(link, first, last)?;

@@ -1,7 +1,7 @@
 //! A link that fails once, at a chosen call: for tests of code that uses links.
 ghost use Rattle.std.specs.Prelude.{◌≡◌, ◌==◌, ◌<◌, ◌≤◌, ◌+◌, ◌-◌, length, min, Err, IfOk};
 ghost use Rattle.stk_host.specs.Links.{failing_link_state, CountsCall, FailsAsPlanned};
-ghost use Rattle.ghosts.specs.Stays.{Stays};
+ghost use Rattle.ghosts.specs.Preserves.{Preserves};
 ghost use Rattle.stk_host.specs.Transcript.{Sends, Receives, FitsBuffer};
 
 use crate::link::{Heard, Link, LinkFault};
@@ -92,13 +92,13 @@ impl<L: Link + Drop> Link for FailingLink<L> {
 
     ghost Start = { L.Start };
 
-    ghost comes_of = { λ start link. L.comes_of start link.inner };
+    ghost started_as = { λ start link. L.started_as start link.inner };
 
     #[tactic(auto, using(crate::proofs::Transcripts::Sending::takes_none, crate::proofs::Transcripts::Sending::takes_first))]
     fn send(&mut self, bytes: &[u8]) -> Result<usize, LinkFault>
         ensures sends { Sends bytes.now (failing_link_state L.view self.old)
             (failing_link_state L.view self.new) result }
-        ensures comes { Stays L.comes_of self.old.inner self.new.inner }
+        ensures comes { Preserves L.started_as self.old.inner self.new.inner }
         ensures fails { FailsAsPlanned L.view self.old self.new result }
         ensures short { IfOk result (λ n. n ≤ self.old.cut) }
     {
@@ -114,7 +114,7 @@ impl<L: Link + Drop> Link for FailingLink<L> {
         requires { 0 < length buffer.old }
         ensures receives { Receives buffer.new (failing_link_state L.view self.old) (failing_link_state L.view self.new)
             result }
-        ensures comes { Stays L.comes_of self.old.inner self.new.inner }
+        ensures comes { Preserves L.started_as self.old.inner self.new.inner }
         ensures fails { FailsAsPlanned L.view self.old self.new result }
         ensures short { IfOk result (λ heard. FitsBuffer heard self.old.cut) }
     {

@@ -4,10 +4,10 @@ ghost use Rattle.avr_part.specs.Mem.{is_writable};
 ghost use Rattle.avr_part.specs.Part.{size_of};
 ghost use Rattle.stk_host.specs.declared.fault.HostFault.{HostFault};
 ghost use Rattle.stk_host.specs.declared.fault.HostFault.TheVariants as fault;
-ghost use Rattle.ghosts.specs.Stays.{Stays};
+ghost use Rattle.ghosts.specs.Preserves.{Preserves};
 ghost use Rattle.stk_host.specs.Operations.{opening, closing, erasing, writing, reading, verifying};
 ghost use Rattle.stk_host.specs.State.{lasting_fault};
-ghost use Rattle.stk_host.specs.Calls.{Calls, opening_result, given_or_fault, vector_after, verifying_result};
+ghost use Rattle.stk_host.specs.Calls.{Calls, opening_result, value_or_fault, emptied_on_fault, verifying_result};
 
 use crate::comparing::compare;
 use crate::conversation::{Conversation, play_step};
@@ -69,7 +69,7 @@ impl Model for Host {
     ghost invariant = { λ host. length host.conversation.progress.unread ≤ LARGEST_FRAME };
 }
 
-fn judge_signature(
+fn check_signature(
     wanted: [u8; 3],
     force: bool,
     begun: Result<[u8; 3], HostFault>,
@@ -85,14 +85,14 @@ fn judge_signature(
 }
 
 fn clear_on_fault(outcome: &Result<(), HostFault>, out: &mut Vec<u8>)
-    ensures { out.new.items ≡ vector_after outcome.now out.old.items }
+    ensures { out.new.items ≡ emptied_on_fault outcome.now out.old.items }
 {
     if outcome.is_err() {
         out.clear();
     }
 }
 
-fn judge_comparison(
+fn compare_if_read(
     taken: Result<(), HostFault>,
     mem: Mem,
     image: &Image,
@@ -169,11 +169,11 @@ impl Host {
             → (force ≡ false) × ((found ≡ self.old.part.signature) → ⊥) }
         ensures again { (fault : HostFault) → self.old.broken ≡ Some fault
             → (result ≡ Err fault) × (link.new ≡ link.old) }
-        ensures comes { Stays L.comes_of link.old link.new }
+        ensures comes { Preserves L.started_as link.old link.new }
     {
         self.check()?;
         let begun = begin(&mut self.conversation, link);
-        let outcome = judge_signature(self.part.signature(), force, begun);
+        let outcome = check_signature(self.part.signature(), force, begun);
         self.broken = lasting(&outcome);
         outcome
     }
@@ -195,7 +195,7 @@ impl Host {
         ensures calls { Calls false erasing self.old self.new (L.view link.old) (L.view link.new) result }
         ensures again { (fault : HostFault) → self.old.broken ≡ Some fault
             → (result ≡ Err fault) × (link.new ≡ link.old) }
-        ensures comes { Stays L.comes_of link.old link.new }
+        ensures comes { Preserves L.started_as link.old link.new }
     {
         self.check()?;
         let outcome = play_step(&mut self.conversation, link, &None, &Command::erase());
@@ -231,7 +231,7 @@ impl Host {
             → (result ≡ Err (fault.ReadOnly mem)) × (link.new ≡ link.old) }
         ensures again { (fault : HostFault) → self.old.broken ≡ Some fault
             → (result ≡ Err fault) × (link.new ≡ link.old) }
-        ensures comes { Stays L.comes_of link.old link.new }
+        ensures comes { Preserves L.started_as link.old link.new }
     {
         self.check()?;
         if !mem.writable() {
@@ -266,13 +266,13 @@ impl Host {
     ) -> Result<(), HostFault>
         // If allocation fails, nothing is sent or received.
         ensures calls { Calls true (reading self.old.part mem) self.old self.new (L.view link.old) (L.view link.new)
-            (given_or_fault out.new.items result) }
+            (value_or_fault out.new.items result) }
         ensures empty { OnErr result (out.new.items ≡ []) }
         ensures sized { OnOk result (length out.new.items ≡ size_of mem self.old.part) }
         ensures short { length out.new.items < 2 ^ 32 }
         ensures again { (fault : HostFault) → self.old.broken ≡ Some fault
             → (result ≡ Err fault) × (link.new ≡ link.old) }
-        ensures comes { Stays L.comes_of link.old link.new }
+        ensures comes { Preserves L.started_as link.old link.new }
     {
         out.clear();
         self.check()?;
@@ -316,7 +316,7 @@ impl Host {
             (L.view link.old) (L.view link.new) result }
         ensures again { (fault : HostFault) → self.old.broken ≡ Some fault
             → (result ≡ Err fault) × (link.new ≡ link.old) }
-        ensures comes { Stays L.comes_of link.old link.new }
+        ensures comes { Preserves L.started_as link.old link.new }
     {
         self.check()?;
         let mut found = Vec::new(alloc);
@@ -324,7 +324,7 @@ impl Host {
             return Err(HostFault::Memory);
         }
         let taken = read_memory(&mut self.conversation, link, &self.part, mem, &mut found);
-        let outcome = judge_comparison(taken, mem, image, found.as_slice());
+        let outcome = compare_if_read(taken, mem, image, found.as_slice());
         self.broken = lasting(&outcome);
         outcome
     }
@@ -346,7 +346,7 @@ impl Host {
         ensures calls { Calls false closing self.old self.new (L.view link.old) (L.view link.new) result }
         ensures again { (fault : HostFault) → self.old.broken ≡ Some fault
             → (result ≡ Err fault) × (link.new ≡ link.old) }
-        ensures comes { Stays L.comes_of link.old link.new }
+        ensures comes { Preserves L.started_as link.old link.new }
     {
         self.check()?;
         let outcome = end(&mut self.conversation, link);

@@ -8,8 +8,8 @@ ghost use Rattle.stk_host.specs.WriteSteps.{write_steps};
 ghost use Rattle.stk_host.specs.ReadSteps.{read_steps};
 ghost use Rattle.stk_host.specs.Operations.{opening, erasing, writing, reading, verifying, closing};
 ghost use Rattle.stk_host.specs.Bound.{IsBoundedBy, opening_steps, erasing_steps, closing_steps};
-ghost use Rattle.stk_host.specs.Links.{IsOfTape, IsTrueSince};
-ghost use Rattle.ghosts.specs.Stays.{Stays};
+ghost use Rattle.stk_host.specs.Links.{ConsumesTape, IsTrueSince};
+ghost use Rattle.ghosts.specs.Preserves.{Preserves};
 
 use crate::stream_link::StreamLink;
 use crate::tape_link::TapeLink;
@@ -37,7 +37,7 @@ pub fn a_record_of_streams_is_true<R: Read, W: Write>(
     before: &StreamLink<R, W>,
     after: &StreamLink<R, W>,
 )
-    requires { Stays (IsTrueSince R.remaining W.contents) before.now after.now }
+    requires { Preserves (IsTrueSince R.remaining W.contents) before.now after.now }
     ensures { IsTrueSince R.remaining W.contents before.now after.now }
 {}
 
@@ -46,6 +46,6 @@ pub fn a_record_of_streams_is_true<R: Read, W: Write>(
 ///
 /// Each call over a [`crate::Link`] ensures the required fact, and so does all code made of such calls.
 pub fn a_tape_gives_its_own_items(before: &TapeLink, after: &TapeLink)
-    requires { Stays IsOfTape before.now after.now }
-    ensures { IsOfTape before.now after.now }
+    requires { Preserves ConsumesTape before.now after.now }
+    ensures { ConsumesTape before.now after.now }
 {}

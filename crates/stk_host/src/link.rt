@@ -1,5 +1,5 @@
 ghost use Rattle.std.specs.Prelude.{◌≡◌, ◌<◌, length};
-ghost use Rattle.ghosts.specs.Stays.{Stays};
+ghost use Rattle.ghosts.specs.Preserves.{Preserves};
 ghost use Rattle.stk_host.specs.Transcript.{LinkState, Sends, Receives};
 ghost use Rattle.stk_host.specs.Reach.{SendsAll};
 
@@ -93,7 +93,7 @@ pub trait Link {
     ghost Start: { Type 0 };
 
     /// This link started from this state. Every call keeps this true.
-    ghost comes_of: { Start → Self → Type 0 };
+    ghost started_as: { Start → Self → Type 0 };
 
     /// Sends a prefix of the bytes, and returns how many.
     ///
@@ -105,7 +105,7 @@ pub trait Link {
     /// [`LinkFault::Failed`] if the link has failed.
     fn send(&mut self, bytes: &[u8]) -> Result<usize, LinkFault>
         ensures sends { Sends bytes.now (view self.old) (view self.new) result }
-        ensures comes { Stays comes_of self.old self.new };
+        ensures comes { Preserves started_as self.old self.new };
 
     /// Receives at least one byte and at most as many as the buffer holds, or a timeout, or the end.
     ///
@@ -119,7 +119,7 @@ pub trait Link {
     fn recv(&mut self, buffer: &mut [u8]) -> Result<Heard, LinkFault>
         requires { 0 < length buffer.old }
         ensures receives { Receives buffer.new (view self.old) (view self.new) result }
-        ensures comes { Stays comes_of self.old self.new };
+        ensures comes { Preserves started_as self.old self.new };
 }
 
 /// Sends all of the bytes, in as many calls of [`Link::send`] as the link needs. Nothing is sent twice.
@@ -136,7 +136,7 @@ pub trait Link {
 /// ```
 pub fn send_all<L: Link>(link: &mut L, bytes: &[u8]) -> Result<(), LinkFault>
     ensures sends { SendsAll bytes.now (L.view link.old) (L.view link.new) result }
-    ensures comes { Stays L.comes_of link.old link.new }
+    ensures comes { Preserves L.started_as link.old link.new }
 {
     let mut done = 0;
     while done < bytes.len() {

@@ -1,8 +1,8 @@
 //! Waits for a reply, and keeps the bytes received and not yet read.
 ghost use Rattle.std.specs.Prelude.{◌≡◌, ◌<◌, ◌≤◌, ◌↔◌, IsTrue, length, take, drop, [], true, false, None};
-ghost use Rattle.stk_host.specs.Calls.{HearsNext, HearsAnswer};
+ghost use Rattle.stk_host.specs.Calls.{ReceivesNextPiece, ListensForReply};
 ghost use Rattle.stk_frame.specs.declared.protocol.TheConstants.{LARGEST_FRAME};
-ghost use Rattle.stk_frame.specs.Reader.{frames_of_event, TellsEvent, HoldsFrame};
+ghost use Rattle.stk_frame.specs.Reader.{frames_of_event, EventMatchesHeld, HoldsFrame};
 ghost use Rattle.stk_host.specs.Tape.{is_answer, first_answer};
 
 use crate::link::{Heard, Link, LinkFault};
@@ -63,9 +63,9 @@ impl Unread {
     }
 
     /// Receives the next piece, of at most `most` bytes.
-    pub(crate) fn hear<L: Link>(&mut self, link: &mut L, most: usize) -> Result<Heard, LinkFault>
+    pub(crate) fn receive_piece<L: Link>(&mut self, link: &mut L, most: usize) -> Result<Heard, LinkFault>
         requires { 0 < most }
-        ensures { HearsNext L.Link most link.old link.new self.new result }
+        ensures { ReceivesNextPiece L.Link most link.old link.new self.new result }
     {
         self.start = 0;
         self.end = 0;
@@ -92,7 +92,7 @@ pub(crate) enum Reading {
 
 /// Returns whether the reader holds the reply to the frame numbered `seq`.
 fn is_answer(reader: &FrameReader, event: Event, seq: u8) -> bool
-    requires { TellsEvent event reader.now }
+    requires { EventMatchesHeld event reader.now }
     ensures yes { result ≡ true → (event ≡ Event.Frame) × HoldsFrame reader.now × (is_answer seq reader.now ≡ true) }
     ensures no { result ≡ false → first_answer seq (frames_of_event event reader.now) ≡ None }
 {
@@ -111,13 +111,13 @@ pub(crate) fn listen<L: Link>(
     seq: u8,
 ) -> Result<Reading, LinkFault>
     requires { length unread.old ≤ LARGEST_FRAME }
-    ensures { HearsAnswer L.Link seq link.old link.new unread.old unread.new reader.new result }
+    ensures { ListensForReply L.Link seq link.old link.new unread.old unread.new reader.new result }
 {
     reader.reset();
     let mut count = 0;
     while count < MOST_BYTES_PER_ANSWER {
         if unread.is_empty() {
-            match unread.hear(link, MOST_BYTES_PER_ANSWER - count)? {
+            match unread.receive_piece(link, MOST_BYTES_PER_ANSWER - count)? {
                 Heard::Bytes(_) => {}
                 Heard::Silence => return Ok(Reading::Silent),
                 Heard::End => return Ok(Reading::Ended),

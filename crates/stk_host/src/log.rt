@@ -1,6 +1,6 @@
 ghost use Rattle.std.specs.Prelude.{◌≡◌, ◌<◌, ◌≤◌, ◌++◌, ◌∷◌, [], length, take, OnOk, OnErr};
-ghost use Rattle.stk_host.specs.Tape.{bytes_of};
-ghost use Rattle.stk_host.specs.Log.{byte_count};
+ghost use Rattle.stk_host.specs.Tape.{bytes_on_tape};
+ghost use Rattle.stk_host.specs.Log.{heard_byte_count};
 ghost use Rattle.stk_host.specs.Transcript as piece;
 ghost use Rattle.stk_host.specs.Transcript.{FitsBuffer};
 
@@ -18,7 +18,7 @@ enum Mark {
 /// Returns the bytes received, which are at the start of the buffer.
 fn received(heard: Heard, buffer: &[u8]) -> &[u8]
     requires { FitsBuffer heard (length buffer.now) }
-    ensures { result.now ≡ take (byte_count heard) buffer.now }
+    ensures { result.now ≡ take (heard_byte_count heard) buffer.now }
 {
     match heard {
         Heard::Bytes(count) => &buffer[..count],
@@ -41,11 +41,11 @@ impl Model for Log {
 
     ghost Value = { LogState };
 
-    ghost use Rattle.stk_host.specs.Log.{log_state, Adds};
+    ghost use Rattle.stk_host.specs.Log.{log_state, CountsMatchMarks};
 
     ghost view = { log_state };
 
-    ghost invariant = { Adds };
+    ghost invariant = { CountsMatchMarks };
 }
 
 impl Log {
@@ -69,7 +69,7 @@ impl Log {
 
     /// Returns all bytes received, in order.
     pub fn heard(&self) -> &[u8]
-        ensures { result.now ≡ bytes_of (piece.heard self.now.transcript) }
+        ensures { result.now ≡ bytes_on_tape (piece.heard self.now.transcript) }
     {
         self.back.as_slice()
     }
@@ -86,7 +86,7 @@ impl Log {
     }
 
     /// Adds these bytes as sent. [`Log::reserve`] must have made room for them.
-    pub fn say(&mut self, bytes: &[u8])
+    pub fn add_sent(&mut self, bytes: &[u8])
         requires piece { 0 < self.old.piece_room }
         requires bytes { length bytes.now ≤ self.old.byte_room }
         ensures { self.new.transcript ≡ self.old.transcript ++ piece.Sent bytes.now ∷ [] }
@@ -96,7 +96,7 @@ impl Log {
     }
 
     /// Adds what was received; its bytes are at the start of the buffer. If allocation fails, nothing is added.
-    pub fn hear(&mut self, heard: Heard, buffer: &[u8]) -> Result<(), AllocError>
+    pub fn receive_piece(&mut self, heard: Heard, buffer: &[u8]) -> Result<(), AllocError>
         requires { FitsBuffer heard (length buffer.now) }
         ensures ok { OnOk result (self.new.transcript ≡ self.old.transcript ++ piece.Got
             (piece.items_of heard buffer.now) ∷ []) }

@@ -3,7 +3,7 @@ ghost use Rattle.std.specs.Prelude.{◌∷◌, []};
 ghost use Rattle.stk_frame.specs.HostCommands.{leave, read_signature};
 ghost use Rattle.stk_host.specs.Steps.{step};
 ghost use Rattle.stk_host.specs.Operations.{handshake};
-ghost use Rattle.stk_host.specs.Calls.{Asks, EndsSteps};
+ghost use Rattle.stk_host.specs.Calls.{Converses, EndsSteps};
 
 use crate::conversation::Conversation;
 use crate::fault::HostFault;
@@ -15,7 +15,7 @@ fn signature_byte<L: Link>(
     link: &mut L,
     place: u8,
 ) -> Result<u8, HostFault>
-    ensures { Asks L.Link (EndsSteps (step (read_signature place ∷ [])) (λ byte. byte ∷ []))
+    ensures { Converses L.Link (EndsSteps (step (read_signature place ∷ [])) (λ byte. byte ∷ []))
         talk.old talk.new link.old link.new result }
 {
     let command = Command::read_signature(place);
@@ -25,7 +25,7 @@ fn signature_byte<L: Link>(
 
 /// Signs on, enters programming mode and reads the signature, byte 0 first.
 pub(crate) fn begin<L: Link>(talk: &mut Conversation, link: &mut L) -> Result<[u8; 3], HostFault>
-    ensures { Asks L.Link (EndsSteps handshake (λ found. found)) talk.old talk.new link.old link.new result }
+    ensures { Converses L.Link (EndsSteps handshake (λ found. found)) talk.old talk.new link.old link.new result }
 {
     talk.step(link, &None, &Command::SignOn)?;
     talk.step(link, &None, &Command::enter())?;
@@ -36,7 +36,7 @@ pub(crate) fn begin<L: Link>(talk: &mut Conversation, link: &mut L) -> Result<[u
 }
 
 pub(crate) fn end<L: Link>(talk: &mut Conversation, link: &mut L) -> Result<(), HostFault>
-    ensures { Asks L.Link (EndsSteps (step (leave ∷ [])) (λ done. [])) talk.old talk.new link.old link.new result }
+    ensures { Converses L.Link (EndsSteps (step (leave ∷ [])) (λ done. [])) talk.old talk.new link.old link.new result }
 {
     talk.step(link, &None, &Command::leave())
 }

@@ -1,6 +1,6 @@
 ghost use Rattle.std.specs.Prelude.{◌≡◌, ◌<◌, ◌≤◌, [], length, OnOk, vec_capacity};
-ghost use Rattle.stk_host.specs.ReadSteps.{read_count, load_at, read_at, read_steps};
-ghost use Rattle.stk_host.specs.Calls.{Asks, Gets};
+ghost use Rattle.stk_host.specs.ReadSteps.{read_count, load_command_at, read_command_at, read_steps};
+ghost use Rattle.stk_host.specs.Calls.{Converses, RunsSteps};
 ghost use Rattle.avr_part.specs.Part as parts;
 
 use crate::conversation::{Conversation, read_step};
@@ -26,9 +26,9 @@ fn read_count(part: &Part, mem: Mem) -> u32
 }
 
 /// Returns the command that loads the address of block `number`, if the memory is read in blocks.
-fn load_at<'a>(part: &Part, mem: Mem, number: u32) -> Option<Command<'a>>
+fn load_command_at<'a>(part: &Part, mem: Mem, number: u32) -> Option<Command<'a>>
     requires { number < 1024 }
-    ensures { result ≡ load_at part.now mem number }
+    ensures { result ≡ load_command_at part.now mem number }
 {
     match mem {
         Mem::Flash => Some(load_flash(part, number * BLOCK)),
@@ -40,10 +40,10 @@ fn load_at<'a>(part: &Part, mem: Mem, number: u32) -> Option<Command<'a>>
 }
 
 /// Returns the command that reads the bytes of step `number`.
-fn read_at<'a>(part: &Part, mem: Mem, number: u32) -> Command<'a>
+fn read_command_at<'a>(part: &Part, mem: Mem, number: u32) -> Command<'a>
     requires few { number < 1024 }
     requires within { number < read_count part.now mem }
-    ensures { result ≡ read_at part.now mem number }
+    ensures { result ≡ read_command_at part.now mem number }
 {
     let left = part.size_of(mem).saturating_sub(number * BLOCK);
     match mem {
@@ -68,12 +68,12 @@ pub(crate) fn read_memory<L: Link>(
 ) -> Result<(), HostFault>
     requires empty { out.old.items ≡ [] }
     requires room { parts.size_of mem part.now ≤ vec_capacity out.old }
-    ensures is { Asks L.Link (Gets (read_steps part.now mem) out.new.items) talk.old talk.new link.old link.new result }
+    ensures is { Converses L.Link (RunsSteps (read_steps part.now mem) out.new.items) talk.old talk.new link.old link.new result }
     ensures size { OnOk result (length out.new.items ≡ parts.size_of mem part.now) }
 {
     for number in 0..read_count(part, mem) {
-        let first = load_at(part, mem, number);
-        let last = read_at(part, mem, number);
+        let first = load_command_at(part, mem, number);
+        let last = read_command_at(part, mem, number);
         read_step(talk, link, &first, &last, out)?;
     }
     Ok(())

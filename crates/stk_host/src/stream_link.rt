@@ -1,10 +1,10 @@
 ghost use Rattle.std.specs.Prelude.{◌≡◌, ◌<◌, ◌≤◌, ◌∷◌, ◌++◌, [], length, take, None, Some, IsSome, IfOk, IfErr, OnErr, OnOk};
 ghost use Rattle.std.specs.IoError.{error_kind};
 ghost use Rattle.std.specs.Io.KnownBytes.{Keeps, Appends};
-ghost use Rattle.ghosts.specs.Stays.{Stays};
+ghost use Rattle.ghosts.specs.Preserves.{Preserves};
 ghost use Rattle.stk_host.specs.Transcript.{Sent, Sends, Receives, FitsBuffer};
 ghost use Rattle.stk_host.specs.declared.link.Heard.TheVariants.{Silence};
-ghost use Rattle.stk_host.specs.Links.{StreamState, IsTrueSince, stream_state, TakesKnown, HearsKnown, IsOfListening};
+ghost use Rattle.stk_host.specs.Links.{StreamState, IsTrueSince, stream_state, TakesKnownBytes, ReceivesKnownBytes, IsListeningFailure};
 
 use crate::history::{History, Piece};
 use crate::link::{Heard, Link, LinkFault};
@@ -60,9 +60,9 @@ fn put_bytes<W: Outlet>(writer: &mut W, bytes: &[u8], history: &mut History) -> 
     ensures some { IfOk result (λ n. 0 < length bytes.now → 0 < n) }
     ensures ok { IfOk result (λ n. Appends (W.contents writer.old) (W.contents writer.new) (take n bytes.now)) }
     ensures sent { IfOk result (λ n. history.new.items ≡ history.old.items ++ Sent (take n bytes.now) ∷ []) }
-    ensures taken { OnErr result (TakesKnown bytes.now history.old.items history.new.items
+    ensures taken { OnErr result (TakesKnownBytes bytes.now history.old.items history.new.items
         (W.contents writer.old) (W.contents writer.new)) }
-    ensures out { OnOk result (W.is_out writer.new) }
+    ensures out { OnOk result (W.is_flushed writer.new) }
 {
     let count = write_some(writer, bytes)?;
     match flush(writer) {
@@ -77,13 +77,13 @@ fn put_bytes<W: Outlet>(writer: &mut W, bytes: &[u8], history: &mut History) -> 
     }
 }
 
-fn hear_bytes<R: Inlet>(reader: &mut R, buffer: &mut [u8]) -> io::Result<Heard>
+fn receive_bytes<R: Inlet>(reader: &mut R, buffer: &mut [u8]) -> io::Result<Heard>
     requires { 0 < length buffer.old }
     ensures within { IfOk result (λ heard. FitsBuffer heard (length buffer.new)) }
-    ensures ok { IfOk result (λ heard. HearsKnown heard buffer.new (R.remaining reader.old) (R.remaining reader.new)) }
+    ensures ok { IfOk result (λ heard. ReceivesKnownBytes heard buffer.new (R.remaining reader.old) (R.remaining reader.new)) }
     ensures err { OnErr result (Keeps (R.remaining reader.old) (R.remaining reader.new)) }
-    ensures silent { IfOk result (λ heard. heard ≡ Silence → R.is_silent reader.new) }
-    ensures fault { IfErr result (λ error. IsOfListening (Some (error_kind error))) }
+    ensures silent { IfOk result (λ heard. heard ≡ Silence → R.has_timed_out reader.new) }
+    ensures fault { IfErr result (λ error. IsListeningFailure (Some (error_kind error))) }
 {
     match read_some(reader, buffer) {
         Ok(0) => Ok(Heard::End),
@@ -171,18 +171,18 @@ impl<R: Inlet + Drop, W: Outlet + Drop> Link for StreamLink<R, W> {
 
     ghost Start = { StreamState R W };
 
-    ghost comes_of = { IsTrueSince R.remaining W.contents };
+    ghost started_as = { IsTrueSince R.remaining W.contents };
 
     fn send(&mut self, bytes: &[u8]) -> Result<usize, LinkFault>
         ensures sends { Sends bytes.now (stream_state self.old) (stream_state self.new) result }
-        ensures comes { Stays (IsTrueSince R.remaining W.contents) self.old self.new }
+        ensures comes { Preserves (IsTrueSince R.remaining W.contents) self.old self.new }
         // The writer took the bytes reported as sent, or on failure exactly those of the transcript's last piece.
         ensures written { IfOk result (λ n. Appends (W.contents self.old.writer) (W.contents self.new.writer)
             (take n bytes.now)) }
-        ensures broken { OnErr result (TakesKnown bytes.now self.old.transcript self.new.transcript
+        ensures broken { OnErr result (TakesKnownBytes bytes.now self.old.transcript self.new.transcript
             (W.contents self.old.writer) (W.contents self.new.writer)) }
         // Bytes reported as sent were flushed.
-        ensures out { OnOk result (W.is_out self.new.writer) }
+        ensures out { OnOk result (W.is_flushed self.new.writer) }
         ensures reader { self.new.reader ≡ self.old.reader }
         ensures sound { OnOk result (self.new.failures ≡ self.old.failures) }
         // A failure records an error kind, and a success leaves the last one.
@@ -202,19 +202,19 @@ impl<R: Inlet + Drop, W: Outlet + Drop> Link for StreamLink<R, W> {
     fn recv(&mut self, buffer: &mut [u8]) -> Result<Heard, LinkFault>
         requires { 0 < length buffer.old }
         ensures receives { Receives buffer.new (stream_state self.old) (stream_state self.new) result }
-        ensures comes { Stays (IsTrueSince R.remaining W.contents) self.old self.new }
+        ensures comes { Preserves (IsTrueSince R.remaining W.contents) self.old self.new }
         // The bytes received are the reader's next ones. None is lost, and the end comes only after the last.
-        ensures read { IfOk result (λ heard. HearsKnown heard buffer.new (R.remaining self.old.reader)
+        ensures read { IfOk result (λ heard. ReceivesKnownBytes heard buffer.new (R.remaining self.old.reader)
             (R.remaining self.new.reader)) }
         // A timeout comes only if a read timed out or would block.
-        ensures silent { IfOk result (λ heard. heard ≡ Silence → R.is_silent self.new.reader) }
+        ensures silent { IfOk result (λ heard. heard ≡ Silence → R.has_timed_out self.new.reader) }
         ensures kept { OnErr result (Keeps (R.remaining self.old.reader) (R.remaining self.new.reader)) }
         ensures writer { self.new.writer ≡ self.old.writer }
         // The error kind of a failure is no timeout.
-        ensures fault { OnErr result (IsOfListening self.new.last_error) }
+        ensures fault { OnErr result (IsListeningFailure self.new.last_error) }
         ensures leaves { OnOk result (self.new.last_error ≡ self.old.last_error) }
     {
-        match hear_bytes(&mut self.reader, buffer) {
+        match receive_bytes(&mut self.reader, buffer) {
             Ok(heard) => {
                 self.history = self.history.then(&Piece::Received(&heard, buffer));
                 Ok(heard)

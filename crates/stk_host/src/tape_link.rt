@@ -1,9 +1,9 @@
 ghost use Rattle.std.specs.Prelude.{◌≡◌, ◌<◌, ◌≤◌, [], ℕ, List, length, take, drop, min, slice_get, Some, IfOk, OnOk, OnErr};
-ghost use Rattle.stk_host.specs.Tape.{bytes_in};
+ghost use Rattle.stk_host.specs.Tape.{leading_bytes};
 ghost use Rattle.stk_host.specs.Transcript.{Sends, Receives, FitsBuffer, items_of};
 ghost use Rattle.stk_host.specs.Transcript as transcript;
-ghost use Rattle.stk_host.specs.Links.{IsOfTape, TapeState, tape_state, next_piece, byte_of};
-ghost use Rattle.ghosts.specs.Stays.{Stays};
+ghost use Rattle.stk_host.specs.Links.{ConsumesTape, TapeState, tape_state, next_piece, byte_of};
+ghost use Rattle.ghosts.specs.Preserves.{Preserves};
 
 use crate::link::{Heard, Item, Link, LinkFault};
 use crate::log::Log;
@@ -60,7 +60,7 @@ fn byte_at(tape: &[Item], place: usize) -> Option<u8>
 /// Copies the bytes at the front of a tape, as many as the buffer holds, and returns how many.
 fn copy_bytes(tape: &[Item], buffer: &mut [u8]) -> usize
     ensures within { result ≤ length buffer.new }
-    ensures bytes { take result buffer.new ≡ take (length buffer.new) (bytes_in tape.now) }
+    ensures bytes { take result buffer.new ≡ take (length buffer.new) (leading_bytes tape.now) }
 {
     let mut count = 0;
     while count < buffer.len() {
@@ -138,7 +138,7 @@ impl Link for TapeLink {
 
     ghost Start = { TapeState };
 
-    ghost comes_of = { IsOfTape };
+    ghost started_as = { ConsumesTape };
 
     #[tactic(auto, using(crate::proofs::Tapes::TapeLinks::sent_of_tape, crate::proofs::Tapes::TapeLinks::same_of_tape, crate::proofs::Transcripts::Sending::takes_none))]
     fn send(&mut self, bytes: &[u8]) -> Result<usize, LinkFault>
@@ -148,14 +148,14 @@ impl Link for TapeLink {
         ensures left { self.new.left ≡ self.old.left }
         ensures cut { self.new.cut ≡ self.old.cut }
         ensures same { OnErr result (self.new ≡ record self.old { failures = self.new.failures }) }
-        ensures comes { Stays IsOfTape self.old self.new }
+        ensures comes { Preserves ConsumesTape self.old self.new }
     {
         let count = self.cut.min(bytes.len());
         let Ok(()) = self.log.reserve(count) else {
             self.failures = self.failures.saturating_add(1);
             return Err(LinkFault::Failed);
         };
-        self.log.say(&bytes[..count]);
+        self.log.add_sent(&bytes[..count]);
         Ok(count)
     }
 
@@ -167,11 +167,11 @@ impl Link for TapeLink {
         ensures left { IfOk result (λ heard. self.new.left ≡ drop (length (items_of heard buffer.new)) self.old.left) }
         ensures kept { OnErr result (self.new.left ≡ self.old.left) }
         ensures cut { self.new.cut ≡ self.old.cut }
-        ensures comes { Stays IsOfTape self.old self.new }
+        ensures comes { Preserves ConsumesTape self.old self.new }
     {
         let most = self.cut.min(buffer.len());
         let heard = give_piece(&self.items[self.at..], &mut buffer[..most]);
-        let Ok(()) = self.log.hear(heard, buffer) else {
+        let Ok(()) = self.log.receive_piece(heard, buffer) else {
             self.failures = self.failures.saturating_add(1);
             return Err(LinkFault::Failed);
         };

@@ -1,8 +1,8 @@
 //! A link that reports each call to a watcher, such as a window that draws a progress bar.
 ghost use Rattle.std.specs.Prelude.{◌<◌, length};
-ghost use Rattle.ghosts.specs.Stays.{Stays};
+ghost use Rattle.ghosts.specs.Preserves.{Preserves};
 ghost use Rattle.stk_host.specs.Transcript.{Sends, Receives};
-ghost use Rattle.stk_host.specs.Watching.{ToldOfLink, Sent, Listened, link_told};
+ghost use Rattle.stk_host.specs.Watching.{LinkCallReport, Sent, Listened, link_call_report};
 
 use crate::link::{Heard, Link, LinkFault};
 
@@ -20,11 +20,11 @@ pub enum LinkCall<'a> {
 /// Use `after` to prove what a watcher does with a call. Any other watcher sets it to `λ call old new. Unit {0}`.
 pub trait WatchLink {
     /// What a call does to the watcher.
-    ghost after: { ToldOfLink → Self → Self → Type 0 };
+    ghost after: { LinkCallReport → Self → Self → Type 0 };
 
     /// Called once for each call of the link, after it has returned.
     fn on_call(&mut self, call: &LinkCall<'_>)
-        ensures { after (link_told call.now) self.old self.new };
+        ensures { after (link_call_report call.now) self.old self.new };
 }
 
 /// Wraps a link and reports each call to a watcher. As a link it behaves as the inner one.
@@ -58,11 +58,11 @@ impl<L: Link, W: WatchLink> Link for WatchedLink<L, W> {
 
     ghost Start = { L.Start };
 
-    ghost comes_of = { λ start watched. L.comes_of start watched.link };
+    ghost started_as = { λ start watched. L.started_as start watched.link };
 
     fn send(&mut self, bytes: &[u8]) -> Result<usize, LinkFault>
         ensures sends { Sends bytes.now (L.view self.old.link) (L.view self.new.link) result }
-        ensures comes { Stays L.comes_of self.old.link self.new.link }
+        ensures comes { Preserves L.started_as self.old.link self.new.link }
         ensures told { W.after (Sent bytes.now result) self.old.watcher self.new.watcher }
     {
         let answer = self.link.send(bytes);
@@ -73,7 +73,7 @@ impl<L: Link, W: WatchLink> Link for WatchedLink<L, W> {
     fn recv(&mut self, buffer: &mut [u8]) -> Result<Heard, LinkFault>
         requires { 0 < length buffer.old }
         ensures receives { Receives buffer.new (L.view self.old.link) (L.view self.new.link) result }
-        ensures comes { Stays L.comes_of self.old.link self.new.link }
+        ensures comes { Preserves L.started_as self.old.link self.new.link }
         ensures told { W.after (Listened buffer.new result) self.old.watcher self.new.watcher }
     {
         let answer = self.link.recv(buffer);

@@ -1,6 +1,6 @@
 ghost use Rattle.std.specs.Prelude.{◌≡◌, ◌≤◌, ◌∷◌, [], ◌<◌, ◌-◌, ◌^◌};
 ghost use Rattle.stk_frame.specs.HostCommands.{program_eeprom_block, program_fuse};
-ghost use Rattle.stk_host.specs.Calls.{Asks, GoesOn, Gets};
+ghost use Rattle.stk_host.specs.Calls.{Converses, CompletesSteps, RunsSteps};
 ghost use Rattle.avr_image.specs.Image.{filled_bytes};
 ghost use Rattle.stk_host.specs.WriteSteps.{page_step, begins_run, byte_steps, place_steps, place_count, write_steps};
 ghost use Rattle.stk_host.specs.Places.{each_from};
@@ -42,7 +42,7 @@ fn program_page<L: Link>(
     start: u32,
 ) -> Result<(), HostFault>
     requires { start < 2 ^ 20 }
-    ensures { Asks L.Link (GoesOn (page_step part.now image.now start ∷ []))
+    ensures { Converses L.Link (CompletesSteps (page_step part.now image.now start ∷ []))
         talk.old talk.new link.old link.new result }
 {
     let size = flash_page(part);
@@ -63,7 +63,7 @@ fn program_run<L: Link>(
 ) -> Result<(), HostFault>
     requires order { start ≤ end }
     requires fits { end - start ≤ 256 }
-    ensures { Asks L.Link (GoesOn ((places.load_eeprom start ∷ program_eeprom_block
+    ensures { Converses L.Link (CompletesSteps ((places.load_eeprom start ∷ program_eeprom_block
         (filled_bytes image.now start (end - start)) ∷ []) ∷ [])) talk.old talk.new link.old link.new result }
 {
     let size = (end - start) as usize;
@@ -92,7 +92,7 @@ fn write_place<L: Link>(
     place: u32,
 ) -> Result<(), HostFault>
     requires { place < place_count part.now mem }
-    ensures { Asks L.Link (GoesOn (place_steps part.now mem image.now place))
+    ensures { Converses L.Link (CompletesSteps (place_steps part.now mem image.now place))
         talk.old talk.new link.old link.new result }
 {
     match mem {
@@ -122,7 +122,7 @@ fn write_places<L: Link>(
     mem: Mem,
     image: &Image,
 ) -> Result<(), HostFault>
-    ensures { Asks L.Link (Gets (each_from (place_steps part.now mem image.now) 0 (place_count part.now mem)) [])
+    ensures { Converses L.Link (RunsSteps (each_from (place_steps part.now mem image.now) 0 (place_count part.now mem)) [])
         talk.old talk.new link.old link.new result }
 {
     for place in 0..place_count(part, mem) {
@@ -137,7 +137,7 @@ fn write_fuse<L: Link>(
     fuse: Fuse,
     byte: Option<u8>,
 ) -> Result<(), HostFault>
-    ensures { Asks L.Link (Gets (byte_steps (program_fuse fuse) byte) []) talk.old talk.new link.old link.new result }
+    ensures { Converses L.Link (RunsSteps (byte_steps (program_fuse fuse) byte) []) talk.old talk.new link.old link.new result }
 {
     match byte {
         Some(value) => play_step(talk, link, &None, &Command::program_fuse(fuse, value)),
@@ -153,7 +153,7 @@ pub(crate) fn write_memory<L: Link>(
     mem: Mem,
     image: &Image,
 ) -> Result<(), HostFault>
-    ensures { Asks L.Link (Gets (write_steps part.now mem image.now) []) talk.old talk.new link.old link.new result }
+    ensures { Converses L.Link (RunsSteps (write_steps part.now mem image.now) []) talk.old talk.new link.old link.new result }
 {
     match mem {
         Mem::Flash | Mem::Eeprom => write_places(talk, link, part, mem, image),

@@ -21,7 +21,7 @@ impl Desk for Own {
 
     ghost Start = { Stock };
 
-    ghost comes_of = { λ stock desk. HoldsTrue stock desk.inner };
+    ghost started_as = { λ stock desk. HoldsTrue stock desk.inner };
 
     fn open(&mut self, name: &str) -> Result<(), DeskFault> {
         self.inner.open(name)

@@ -3,12 +3,12 @@ use Rattle.std.proofs.Common.{◌≡◌, ◌∙◌, sym, ap, subst, refl, arith,
 use Rattle.std.proofs.Math.Seq.{drop-append_seam}
 use Rattle.std.proofs.lemmas.Bool.Decides.{nat_tests}
 use Rattle.std.proofs.lemmas.List.{take-append-drop}
-use Rattle.ghosts.specs.Stays.{Stays}
-use Rattle.avr_desk.specs.Memory.{MemDeskState, Stock, stock_of, stood_for, contents, unread_bytes}
+use Rattle.ghosts.specs.Preserves.{Preserves}
+use Rattle.avr_desk.specs.Memory.{MemDeskState, Stock, stock_of, content_of_name, contents, unread_bytes}
 use Rattle.avr_desk.specs.Named.{bytes_given}
 use Rattle.avr_desk.specs.Record.{Bytes, Record, all_files, all_uses, files_among, noted, nothing_kept, written_on}
 use Rattle.avr_desk.proofs.FileUses.Uses.{files_used}
-use Rattle.avr_desk.specs.Truth.{IsRead, AreTrue, HoldsTrue}
+use Rattle.avr_desk.specs.Truth.{IsReadPrefix, OpeningsAreTrue, HoldsTrue}
 use Rattle.avr_desk.specs.declared.record.FileUse.{FileUse}
 use Rattle.avr_desk.specs.declared.record.FileUse.TheVariants.{Opened, Created}
 use Rattle.avr_desk.specs.declared.record.Open.TheVariants.{Closed, ToRead, ToWrite}
@@ -19,25 +19,25 @@ use Rattle.avr_desk.specs.declared.record.Writing.{Writing}
 -- ---- two lists of uses
 
 -- later uses are true, by the files of both
-pub true_append : (stock : Stock) (made : List Writing) (first last : List FileUse) → AreTrue stock made first
-    → AreTrue stock (made ++ files_among first) last → AreTrue stock made (first ++ last)
-true_append stock made [] last are behind = subst (λ fs. AreTrue stock fs last) (append-nil made) behind
+pub true_append : (stock : Stock) (made : List Writing) (first last : List FileUse) → OpeningsAreTrue stock made first
+    → OpeningsAreTrue stock (made ++ files_among first) last → OpeningsAreTrue stock made (first ++ last)
+true_append stock made [] last are behind = subst (λ fs. OpeningsAreTrue stock fs last) (append-nil made) behind
 true_append stock made (Opened opening ∷ first) last are behind =
     (are.0, true_append stock made first last are.1 behind)
 true_append stock made (Created file ∷ first) last are behind =
     true_append stock (made ++ file ∷ []) first last are
-    (subst (λ fs. AreTrue stock fs last) (sym (append_assoc made (file ∷ []) (files_among first))) behind)
+    (subst (λ fs. OpeningsAreTrue stock fs last) (sym (append_assoc made (file ∷ []) (files_among first))) behind)
 
 -- the later uses were true, by the files of both
-pub true_behind : (stock : Stock) (made : List Writing) (first last : List FileUse) → AreTrue stock made (first ++ last)
-    → AreTrue stock (made ++ files_among first) last
-true_behind stock made [] last are = subst (λ fs. AreTrue stock fs last) (sym (append-nil made)) are
+pub true_behind : (stock : Stock) (made : List Writing) (first last : List FileUse) → OpeningsAreTrue stock made (first ++ last)
+    → OpeningsAreTrue stock (made ++ files_among first) last
+true_behind stock made [] last are = subst (λ fs. OpeningsAreTrue stock fs last) (sym (append-nil made)) are
 true_behind stock made (Opened opening ∷ first) last are = true_behind stock made first last are.1
 true_behind stock made (Created file ∷ first) last are =
     grind (arith, nat_tests, true_behind stock (made ++ file ∷ []) first last are, append_assoc)
 
 -- so all openings were true, by the files that had been made
-pub all_true : (stock : Stock) (m : MemDeskState) → HoldsTrue stock m → AreTrue stock [] (all_uses m.kept)
+pub all_true : (stock : Stock) (m : MemDeskState) → HoldsTrue stock m → OpeningsAreTrue stock [] (all_uses m.kept)
 all_true stock m holds = grind (arith, nat_tests, true_append)
 
 -- a new desk has the files that it begins with
@@ -52,24 +52,24 @@ stock_same old new input stored = search rules
 
 -- the same uses and open file
 pub same_true : (old new : MemDeskState) → new.input ≡ old.input → new.stored ≡ old.stored → new.opened ≡ old.opened
-    → new.kept.uses ≡ old.kept.uses → new.kept.current ≡ old.kept.current → Stays HoldsTrue old new
+    → new.kept.uses ≡ old.kept.uses → new.kept.current ≡ old.kept.current → Preserves HoldsTrue old new
 same_true old new input stored opened uses current = search rules
 
 -- a name has the same bytes as before, among all files
 stands : (stock : Stock) (m : MemDeskState) (name : Bytes) → HoldsTrue stock m
-    → contents name m ≡ stood_for stock (all_files m.kept) name
-stands stock m name holds = ap (λ (s : Stock). stood_for s (all_files m.kept) name) holds.began
+    → contents name m ≡ content_of_name stock (all_files m.kept) name
+stands stock m name holds = ap (λ (s : Stock). content_of_name s (all_files m.kept) name) holds.began
 
 -- the record changes if memory was allocated, otherwise it stays
 changed_true : (ok : Bool) (kept : Record) (old new : MemDeskState)
     → new ≡ (if ok then record old { kept = kept } else old)
-    → ((stock : Stock) → HoldsTrue stock old → HoldsTrue stock (record old { kept = kept })) → Stays HoldsTrue old new
+    → ((stock : Stock) → HoldsTrue stock old → HoldsTrue stock (record old { kept = kept })) → Preserves HoldsTrue old new
 changed_true true kept old new is done = λ stock holds. subst (HoldsTrue stock) (sym is) (done stock holds)
 changed_true false kept old new is done = λ stock holds. subst (HoldsTrue stock) (sym is) holds
 
 pub created_true : (ok : Bool) (file : Writing) (old new : MemDeskState)
     → new ≡ (if ok then record old { kept = record old.kept { uses = all_uses old.kept ++ []; current = ToWrite file } }
-    else old) → Stays HoldsTrue old new
+    else old) → Preserves HoldsTrue old new
 created_true ok file old new is = changed_true ok _ old new is (λ stock holds. record {
   began = holds.began;
   uses = true_append stock [] (all_uses old.kept) [] (all_true stock old holds) tt;
@@ -78,10 +78,10 @@ created_true ok file old new is = changed_true ok _ old new is (λ stock holds. 
 
 -- the open file is closed, and there is one more use, which is true
 pub used_true : (ok : Bool) (last : FileUse) (old new : MemDeskState)
-    → ((stock : Stock) → HoldsTrue stock old → AreTrue stock (files_among (all_uses old.kept)) (last ∷ []))
+    → ((stock : Stock) → HoldsTrue stock old → OpeningsAreTrue stock (files_among (all_uses old.kept)) (last ∷ []))
     → new ≡ (if ok then record old { kept = record old.kept { uses = all_uses old.kept ++ last ∷ []; current = Closed } }
     else old)
-    → Stays HoldsTrue old new
+    → Preserves HoldsTrue old new
 used_true ok last old new true_then is = changed_true ok _ old new is (λ stock holds. record {
   began = holds.began;
   uses = true_append stock [] (all_uses old.kept) (last ∷ []) (all_true stock old holds) (true_then stock holds);
@@ -92,10 +92,10 @@ pub absent_true : (ok : Bool) (name own : Bytes) (old new : MemDeskState) → ow
     → new ≡ (if ok then record old {
       kept = record old.kept
           { uses = all_uses old.kept ++ Opened (Absent own) ∷ []; current = Closed };
-    } else old) → Stays HoldsTrue old new
+    } else old) → Preserves HoldsTrue old new
 absent_true ok name own old new same none is = used_true ok (Opened (Absent own)) old new (λ stock holds. (
-  ap (λ fs. stood_for stock fs own) (files_used old.kept)
-      ∙ ap (stood_for stock (all_files old.kept)) same ∙ sym (stands stock old name holds) ∙ sym none,
+  ap (λ fs. content_of_name stock fs own) (files_used old.kept)
+      ∙ ap (content_of_name stock (all_files old.kept)) same ∙ sym (stands stock old name holds) ∙ sym none,
   tt,
 )) is
 
@@ -108,23 +108,23 @@ pub opened_true : (ok : Bool) (name own bytes first : Bytes) (old closed new : M
         current = ToRead (record { name = own; bytes = first; ended = false });
       };
     } else old)
-    → new ≡ record closed { opened = bytes } → Stays HoldsTrue old new
+    → new ≡ record closed { opened = bytes } → Preserves HoldsTrue old new
 opened_true true name own bytes first old closed new ok same none there is has = λ stock holds.
     subst (HoldsTrue stock) (sym (has ∙ ap (λ (m : MemDeskState). record m { opened = bytes }) is)) (record {
       began = holds.began;
       uses = true_append stock [] (all_uses old.kept) [] (all_true stock old holds) tt;
       current = (
-        ap (λ (us : List FileUse). stood_for stock (files_among us) own) (append-nil (all_uses old.kept))
-            ∙ ap (λ fs. stood_for stock fs own) (files_used old.kept)
-            ∙ ap (stood_for stock (all_files old.kept)) same ∙ sym (stands stock old name holds) ∙ sym there,
-        subst (λ b. IsRead (Some bytes) b false) (sym none)
+        ap (λ (us : List FileUse). content_of_name stock (files_among us) own) (append-nil (all_uses old.kept))
+            ∙ ap (λ fs. content_of_name stock fs own) (files_used old.kept)
+            ∙ ap (content_of_name stock (all_files old.kept)) same ∙ sym (stands stock old name holds) ∙ sym there,
+        subst (λ b. IsReadPrefix (Some bytes) b false) (sym none)
             (record { unread = bytes; whole = refl; ends = λ e. absurd (cc) }),
       );
     })
 opened_true false name own bytes first old closed new ok same none there is has = absurd (cc)
 
 -- the state that a desk shows is the one inside
-pub from_inside : (inside now new : MemDeskState) → inside ≡ now → Stays HoldsTrue inside new → Stays HoldsTrue now new
+pub from_inside : (inside now new : MemDeskState) → inside ≡ now → Preserves HoldsTrue inside new → Preserves HoldsTrue now new
 from_inside inside now new is stays = λ stock holds. stays stock (subst (HoldsTrue stock) (sym is) holds)
 
 -- bytes of the open file are read, or its end is seen, which needs room in the buffer
@@ -141,8 +141,8 @@ module _ (old new : MemDeskState) (ends : Bool) (n room : ℕ) (whole gave next 
   at_end : (behind : Bytes) → unread_bytes old ≡ behind → (n == 0 && not (room == 0)) ≡ true → behind ≡ []
   at_end behind rest end = grind (arith, nat_tests)
 
-  prefix_on : (x : Reading) → bytes_given old.kept.current ≡ x.bytes → IsRead (Some old.opened) x.bytes x.ended
-      → IsRead (Some old.opened) (x.bytes ++ piece) (x.ended || ends)
+  prefix_on : (x : Reading) → bytes_given old.kept.current ≡ x.bytes → IsReadPrefix (Some old.opened) x.bytes x.ended
+      → IsReadPrefix (Some old.opened) (x.bytes ++ piece) (x.ended || ends)
   prefix_on x given_is is =
       let rest : unread_bytes old ≡ is.unread =
       search (rules, drop-append_seam) in
@@ -154,10 +154,10 @@ module _ (old new : MemDeskState) (ends : Bool) (n room : ℕ) (whole gave next 
 
   pub read_true : (ok : Bool) → new.kept.uses ≡ old.kept.uses
       → new.kept.current ≡ (if ok then noted piece ends old.kept.current else old.kept.current) → new.opened ≡ old.opened
-      → Stays HoldsTrue old new
+      → Preserves HoldsTrue old new
   read_true ok uses current same = search (rules, stock_same, prefix_on)
 
 pub written_true : (bytes : Bytes) (old new : MemDeskState) → new.input ≡ old.input → new.stored ≡ old.stored
     → new.opened ≡ old.opened
-    → new.kept.uses ≡ old.kept.uses → new.kept.current ≡ written_on bytes old.kept.current → Stays HoldsTrue old new
+    → new.kept.uses ≡ old.kept.uses → new.kept.current ≡ written_on bytes old.kept.current → Preserves HoldsTrue old new
 written_true bytes old new input stored opened uses current = search rules

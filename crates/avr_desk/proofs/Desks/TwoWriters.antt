@@ -13,17 +13,17 @@ use Rattle.std.specs.List.{All, Contains}
 use Rattle.std.specs.declared.io.ErrorKind.{ErrorKind}
 use Rattle.std.specs.declared.io.Read.{Ghosts as Reads}
 use Rattle.std.specs.declared.io.Write.{Ghosts as Writes}
-use Rattle.ghosts.specs.Stays.{Stays}
+use Rattle.ghosts.specs.Preserves.{Preserves}
 use Rattle.avr_desk.specs.Named.{is_dash}
 use Rattle.avr_desk.proofs.FileUses.Calls.{opened, calls_opened, calls_replaced, made_dash, opened_dash, opened_named, calls_append}
 use Rattle.avr_desk.proofs.FileUses.Uses.{files_absent, files_opened, files_replaced}
-use Rattle.avr_desk.specs.Journal.{Counts, Does, FileCall, Gives, Leaves, LeavesAlso, LeavesNoMore, Opens, calling, count_of, done_by, holding, made, none_done}
+use Rattle.avr_desk.specs.Journal.{Counts, ChangesCalls, FileCall, Gives, ReleasesHeld, CrashMayAlsoLeave, CrashLeavesNoMore, Opens, with_calls, count_of, calls_of_record, with_one_more_held, made, no_calls}
 use Rattle.avr_desk.specs.Fault.{IsCall}
 use Rattle.avr_desk.specs.declared.desk.DeskFault.{DeskFault}
 use Rattle.avr_desk.specs.declared.desk.DeskFault.TheVariants.{Failed}
-use Rattle.avr_desk.specs.Handles.{CrashLeaves, IsTrueRecord, HasGiven, IsHeldBy, IsTrueOpen, IsTrueUse}
-use Rattle.avr_desk.specs.Standing.{FileGives, GivesBytes, FileGivesNone, IsClosed, is_output}
-use Rattle.avr_desk.specs.Shown.{Shown, IsTrueSince, TellsAll, has_dash, to_output}
+use Rattle.avr_desk.specs.Handles.{CrashLeaves, IsTrueRecord, HandleGave, IsHeldBy, IsTrueOpen, IsTrueUse}
+use Rattle.avr_desk.specs.Standing.{OpenFileGives, GivesBytes, OpenFileGivesNothing, IsClosed, is_output}
+use Rattle.avr_desk.specs.Shown.{Shown, IsTrueSince, RecordsAll, has_dash, writes_to_output}
 use Rattle.avr_desk.specs.declared.file_system.FileSystem.{Ghosts}
 use Rattle.avr_desk.specs.declared.record.FileUse.{FileUse}
 use Rattle.avr_desk.specs.declared.record.FileUse.TheVariants.{Created, Opened}
@@ -59,21 +59,21 @@ written_dashes bytes r = grind (arith, nat_tests, same_dash_behind)
 -- ---- reading from a handle
 
 module _ {H : Type 0} (reads : Reads H) where
-  given_none : (h : H) (name : Bytes) → HasGiven reads h h (record { name = name; bytes = []; ended = false })
+  given_none : (h : H) (name : Bytes) → HandleGave reads h h (record { name = name; bytes = []; ended = false })
   given_none h name = record { gave = Consumes-nil (reads.remaining h); ends = λ e. absurd (cc) }
 
-  given_more : (first old new : H) (x : Reading) (buf : Bytes) (n : ℕ) → HasGiven reads first old x
+  given_more : (first old new : H) (x : Reading) (buf : Bytes) (n : ℕ) → HandleGave reads first old x
       → GivesBytes reads old new buf n
-      → HasGiven reads first new
+      → HandleGave reads first new
       (record x { bytes = x.bytes ++ take n buf; ended = x.ended || (n == 0 && not (length buf == 0)) })
   given_more first old new x buf n given gives = grind (arith, common_steps, nat_tests)
 
 -- ---- what a call records
 
-pub is_call : {D S T : Type 0} {view : D → DeskState} {comes_of : S → D → Type 0}
+pub is_call : {D S T : Type 0} {view : D → DeskState} {started_as : S → D → Type 0}
     {Counted : DeskState → DeskState → Result T DeskFault → Type 0} {old new : D} {r : Result T DeskFault}
-    → Counted (view old) (view new) r → IfErr r (λ e. e ≡ Failed) → Stays comes_of old new
-    → IsCall view comes_of Counted old new r
+    → Counted (view old) (view new) r → IfErr r (λ e. e ≡ Failed) → Preserves started_as old new
+    → IsCall view started_as Counted old new r
 is_call counts fault stays = record { counts = counts; fault = fault; stays = stays }
 
 -- ---- one call
@@ -113,44 +113,44 @@ module _ {S F I H O E : Type 0} (system : Ghosts S F I H) (reads : Reads F) (wri
   -- ---- what the system did
 
   abbrev Did : List FileCall → Option Bytes → S → Type 0
-  Did calls held now = system.did (record { calls = calls; holds = count_of held }) now
+  Did calls held now = system.has_done (record { calls = calls; holds = count_of held }) now
 
   did_as : {one other : List FileCall} (held : Option Bytes) (now : S) → one ≡ other → Did other held now
       → Did one held now
-  did_as held now same did = subst (λ (calls : List FileCall). Did calls held now) (sym same) did
+  did_as held now same has_done = subst (λ (calls : List FileCall). Did calls held now) (sym same) has_done
 
   -- the held file is released
   left_none : {old new : S} (hold : Option H) (held : Option Bytes) (calls : List FileCall)
-      → IsHeldBy system hold held → Leaves system.did hold old new → Did calls held old → Did calls None new
-  left_none hold held calls is leaves did = search rules
+      → IsHeldBy system hold held → ReleasesHeld system.has_done hold old new → Did calls held old → Did calls None new
+  left_none hold held calls is leaves has_done = search rules
 
   -- another file is held, then released
   left_one : {old new : S} (hold : Option H) (held : Option Bytes) (calls : List FileCall) (name : Bytes)
-      → IsHeldBy system hold held → Leaves system.did hold old new
-      → system.did (holding (record { calls = calls; holds = count_of held })) old → Did calls (Some name) new
-  left_one hold held calls name is leaves did = search rules
+      → IsHeldBy system hold held → ReleasesHeld system.has_done hold old new
+      → system.has_done (with_one_more_held (record { calls = calls; holds = count_of held })) old → Did calls (Some name) new
+  left_one hold held calls name is leaves has_done = search rules
 
   -- it holds as many files as the desk
   abbrev Holds : Desk → Type 0
-  Holds b = Counts system.did (count_of b.hold) b.system
+  Holds b = Counts system.has_done (count_of b.hold) b.system
 
   counts : (s : S) (hold : Option H) (held : Option Bytes) (calls : List FileCall) → IsHeldBy system hold held
-      → Did calls held s → Counts system.did (count_of hold) s
-  counts s None None calls is did = (record { calls = calls; holds = 0 }, did, refl)
-  counts s (Some hold) (Some name) calls is did = (record { calls = calls; holds = 1 }, did, refl)
-  counts s None (Some name) calls is did = absurd is
-  counts s (Some hold) None calls is did = absurd is
+      → Did calls held s → Counts system.has_done (count_of hold) s
+  counts s None None calls is has_done = (record { calls = calls; holds = 0 }, has_done, refl)
+  counts s (Some hold) (Some name) calls is has_done = (record { calls = calls; holds = 1 }, has_done, refl)
+  counts s None (Some name) calls is has_done = absurd is
+  counts s (Some hold) None calls is has_done = absurd is
 
   holds : (b : Desk) → Files b.system b.opened b.hold b.kept → Holds b
-  holds b are = counts b.system b.hold b.kept.held _ are.held are.did
+  holds b are = counts b.system b.hold b.kept.held _ are.held are.has_done
 
-  holds_as : (b : Desk) {held : Option H} → held ≡ b.hold → Holds b → Counts system.did (count_of held) b.system
-  holds_as b same only = subst (λ (hold : Option H). Counts system.did (count_of hold) b.system) (sym same) only
+  holds_as : (b : Desk) {held : Option H} → held ≡ b.hold → Holds b → Counts system.has_done (count_of held) b.system
+  holds_as b same only = subst (λ (hold : Option H). Counts system.has_done (count_of hold) b.system) (sym same) only
 
   -- ---- what a crash may leave
 
   abbrev NoMore : S → S → Type 0
-  NoMore = LeavesNoMore system.left
+  NoMore = CrashLeavesNoMore system.left
 
   left_on : {s t u : S} → NoMore s t → NoMore t u → NoMore s u
   left_on keeps keeps_on = λ name found is. keeps name found (keeps_on name found is)
@@ -161,13 +161,13 @@ module _ {S F I H O E : Type 0} (system : Ghosts S F I H) (reads : Reads F) (wri
   crash_kept : {s t : S} (tried : List Writing) → NoMore s t → CrashLeaves system s tried → CrashLeaves system t tried
   crash_kept tried keeps leaves = λ name found is. leaves name found (keeps name found is)
 
-  crash_held : {s t : S} (tried : List Writing) {name : Bytes} → LeavesAlso system.left name (system.began name) s t
+  crash_held : {s t : S} (tried : List Writing) {name : Bytes} → CrashMayAlsoLeave system.left name (system.began name) s t
       → CrashLeaves system s tried → CrashLeaves system t tried
   crash_held tried also leaves = search rules
 
   -- bytes were to replace the file of this name
   crash_tried : {s t : S} (tried : List Writing) {name own bytes : Bytes} → own ≡ name
-      → LeavesAlso system.left name (λ found. system.began name found ⊎ (found ≡ Some bytes)) s t
+      → CrashMayAlsoLeave system.left name (λ found. system.began name found ⊎ (found ≡ Some bytes)) s t
       → CrashLeaves system s tried → CrashLeaves system t (tried ++ record { name = own; bytes = bytes } ∷ [])
   crash_tried tried {name = name} {own = own} {bytes = bytes} same also leaves = λ other found is.
       elim (also other found is) [
@@ -187,21 +187,21 @@ module _ {S F I H O E : Type 0} (system : Ghosts S F I H) (reads : Reads F) (wri
       ]
 
   -- the state that a desk shows is the one inside
-  pub from_inside : {inside now new : Desk} → inside ≡ now → Since inside new → Stays Since now new
+  pub from_inside : {inside now new : Desk} → inside ≡ now → Since inside new → Preserves Since now new
   from_inside {inside = inside} {new = new} is then = search (rules, append_assoc)
 
-  pub from_now : {now new : Desk} → Since now new → Stays Since now new
+  pub from_now : {now new : Desk} → Since now new → Preserves Since now new
   from_now {now = now} {new = new} then = λ start first. search (rules, append_assoc)
 
   -- a desk after a call that sent nothing
   abbrev Next : Desk → S → ℕ → ℕ → Option ErrorKind → OpenFile F I → Option H → Record → Desk
   Next b s f u e o h k =
-      record b { system = s; failures = f; unsaid = u; last_error = e; opened = o; hold = h; kept = k }
+      record b { system = s; failures = f; message_failures = u; last_error = e; opened = o; hold = h; kept = k }
 
   quiet : {b : Desk} {s : S} {f u : ℕ} {e : Option ErrorKind} {o : OpenFile F I} {h : Option H} {k : Record}
       → k.output ≡ b.kept.output → k.messages ≡ b.kept.messages
       → (has_dash (all_files k) ≡ false → has_dash (all_files b.kept) ≡ false)
-      → (has_dash (all_files k) ≡ false → to_output b ≡ false → is_output o ≡ false)
+      → (has_dash (all_files k) ≡ false → writes_to_output b ≡ false → is_output o ≡ false)
       → (Files b.system b.opened b.hold b.kept → Files s o h k) → Since b (Next b s f u e o h k)
   quiet {b = b} put said dashes elsewhere files = search (rules, append-nil b.kept.messages)
 
@@ -210,7 +210,7 @@ module _ {S F I H O E : Type 0} (system : Ghosts S F I H) (reads : Reads F) (wri
 
   -- a failed call did nothing
   pub failed_true : {b : Desk} {s : S} {f u : ℕ} {e : Option ErrorKind} (held : Option H) → held ≡ b.hold
-      → Stays system.did b.system s → (Counts system.did (count_of held) b.system → NoMore b.system s)
+      → Preserves system.has_done b.system s → (Counts system.has_done (count_of held) b.system → NoMore b.system s)
       → Since b (Next b s f u e b.opened b.hold b.kept)
   failed_true {b = b} held is_hold stays keeps = quiet refl refl (λ none. none) (λ none was. was)
       (λ are. record {
@@ -218,60 +218,60 @@ module _ {S F I H O E : Type 0} (system : Ghosts S F I H) (reads : Reads F) (wri
         current = are.current;
         denied = are.denied;
         held = are.held;
-        did = stays _ are.did;
+        has_done = stays _ are.has_done;
         crash = crash_kept _ (keeps (holds_as b is_hold (holds b are))) are.crash;
       })
 
   -- only the uses and the open file change
   files_now : {s t : S} {o p : OpenFile F I} {h : Option H} {r : Record} {uses : List FileUse} {current : Open}
       → Files s o h r → All TrueUse uses → TrueOpen p current
-      → system.did (done_by (record r { uses = uses; current = current })) t → NoMore s t
+      → system.has_done (calls_of_record (record r { uses = uses; current = current })) t → NoMore s t
       → Files t p h (record r { uses = uses; current = current })
-  files_now are uses current did keeps = search rules
+  files_now are uses current has_done keeps = search rules
 
   -- a file was opened
   opened_true : {b : Desk} {s : S} {f u : ℕ} {e : Option ErrorKind} {o : OpenFile F I} {k : Record} (x : Reading)
       → k ≡ with_open (ToRead x) b.kept → is_output o ≡ false → (Holds b → TrueOpen o (ToRead x)) → Closed b.opened
-      → Does system.did (calling (opened x.name ∷ [])) b.system s → NoMore b.system s
+      → ChangesCalls system.has_done (with_calls (opened x.name ∷ [])) b.system s → NoMore b.system s
       → Since b (Next b s f u e o b.hold k)
   opened_true {b = b} {s = s} x kept elsewhere is closed does keeps =
       let files = ap has_dash (files_opened (ToRead x) b.kept) in
       rw kept (quiet refl refl
       (λ none. no_dash_in_front (all_files b.kept) [] (sym files ∙ none)) (λ none was. elsewhere)
       (λ are. files_now are (uses_true b.system b.opened b.hold b.kept are closed) (is (holds b are))
-      (did_as b.kept.held s (calls_opened (ToRead x) (Opened (Found x)) b.kept refl) (does _ are.did))
+      (did_as b.kept.held s (calls_opened (ToRead x) (Opened (Found x)) b.kept refl) (does _ are.has_done))
       keeps))
 
   pub input_true : {b : Desk} {s t : S} {f u : ℕ} {e : Option ErrorKind} {o : OpenFile F I} {k : Record}
       {name own : Bytes} {i : I} → o ≡ open_file.Input i → own ≡ name → true ≡ is_dash name → k ≡ with_open (ToRead (record { name = own; bytes = []; ended = false })) b.kept
-      → Closed b.opened → system.is_input i → Does system.did (calling (Gives ∷ [])) b.system s → Stays system.did s t
+      → Closed b.opened → system.is_input i → ChangesCalls system.has_done (with_calls (Gives ∷ [])) b.system s → Preserves system.has_done s t
       → NoMore b.system s → NoMore s t → Since b (Next b t f u e o b.hold k)
   input_true {own = own} {i = i} is_open same dash kept closed begins does stays keeps keeps_on =
       let x : Reading = record { name = own; bytes = []; ended = false } in
       let is : is_dash own ≡ true = sym (dash ∙ ap is_dash (sym same)) in
       rw is_open (opened_true x kept refl (λ only. (x, refl, (is, i, begins, given_none input i own))) closed
-      (λ done did. rw (opened_dash own is) (stays _ (does done did))) (left_on keeps keeps_on))
+      (λ done has_done. rw (opened_dash own is) (stays _ (does done has_done))) (left_on keeps keeps_on))
 
   pub file_true : {b : Desk} {s t : S} {f u : ℕ} {e : Option ErrorKind} {o : OpenFile F I} {k : Record}
       {name own : Bytes} {h : F} (held : Option H) → held ≡ b.hold → o ≡ open_file.ToRead h → own ≡ name
-      → false ≡ is_dash name → (Counts system.did (count_of held) b.system → system.is_of h name)
+      → false ≡ is_dash name → (Counts system.has_done (count_of held) b.system → system.is_of h name)
       → k ≡ with_open (ToRead (record { name = own; bytes = []; ended = false })) b.kept
-      → Closed b.opened → Does system.did (calling (Opens name ∷ [])) b.system s → Stays system.did s t
+      → Closed b.opened → ChangesCalls system.has_done (with_calls (Opens name ∷ [])) b.system s → Preserves system.has_done s t
       → NoMore b.system s → NoMore s t → Since b (Next b t f u e o b.hold k)
   file_true {b = b} {own = own} {h = h} held is_hold is_open same no_dash named kept closed does stays keeps keeps_on =
       let x : Reading = record { name = own; bytes = []; ended = false } in
       rw is_open (opened_true x kept refl
       (λ only. (x, refl, (h, subst (system.is_of h) (sym same) (named (holds_as b is_hold only)), given_none reads h own)))
       closed
-      (λ done did. rw (opened_named own (sym (no_dash ∙ ap is_dash (sym same))), same) (stays _ (does done did)))
+      (λ done has_done. rw (opened_named own (sym (no_dash ∙ ap is_dash (sym same))), same) (stays _ (does done has_done)))
       (left_on keeps keeps_on))
 
   -- there was no such file
   pub absent_true : {b : Desk} {s t : S} {f u : ℕ} {e : Option ErrorKind} {o : OpenFile F I} {k : Record}
       {name own : Bytes} (held : Option H) → held ≡ b.hold → o ≡ open_file.Nothing → own ≡ name
-      → (Counts system.did (count_of held) b.system → system.lacks name)
-      → k ≡ with_absent own b.kept → Closed b.opened → Stays system.did b.system s
-      → Stays system.did s t → NoMore b.system s → NoMore s t → Since b (Next b t f u e o b.hold k)
+      → (Counts system.has_done (count_of held) b.system → system.lacks name)
+      → k ≡ with_absent own b.kept → Closed b.opened → Preserves system.has_done b.system s
+      → Preserves system.has_done s t → NoMore b.system s → NoMore s t → Since b (Next b t f u e o b.hold k)
   absent_true {b = b} {t = t} {o = o} {k = k} {own = own} held is_hold is_open same lacks kept closed fails stays keeps
       keeps_on =
       let now : Files b.system b.opened b.hold b.kept → Files t o b.hold k =
@@ -283,36 +283,36 @@ module _ {S F I H O E : Type 0} (system : Ghosts S F I H) (reads : Reads F) (wri
   -- a file was created
   create_true : {b : Desk} {s : S} {f u : ℕ} {e : Option ErrorKind} {o : OpenFile F I} {k : Record} (x : Writing)
       → k ≡ with_open (ToWrite x) b.kept → is_output o ≡ is_dash x.name → TrueOpen o (ToWrite x) → Closed b.opened
-      → Does system.did (calling (made x.name)) b.system s
+      → ChangesCalls system.has_done (with_calls (made x.name)) b.system s
       → (Holds b → NoMore b.system s) → Since b (Next b s f u e o b.hold k)
-  create_true {b = b} {s = s} {o = o} x kept to_output is closed does keeps =
+  create_true {b = b} {s = s} {o = o} x kept writes_to_output is closed does keeps =
       let now : (are : Files b.system b.opened b.hold b.kept) → Files s o b.hold (with_open (ToWrite x) b.kept) =
       λ are. files_now are (uses_true b.system b.opened b.hold b.kept are closed) is
-      (did_as b.kept.held s (calls_opened (ToWrite x) (Created x) b.kept refl) (does _ are.did))
+      (did_as b.kept.held s (calls_opened (ToWrite x) (Created x) b.kept refl) (does _ are.has_done))
       (keeps (holds b are)) in
       grind (arith, nat_tests, files_opened, quiet, no_dash_in_front, no_dash_behind, now)
 
   pub output_true : {b : Desk} {s : S} {f u : ℕ} {e : Option ErrorKind} {o : OpenFile F I} {k : Record}
       {name own : Bytes} → o ≡ open_file.Output → own ≡ name
       → true ≡ is_dash name → k ≡ with_open (ToWrite (record { name = own; bytes = [] })) b.kept → Closed b.opened
-      → Stays system.did b.system s → NoMore b.system s → Since b (Next b s f u e o b.hold k)
+      → Preserves system.has_done b.system s → NoMore b.system s → Since b (Next b s f u e o b.hold k)
   output_true {own = own} is_open same dash kept closed stays keeps =
       let is : true ≡ is_dash own = dash ∙ ap is_dash (sym same) in
       let x : Writing = record { name = own; bytes = [] } in
       rw is_open (create_true x kept is (x, refl, sym is) closed
-      (λ done did. rw (made_dash own (sym is), append-nil done.calls) (stays _ did)) (λ only. keeps))
+      (λ done has_done. rw (made_dash own (sym is), append-nil done.calls) (stays _ has_done)) (λ only. keeps))
 
   pub created_true : {b : Desk} {s t : S} {f u : ℕ} {e : Option ErrorKind} {o : OpenFile F I} {k : Record}
       {name own : Bytes} {h : F} → o ≡ open_file.ToWrite h → own ≡ name → false ≡ is_dash name → system.is_of h name
       → k ≡ with_open (ToWrite (record { name = own; bytes = [] })) b.kept
-      → Closed b.opened → Does system.did (calling (made name)) b.system s → Stays system.did s t
-      → (held : Option H) → held ≡ b.hold → (Counts system.did (count_of held) b.system → NoMore b.system s)
+      → Closed b.opened → ChangesCalls system.has_done (with_calls (made name)) b.system s → Preserves system.has_done s t
+      → (held : Option H) → held ≡ b.hold → (Counts system.has_done (count_of held) b.system → NoMore b.system s)
       → NoMore s t → Since b (Next b t f u e o b.hold k)
   created_true {b = b} {own = own} {h = h} is_open same no_dash named kept closed does stays held is_hold keeps keeps_on =
       let x : Writing = record { name = own; bytes = [] } in
       rw is_open (create_true x kept (no_dash ∙ ap is_dash (sym same))
       (x, refl, (h, subst (system.is_of h) (sym same) named, Appends-nil (writes.contents h))) closed
-      (λ done did. rw same (stays _ (does done did)))
+      (λ done has_done. rw same (stays _ (does done has_done)))
       (λ only. left_on (keeps (holds_as b is_hold only)) keeps_on))
 
   -- a file was replaced, and the held file released
@@ -320,15 +320,15 @@ module _ {S F I H O E : Type 0} (system : Ghosts S F I H) (reads : Reads F) (wri
       → c.output ≡ b.output → c.messages ≡ b.messages → c.hold ≡ None → c.opened ≡ open_file.Nothing
       → c.kept ≡ with_replaced own bytes b.kept → system.replaced name bytes
       → ((name : Option Bytes) → IsHeldBy system b.hold name → IsHeldBy system h name) → (o : OpenFile F I)
-      → o ≡ b.opened → Closed o → Does system.did (calling (made name)) b.system s → Leaves system.did h s t → u ≡ t
-      → Stays system.did u c.system
-      → LeavesAlso system.left name (λ found. system.began name found ⊎ (found ≡ Some bytes)) b.system s → NoMore s t
+      → o ≡ b.opened → Closed o → ChangesCalls system.has_done (with_calls (made name)) b.system s → ReleasesHeld system.has_done h s t → u ≡ t
+      → Preserves system.has_done u c.system
+      → CrashMayAlsoLeave system.left name (λ found. system.began name found ⊎ (found ≡ Some bytes)) b.system s → NoMore s t
       → NoMore u c.system → Since b c
   replace_true {b = b} {c = c} {u = u} {own = own} {bytes = bytes} h same output messages hold is_open kept replaced
       still o was closed does leaves last stays also keeps keeps_on =
       let x : Writing = record { name = own; bytes = bytes } in
       let files = ap has_dash (files_replaced own bytes b.kept) in
-      let now = Next b c.system c.failures c.unsaid c.last_error open_file.Nothing None (with_replaced own bytes b.kept) in
+      let now = Next b c.system c.failures c.message_failures c.last_error open_file.Nothing None (with_replaced own bytes b.kept) in
       let is : c ≡ now = rw (← output, ← messages, ← hold, ← is_open, ← kept) refl in
       rw is (quiet refl refl
       (λ none. no_dash_in_front (all_files b.kept) (x ∷ []) (sym files ∙ none)) (λ none was. refl)
@@ -338,16 +338,16 @@ module _ {S F I H O E : Type 0} (system : Ghosts S F I H) (reads : Reads F) (wri
         current = refl;
         denied = are.denied;
         held = tt;
-        did = did_as None c.system (calls_replaced own bytes b.kept)
+        has_done = did_as None c.system (calls_replaced own bytes b.kept)
             (stays _ (rw last (left_none h b.kept.held _ (still b.kept.held are.held) leaves
-            (rw same (does _ are.did)))));
+            (rw same (does _ are.has_done)))));
         crash = crash_kept _ keeps_on (rw last (crash_kept _ keeps (crash_tried _ same also are.crash)));
       }))
 
   pub unreplaced_true : {b : Desk} {s : S} {f u : ℕ} {e : Option ErrorKind} {h : Option H} {k : Record}
       {name own bytes : Bytes} → own ≡ name → k ≡ with_tried own bytes b.kept
-      → ((name : Option Bytes) → IsHeldBy system b.hold name → IsHeldBy system h name) → Stays system.did b.system s
-      → LeavesAlso system.left name (λ found. system.began name found ⊎ (found ≡ Some bytes)) b.system s
+      → ((name : Option Bytes) → IsHeldBy system b.hold name → IsHeldBy system h name) → Preserves system.has_done b.system s
+      → CrashMayAlsoLeave system.left name (λ found. system.began name found ⊎ (found ≡ Some bytes)) b.system s
       → Since b (Next b s f u e b.opened h k)
   unreplaced_true {b = b} {h = h} same kept still stays also =
       rw kept (quiet refl refl (λ none. none) (λ none was. was) (λ are. record {
@@ -355,55 +355,55 @@ module _ {S F I H O E : Type 0} (system : Ghosts S F I H) (reads : Reads F) (wri
         current = are.current;
         denied = are.denied;
         held = still b.kept.held are.held;
-        did = stays _ are.did;
+        has_done = stays _ are.has_done;
         crash = crash_tried _ same also are.crash;
       }))
 
   -- a file is held, and the one held before is released
   pub held_true : {b c : Desk} {s t : S} {h : H} {name own : Bytes} → own ≡ name → c.output ≡ b.output
       → c.messages ≡ b.messages → c.opened ≡ b.opened → c.hold ≡ Some h → c.kept ≡ record b.kept { held = Some own }
-      → c.system ≡ t → system.holds h name → Does system.did holding b.system s → Leaves system.did b.hold s t
-      → LeavesAlso system.left name (system.began name) b.system s → NoMore s t → Since b c
+      → c.system ≡ t → system.holds h name → ChangesCalls system.has_done with_one_more_held b.system s → ReleasesHeld system.has_done b.hold s t
+      → CrashMayAlsoLeave system.left name (system.began name) b.system s → NoMore s t → Since b c
   held_true {b = b} {c = c} {h = h} {own = own} same output messages is_open hold kept last holds does leaves also
       keeps =
-      let now = Next b c.system c.failures c.unsaid c.last_error b.opened (Some h) (record b.kept { held = Some own }) in
+      let now = Next b c.system c.failures c.message_failures c.last_error b.opened (Some h) (record b.kept { held = Some own }) in
       let is : c ≡ now = rw (← output, ← messages, ← hold, ← is_open, ← kept) refl in
       rw is (quiet refl refl (λ none. none) (λ none was. was) (λ are. record {
         uses = are.uses;
         current = are.current;
         denied = are.denied;
         held = subst (system.holds h) (sym same) holds;
-        did = rw last (left_one b.hold b.kept.held _ own are.held leaves (does _ are.did));
+        has_done = rw last (left_one b.hold b.kept.held _ own are.held leaves (does _ are.has_done));
         crash = rw last (crash_kept _ keeps (crash_held _ also are.crash));
       }))
 
   pub denied_true : {b : Desk} {s : S} {f u : ℕ} {e : Option ErrorKind} {k : Record} {name own : Bytes} → own ≡ name
-      → system.denies name → k ≡ record b.kept { denied = b.kept.denied ++ own ∷ [] } → Stays system.did b.system s
-      → LeavesAlso system.left name (system.began name) b.system s → Since b (Next b s f u e b.opened b.hold k)
+      → system.denies name → k ≡ record b.kept { denied = b.kept.denied ++ own ∷ [] } → Preserves system.has_done b.system s
+      → CrashMayAlsoLeave system.left name (system.began name) b.system s → Since b (Next b s f u e b.opened b.hold k)
   denied_true {b = b} {own = own} same denies kept stays also =
       rw kept (quiet refl refl (λ none. none) (λ none was. was) (grind (arith, common_steps)))
 
   -- the file was not held
-  pub unheld_true : {b : Desk} {s : S} {f u : ℕ} {e : Option ErrorKind} {name : Bytes} → Stays system.did b.system s
-      → LeavesAlso system.left name (system.began name) b.system s → Since b (Next b s f u e b.opened b.hold b.kept)
+  pub unheld_true : {b : Desk} {s : S} {f u : ℕ} {e : Option ErrorKind} {name : Bytes} → Preserves system.has_done b.system s
+      → CrashMayAlsoLeave system.left name (system.began name) b.system s → Since b (Next b s f u e b.opened b.hold b.kept)
   unheld_true stays also = search (rules, quiet)
 
   pub released_true : {b c : Desk} {t : S} → c.output ≡ b.output → c.messages ≡ b.messages → c.opened ≡ b.opened
       → c.hold ≡ None → c.kept ≡ with_none_held b.kept → c.system ≡ t
-      → Leaves system.did b.hold b.system t → NoMore b.system t → Since b c
+      → ReleasesHeld system.has_done b.hold b.system t → NoMore b.system t → Since b c
   released_true {b = b} {c = c} output messages is_open hold kept last leaves keeps =
-      let now = Next b c.system c.failures c.unsaid c.last_error b.opened None (with_none_held b.kept) in
+      let now = Next b c.system c.failures c.message_failures c.last_error b.opened None (with_none_held b.kept) in
       let is : c ≡ now = rw (← output, ← messages, ← hold, ← is_open, ← kept) refl in
       search (rules, quiet, left_none)
 
   pub read_true : {b : Desk} {f u : ℕ} {e : Option ErrorKind} {o : OpenFile F I} {k : Record} (buf : Bytes) (n : ℕ)
       → k ≡ record b.kept { current = read_on buf n b.kept.current } → is_output o ≡ is_output b.opened
-      → FileGives reads input b.opened o buf n → Since b (Next b b.system f u e o b.hold k)
+      → OpenFileGives reads input b.opened o buf n → Since b (Next b b.system f u e o b.hold k)
   read_true {b = b} {o = o} buf n kept same gives =
       search (rules, quiet, files_now, given_more, did_as, calls_append, same_left)
 
   pub unread_true : {b : Desk} {f u : ℕ} {e : Option ErrorKind} {o : OpenFile F I} → is_output o ≡ is_output b.opened
-      → FileGivesNone reads input b.opened o → Since b (Next b b.system f u e o b.hold b.kept)
+      → OpenFileGivesNothing reads input b.opened o → Since b (Next b b.system f u e o b.hold b.kept)
   unread_true {b = b} {o = o} same none = search (rules, nat_tests, quiet, same_left)
 
   pub write_true : {b : Desk} {f u : ℕ} {e : Option ErrorKind} {k : Record} {old new : F} (bytes : Bytes)
@@ -416,7 +416,7 @@ module _ {S F I H O E : Type 0} (system : Ghosts S F I H) (reads : Reads F) (wri
 
   -- a desk after a call that sent to the output
   abbrev Put : Desk → O → ℕ → ℕ → Option ErrorKind → Record → Desk
-  Put b w f u e k = record b { output = w; failures = f; unsaid = u; last_error = e; kept = k }
+  Put b w f u e k = record b { output = w; failures = f; message_failures = u; last_error = e; kept = k }
 
   pub write_out_true : {b : Desk} {w : O} {f u : ℕ} {e : Option ErrorKind} {k : Record} (bytes : Bytes)
       → b.opened ≡ open_file.Output → k ≡ after_write bytes b.kept → Since b (Put b w f u e k)
@@ -438,7 +438,7 @@ module _ {S F I H O E : Type 0} (system : Ghosts S F I H) (reads : Reads F) (wri
 
   -- a desk after a call that sent to the messages
   abbrev Told : Desk → E → ℕ → ℕ → Option ErrorKind → Record → Desk
-  Told b w f u e k = record b { messages = w; failures = f; unsaid = u; last_error = e; kept = k }
+  Told b w f u e k = record b { messages = w; failures = f; message_failures = u; last_error = e; kept = k }
 
   pub err_true : {b : Desk} {w : E} {f u : ℕ} {e : Option ErrorKind} {k : Record} (bytes : Bytes)
       → k ≡ record b.kept { messages = b.kept.messages ++ bytes }
@@ -448,17 +448,17 @@ module _ {S F I H O E : Type 0} (system : Ghosts S F I H) (reads : Reads F) (wri
 -- ---- a new desk
 
 module _ {S F I H : Type 0} (system : Ghosts S F I H) (reads : Reads F) (writes : Writes F) (input : Reads I) where
-  pub none_kept_true : (fresh : S) → system.did none_done fresh
+  pub none_kept_true : (fresh : S) → system.has_done no_calls fresh
       → ((name : Bytes) (found : Option Bytes) → system.left fresh name found → ⊥)
       → IsTrueRecord system reads writes input fresh open_file.Nothing None nothing_kept
-  none_kept_true fresh did unheld = search rules
+  none_kept_true fresh has_done unheld = search rules
 
 -- the record of a desk that was new
 module _ {S F I H O E : Type 0} (system : Ghosts S F I H) (reads : Reads F) (writes : Writes F) (input : Reads I)
     (output_of : Writes O) (messages_of : Writes E) where
   pub told_all : {old new : Shown S F H I O E}
-      → Stays (IsTrueSince system reads writes input output_of messages_of) old new
-      → TellsAll system reads writes input old new
+      → Preserves (IsTrueSince system reads writes input output_of messages_of) old new
+      → RecordsAll system reads writes input old new
   told_all {old = old} stays is =
       (stays old (true_now system reads writes input output_of messages_of old)).files
       (rw (is.opened, is.hold, is.kept) (none_kept_true system reads writes input old.system is.fresh is.unheld))

@@ -10,7 +10,7 @@ use Rattle.avr_desk.specs.declared.stream.Stream.TheVariants.{Messages}
 use Rattle.avr_desk.specs.declared.desk.DeskFault.{DeskFault}
 use Rattle.avr_desk.proofs.Lines.SentBytes.{sent_next_part}
 use Rattle.avr_desk.specs.Lines.{line, text_of}
-use Rattle.avr_desk.specs.Said.{IsPrinted}
+use Rattle.avr_desk.specs.OutputEvents.{IsPrinted}
 use Rattle.avr_desk.specs.declared.line.Piece.{Piece}
 
 -- the text of all pieces

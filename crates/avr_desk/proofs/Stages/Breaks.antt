@@ -3,27 +3,27 @@ use Rattle.std.proofs.lemmas.Grind.{common_steps}
 use Rattle.std.proofs.lemmas.Bool.Decides.{nat_tests}
 use Rattle.std.proofs.Common.{arith, ◌≡◌, sym, ℕ, ◌⊎◌, inl, inr, List, [], ◌∷◌, ◌++◌, append-nil, append_assoc, Result, Ok, Err, true, rules}
 use Rattle.std.proofs.lemmas.List.{append_cancel_left}
-use Rattle.ghosts.specs.Failures.{HasStood}
+use Rattle.ghosts.specs.Failures.{NoFailureCounted}
 use Rattle.avr_desk.specs.Record.{DeskState, Record, showing, all_openings, after_err, Bytes}
 use Rattle.avr_desk.specs.declared.record.Opening.{Opening}
 use Rattle.avr_desk.specs.declared.record.Opening.TheVariants.{Found}
 use Rattle.avr_desk.specs.declared.record.Reading.{Reading}
 use Rattle.avr_desk.specs.Lines.{memory_line, not_opened_line}
-use Rattle.avr_desk.specs.Said.{OutputEvent, Opens, Line, TellsLine, TellsFailure, after, after_all}
+use Rattle.avr_desk.specs.OutputEvents.{OutputEvent, Opens, PrintsLine, ReportsLineAs, ReportsFailureAs, after, after_events}
 use Rattle.avr_desk.proofs.Stages.Outputs.{after_append}
 use Rattle.avr_desk.proofs.FileUses.Uses.{openings_append}
-use Rattle.avr_desk.specs.Playing.{Break, NoMemory, NoMemoryFor, last_done, IsBreak, Taking, TakesThere, TellsBreak, WentRefused, Goes}
-use Rattle.avr_desk.specs.Stage.{Stage, Refused, StageResult, all_told, ◌>>=◌, next_opening, file_stage}
+use Rattle.avr_desk.specs.Playing.{BreakCause, NoMemory, NoMemoryForFile, events_of_break, BreakFitsNext, AllocationPoints, AllocatesThere, ReportsBreakAs, StageRefused, RunsStage}
+use Rattle.avr_desk.specs.Stage.{Stage, Refused, StageResult, events_with_refusal, ◌>>=◌, next_opening, file_stage}
 use Rattle.avr_desk.proofs.Stages.Played.{says_more}
 
 -- ---- if the desk didn't fail
 
 -- So a status other than that of a plan is the refusal that the stage returns.
-pub sound_refusal : {A : Type 0} (taking : Taking) (stage : Stage A) (before after : Record) (k l m n status : ℕ)
-    → HasStood k l
+pub sound_refusal : {A : Type 0} (taking : AllocationPoints) (stage : Stage A) (before after : Record) (k l m n status : ℕ)
+    → NoFailureCounted k l
     → ((prefix : Bytes) → after.messages ≡ prefix ++ memory_line → ⊥)
-    → Goes taking stage (showing before k m) (showing after l n) (Err status)
-    → WentRefused stage (showing before k m) (showing after l n)
+    → RunsStage taking stage (showing before k m) (showing after l n) (Err status)
+    → StageRefused stage (showing before k m) (showing after l n)
 sound_refusal taking stage before after k l m n status sound other l' = search (rules, nat_tests, after_append)
 
 -- ---- what openings a desk shows
@@ -42,12 +42,12 @@ one_shown output r = search (rules, nat_tests, openings_append, append-nil)
 
 -- each opening is shown
 pub openings_shown : (outputs : List OutputEvent) (r : Record)
-    → all_openings (after_all outputs r) ≡ all_openings r ++ openings_in outputs
+    → all_openings (after_events outputs r) ≡ all_openings r ++ openings_in outputs
 openings_shown [] r = sym (append-nil (all_openings r))
 openings_shown (output ∷ outputs) r = search (rules, one_shown, append_assoc, openings_shown outputs (after output r))
 
 -- so the same record shows the same openings
-same_openings : (first second : List OutputEvent) (r : Record) → after_all first r ≡ after_all second r
+same_openings : (first second : List OutputEvent) (r : Record) → after_events first r ≡ after_events second r
     → openings_in first ≡ openings_in second
 same_openings first second r kept =
     search (rules, append_cancel_left, openings_shown first r, openings_shown second r)
@@ -57,12 +57,12 @@ same_openings first second r kept =
 -- whatever files give, its first output event is the opening of the file of this name
 abbrev pub Begins : {A : Type 0} → Bytes → Stage A → Type 0
 Begins name stage = (openings : List Opening)
-    → (extra : List OutputEvent) × ((stage openings).says ≡ Opens (next_opening name openings) ∷ extra)
+    → (extra : List OutputEvent) × ((stage openings).emits ≡ Opens (next_opening name openings) ∷ extra)
 
 pub begins_then : {A B : Type 0} (name : Bytes) (stage : Stage A) (go_on : A → Stage B) → Begins name stage
     → Begins name (stage >>= go_on)
 begins_then name stage go_on begins openings =
-    let p = stage openings in grind (arith, nat_tests, says_more p.says p.left go_on p.answer, begins openings)
+    let p = stage openings in grind (arith, nat_tests, says_more p.emits p.openings_left go_on p.stage_outcome, begins openings)
 
 pub begins_file : {A : Type 0} (name : Bytes) (limit : ℕ) (judge : Bytes → Result A Bytes)
     → Begins name (file_stage name limit judge)
@@ -74,7 +74,7 @@ only_told r told line kept = grind (arith, nat_tests, append_cancel_left)
 
 -- A stage that begins like this, at a desk that shows no opening. Either the file could not be opened, and that was
 -- reported; or an allocation before any output failed, and that was reported.
-module _ {A : Type 0} (taking : Taking) (name told : Bytes) (stage : Stage A) (begins : Begins name stage) (r : Record)
+module _ {A : Type 0} (taking : AllocationPoints) (name told : Bytes) (stage : Stage A) (begins : Begins name stage) (r : Record)
     (k l m n : ℕ) where
   abbrev Old : DeskState
   Old = showing r k m
@@ -83,24 +83,24 @@ module _ {A : Type 0} (taking : Taking) (name told : Bytes) (stage : Stage A) (b
   New = showing (after_err told r) l n
 
   abbrev Told : Type 0
-  Told = TellsFailure (not_opened_line name) told Old New
-      ⊎ (TellsLine memory_line told Old New × ((passed : List Opening) × taking passed []))
+  Told = ReportsFailureAs (not_opened_line name) told Old New
+      ⊎ (ReportsLineAs memory_line told Old New × ((passed : List Opening) × taking passed []))
 
-  none_opened : (outputs : List OutputEvent) → after_err told r ≡ after_all outputs r → [] ≡ openings_in outputs
-  none_opened outputs kept = same_openings (Line told ∷ []) outputs r kept
+  none_opened : (outputs : List OutputEvent) → after_err told r ≡ after_events outputs r → [] ≡ openings_in outputs
+  none_opened outputs kept = same_openings (PrintsLine told ∷ []) outputs r kept
 
   -- a break before the file was opened, or while it was; a later one shows the opening
-  by_break : (passed openings : List Opening) (p : StageResult A) (whole later : List OutputEvent) (break : Break)
-      (line : Bytes) → (extra : List OutputEvent) × (p.says ≡ Opens (next_opening name openings) ∷ extra)
-      → p.says ≡ whole ++ later → IsBreak break [] (all_told later p.answer) → TakesThere taking break passed whole
-      → TellsBreak break line Old New → after_err told r ≡ after_all (whole ++ last_done break line) r → Told
+  by_break : (passed openings : List Opening) (p : StageResult A) (whole later : List OutputEvent) (break : BreakCause)
+      (line : Bytes) → (extra : List OutputEvent) × (p.emits ≡ Opens (next_opening name openings) ∷ extra)
+      → p.emits ≡ whole ++ later → BreakFitsNext break [] (events_with_refusal later p.stage_outcome) → AllocatesThere taking break passed whole
+      → ReportsBreakAs break line Old New → after_err told r ≡ after_events (whole ++ events_of_break break line) r → Told
   by_break passed openings p [] later NoMemory line begun are is taken tells kept = search (rules, only_told)
   by_break passed openings p x later break line begun are is taken tells kept =
-      let none = none_opened (x ++ last_done break line) kept in search (rules, only_told, nat_tests)
+      let none = none_opened (x ++ events_of_break break line) kept in search (rules, only_told, nat_tests)
 
-  pub unopened : (status : ℕ) → Goes taking stage Old New (Err status) → Told
+  pub unopened : (status : ℕ) → RunsStage taking stage Old New (Err status) → Told
   unopened status (one, inl (line, went)) =
-      let none = none_opened (went.says ++ Line line ∷ []) went.kept in
+      let none = none_opened (went.emits ++ PrintsLine line ∷ []) went.kept in
       search (rules, begins (went.passed ++ []))
   unopened status (one, inr b) = let rest = b.rest [] in search (rules, by_break, begins (b.passed ++ []))
 
@@ -108,33 +108,33 @@ module _ {A : Type 0} (taking : Taking) (name told : Bytes) (stage : Stage A) (b
 
 -- it was read to its end, and this is its outcome
 module _ {A : Type 0} (name : Bytes) (limit : ℕ) (judge : Bytes → Result A Bytes) (bytes told : Bytes) (good : A)
-    (given : judge bytes ≡ Ok good) (taking : Taking) (r : Record) (k l m n : ℕ) where
+    (given : judge bytes ≡ Ok good) (taking : AllocationPoints) (r : Record) (k l m n : ℕ) where
   abbrev reading : Reading
   reading = record { name = name; bytes = bytes; ended = true }
 
   abbrev done : List OutputEvent
-  done = Opens (Found reading) ∷ Line told ∷ []
+  done = Opens (Found reading) ∷ PrintsLine told ∷ []
 
   abbrev Before : DeskState
   Before = showing r k m
 
   abbrev After : DeskState
-  After = showing (after_all done r) l n
+  After = showing (after_events done r) l n
 
   -- a break before the file was opened or while it was, or after it, if nothing more is reported
-  by_prefix : (openings : List Opening) (whole later : List OutputEvent) (break : Break) (line : Bytes)
-      → (file_stage name limit judge openings).says ≡ whole ++ later
-      → IsBreak break [] (all_told later (file_stage name limit judge openings).answer)
-      → TellsBreak break line Before After → after_all done r ≡ after_all (whole ++ last_done break line) r
-      → TellsLine memory_line told Before After
-  by_prefix openings (first ∷ []) later NoMemory line says is tells kept =
+  by_prefix : (openings : List Opening) (whole later : List OutputEvent) (break : BreakCause) (line : Bytes)
+      → (file_stage name limit judge openings).emits ≡ whole ++ later
+      → BreakFitsNext break [] (events_with_refusal later (file_stage name limit judge openings).stage_outcome)
+      → ReportsBreakAs break line Before After → after_events done r ≡ after_events (whole ++ events_of_break break line) r
+      → ReportsLineAs memory_line told Before After
+  by_prefix openings (first ∷ []) later NoMemory line emits is tells kept =
       search (rules, same_openings, begins_file, nat_tests, append_cancel_left)
-  by_prefix openings [] later (NoMemoryFor x) line says is tells kept = search (rules, nat_tests, append_cancel_left)
-  by_prefix openings x later break line says is tells kept = grind (arith, common_steps)
+  by_prefix openings [] later (NoMemoryForFile x) line emits is tells kept = search (rules, nat_tests, append_cancel_left)
+  by_prefix openings x later break line emits is tells kept = grind (arith, common_steps)
 
   -- So the desk showed its opening, read to the end, and what was reported is the line of memory.
-  pub opened_is_told : (status : ℕ) → Goes taking (file_stage name limit judge) Before After (Err status)
-      → TellsLine memory_line told Before After
+  pub opened_is_told : (status : ℕ) → RunsStage taking (file_stage name limit judge) Before After (Err status)
+      → ReportsLineAs memory_line told Before After
   opened_is_told status (one, inl (line, went)) = search (rules, begins_file name limit judge (went.passed ++ []))
   opened_is_told status (one, inr b) = let rest = b.rest [] in search (rules, by_prefix)
 
@@ -144,8 +144,8 @@ module _ {A : Type 0} (name : Bytes) (limit : ℕ) (judge : Bytes → Result A B
 -- or a failed allocation, if the stage allocates there.
 module _ {A : Type 0} (line told : Bytes) (stage : Stage A)
     (refuses : (openings : List Opening) → stage openings
-    ≡ record { says = []; answer = Refused line; left = openings })
-    (taking : Taking) (r : Record) (k l m n : ℕ) where
+    ≡ record { emits = []; stage_outcome = Refused line; openings_left = openings })
+    (taking : AllocationPoints) (r : Record) (k l m n : ℕ) where
   abbrev Here : DeskState
   Here = showing r k m
 
@@ -153,17 +153,17 @@ module _ {A : Type 0} (line told : Bytes) (stage : Stage A)
   There = showing (after_err told r) l n
 
   abbrev pub TellsOne : Type 0
-  TellsOne = TellsLine line told Here There
-      ⊎ (TellsLine memory_line told Here There × ((passed : List Opening) × taking passed []))
+  TellsOne = ReportsLineAs line told Here There
+      ⊎ (ReportsLineAs memory_line told Here There × ((passed : List Opening) × taking passed []))
 
-  at_once : (passed : List Opening) (whole later : List OutputEvent) (break : Break) (some : Bytes)
-      → [] ≡ whole ++ later → IsBreak break [] (all_told {A = A} later (Refused line))
-      → TakesThere taking break passed whole → TellsBreak break some Here There
-      → after_err told r ≡ after_all (whole ++ last_done break some) r → TellsOne
-  at_once passed [] [] NoMemory some says is taken tells kept = search (rules, only_told)
-  at_once passed x y break some says is taken tells kept = search (rules, only_told)
+  at_once : (passed : List Opening) (whole later : List OutputEvent) (break : BreakCause) (some : Bytes)
+      → [] ≡ whole ++ later → BreakFitsNext break [] (events_with_refusal {A = A} later (Refused line))
+      → AllocatesThere taking break passed whole → ReportsBreakAs break some Here There
+      → after_err told r ≡ after_events (whole ++ events_of_break break some) r → TellsOne
+  at_once passed [] [] NoMemory some emits is taken tells kept = search (rules, only_told)
+  at_once passed x y break some emits is taken tells kept = search (rules, only_told)
 
-  pub refused_once : (status : ℕ) → Goes taking stage Here There (Err status) → TellsOne
+  pub refused_once : (status : ℕ) → RunsStage taking stage Here There (Err status) → TellsOne
   refused_once status (one, inl (other, went)) =
       let comes = went.comes [] in grind (arith, nat_tests, only_told)
   refused_once status (one, inr b) = let rest = b.rest [] in search (rules, at_once)

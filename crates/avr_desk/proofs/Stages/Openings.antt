@@ -1,9 +1,9 @@
 -- Stages that begin by opening a file.
 use Rattle.std.proofs.Common.{◌≡◌, refl, subst, ap, arith, ℕ, List, [], ◌∷◌, Bool, false, Result, Err, rules}
 use Rattle.std.proofs.lemmas.Bool.Decides.{nat_tests}
-use Rattle.avr_desk.specs.Fault.{Follows, HasFailedAt, HasSameCounts}
-use Rattle.avr_desk.specs.Files.{FaultCounts, IsWhole, ReadsFile, with_read, FileBreaks, IsCounted}
-use Rattle.avr_desk.specs.Record.{DeskState, Record, Passes, after_err, nothing_kept, showing, Bytes}
+use Rattle.avr_desk.specs.Fault.{CountsNeverFall, HasFailedAt, HasSameCounts}
+use Rattle.avr_desk.specs.Files.{CountsReadResult, EndsOrExceedsLimit, ReadsFile, with_read, FileBreaks, CountsFileFault}
+use Rattle.avr_desk.specs.Record.{DeskState, Record, ChangesRecord, after_err, nothing_kept, showing, Bytes}
 use Rattle.avr_desk.specs.declared.files.FileFault.{FileFault}
 use Rattle.avr_desk.specs.declared.files.FileFault.TheVariants as file_fault
 use Rattle.avr_desk.specs.declared.record.Opening.{Opening}
@@ -11,100 +11,100 @@ use Rattle.avr_desk.specs.declared.record.Opening.TheVariants.{Found}
 use Rattle.avr_desk.specs.declared.record.Reading.{Reading}
 use Rattle.avr_desk.specs.declared.stream.Stream.TheVariants.{File}
 use Rattle.avr_desk.proofs.Stages.Outputs.{kept_append}
-use Rattle.avr_desk.proofs.Lines.Told.{failure_told, follows_on, follows_same}
+use Rattle.avr_desk.proofs.Lines.Told.{failure_reported, follows_on, follows_same}
 use Rattle.avr_desk.specs.Lines.{file_fault_line, memory_line, not_opened_line, not_read_line}
-use Rattle.avr_desk.specs.Said.{OutputEvent, Opens, Line, Tells, after_all}
-use Rattle.avr_desk.proofs.Stages.Played.{goes_on}
-use Rattle.avr_desk.specs.Playing.{Break, NotOpened, NotRead, NoMemoryFor, last_done, IsBreak, TakesThere, Taking, TellsBreak, Goes, part_read}
-use Rattle.avr_desk.specs.Stage.{Stage, Made, StageResult, ◌>>=◌, verdict_stage, open_stage, under_name, content_stage, next_opening}
+use Rattle.avr_desk.specs.OutputEvents.{OutputEvent, Opens, PrintsLine, ReportsLine, after_events}
+use Rattle.avr_desk.proofs.Stages.Played.{runs_then}
+use Rattle.avr_desk.specs.Playing.{BreakCause, NotOpened, NotRead, NoMemoryForFile, events_of_break, BreakFitsNext, AllocatesThere, AllocationPoints, ReportsBreakAs, RunsStage, opened_and_read_in_part}
+use Rattle.avr_desk.specs.Stage.{Stage, Produced, StageResult, ◌>>=◌, result_stage, open_stage, renamed_opening, content_stage, next_opening}
 
 -- ---- the opening passed
 
 abbrev after_opening : List Opening → Opening → StageResult Opening
-after_opening more opening = record { says = Opens opening ∷ []; answer = Made opening; left = more }
+after_opening more opening = record { emits = Opens opening ∷ []; stage_outcome = Produced opening; openings_left = more }
 
 -- the file of this name gave this, so the stage goes on
-pub goes_opened : {A : Type 0} (inner taking : Taking) (name : Bytes) (next : Opening → Stage A) (opening : Opening)
+pub runs_open : {A : Type 0} (inner taking : AllocationPoints) (name : Bytes) (next : Opening → Stage A) (opening : Opening)
     (old mid new : DeskState) (result : Result A ℕ)
-    → under_name name opening ≡ opening → Passes (after_all (Opens opening ∷ [])) old mid → HasSameCounts old mid
+    → renamed_opening name opening ≡ opening → ChangesRecord (after_events (Opens opening ∷ [])) old mid → HasSameCounts old mid
     → ((passed : List Opening) (said : List OutputEvent) → inner passed said
     → taking (opening ∷ passed) (Opens opening ∷ said))
-    → Goes inner (next opening) mid new result → Goes taking (open_stage name >>= next) old new result
-goes_opened inner taking name next opening old mid new result is kept same behind goes =
-    goes_on inner taking (open_stage name) next old mid new opening result
+    → RunsStage inner (next opening) mid new result → RunsStage taking (open_stage name >>= next) old new result
+runs_open inner taking name next opening old mid new result is kept same behind goes =
+    runs_then inner taking (open_stage name) next old mid new opening result
     (record {
       passed = opening ∷ [];
-      says = Opens opening ∷ [];
+      emits = Opens opening ∷ [];
       comes = λ more. ap (after_opening more) is;
       kept = kept;
       sound = same;
     }) behind goes
 
 -- the file was read to its end or past the limit, and checked
-pub goes_judged : {A : Type 0} (taking : Taking) (name : Bytes) (limit : ℕ) (judge : Bytes → Result A Bytes)
+pub runs_content : {A : Type 0} (taking : AllocationPoints) (name : Bytes) (limit : ℕ) (judge : Bytes → Result A Bytes)
     (reading : Reading)
     (old new : DeskState) (result : Result A ℕ)
-    → IsWhole limit (record { bytes = reading.bytes; ended = reading.ended })
-    → Goes taking (verdict_stage (judge reading.bytes)) old new result
-    → Goes taking (content_stage name limit judge (Found reading)) old new result
-goes_judged taking name limit judge reading old new result whole goes = grind (arith, nat_tests)
+    → EndsOrExceedsLimit limit (record { bytes = reading.bytes; ended = reading.ended })
+    → RunsStage taking (result_stage (judge reading.bytes)) old new result
+    → RunsStage taking (content_stage name limit judge (Found reading)) old new result
+runs_content taking name limit judge reading old new result whole goes = grind (arith, nat_tests)
 
 -- ---- the opening broke off
 
-broke_opening : {A : Type 0} (taking : Taking) (name : Bytes) (next : Opening → Stage A) (break : Break) (told : Bytes)
+broke_opening : {A : Type 0} (taking : AllocationPoints) (name : Bytes) (next : Opening → Stage A) (break : BreakCause) (told : Bytes)
     (old new : DeskState) (status : ℕ)
-    → TakesThere taking break [] [] → status ≡ 1
-    → ((more : List Opening) → IsBreak break more (Opens (next_opening name more) ∷ []))
-    → TellsBreak break told old new
-    → Passes (after_all (last_done break told)) old new → Follows old new
-    → Goes taking (open_stage name >>= next) old new (Err status)
+    → AllocatesThere taking break [] [] → status ≡ 1
+    → ((more : List Opening) → BreakFitsNext break more (Opens (next_opening name more) ∷ []))
+    → ReportsBreakAs break told old new
+    → ChangesRecord (after_events (events_of_break break told)) old new → CountsNeverFall old new
+    → RunsStage taking (open_stage name >>= next) old new (Err status)
 broke_opening taking name next break told old new status taken one is tells kept follows = grind (arith, nat_tests)
 
 -- the file could not be opened
-goes_unopened : {A : Type 0} (taking : Taking) (name : Bytes) (next : Opening → Stage A) (old mid new : DeskState)
+goes_unopened : {A : Type 0} (taking : AllocationPoints) (name : Bytes) (next : Opening → Stage A) (old mid new : DeskState)
     (status : ℕ)
-    → mid.kept ≡ old.kept → Follows old mid → HasFailedAt File old mid → status ≡ 1
-    → Tells mid new (not_opened_line name)
-    → Goes taking (open_stage name >>= next) old new (Err status)
+    → mid.kept ≡ old.kept → CountsNeverFall old mid → HasFailedAt File old mid → status ≡ 1
+    → ReportsLine mid new (not_opened_line name)
+    → RunsStage taking (open_stage name >>= next) old new (Err status)
 goes_unopened taking name next old mid new status same rose failed one told =
     broke_opening taking name next (NotOpened name) told.told old new status tt one (λ more. ([], refl))
-    (failure_told old mid new (not_opened_line name) rose failed told)
+    (failure_reported old mid new (not_opened_line name) rose failed told)
     (subst (λ (kept : Record). new.kept ≡ after_err told.told kept) same told.kept)
     (follows_on old mid new rose told.follows)
 
 -- or could not be read to its end
-goes_unread : {A : Type 0} (taking : Taking) (name bytes : Bytes) (next : Opening → Stage A) (old mid new : DeskState)
+goes_unread : {A : Type 0} (taking : AllocationPoints) (name bytes : Bytes) (next : Opening → Stage A) (old mid new : DeskState)
     (status : ℕ)
-    → Passes (with_read name bytes false) old mid → Follows old mid → HasFailedAt File old mid → status ≡ 1
-    → Tells mid new (not_read_line name) → Goes taking (open_stage name >>= next) old new (Err status)
+    → ChangesRecord (with_read name bytes false) old mid → CountsNeverFall old mid → HasFailedAt File old mid → status ≡ 1
+    → ReportsLine mid new (not_read_line name) → RunsStage taking (open_stage name >>= next) old new (Err status)
 goes_unread taking name bytes next old mid new status kept rose failed one told =
     broke_opening taking name next (NotRead name bytes) told.told old new status tt one (λ more. ([], refl))
-    (failure_told old mid new (not_read_line name) rose failed told)
-    (kept_append (part_read name bytes ∷ []) (Line told.told ∷ []) old.kept mid.kept new.kept kept told.kept)
+    (failure_reported old mid new (not_read_line name) rose failed told)
+    (kept_append (opened_and_read_in_part name bytes ∷ []) (PrintsLine told.told ∷ []) old.kept mid.kept new.kept kept told.kept)
     (follows_on old mid new rose told.follows)
 
 -- or allocation failed for it
-goes_unheld : {A : Type 0} (taking : Taking) (name bytes : Bytes) (ended : Bool) (next : Opening → Stage A)
+goes_unheld : {A : Type 0} (taking : AllocationPoints) (name bytes : Bytes) (ended : Bool) (next : Opening → Stage A)
     (old mid new : DeskState)
     (status : ℕ)
-    → Passes (with_read name bytes ended) old mid → HasSameCounts old mid → status ≡ 1 → Tells mid new memory_line
-    → Goes taking (open_stage name >>= next) old new (Err status)
+    → ChangesRecord (with_read name bytes ended) old mid → HasSameCounts old mid → status ≡ 1 → ReportsLine mid new memory_line
+    → RunsStage taking (open_stage name >>= next) old new (Err status)
 goes_unheld taking name bytes ended next old mid new status kept same one told =
     let reading : Reading = record { name = name; bytes = bytes; ended = ended } in
-    broke_opening taking name next (NoMemoryFor reading) told.told old new status tt one (λ more. ([], refl))
+    broke_opening taking name next (NoMemoryForFile reading) told.told old new status tt one (λ more. ([], refl))
     (search rules)
-    (kept_append (Opens (Found reading) ∷ []) (Line told.told ∷ []) old.kept mid.kept new.kept kept told.kept)
+    (kept_append (Opens (Found reading) ∷ []) (PrintsLine told.told ∷ []) old.kept mid.kept new.kept kept told.kept)
     (follows_on old mid new (follows_same old mid same) told.follows)
 
 -- any fault of the file except that it doesn't exist
-pub goes_broken : {A : Type 0} (taking : Taking) (name : Bytes) (next : Opening → Stage A) (fault : FileFault)
+pub runs_until_break : {A : Type 0} (taking : AllocationPoints) (name : Bytes) (next : Opening → Stage A) (fault : FileFault)
     (old mid new : DeskState)
     (status : ℕ)
-    → (fault ≡ file_fault.Absent → ⊥) → FileBreaks name old mid fault → Follows old mid → IsCounted old mid fault
-    → status ≡ 1 → Tells mid new (file_fault_line name fault)
-    → Goes taking (open_stage name >>= next) old new (Err status)
-goes_broken taking name next file_fault.Absent old mid new status there breaks rose counted one told = search rules
-goes_broken taking name next fault old mid new status there breaks rose counted one told =
+    → (fault ≡ file_fault.Absent → ⊥) → FileBreaks name old mid fault → CountsNeverFall old mid → CountsFileFault old mid fault
+    → status ≡ 1 → ReportsLine mid new (file_fault_line name fault)
+    → RunsStage taking (open_stage name >>= next) old new (Err status)
+runs_until_break taking name next file_fault.Absent old mid new status there breaks rose counted one told = search rules
+runs_until_break taking name next fault old mid new status there breaks rose counted one told =
     search (rules, goes_unopened, goes_unread, goes_unheld)
 
 -- ---- a whole file in memory
@@ -117,6 +117,6 @@ breaks_as name old mid fault reads = search rules
 
 -- its counts
 pub counted_as : (k l m n : ℕ) (fault : FileFault)
-    → FaultCounts (showing nothing_kept k m) (showing nothing_kept l n) (Err fault)
-    → IsCounted (showing nothing_kept k m) (showing nothing_kept l n) fault
+    → CountsReadResult (showing nothing_kept k m) (showing nothing_kept l n) (Err fault)
+    → CountsFileFault (showing nothing_kept k m) (showing nothing_kept l n) fault
 counted_as k l m n x counts = grind (arith, nat_tests)

@@ -1,18 +1,18 @@
 -- The record of a desk after several output events.
 use Rattle.std.proofs.Common.{◌≡◌, ◌∙◌, sym, ap, List, [], ◌∷◌, ◌++◌, refl}
 use Rattle.avr_desk.specs.Record.{Record}
-use Rattle.avr_desk.specs.Said.{OutputEvent, after, after_all}
+use Rattle.avr_desk.specs.OutputEvents.{OutputEvent, after, after_events}
 
 pub kept_on : (f g h : Record → Record) (a b c : Record) → ((r : Record) → h r ≡ g (f r)) → b ≡ f a → c ≡ g b → c ≡ h a
 kept_on f g h a b c is e k = k ∙ ap g e ∙ sym (is a)
 
-pub kept_none : (a : Record) → a ≡ after_all [] a
+pub kept_none : (a : Record) → a ≡ after_events [] a
 kept_none a = refl
 
-pub after_append : (x y : List OutputEvent) (r : Record) → after_all (x ++ y) r ≡ after_all y (after_all x r)
+pub after_append : (x y : List OutputEvent) (r : Record) → after_events (x ++ y) r ≡ after_events y (after_events x r)
 after_append [] y r = refl
 after_append (output ∷ x) y r = after_append x y (after output r)
 
-pub kept_append : (x y : List OutputEvent) (a b c : Record) → b ≡ after_all x a → c ≡ after_all y b
-    → c ≡ after_all (x ++ y) a
-kept_append x y a b c e f = kept_on (after_all x) (after_all y) (after_all (x ++ y)) a b c (after_append x y) e f
+pub kept_append : (x y : List OutputEvent) (a b c : Record) → b ≡ after_events x a → c ≡ after_events y b
+    → c ≡ after_events (x ++ y) a
+kept_append x y a b c e f = kept_on (after_events x) (after_events y) (after_events (x ++ y)) a b c (after_append x y) e f

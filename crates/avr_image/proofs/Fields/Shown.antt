@@ -8,7 +8,7 @@ use Rattle.std.proofs.lemmas.Nat.Bits.{bit_at_set_same, bit_at_set_other}
 use Rattle.std.proofs.lemmas.List.Sums.{prefix_len_is}
 use Rattle.std.specs.List.{list_any, position_from, prefix_len}
 use Rattle.std.proofs.lemmas.List.Folds.{list_any_at}
-use Rattle.avr_image.specs.Image.{byte_at, or_blank, filled_bytes, first_from, holds_any, run_end}
+use Rattle.avr_image.specs.Image.{byte_at, byte_or_ff, filled_bytes, first_from, holds_any, run_end}
 use Rattle.avr_image.specs.Present.{is_present, with_mark, FirstPlace}
 use Rattle.avr_image.specs.Dense.{shown_byte, shown_from, dense_image, with_span}
 
@@ -49,13 +49,13 @@ same_items (x ∷ xs) (y ∷ ys) len each =
 same_items z w len each = absurd (omega (arith, len))
 
 pub filled_is : (image : List (Option ℕ)) (start n : ℕ) (ys : List ℕ) → length ys ≡ n
-    → ((i : ℕ) → i < n → get_or ys i 0 ≡ or_blank (byte_at image (start + i))) → ys ≡ filled_bytes image start n
+    → ((i : ℕ) → i < n → get_or ys i 0 ≡ byte_or_ff (byte_at image (start + i))) → ys ≡ filled_bytes image start n
 filled_is image start zero [] len each = refl
 filled_is image start (suc n) (y ∷ ys) len each =
-    let first : y ≡ or_blank (byte_at image start) =
-    each 0 (omega arith) ∙ ap (λ (k : ℕ). or_blank (byte_at image k)) (omega arith) in
+    let first : y ≡ byte_or_ff (byte_at image start) =
+    each 0 (omega arith) ∙ ap (λ (k : ℕ). byte_or_ff (byte_at image k)) (omega arith) in
     let rest : ys ≡ filled_bytes image (start + 1) n = filled_is image (start + 1) n ys (omega (arith, len))
-    (λ i l. each (suc i) (omega (arith, l)) ∙ ap (λ (k : ℕ). or_blank (byte_at image k)) (omega arith)) in search rules
+    (λ i l. each (suc i) (omega (arith, l)) ∙ ap (λ (k : ℕ). byte_or_ff (byte_at image k)) (omega arith)) in search rules
 filled_is image start x z len each = absurd (omega (arith, len))
 
 pub get_or-zeros : (n i : ℕ) → ◌≡◌ {A = ℕ} (get_or {A = ℕ} (replicate {A = ℕ} n 0) i 0) 0
@@ -117,7 +117,7 @@ blank-marked words bytes a b l within blank i j none =
 -- a stored byte is what `fill` writes for its address
 pub kept_byte : (words bytes : List ℕ) {image : List (Option ℕ)} (a : ℕ) → dense_image words bytes ≡ image
     → ((i : ℕ) → i < length bytes → is_present words i ≡ false → get_or bytes i 0 ≡ 255)
-    → get_or bytes a 255 ≡ or_blank (byte_at image a)
+    → get_or bytes a 255 ≡ byte_or_ff (byte_at image a)
 kept_byte words bytes {image} a seen blank =
     search (rules, byte_at-shown, same_default, past, get_or-eq_default, byte_at-past, length_shown)
 
@@ -218,7 +218,7 @@ kept_whole words bytes {image} seen blank =
     filled_is image 0 (length image) bytes (sym size) (λ i l.
     same_default bytes i 0 255 (omega (arith, l, size))
     ∙ kept_byte words bytes i seen blank
-    ∙ ap (λ (k : ℕ). or_blank (byte_at image k)) (omega arith))
+    ∙ ap (λ (k : ℕ). byte_or_ff (byte_at image k)) (omega arith))
 
 -- ---- bytes stay bytes
 

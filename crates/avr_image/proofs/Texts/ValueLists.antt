@@ -6,7 +6,7 @@ use Rattle.std.proofs.lemmas.Bool.{cases_eq}
 use Rattle.std.proofs.lemmas.Bool.Decides.{nat_tests}
 use Rattle.avr_image.specs.Lists.{number_text, list_line}
 use Rattle.avr_image.specs.Image.{from_zero}
-use Rattle.avr_image.specs.Values.{is_separator, fitting_value, value_of, all_ok, pieces, values}
+use Rattle.avr_image.specs.Values.{is_separator, byte_of_value, value_of, all_ok, pieces, image_of_values}
 use Rattle.avr_image.specs.declared.list.Base.{Base}
 use Rattle.avr_image.specs.declared.list.Base.TheVariants.{Dec, Hex, Oct, Bin}
 use Rattle.avr_image.specs.declared.fault.ImageFault.TheVariants.{BadNumber}
@@ -111,7 +111,7 @@ pieces-line base b bytes l all = search (rules, split-line, none-empty)
 -- ---- their values
 
 all-good : (base : Base) (size addr : ℕ) (bytes : List ℕ) → AreBytes bytes → addr + length bytes ≤ size
-    → all_ok (map (fitting_value size) (enumerate_from addr (map (number_text base) bytes))) ≡ Ok bytes
+    → all_ok (map (byte_of_value size) (enumerate_from addr (map (number_text base) bytes))) ≡ Ok bytes
 all-good base size addr [] all room = refl
 all-good base size addr (b ∷ bytes) all room =
     search (rules, read_back, nat_tests, all-good base size (addr + 1) bytes all.1 (omega (arith, room)))
@@ -122,7 +122,7 @@ are_bytes (b ∷ bytes) all = (all 0 0 (omega arith), are_bytes bytes (λ k d l.
 
 pub list-reads-back : (base : Base) (bytes : List ℕ) (size : ℕ) → 0 < length bytes → length bytes ≤ size
     → ((k d : ℕ) → k < length bytes → get_or bytes k d < 256)
-    → values (list_line base bytes) size ≡ Ok (from_zero bytes size)
+    → image_of_values (list_line base bytes) size ≡ Ok (from_zero bytes size)
 list-reads-back base [] size some room all = absurd (omega (arith, some))
 list-reads-back base (b ∷ bytes) size some room all =
     let are = are_bytes (b ∷ bytes) all in
@@ -130,5 +130,5 @@ list-reads-back base (b ∷ bytes) size some room all =
     let judged_are = all-good base size 0 (b ∷ bytes) are (omega (arith, room)) in
     let some : eqb (length (map (number_text base) (b ∷ bytes))) 0 ≡ false = grind (arith, nat_tests) in search rules
 
-pub none-reads-back : (base : Base) (size : ℕ) → values (list_line base []) size ≡ Err (BadNumber 1)
+pub none-reads-back : (base : Base) (size : ℕ) → image_of_values (list_line base []) size ≡ Err (BadNumber 1)
 none-reads-back base size = refl

@@ -7,7 +7,7 @@ use Rattle.std.proofs.lemmas.List.Sums.{prefix_len-le-length}
 use Rattle.std.proofs.lemmas.Bool.Decides.{nat_tests}
 use Rattle.std.specs.List.{enumerate_from, slice_split, position_or_len, onto_first}
 use Rattle.avr_image.specs.Image.{empty, from_zero, with_byte}
-use Rattle.avr_image.specs.Values.{is_separator, fitting, fitting_value, value_of, all_ok, onto_ok, image_of_bytes, pieces}
+use Rattle.avr_image.specs.Values.{is_separator, fitting, byte_of_value, value_of, all_ok, onto_ok, image_of_bytes, pieces}
 use Rattle.avr_image.specs.declared.fault.ImageFault.{ImageFault}
 use Rattle.avr_image.proofs.Places.Laid.{from_zero-next, length-from_zero}
 
@@ -19,7 +19,7 @@ on_ok (Err fault) more = Err fault
 abbrev pub with_pieces : List (Option ℕ) → ℕ → List (List ℕ) → Result (List (Option ℕ)) ImageFault
 with_pieces image addr [] = Ok image
 with_pieces image addr (piece ∷ more) =
-    on_ok (fitting_value (length image) (addr, piece)) (λ b. with_pieces (with_byte image addr b) (addr + 1) more)
+    on_ok (byte_of_value (length image) (addr, piece)) (λ b. with_pieces (with_byte image addr b) (addr + 1) more)
 
 abbrev pub before : List ℕ → Result (List ℕ) ImageFault → Result (List ℕ) ImageFault
 before bytes (Ok more) = Ok (bytes ++ more)
@@ -47,20 +47,20 @@ with_next bytes size addr parts rest r below here more = search (rules, from_zer
 pub with_pieces_is : (bytes : List ℕ) (size addr : ℕ) (parts : List (List ℕ)) → addr ≡ length bytes
     → length bytes ≤ size
     → with_pieces (from_zero bytes size) addr parts
-    ≡ image_of_bytes size (before bytes (all_ok (map (fitting_value size) (enumerate_from addr parts))))
+    ≡ image_of_bytes size (before bytes (all_ok (map (byte_of_value size) (enumerate_from addr parts))))
 with_pieces_is bytes size addr [] here l = ap (λ (xs : List ℕ). image_of_bytes size (ok_of xs)) (sym (append-nil bytes))
 with_pieces_is bytes size addr (piece ∷ parts) here l =
     let size_is : length (from_zero bytes size) ≡ size = length-from_zero bytes size l in
-    ap (λ (n : ℕ). on_ok (fitting_value n (addr, piece))
+    ap (λ (n : ℕ). on_ok (byte_of_value n (addr, piece))
     (λ byte. with_pieces (with_byte (from_zero bytes size) addr byte) (addr + 1) parts)) size_is
-    ∙ with_next bytes size addr parts (all_ok (map (fitting_value size) (enumerate_from (addr + 1) parts)))
-    (fitting_value size (addr, piece))
+    ∙ with_next bytes size addr parts (all_ok (map (byte_of_value size) (enumerate_from (addr + 1) parts)))
+    (byte_of_value size (addr, piece))
     (λ byte e. fitting_below size addr (value_of piece) byte e) here
     (λ byte low. with_pieces_is (bytes ++ byte ∷ []) size (addr + 1) parts
     (omega (arith, here, length-append bytes (byte ∷ []))) (omega (arith, here, low, length-append bytes (byte ∷ []))))
 
 pub values_of_some : (size : ℕ) (parts : List (List ℕ)) (one : Result (List (Option ℕ)) ImageFault) → 0 < length parts
-    → cond (eqb (length parts) 0) one (image_of_bytes size (all_ok (map (fitting_value size) (enumerate_from 0 parts))))
+    → cond (eqb (length parts) 0) one (image_of_bytes size (all_ok (map (byte_of_value size) (enumerate_from 0 parts))))
     ≡ with_pieces (empty size) 0 parts
 values_of_some size [] one some = absurd (omega (arith, some))
 values_of_some size (piece ∷ parts) one some =
@@ -107,10 +107,10 @@ pieces_prefix xs n here some = grind (arith, nat_tests, prefix_len-le-length, le
 
 -- one more piece, bad or good
 pub piece_bad : (image : List (Option ℕ)) (addr : ℕ) (piece : List ℕ) (more : List (List ℕ)) (fault : ImageFault)
-    → fitting_value (length image) (addr, piece) ≡ Err fault → with_pieces image addr (piece ∷ more) ≡ Err fault
+    → byte_of_value (length image) (addr, piece) ≡ Err fault → with_pieces image addr (piece ∷ more) ≡ Err fault
 piece_bad image addr piece more fault e = grind (arith, nat_tests)
 
 pub piece_good : (image : List (Option ℕ)) (addr : ℕ) (piece : List ℕ) (more : List (List ℕ)) (byte : ℕ)
-    → fitting_value (length image) (addr, piece) ≡ Ok byte
+    → byte_of_value (length image) (addr, piece) ≡ Ok byte
     → with_pieces image addr (piece ∷ more) ≡ with_pieces (with_byte image addr byte) (addr + 1) more
 piece_good image addr piece more byte e = grind (arith, nat_tests)

@@ -5,8 +5,8 @@ use Rattle.std.proofs.lemmas.List.{take_all, append_assoc, drop-drop, get_or-dro
 use Rattle.std.proofs.Common.{◌≡◌, ◌∙◌, sym, ap, ap₂, refl, arith, ℕ, zero, suc, ◌+◌, ◌-◌, ◌<◌, ◌≤◌, ◌==◌, Bool, cond, not, List, [], ◌∷◌, ◌++◌, length, take, drop, fold, min, Option, Some, None, is_some, inl, inr, add-zero, All, ◌⊎◌, rules}
 use Rattle.std.proofs.lemmas.List.Recursion.{is_count_by}
 use Rattle.std.proofs.lemmas.Bool.Decides.{nat_tests}
-use Rattle.avr_image.specs.Image.{empty, byte_at, with_byte, first_from, run_end, filled_bytes, image_of_pairs, laid_over, over, byte_count}
-use Rattle.avr_image.specs.Runs.{onto_runs, runs, lead, places_of}
+use Rattle.avr_image.specs.Image.{empty, byte_at, with_byte, first_from, run_end, filled_bytes, image_of_pairs, with_bytes_at, over, byte_count}
+use Rattle.avr_image.specs.Runs.{onto_runs, runs, leading_run, places_of}
 use Rattle.avr_image.proofs.Places.Laid.{laid_over_laid}
 use Rattle.avr_image.specs.Walk.{IsLongestRun}
 use Rattle.avr_image.proofs.Fields.Shown.{byte_at-past}
@@ -28,17 +28,17 @@ runs-begin addr (None ∷ image) = search (rules, runs-begin (addr + 1) image)
 runs-begin addr (Some b ∷ image) = begins-onto addr b (runs (addr + 1) image)
 
 abbrev after : List (Option ℕ) → List (Option ℕ)
-after image = drop (length (lead image)) image
+after image = drop (length (leading_run image)) image
 
-runs-lead : (addr b : ℕ) (image : List (Option ℕ))
-    → runs addr (Some b ∷ image) ≡ (addr, b ∷ lead image) ∷ runs (addr + 1 + length (lead image)) (after image)
-runs-lead addr b [] = refl
-runs-lead addr b (None ∷ image) = grind (arith, nat_tests, runs-begin)
-runs-lead addr b (Some c ∷ image) = grind (arith, nat_tests, runs-lead (addr + 1) c image)
+runs-leading_run : (addr b : ℕ) (image : List (Option ℕ))
+    → runs addr (Some b ∷ image) ≡ (addr, b ∷ leading_run image) ∷ runs (addr + 1 + length (leading_run image)) (after image)
+runs-leading_run addr b [] = refl
+runs-leading_run addr b (None ∷ image) = grind (arith, nat_tests, runs-begin)
+runs-leading_run addr b (Some c ∷ image) = grind (arith, nat_tests, runs-leading_run (addr + 1) c image)
 
-pub runs-first : (image : List (Option ℕ)) (addr : ℕ) → 0 < length (lead image)
-    → runs addr image ≡ (addr, lead image) ∷ runs (addr + length (lead image)) (drop (length (lead image)) image)
-runs-first image addr some = search (rules, runs-lead)
+pub runs-first : (image : List (Option ℕ)) (addr : ℕ) → 0 < length (leading_run image)
+    → runs addr image ≡ (addr, leading_run image) ∷ runs (addr + length (leading_run image)) (drop (length (leading_run image)) image)
+runs-first image addr some = search (rules, runs-leading_run)
 
 -- ---- as the walk finds them
 
@@ -51,7 +51,7 @@ walk-none addr (Some b ∷ image) is = absurd (cc is)
 record Next (addr place : ℕ) (image : List (Option ℕ)) : Type 0 where
   from : addr ≤ place
   same : runs addr image ≡ runs place (drop (place - addr) image)
-  some : 0 < length (lead (drop (place - addr) image))
+  some : 0 < length (leading_run (drop (place - addr) image))
 
 walk-next : (addr place : ℕ) (image : List (Option ℕ)) → position_from is_some addr image ≡ Some place
     → Next addr place image
@@ -74,36 +74,36 @@ pub runs-next : (image : List (Option ℕ)) (addr place : ℕ) → first_from im
 runs-next image addr place found =
     search (rules, walk-next addr place (drop addr image) found, found-there image addr place found)
 
-pub lead-some : (image : List (Option ℕ)) (addr place : ℕ) → first_from image addr ≡ Some place
-    → 0 < length (lead (drop place image))
-lead-some image addr place found =
+pub leading_run-some : (image : List (Option ℕ)) (addr place : ℕ) → first_from image addr ≡ Some place
+    → 0 < length (leading_run (drop place image))
+leading_run-some image addr place found =
     search (rules, walk-next addr place (drop addr image) found, found-there image addr place found)
 
 drop-next : (image xs : List (Option ℕ)) (place : ℕ) (x : Option ℕ) → drop place image ≡ x ∷ xs
     → drop (place + 1) image ≡ xs
 drop-next image xs place x is = sym (drop-drop 1 place image) ∙ ap (drop 1) is
 
-pub filled-lead : (image xs : List (Option ℕ)) (n place : ℕ) → drop place image ≡ xs → n ≤ length (lead xs)
-    → filled_bytes image place n ≡ take n (lead xs)
-filled-lead image xs zero place is l = refl
-filled-lead image (Some b ∷ xs) (suc n) place is l =
+pub filled-leading_run : (image xs : List (Option ℕ)) (n place : ℕ) → drop place image ≡ xs → n ≤ length (leading_run xs)
+    → filled_bytes image place n ≡ take n (leading_run xs)
+filled-leading_run image xs zero place is l = refl
+filled-leading_run image (Some b ∷ xs) (suc n) place is l =
     let here : byte_at image place ≡ Some b =
     ap (byte_at image) (sym (add-zero place)) ∙ sym (get_or-drop place image 0 None)
     ∙ ap (λ (zs : List (Option ℕ)). byte_at zs 0) is in
-    search (rules, filled-lead image xs n (place + 1) (drop-next image xs place (Some b) is) (omega (arith, l)))
-filled-lead image x (suc n) place is l = absurd (omega (arith, l))
+    search (rules, filled-leading_run image xs n (place + 1) (drop-next image xs place (Some b) is) (omega (arith, l)))
+filled-leading_run image x (suc n) place is l = absurd (omega (arith, l))
 
-prefix-lead : (k : ℕ) (image : List (Option ℕ)) → prefix_len is_some (take k image) ≡ min k (length (lead image))
-prefix-lead (suc k) (Some b ∷ image) = let more = prefix-lead k image in omega (arith, more)
-prefix-lead x y = omega arith
+prefix-leading_run : (k : ℕ) (image : List (Option ℕ)) → prefix_len is_some (take k image) ≡ min k (length (leading_run image))
+prefix-leading_run (suc k) (Some b ∷ image) = let more = prefix-leading_run k image in omega (arith, more)
+prefix-leading_run x y = omega arith
 
-pub lead-run : (image : List (Option ℕ)) (addr end : ℕ)
-    → run_end image addr end ≡ addr + min (end - addr) (length (lead (drop addr image)))
-lead-run image addr end = ap (λ (n : ℕ). addr + n) (prefix-lead (end - addr) (drop addr image))
+pub leading_run-run : (image : List (Option ℕ)) (addr end : ℕ)
+    → run_end image addr end ≡ addr + min (end - addr) (length (leading_run (drop addr image)))
+leading_run-run image addr end = ap (λ (n : ℕ). addr + n) (prefix-leading_run (end - addr) (drop addr image))
 
-pub lead-short : (image : List (Option ℕ)) → length (lead image) ≤ length image
-lead-short (Some b ∷ image) = let more = lead-short image in omega (arith, more)
-lead-short x = omega arith
+pub leading_run-short : (image : List (Option ℕ)) → length (leading_run image) ≤ length image
+leading_run-short (Some b ∷ image) = let more = leading_run-short image in omega (arith, more)
+leading_run-short x = omega arith
 
 -- ---- the bytes of an image at their addresses
 
@@ -178,16 +178,16 @@ pub next_run : (addr place end : ℕ) (image : List (Option ℕ)) → first_from
     → end ≡ run_end image place (length image)
     → Stepped addr place end image
 next_run addr place end image found is =
-    let some = lead-some image addr place found in
-    let run : ℕ = length (lead (drop place image)) in
-    let short = lead-short (drop place image) in
+    let some = leading_run-some image addr place found in
+    let run : ℕ = length (leading_run (drop place image)) in
+    let short = leading_run-short (drop place image) in
     let left = length-drop place image in
-    let far : end ≡ place + min (length image - place) run = is ∙ lead-run image place (length image) in
+    let far : end ≡ place + min (length image - place) run = is ∙ leading_run-run image place (length image) in
     let ends : place + run ≡ end = omega (arith, far, short, left) in
     let rises : place < end = omega (arith, ends, some) in
     let within : end ≤ length image = omega (arith, ends, short, left, some) in
-    let bytes_are : lead (drop place image) ≡ slice_range (filled_bytes image 0 (length image)) place end =
-    search (rules, range-filled, filled-lead, take_all) in
+    let bytes_are : leading_run (drop place image) ≡ slice_range (filled_bytes image 0 (length image)) place end =
+    search (rules, range-filled, filled-leading_run, take_all) in
     let behind : after (drop place image) ≡ drop end image =
     drop-drop run place image ∙ ap (λ (k : ℕ). drop k image) ends in
     record {
@@ -222,7 +222,7 @@ runs-inside image = each (runs 0 image) (runs-end (length image) 0 image (omega 
 
 -- an image laid over one of its size, run by run
 pub runs-over : (image other : List (Option ℕ)) → length other ≡ length image
-    → laid_over image (flat_map places_of (runs 0 other)) ≡ over image other
+    → with_bytes_at image (flat_map places_of (runs 0 other)) ≡ over image other
 runs-over image other same = search (rules, runs-hold, laid_over_laid, laid-image)
 
 -- ---- no byte at all

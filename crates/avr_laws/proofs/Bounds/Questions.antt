@@ -1,32 +1,32 @@
 -- A session asks at most four times the commands of its plan's steps, because that is what its bodies weigh if each
 -- weighs 1.
 use Rattle.std.proofs.Common.{◌≡◌, ℕ, zero, suc, ◌*◌, ◌-◌, List, [], ◌∷◌, map, length, subst, arith, rules}
-use Rattle.avr_desk.specs.Said.{SaidPart}
+use Rattle.avr_desk.specs.OutputEvents.{IsPartOfEvent}
 use Rattle.avr_plan.specs.Plan.{Plan}
 use Rattle.avr_session.specs.Session.{session}
 use Rattle.stk_frame.specs.Commands.{body}
 use Rattle.stk_frame.specs.declared.command.Command.{Command}
 use Rattle.stk_host.specs.Bound.{AsksAtMost, SendsAtMost, commands_in}
-use Rattle.stk_host.specs.Dialog.{Dialog, Done, Say, Ask}
+use Rattle.stk_host.specs.Dialog.{Dialog, Done, Emit, Ask}
 use Rattle.stk_host.proofs.Dialogs.Questions.{sends_asked}
-use Rattle.avr_tool.specs.AnyLine.{Weight, weighed, bodies_in}
+use Rattle.avr_tool.specs.OverFaultyLink.{Weight, total_weight, bodies_in}
 use Rattle.avr_session.specs.PlanSteps.{run_steps}
 use Rattle.avr_tool.proofs.Bounds.Weights.{WeighsAtMost, weighed_append, session_weighs}
 
 abbrev one : Weight
 one bytes = 1
 
-commands_weigh : (commands : List Command) → weighed one (map body commands) ≡ length commands
+commands_weigh : (commands : List Command) → total_weight one (map body commands) ≡ length commands
 commands_weigh [] = omega arith
 commands_weigh (command ∷ commands) = let more = commands_weigh commands in omega (arith, more)
 
-steps_weigh : (steps : List (List Command)) → weighed one (bodies_in steps) ≡ commands_in steps
+steps_weigh : (steps : List (List Command)) → total_weight one (bodies_in steps) ≡ commands_in steps
 steps_weigh [] = omega arith
 steps_weigh (commands ∷ steps) = search (rules, commands_weigh, weighed_append, steps_weigh steps)
 
 asks_weighed : {E R : Type 0} (n : ℕ) (d : Dialog E R) → WeighsAtMost one n d → AsksAtMost n d
 asks_weighed n (Done r) f = tt
-asks_weighed n (Say e d) f = asks_weighed n d f.1
+asks_weighed n (Emit e d) f = asks_weighed n d f.1
 asks_weighed zero (Ask asked answered) f = let first = f.0 in absurd (omega (arith, first))
 asks_weighed (suc n) (Ask asked answered) f = λ reading.
     let rest : suc n - 1 ≡ n = omega arith in
@@ -35,5 +35,5 @@ asks_weighed (suc n) (Ask asked answered) f = λ reading.
 pub session_most : (plan : Plan) → AsksAtMost (4 * commands_in (run_steps plan)) (session plan)
 session_most plan = search (rules, asks_weighed, steps_weigh, session_weighs)
 
-pub session_sends : (plan : Plan) → SendsAtMost SaidPart (4 * commands_in (run_steps plan)) (session plan)
-session_sends plan = sends_asked SaidPart (4 * commands_in (run_steps plan)) (session plan) (session_most plan)
+pub session_sends : (plan : Plan) → SendsAtMost IsPartOfEvent (4 * commands_in (run_steps plan)) (session plan)
+session_sends plan = sends_asked IsPartOfEvent (4 * commands_in (run_steps plan)) (session plan) (session_most plan)

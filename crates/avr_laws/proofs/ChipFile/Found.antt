@@ -6,11 +6,11 @@ use Rattle.avr_cli.specs.declared.settings.Settings.{Settings}
 use Rattle.avr_desk.proofs.Desks.InMemory.{all_true, true_behind}
 use Rattle.avr_desk.proofs.FileUses.Uses.{files_absent, files_append, files_used}
 use Rattle.avr_desk.specs.Memory.{MemDeskState, Stock, memory_state}
-use Rattle.avr_desk.specs.Playing.{Went}
+use Rattle.avr_desk.specs.Playing.{StageCompleted}
 use Rattle.avr_desk.specs.Record.{Bytes, DeskState, all_files, all_uses, files_among}
-use Rattle.avr_desk.specs.Said.{after_opening}
-use Rattle.avr_desk.specs.Stage.{Made, next_opening}
-use Rattle.avr_desk.specs.Truth.{AreTrue, HoldsTrue, IsTrueOpening}
+use Rattle.avr_desk.specs.OutputEvents.{after_opening}
+use Rattle.avr_desk.specs.Stage.{Produced, next_opening}
+use Rattle.avr_desk.specs.Truth.{OpeningsAreTrue, HoldsTrue, IsTrueOpening}
 use Rattle.avr_desk.specs.declared.record.FileUse.{FileUse}
 use Rattle.avr_desk.specs.declared.record.FileUse.TheVariants.{Opened, Created}
 use Rattle.avr_desk.specs.declared.record.Opening.{Opening}
@@ -21,7 +21,7 @@ use Rattle.avr_part.specs.Part.{Part}
 use Rattle.avr_part.specs.State.{ChipState as Chip}
 use Rattle.avr_laws.proofs.Plans.OnlyReading.{only_reads}
 use Rattle.avr_laws.proofs.KnownFiles.PastUses.{ArePast, none_made, only_opened, opened, opened_past, past_shown, run_past, saved_past}
-use Rattle.avr_laws.specs.ChipFound.{IsChipOf, file_held}
+use Rattle.avr_laws.specs.ChipFound.{IsChipInFile, contents_held}
 
 -- ---- the chip that an opening gives
 
@@ -37,7 +37,7 @@ named name openings = search rules
 
 -- the next opening is the chip's
 module _ (part : Part) (file : Bytes) (old new : DeskState) (chip : Chip)
-    (went : Went (chip_stage part file) old new (Made chip)) where
+    (went : StageCompleted (chip_stage part file) old new (Produced chip)) where
   abbrev pub found : Opening
   found = next_opening file (went.passed ++ [])
 
@@ -47,8 +47,8 @@ module _ (part : Part) (file : Bytes) (old new : DeskState) (chip : Chip)
 -- ---- a run
 
 -- the first uses were true by themselves
-true_front : (stock : Stock) (made : List Writing) (first last : List FileUse) → AreTrue stock made (first ++ last)
-    → AreTrue stock made first
+true_front : (stock : Stock) (made : List Writing) (first last : List FileUse) → OpeningsAreTrue stock made (first ++ last)
+    → OpeningsAreTrue stock made first
 true_front stock made [] last are = tt
 true_front stock made (Opened opening ∷ first) last are = (are.0, true_front stock made first last are.1)
 true_front stock made (Created file ∷ first) last are = true_front stock (made ++ file ∷ []) first last are
@@ -58,7 +58,7 @@ module _ (settings : Settings) (file : Bytes) (stock : Stock) (old new : MemDesk
     (r : RunsOverEmulator settings file (memory_state old) (memory_state new) status) where
   -- the openings before the chip's file
   before : (openings : List Opening) × (all_uses r.planned_desk.kept ≡ all_uses old.kept ++ opened openings)
-  before = search (rules, only_opened r.made.says old.kept (search (rules, only_reads settings (r.made.passed ++ []))))
+  before = search (rules, only_opened r.made.emits old.kept (search (rules, only_reads settings (r.made.passed ++ []))))
 
   abbrev first_uses : List FileUse
   first_uses = all_uses old.kept ++ opened before.0
@@ -87,18 +87,18 @@ module _ (settings : Settings) (file : Bytes) (stock : Stock) (old new : MemDesk
       ap all_files (found_kept r.plan.part file r.loaded.held_desk r.loaded_desk r.chip r.loaded.loaded)
       ∙ (search (rules, files_absent, files_used, first_files))
 
-  every : AreTrue stock [] (first_uses ++ Opened opening ∷ ended.0)
+  every : OpeningsAreTrue stock [] (first_uses ++ Opened opening ∷ ended.0)
   every = search (rules, append_assoc, all_true, ended.1)
 
   -- so were all uses when the plan was made
-  pub planned_true : AreTrue stock [] (all_uses r.planned_desk.kept)
+  pub planned_true : OpeningsAreTrue stock [] (all_uses r.planned_desk.kept)
   planned_true = search (rules, true_front, every)
 
   -- its opening was true by the files before the run
   gave : IsTrueOpening stock (all_files old.kept) opening
   gave =
-      let later : AreTrue stock (files_among first_uses) (Opened opening ∷ ended.0) =
+      let later : OpeningsAreTrue stock (files_among first_uses) (Opened opening ∷ ended.0) =
       true_behind stock [] first_uses (Opened opening ∷ ended.0) every in search (rules, first_files)
 
-  pub chip_found : IsChipOf r.plan.part (file_held stock old.kept file) r.chip
+  pub chip_found : IsChipInFile r.plan.part (contents_held stock old.kept file) r.chip
   chip_found = grind (arith, common_steps, gave)

@@ -3,17 +3,17 @@ use Rattle.std.proofs.Common.{◌≡◌, ◌⊎◌, ◌∙◌, refl, inl, inr, a
 use Rattle.std.specs.declared.io.Read.{Ghosts as Reads}
 use Rattle.std.specs.declared.io.Write.{Ghosts as Writes}
 use Rattle.avr_cli.specs.declared.settings.Settings.{Settings}
-use Rattle.avr_desk.specs.Playing.{Goes, Taking, Went}
+use Rattle.avr_desk.specs.Playing.{RunsStage, AllocationPoints, StageCompleted}
 use Rattle.avr_desk.specs.Record.{Bytes, DeskState, Record}
-use Rattle.avr_desk.specs.Said.{OutputEvent, after, after_all}
-use Rattle.avr_desk.specs.Shown.{IsNewDesk, Shown, TellsAll, shown_state}
-use Rattle.avr_desk.specs.Stage.{Stage, StageAnswer}
+use Rattle.avr_desk.specs.OutputEvents.{OutputEvent, after, after_events}
+use Rattle.avr_desk.specs.Shown.{IsNewDesk, Shown, RecordsAll, system_desk_view}
+use Rattle.avr_desk.specs.Stage.{Stage, StageOutcome}
 use Rattle.avr_desk.specs.declared.file_system.FileSystem.{Ghosts}
 use Rattle.avr_desk.specs.declared.record.Writing.{Writing}
 use Rattle.avr_tool.specs.Emulated.{RunsEmulator}
-use Rattle.avr_tool.specs.Holding.{HoldsAndLoads, Loaded}
-use Rattle.avr_laws.specs.Killed.{LeavesOldOrNew, chip_of_part, chip_of_run, chip_of_server}
-use Rattle.avr_tool.specs.ServedRun.{RunsServedFor, ServesPart, TellsIfAny, end_pieces}
+use Rattle.avr_tool.specs.Holding.{LocksAndLoads, LockedAndLoaded}
+use Rattle.avr_laws.specs.Killed.{LeavesOldOrNew, chip_file_of_part, chip_file_of_run, chip_file_of_server}
+use Rattle.avr_tool.specs.ServedRun.{RunsServedFor, ServesPart, ReportsIfAny, end_pieces}
 use Rattle.avr_part.specs.Part.{Part}
 use Rattle.avr_part.specs.State as chips
 use Rattle.avr_session.specs.Runs.{Devices, devices}
@@ -21,32 +21,32 @@ use Rattle.stk_host.specs.Transcript.{LinkState}
 
 -- ---- what a run does before it saves its chip replaces nothing
 
-tried_all : (says : List OutputEvent) (r : Record) → (after_all says r).tried ≡ r.tried
+tried_all : (emits : List OutputEvent) (r : Record) → (after_events emits r).tried ≡ r.tried
 tried_all [] r = refl
-tried_all (output ∷ says) r = let more = tried_all says (after output r) in grind arith
+tried_all (output ∷ emits) r = let more = tried_all emits (after output r) in grind arith
 
 abbrev pub tried_at : DeskState → List Writing
 tried_at d = d.kept.tried
 
-pub tried_went : {A : Type 0} (stage : Stage A) (old new : DeskState) (answer : StageAnswer A) → Went stage old new answer
+pub tried_went : {A : Type 0} (stage : Stage A) (old new : DeskState) (stage_outcome : StageOutcome A) → StageCompleted stage old new stage_outcome
     → tried_at new ≡ tried_at old
-tried_went stage old new answer went = search (rules, tried_all)
+tried_went stage old new stage_outcome went = search (rules, tried_all)
 
 pub tried_loaded : (part : Part) (file : Bytes) (old new : DeskState) (chip : chips.ChipState)
-    → Loaded part file old new chip → tried_at new ≡ tried_at old
+    → LockedAndLoaded part file old new chip → tried_at new ≡ tried_at old
 tried_loaded part file old new chip loaded = cc (tried_went _ _ _ _ loaded.loaded, loaded.held.0)
 
-tried_told : (pieces : Option (List Bytes)) (old new : DeskState) → TellsIfAny pieces old new
+tried_told : (pieces : Option (List Bytes)) (old new : DeskState) → ReportsIfAny pieces old new
     → tried_at new ≡ tried_at old
 tried_told pieces old new told = grind arith
 
-pub tried_goes : {A : Type 0} (taking : Taking) (stage : Stage A) (old new : DeskState) (status : ℕ)
-    → Goes taking stage old new (Err status) → tried_at new ≡ tried_at old
+pub tried_goes : {A : Type 0} (taking : AllocationPoints) (stage : Stage A) (old new : DeskState) (status : ℕ)
+    → RunsStage taking stage old new (Err status) → tried_at new ≡ tried_at old
 tried_goes taking stage old new status goes = grind (arith, tried_all, tried_went)
 
 -- without a chip
 pub tried_unloaded : (part : Part) (file : Bytes) (old new : DeskState) (status : ℕ)
-    → HoldsAndLoads part file old new (Err status) → tried_at new ≡ tried_at old
+    → LocksAndLoads part file old new (Err status) → tried_at new ≡ tried_at old
 tried_unloaded part file old new status (inl unheld) = grind arith
 tried_unloaded part file old new status (inr vain) = cc (tried_goes _ _ _ _ _ vain.refused)
 
@@ -59,45 +59,45 @@ TriesOnly file (Some bytes) tried = (tried ≡ []) ⊎ (tried ≡ record { name 
 
 run_tries : (settings : Settings) (file : Bytes) (old new : DeskState) (status : ℕ)
     → (r : RunsEmulator settings file old new status) → tried_at old ≡ []
-    → TriesOnly file (chip_of_run settings file old new status r) (tried_at new)
+    → TriesOnly file (chip_file_of_run settings file old new status r) (tried_at new)
 run_tries settings file old new status (inl r) none = search (rules, tried_loaded, tried_went, tried_all)
 run_tries settings file old new status (inr (inl with)) none =
     tried_unloaded _ _ _ _ _ with.then_is ∙ tried_went _ _ _ _ with.made ∙ none
 run_tries settings file old new status (inr (inr lacks)) none = tried_goes _ _ _ _ _ lacks.goes ∙ none
 
-pub part_tries : (part : Part) (file : Bytes) (turns : ℕ) (old new : Devices) (status : ℕ)
-    → (s : ServesPart part file turns old new status) → tried_at old.desk ≡ []
-    → TriesOnly file (chip_of_part part file turns old new status s) (tried_at new.desk)
-part_tries part file turns old new status (inl s) none =
+pub part_tries : (part : Part) (file : Bytes) (most_reads : ℕ) (old new : Devices) (status : ℕ)
+    → (s : ServesPart part file most_reads old new status) → tried_at old.desk ≡ []
+    → TriesOnly file (chip_file_of_part part file most_reads old new status s) (tried_at new.desk)
+part_tries part file most_reads old new status (inl s) none =
     search (rules, tried_told (end_pieces s.serves.served) _ _ s.serves.told, tried_loaded _ _ _ _ _ s.loaded)
-part_tries part file turns old new status (inr (unloaded, same)) none = tried_unloaded _ _ _ _ _ unloaded ∙ none
+part_tries part file most_reads old new status (inr (unloaded, same)) none = tried_unloaded _ _ _ _ _ unloaded ∙ none
 
-server_tries : (settings : Settings) (file : Bytes) (turns : ℕ) (old new : Devices) (status : ℕ)
-    → (s : RunsServedFor settings file turns old new status) → tried_at old.desk ≡ []
-    → TriesOnly file (chip_of_server settings file turns old new status s) (tried_at new.desk)
-server_tries settings file turns old new status (inl s) none =
+server_tries : (settings : Settings) (file : Bytes) (most_reads : ℕ) (old new : Devices) (status : ℕ)
+    → (s : RunsServedFor settings file most_reads old new status) → tried_at old.desk ≡ []
+    → TriesOnly file (chip_file_of_server settings file most_reads old new status s) (tried_at new.desk)
+server_tries settings file most_reads old new status (inl s) none =
     part_tries _ _ _ _ _ _ s.then_is (tried_went _ _ _ _ s.found ∙ none)
-server_tries settings file turns old new status (inr no_part) none = tried_goes _ _ _ _ _ no_part.0.refused ∙ none
+server_tries settings file most_reads old new status (inr no_part) none = tried_goes _ _ _ _ _ no_part.0.refused ∙ none
 
 -- ---- so a crash leaves these, or what was there
 
 module _ {S F I H O E : Type 0} (system : Ghosts S F I H) (reads : Reads F) (writes : Writes F) (input : Reads I)
-    (old new : Shown S F H I O E) (fresh : IsNewDesk system old) (tells : TellsAll system reads writes input old new)
+    (old new : Shown S F H I O E) (fresh : IsNewDesk system old) (tells : RecordsAll system reads writes input old new)
     (file : Bytes) where
   pub left_old_or_new : (chip : Option Bytes) → TriesOnly file chip new.kept.tried
       → LeavesOldOrNew system new.system file chip
   left_old_or_new chip only found left = search (rules, (tells fresh).crash)
 
   pub run_killed : (settings : Settings) (status : ℕ)
-      → (r : RunsEmulator settings file (shown_state old) (shown_state new) status)
+      → (r : RunsEmulator settings file (system_desk_view old) (system_desk_view new) status)
       → LeavesOldOrNew system new.system file
-      (chip_of_run settings file (shown_state old) (shown_state new) status r)
+      (chip_file_of_run settings file (system_desk_view old) (system_desk_view new) status r)
   run_killed settings status r = left_old_or_new _ (run_tries settings file _ _ status r (search rules))
 
-  pub server_killed : (settings : Settings) (turns : ℕ) (before after : LinkState) (status : ℕ)
-      → (s : RunsServedFor settings file turns (devices before (shown_state old))
-      (devices after (shown_state new)) status)
-      → LeavesOldOrNew system new.system file (chip_of_server settings file turns
-      (devices before (shown_state old)) (devices after (shown_state new)) status s)
-  server_killed settings turns before after status s =
-      left_old_or_new _ (server_tries settings file turns _ _ status s (search rules))
+  pub server_killed : (settings : Settings) (most_reads : ℕ) (before after : LinkState) (status : ℕ)
+      → (s : RunsServedFor settings file most_reads (devices before (system_desk_view old))
+      (devices after (system_desk_view new)) status)
+      → LeavesOldOrNew system new.system file (chip_file_of_server settings file most_reads
+      (devices before (system_desk_view old)) (devices after (system_desk_view new)) status s)
+  server_killed settings most_reads before after status s =
+      left_old_or_new _ (server_tries settings file most_reads _ _ status s (search rules))

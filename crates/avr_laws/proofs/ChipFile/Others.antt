@@ -3,11 +3,11 @@ use Rattle.std.proofs.Common.{◌≡◌, ◌∙◌, ◌⊎◌, ap, sym, refl, tr
 use Rattle.std.proofs.lemmas.Bool.{cases_Bool}
 use Rattle.avr_desk.proofs.FileUses.Names.{newest_append}
 use Rattle.avr_desk.proofs.FileUses.Uses.{files_replaced}
-use Rattle.avr_desk.specs.Memory.{Stock, stood_for}
+use Rattle.avr_desk.specs.Memory.{Stock, content_of_name}
 use Rattle.avr_desk.specs.Named.{is_dash, newest, or_older}
 use Rattle.avr_desk.specs.Record.{Bytes, DeskState, all_files}
 use Rattle.avr_desk.specs.declared.record.Writing.{Writing}
-use Rattle.avr_tool.specs.Emulated.{IsSaved}
+use Rattle.avr_tool.specs.Emulated.{IsSavedIfSent}
 use Rattle.avr_laws.specs.Kept.{named_files}
 
 -- a file of another name changes nothing
@@ -25,41 +25,41 @@ no_dash name (f ∷ fs) older dash = elim (cases_Bool (is_dash f.name)) [
 ]
 
 stood_newest : (stock : Stock) (made : List Writing) (name : Bytes) → is_dash name ≡ false
-    → stood_for stock made name ≡ newest name (stood_for stock [] name) made
+    → content_of_name stock made name ≡ newest name (content_of_name stock [] name) made
 stood_newest stock made name isnt = rw isnt
     (newest_append name None stock.files made
     ∙ ap (λ (files : List Writing). newest name (newest name None files) made) (sym (append-nil stock.files)))
 
 pub stood_named : (stock : Stock) (fs : List Writing) (name : Bytes)
-    → stood_for stock (named_files fs) name ≡ newest name (stood_for stock [] name) (named_files fs)
+    → content_of_name stock (named_files fs) name ≡ newest name (content_of_name stock [] name) (named_files fs)
 stood_named stock fs name = elim (cases_Bool (is_dash name)) [
   | inl dash ↦ rw dash (sym (no_dash name fs _ dash))
   | inr isnt ↦ stood_newest stock (named_files fs) name isnt
 ]
 
 stood_more : (stock : Stock) (made : List Writing) (f : Writing) (name : Bytes) → (f.name ≡ name → ⊥)
-    → stood_for stock (made ++ f ∷ []) name ≡ stood_for stock made name
+    → content_of_name stock (made ++ f ∷ []) name ≡ content_of_name stock made name
 stood_more stock made f name differs = elim (cases_Bool (is_dash name)) [
   | inl dash ↦ rw dash refl
   | inr isnt ↦ stood_newest stock (made ++ f ∷ []) name isnt
-      ∙ (newest_append name (stood_for stock [] name) made (f ∷ [])
+      ∙ (newest_append name (content_of_name stock [] name) made (f ∷ [])
       ∙ (other name f _ differs ∙ sym (stood_newest stock made name isnt)))
 ]
 
 -- ---- a save with status 0
 
-files_saved : (out : List ℕ) (old new : DeskState) (file bytes : Bytes) (ran : ℕ) → IsSaved out old new file bytes ran 0
+files_saved : (out : List ℕ) (old new : DeskState) (file bytes : Bytes) (ran : ℕ) → IsSavedIfSent out old new file bytes ran 0
     → (all_files new.kept ≡ all_files old.kept)
     ⊎ (all_files new.kept ≡ all_files old.kept ++ record { name = file; bytes = bytes } ∷ [])
 files_saved out old new file bytes ran saved = search (rules, files_replaced)
 
 pub stood_saved : (stock : Stock) (out : List ℕ) (old new : DeskState) (file bytes : Bytes) (ran : ℕ) (name : Bytes)
-    → (name ≡ file → ⊥) → IsSaved out old new file bytes ran 0
-    → stood_for stock (all_files new.kept) name ≡ stood_for stock (all_files old.kept) name
+    → (name ≡ file → ⊥) → IsSavedIfSent out old new file bytes ran 0
+    → content_of_name stock (all_files new.kept) name ≡ content_of_name stock (all_files old.kept) name
 stood_saved stock out old new file bytes ran name differs saved =
     elim (files_saved out old new file bytes ran saved) [
-      | inl same ↦ ap (λ (files : List Writing). stood_for stock files name) same
-      | inr more ↦ ap (λ (files : List Writing). stood_for stock files name) more
+      | inl same ↦ ap (λ (files : List Writing). content_of_name stock files name) same
+      | inr more ↦ ap (λ (files : List Writing). content_of_name stock files name) more
           ∙ stood_more stock (all_files old.kept) (record { name = file; bytes = bytes }) name
           (λ same. differs (sym same))
     ]

@@ -1,24 +1,24 @@
 -- A run over the emulator with status 0 leaves the images that the settings and files ask for in the chip file.
 use Rattle.std.proofs.Common.{◌≡◌, ◌∙◌, ap, subst, sym, refl, List, [], ◌++◌, false, rules}
 use Rattle.avr_cli.specs.declared.settings.Settings.{Settings}
-use Rattle.avr_desk.specs.Memory.{MemDeskState, Stock, memory_state, stood_for}
+use Rattle.avr_desk.specs.Memory.{MemDeskState, Stock, memory_state, content_of_name}
 use Rattle.avr_desk.specs.Named.{is_dash, newest}
-use Rattle.avr_desk.specs.Record.{Bytes, Passes, Record, all_files, nothing_kept}
-use Rattle.avr_desk.specs.Said.{OutputEvent, after_all}
-use Rattle.avr_desk.specs.Stage.{Made, Unread, StageAnswer, StageResult}
+use Rattle.avr_desk.specs.Record.{Bytes, ChangesRecord, Record, all_files, nothing_kept}
+use Rattle.avr_desk.specs.OutputEvents.{OutputEvent, after_events}
+use Rattle.avr_desk.specs.Stage.{Produced, NotReadToEnd, StageOutcome, StageResult}
 use Rattle.avr_desk.specs.Truth.{HoldsTrue}
 use Rattle.avr_desk.specs.declared.record.Writing.{Writing}
 use Rattle.avr_tool.specs.Emulated.{RunsOverEmulator}
 use Rattle.avr_tool.proofs.Plans.Items.{items_by_tasks}
-use Rattle.avr_tool.specs.AnyLine.{ComesOverTurns, events_over}
+use Rattle.avr_tool.specs.OverFaultyLink.{EndsOverExchanges, events_over}
 use Rattle.avr_tool.specs.Outcome.{IsExpectedRun}
 use Rattle.avr_part.specs.ChipFile.{chip_file}
 use Rattle.avr_laws.proofs.Plans.Given.{seen_asked}
-use Rattle.avr_laws.specs.AskedPlan.{Holding, IsAsked}
-use Rattle.avr_laws.specs.FilesRead.{AreSeen}
+use Rattle.avr_laws.specs.AskedPlan.{FileHolds, IsAsked}
+use Rattle.avr_laws.specs.FilesRead.{AreTrueOpenings}
 use Rattle.avr_plan.specs.Plan.{Plan}
 use Rattle.stk_emu.specs.Effect.{memories_of}
-use Rattle.stk_emu.specs.Wire.{turns_of}
+use Rattle.stk_emu.specs.Wire.{exchanges_of_fates}
 use Rattle.stk_host.specs.Dialog.{outputs}
 use Rattle.stk_host.specs.Transcript.{sent}
 use Rattle.avr_laws.proofs.ChipFile.Found.{chip_found, loaded_files, planned_true}
@@ -26,29 +26,29 @@ use Rattle.avr_laws.proofs.ChipFile.Others.{stood_named, stood_saved}
 use Rattle.avr_laws.proofs.Outcomes.Saved.{WritesFiles, expected_writes, these_saved}
 use Rattle.avr_laws.proofs.ChipFile.SecondRun.{chip_left}
 use Rattle.avr_laws.proofs.KnownFiles.RunsInMemory.{seen}
-use Rattle.avr_laws.specs.ChipFound.{IsChipOf, file_held}
-use Rattle.avr_laws.specs.Kept.{AreSaved, named_files, saved_files}
+use Rattle.avr_laws.specs.ChipFound.{IsChipInFile, contents_held}
+use Rattle.avr_laws.specs.Kept.{FilesAreSaved, named_files, saved_files}
 use Rattle.avr_laws.specs.Promise.{Promised}
 
 module _ (settings : Settings) (file : Bytes) (stock : Stock) (old new : MemDeskState) (no_dash : is_dash file ≡ false)
     (unused : old.kept ≡ nothing_kept) (holds : HoldsTrue stock new)
     (r : RunsOverEmulator settings file (memory_state old) (memory_state new) 0) where
-  asked : IsAsked settings (Holding (stood_for stock [])) r.plan
+  asked : IsAsked settings (FileHolds (content_of_name stock [])) r.plan
   asked =
-      let judged : ◌≡◌ {A = StageAnswer Plan} (Made r.plan) Unread → ⊥ = λ e. cc in
-      let says : AreSeen stock r.made.says =
-      seen settings stock (memory_state old) r.planned_desk (Made r.plan) unused
+      let judged : ◌≡◌ {A = StageOutcome Plan} (Produced r.plan) NotReadToEnd → ⊥ = λ e. cc in
+      let emits : AreTrueOpenings stock r.made.emits =
+      seen settings stock (memory_state old) r.planned_desk (Produced r.plan) unused
       (planned_true settings file stock old new 0 holds r) judged r.made in
       seen_asked stock settings (r.made.passed ++ []) r.plan
-      (subst (λ (p : StageResult Plan). AreSeen stock p.says) (sym (r.made.comes [])) says)
-      (ap (λ (p : StageResult Plan). p.answer) (r.made.comes []))
+      (subst (λ (p : StageResult Plan). AreTrueOpenings stock p.emits) (sym (r.made.comes [])) emits)
+      (ap (λ (p : StageResult Plan). p.stage_outcome) (r.made.comes []))
 
   zero : r.ran ≡ 0
   zero = search rules
 
-  came : ComesOverTurns r.plan (memories_of r.chip) (memories_of r.after.wire.programmer.chip) (turns_of [])
+  came : EndsOverExchanges r.plan (memories_of r.chip) (memories_of r.after.wire.programmer.chip) (exchanges_of_fates [])
       (outputs (events_over r.plan r.after)) r.ran
-      × Passes (after_all (outputs (events_over r.plan r.after))) r.loaded_desk r.played_desk
+      × ChangesRecord (after_events (outputs (events_over r.plan r.after))) r.loaded_desk r.played_desk
   came = search rules
 
   expected : IsExpectedRun r.plan (memories_of r.chip) (memories_of r.after.wire.programmer.chip)
@@ -58,9 +58,9 @@ module _ (settings : Settings) (file : Bytes) (stock : Stock) (old new : MemDesk
   abbrev files : List Writing
   files = saved_files r.plan (memories_of r.chip)
 
-  written : AreSaved files r.loaded_desk r.played_desk
+  written : FilesAreSaved files r.loaded_desk r.played_desk
   written = these_saved (outputs (events_over r.plan r.after)) files r.loaded_desk r.played_desk
-      (subst (λ (says : List OutputEvent). WritesFiles says files) (sym expected.said)
+      (subst (λ (emits : List OutputEvent). WritesFiles emits files) (sym expected.said)
       (expected_writes r.plan (memories_of r.chip) (sym expected.status_is ∙ zero))) came.1
 
   created : all_files r.played_desk.kept ≡ named_files files
@@ -68,19 +68,19 @@ module _ (settings : Settings) (file : Bytes) (stock : Stock) (old new : MemDesk
       (loaded_files settings file stock old new 0 holds r ∙ ap all_files unused)
 
   kept : (name : Bytes) → (name ≡ file → ⊥)
-      → file_held stock new.kept name ≡ newest name (stood_for stock [] name) (named_files files)
+      → contents_held stock new.kept name ≡ newest name (content_of_name stock [] name) (named_files files)
   kept name differs =
       stood_saved stock (sent r.after.transcript) r.played_desk (memory_state new) file
       (chip_file r.after.wire.programmer.chip) r.ran name differs r.saved
-      ∙ (ap (λ (made : List Writing). stood_for stock made name) created ∙ stood_named stock files name)
+      ∙ (ap (λ (made : List Writing). content_of_name stock made name) created ∙ stood_named stock files name)
 
-  pub promised : Promised settings file (stood_for stock []) (file_held stock new.kept)
+  pub promised : Promised settings file (content_of_name stock []) (contents_held stock new.kept)
   promised = record {
     plan = r.plan;
     asked = asked;
     chip = r.chip;
     left = r.after.wire.programmer.chip;
-    was = subst (λ (kept : Record). IsChipOf r.plan.part (file_held stock kept file) r.chip) unused
+    was = subst (λ (kept : Record). IsChipInFile r.plan.part (contents_held stock kept file) r.chip) unused
         (chip_found settings file stock old new 0 holds r);
     is = chip_left settings file stock old new 0 no_dash refl r;
     made = search (rules, items_by_tasks);

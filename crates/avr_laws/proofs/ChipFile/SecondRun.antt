@@ -1,6 +1,6 @@
 -- The same run again, over the chip file that the first one left.
 use Rattle.std.proofs.Common.{◌≡◌, ◌∙◌, ◌⊎◌, subst, sym, refl, inl, inr, arith, ℕ, ◌+◌, true, false, length, List, [], ◌∷◌, ◌++◌, take, Some, rules}
-use Rattle.ghosts.specs.Stays.{Stays}
+use Rattle.ghosts.specs.Preserves.{Preserves}
 use Rattle.avr_cli.specs.declared.settings.Settings.{Settings}
 use Rattle.avr_desk.proofs.FileUses.Names.{newest_append}
 use Rattle.avr_desk.proofs.FileUses.Uses.{files_replaced}
@@ -10,15 +10,15 @@ use Rattle.avr_desk.specs.Record.{Bytes, DeskState}
 use Rattle.avr_desk.specs.Truth.{HoldsTrue}
 use Rattle.avr_laws.proofs.SecondRun.EveryChip.{agrees_anyway}
 use Rattle.avr_laws.proofs.SecondRun.Status.{done_again}
-use Rattle.avr_laws.specs.Again.{AgreesAnyway, AreKeeping}
-use Rattle.avr_tool.specs.AnyLine.{Stopped, memories}
+use Rattle.avr_laws.specs.Again.{AgreesOnTwoChips, ItemsKeepEeprom}
+use Rattle.avr_tool.specs.OverFaultyLink.{SessionStopped, memories}
 use Rattle.avr_laws.specs.AnyLink.{OverAnyWire}
 use Rattle.avr_laws.proofs.AnyWire.{emulated_wire}
-use Rattle.avr_tool.specs.Emulated.{IsSaved, RunsOverEmulator, new_wire}
+use Rattle.avr_tool.specs.Emulated.{IsSavedIfSent, RunsOverEmulator, new_wire}
 use Rattle.avr_tool.specs.Items.{items, has_erase}
-use Rattle.avr_tool.specs.Outcome.{IsDone, IsTouched, page_writes}
-use Rattle.avr_tool.proofs.AnyLine.FirstSteps.{effects_sizes}
-use Rattle.avr_part.specs.ChipFile.{chip_file, state_in}
+use Rattle.avr_tool.specs.Outcome.{IsDone, HasFirstOperations, write_operations}
+use Rattle.avr_tool.proofs.OverFaultyLink.FirstSteps.{effects_sizes}
+use Rattle.avr_part.specs.ChipFile.{chip_file, state_from_file}
 use Rattle.avr_part.specs.Part.{Part, IsPart}
 use Rattle.avr_part.specs.State.{ChipState as Chip}
 use Rattle.avr_part.proofs.ChipFiles.{flash_part, eeprom_part, fuse_part}
@@ -31,16 +31,16 @@ use Rattle.stk_emu.specs.Settled.{FitsPart}
 use Rattle.stk_emu.specs.Wired.{WiredState, wired_link}
 use Rattle.stk_host.specs.Dialog.{bytes_sent, played}
 use Rattle.stk_host.specs.Operations.{handshake, opening}
-use Rattle.stk_host.specs.Steps.{attempt, exchange, tries}
+use Rattle.stk_host.specs.Steps.{attempt, exchange, attempts_or_fault}
 use Rattle.stk_host.specs.Transcript.{heard, sent}
 use Rattle.stk_host.specs.Tape.{Tape}
 use Rattle.avr_laws.proofs.ChipFile.Found.{chip_found}
-use Rattle.avr_laws.specs.ChipFound.{IsChipOf, file_held}
+use Rattle.avr_laws.specs.ChipFound.{IsChipInFile, contents_held}
 
 -- ---- the chip of a chip's own file has its memories
 
 same_memories : (part : Part) (s : Chip) → FitsPart part (memories_of s)
-    → memories_of (state_in part (chip_file s)) ≡ memories_of s
+    → memories_of (state_from_file part (chip_file s)) ≡ memories_of s
 same_memories part s fits =
     let fuses = s.lfuse ∷ s.hfuse ∷ s.efuse ∷ s.lock ∷ [] in
     let flash_size : length s.flash ≡ part.flash_size = fits.flash in
@@ -59,20 +59,20 @@ same_memories part s fits =
 module _ (file : Bytes) (stock : Stock) (no_dash : is_dash file ≡ false) where
   -- the chip's bytes, or the earlier ones
   saved_held : (out : List ℕ) (old new : DeskState) (bytes : Bytes) (ran status : ℕ)
-      → IsSaved out old new file bytes ran status
-      → (file_held stock new.kept file ≡ Some bytes) ⊎ (file_held stock new.kept file ≡ file_held stock old.kept file)
+      → IsSavedIfSent out old new file bytes ran status
+      → (contents_held stock new.kept file ≡ Some bytes) ⊎ (contents_held stock new.kept file ≡ contents_held stock old.kept file)
   saved_held out old new bytes ran status saved = search (rules, files_replaced, newest_append)
 
   -- with status 0 the chip's, because a session of status 0 has sent something
   zero_held : (out : List ℕ) (old new : DeskState) (bytes : Bytes) (ran : ℕ) → (out ≡ [] → ran ≡ 0 → ⊥)
-      → IsSaved out old new file bytes ran 0
-      → file_held stock new.kept file ≡ Some bytes
+      → IsSavedIfSent out old new file bytes ran 0
+      → contents_held stock new.kept file ≡ Some bytes
   zero_held out old new bytes ran some saved = search (rules, files_replaced, newest_append)
 
 -- a session that ran begins with a frame
 first_frame : (plan : Plan) (tape : Tape)
     → (rest : List ℕ) × (bytes_sent (played (session plan) 1 tape).events ≡ 27 ∷ rest)
-unfolding session opening handshake tries attempt exchange
+unfolding session opening handshake attempts_or_fault attempt exchange
 first_frame plan tape = (_, refl)
 
 pub no_silence : (plan : Plan) (chip : Chip) (after : WiredState) (d e : DeskState) (ran : ℕ)
@@ -86,7 +86,7 @@ no_silence plan chip after d e ran (inr (broke, one)) none zero = let e : 1 ≡ 
 pub chip_left : (settings : Settings) (file : Bytes) (stock : Stock) (old new : MemDeskState) (status : ℕ)
     → is_dash file ≡ false → status ≡ 0
     → (r : RunsOverEmulator settings file (memory_state old) (memory_state new) status)
-    → file_held stock new.kept file ≡ Some (chip_file r.after.wire.programmer.chip)
+    → contents_held stock new.kept file ≡ Some (chip_file r.after.wire.programmer.chip)
 chip_left settings file stock old new status no_dash zero r =
     zero_held file stock no_dash (sent r.after.transcript) r.played_desk (memory_state new)
     (chip_file r.after.wire.programmer.chip) r.ran
@@ -97,11 +97,11 @@ chip_left settings file stock old new status no_dash zero r =
 
 module _ (settings : Settings) (file : Bytes) (stock : Stock) (old mid new : MemDeskState) (status further : ℕ)
     (no_dash : is_dash file ≡ false)
-    (began : HoldsTrue stock old) (first_stays : Stays HoldsTrue old mid) (then_stays : Stays HoldsTrue mid new)
+    (began : HoldsTrue stock old) (first_stays : Preserves HoldsTrue old mid) (then_stays : Preserves HoldsTrue mid new)
     (one : RunsOverEmulator settings file (memory_state old) (memory_state mid) status)
     (two : RunsOverEmulator settings file (memory_state mid) (memory_state new) further)
-    (same_plan : two.plan ≡ one.plan) (own : file_held stock one.played_desk.kept file
-    ≡ file_held stock old.kept file) where
+    (same_plan : two.plan ≡ one.plan) (own : contents_held stock one.played_desk.kept file
+    ≡ contents_held stock old.kept file) where
   abbrev plan : Plan
   plan = one.plan
 
@@ -111,12 +111,12 @@ module _ (settings : Settings) (file : Bytes) (stock : Stock) (old mid new : Mem
   holds_mid : HoldsTrue stock mid
   holds_mid = first_stays stock began
 
-  first_chip : IsChipOf plan.part (file_held stock old.kept file) one.chip
+  first_chip : IsChipInFile plan.part (contents_held stock old.kept file) one.chip
   first_chip = chip_found settings file stock old mid status holds_mid one
 
-  second_chip : IsChipOf plan.part (file_held stock mid.kept file) two.chip
+  second_chip : IsChipInFile plan.part (contents_held stock mid.kept file) two.chip
   second_chip =
-      subst (λ (p : Plan). IsChipOf p.part (file_held stock mid.kept file) two.chip) same_plan
+      subst (λ (p : Plan). IsChipInFile p.part (contents_held stock mid.kept file) two.chip) same_plan
       (chip_found settings file stock mid new further (then_stays stock holds_mid) two)
 
   is_part : IsPart plan.part
@@ -126,11 +126,11 @@ module _ (settings : Settings) (file : Bytes) (stock : Stock) (old mid new : Mem
   fits = search rules
 
   left : FitsPart plan.part (memories one.after)
-  left = subst (FitsPart plan.part) (sym one.line.line.page_writes.memories)
-      (effects_sizes plan.part is_part (take one.line.line.page_writes.count (page_writes plan)) before fits)
+  left = subst (FitsPart plan.part) (sym one.line.line.write_operations.memories)
+      (effects_sizes plan.part is_part (take one.line.line.write_operations.count (write_operations plan)) before fits)
 
   -- the second run begins after some first write operations of the first one
-  touched : IsTouched plan before (memories_of two.chip)
+  touched : HasFirstOperations plan before (memories_of two.chip)
   touched = elim (saved_held file stock no_dash (sent one.after.transcript) one.played_desk (memory_state mid)
       (chip_file one.after.wire.programmer.chip) one.ran status one.saved) [
         | inl is ↦
@@ -147,11 +147,11 @@ module _ (settings : Settings) (file : Bytes) (stock : Stock) (old mid new : Mem
       subst (λ (p : Plan). OverAnyWire p (new_wire two.chip []) two.after two.loaded_desk two.played_desk two.ran) same_plan
       (emulated_wire two)
 
-  pub heals_file : has_erase (items plan) ≡ true → AgreesAnyway plan
-      → (erase_keeps_eeprom plan.part before ≡ true → AreKeeping plan.part (items plan))
+  pub repairs_file : has_erase (items plan) ≡ true → AgreesOnTwoChips plan
+      → (erase_keeps_eeprom plan.part before ≡ true → ItemsKeepEeprom plan.part (items plan))
       → ((two.ran ≡ 0) × IsDone plan before (memories two.after))
-      ⊎ Stopped plan (new_wire two.chip []) two.after two.loaded_desk two.played_desk
-  heals_file erases both kept = elim second.end [
+      ⊎ SessionStopped plan (new_wire two.chip []) two.after two.loaded_desk two.played_desk
+  repairs_file erases both kept = elim second.end [
     | inl came ↦
         let zero = came.0.again tt erases both in
         inl (

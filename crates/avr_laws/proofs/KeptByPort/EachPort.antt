@@ -16,7 +16,7 @@ use Rattle.stk_host.specs.Transcript.{LinkState}
 use Rattle.avr_laws.proofs.KeptByPort.InFile.{file_kept, no_one}
 use Rattle.avr_laws.proofs.Outcomes.Kept.{promised}
 use Rattle.avr_laws.specs.Kept.{IsKept}
-use Rattle.avr_laws.specs.KeptByPort.{IsKeptIn, KeepsAt, KeepsPlan, KeepsWords}
+use Rattle.avr_laws.specs.KeptByPort.{IsKeptInFile, KeepsPlanAt, KeepsPlan, KeepsCommandLine}
 
 -- ---- a connection
 
@@ -40,7 +40,7 @@ over_net peers s address old new (inr (inr (lacks, unused))) = absurd (no_one la
 -- ---- the emulator
 
 over_emulator : (s : Settings) (file : Bytes) (old new : DeskState) → RunsEmulator s file old new 0
-    → KeepsPlan s old new (λ plan. IsKeptIn file plan old new)
+    → KeepsPlan s old new (λ plan. IsKeptInFile file plan old new)
 over_emulator s file old new (inl r) = file_kept s file old new r
 over_emulator s file old new (inr (inl with)) = elim with.then_is [
   | inl unheld ↦ absurd (no_one unheld.0)
@@ -51,7 +51,7 @@ over_emulator s file old new (inr (inr lacks)) = absurd (no_one lacks.goes.0)
 -- ---- each port
 
 at_port : (peers : Peers) (port : Port) (s : Settings) (old new : Devices) → old.link.transcript ≡ []
-    → ActsAtPort peers port s old new 0 → KeepsAt peers.at_address port s old new
+    → ActsAtPort peers port s old new 0 → KeepsPlanAt peers.at_address port s old new
 at_port peers Stdio s old new silent acts = promised s old new 0 acts.0 refl silent
 at_port peers (Emulated file) s old new silent acts = over_emulator s file old.desk new.desk acts.0
 at_port peers (Network address) s old new silent acts = over_net peers s address old.desk new.desk acts.0
@@ -61,7 +61,7 @@ at_port peers (Served port file) s old new silent acts = tt
 
 pub words_kept : {C : Type 0} (line : CommandLine C) (peers : Peers) (old new : Devices) (status : ℕ)
     → StartsProgram line peers old new status → status ≡ 0 → old.link.transcript ≡ []
-    → KeepsWords line.is_words peers.at_address old new
+    → KeepsCommandLine line.is_words peers.at_address old new
 words_kept line peers old new status (inl (words, are, inl (inl took))) zero silent = (
   words,
   are,

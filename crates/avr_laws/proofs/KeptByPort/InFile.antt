@@ -5,9 +5,9 @@ use Rattle.std.proofs.lemmas.Bool.Decides.{nat_tests}
 use Rattle.avr_cli.specs.declared.settings.Settings.{Settings}
 use Rattle.avr_desk.proofs.FileUses.Uses.{openings_append}
 use Rattle.avr_desk.proofs.Stages.Breaks.{openings_in, openings_shown}
-use Rattle.avr_desk.specs.Record.{Bytes, DeskState, Passes, Record, all_files, all_openings, with_replaced}
-use Rattle.avr_desk.specs.Said.{OutputEvent, Opens, after_all}
-use Rattle.avr_desk.specs.Stage.{Made, StageResult, next_opening}
+use Rattle.avr_desk.specs.Record.{Bytes, DeskState, ChangesRecord, Record, all_files, all_openings, with_replaced}
+use Rattle.avr_desk.specs.OutputEvents.{OutputEvent, Opens, after_events}
+use Rattle.avr_desk.specs.Stage.{Produced, StageResult, next_opening}
 use Rattle.avr_desk.specs.declared.record.Opening.{Opening}
 use Rattle.avr_desk.specs.declared.record.Opening.TheVariants.{Absent, Found}
 use Rattle.avr_desk.specs.declared.record.Writing.{Writing}
@@ -15,16 +15,16 @@ use Rattle.avr_part.specs.ChipFile.{chip_file}
 use Rattle.avr_part.specs.Part.{Part}
 use Rattle.avr_part.specs.State.{ChipState as Chip}
 use Rattle.avr_plan.specs.Plan.{Plan}
-use Rattle.avr_tool.specs.AnyLine.{ComesOverTurns, events_over}
-use Rattle.avr_tool.specs.Emulated.{IsSaved, RunsOverEmulator, new_wire}
+use Rattle.avr_tool.specs.OverFaultyLink.{EndsOverExchanges, events_over}
+use Rattle.avr_tool.specs.Emulated.{IsSavedIfSent, RunsOverEmulator, new_wire}
 use Rattle.avr_tool.specs.Loading.{chip_stage}
 use Rattle.avr_tool.specs.Outcome.{IsExpectedRun}
 use Rattle.stk_emu.specs.Device.{device}
 use Rattle.stk_emu.specs.Effect.{Memories, memories_of}
 use Rattle.stk_emu.specs.Programmer.{Programmer, fresh_programmer}
-use Rattle.stk_emu.specs.Turn.{Turn, other_turns}
-use Rattle.stk_emu.specs.Wire.{turns_of}
-use Rattle.stk_host.specs.Dialog.{Event, Frame, Said, outputs}
+use Rattle.stk_emu.specs.Exchange.{Exchange, later_exchanges}
+use Rattle.stk_emu.specs.Wire.{exchanges_of_fates}
+use Rattle.stk_host.specs.Dialog.{Event, Frame, Emitted, outputs}
 use Rattle.stk_host.specs.Transcript.{sent}
 use Rattle.avr_laws.proofs.AnyWire.{came_to, emulated_wire}
 use Rattle.avr_laws.proofs.ChipFile.Found.{found, found_kept}
@@ -32,12 +32,12 @@ use Rattle.avr_laws.proofs.ChipFile.SecondRun.{no_silence}
 use Rattle.avr_laws.proofs.Outcomes.Saved.{WritesFiles, expected_writes, reading_writes, these_saved}
 use Rattle.avr_laws.proofs.Plans.Given.{later_asked, went_asked}
 use Rattle.avr_laws.proofs.Plans.OnlyReading.{only_reads}
-use Rattle.avr_laws.specs.ChipFound.{IsChipOf}
+use Rattle.avr_laws.specs.ChipFound.{IsChipInFile}
 use Rattle.avr_laws.specs.FilesRead.{read_whole}
-use Rattle.avr_laws.specs.Kept.{AreSaved, named_files, put_out, saved_files}
-use Rattle.avr_laws.specs.KeptByPort.{IsKeptIn, KeepsPlan}
+use Rattle.avr_laws.specs.Kept.{FilesAreSaved, named_files, dash_output, saved_files}
+use Rattle.avr_laws.specs.KeptByPort.{IsKeptInFile, KeepsPlan}
 use Rattle.avr_laws.specs.OnlyReading.{OnlyReads}
-use Rattle.avr_laws.specs.Told.{IsTrue, SaidTrue, SignatureRead, ChipErased, EraseLeftOut, BytesWritten, WriteLeftOut, BytesVerified, Differed, BytesSaved, BytesRead, StepFailed, SessionDone}
+use Rattle.avr_laws.specs.TrueReports.{IsTrueReport, EmittedTrue, SignatureRead, ChipErased, EraseLeftOut, BytesWritten, WriteLeftOut, BytesVerified, Differed, BytesSaved, BytesRead, StepFailed, SessionDone}
 
 pub no_one : ◌≡◌ {A = ℕ} 0 1 → ⊥
 no_one e = cc
@@ -45,8 +45,8 @@ no_one e = cc
 -- ---- the chip that an opening gives
 
 gave_chip : (part : Part) (file : Bytes) (openings : List Opening) (chip : Chip)
-    → (chip_stage part file openings).answer ≡ Made chip
-    → (found : Option Bytes) × ((next_opening file openings ≡ read_whole file found) × IsChipOf part found chip)
+    → (chip_stage part file openings).stage_outcome ≡ Produced chip
+    → (found : Option Bytes) × ((next_opening file openings ≡ read_whole file found) × IsChipInFile part found chip)
 gave_chip part file [] chip made = (None, (refl, (search rules)))
 gave_chip part file (Absent name ∷ openings) chip made = (None, (refl, (search rules)))
 gave_chip part file (Found reading ∷ openings) chip made =
@@ -54,16 +54,16 @@ gave_chip part file (Found reading ∷ openings) chip made =
 
 -- ---- reading changes no file
 
-quiet : (says : List OutputEvent) → OnlyReads says → (k : Record)
-    → (all_files (after_all says k) ≡ all_files k) × ((after_all says k).output ≡ k.output)
-quiet says reads k =
-    let writes : WritesFiles says [] = reading_writes says reads in
+quiet : (emits : List OutputEvent) → OnlyReads emits → (k : Record)
+    → (all_files (after_events emits k) ≡ all_files k) × ((after_events emits k).output ≡ k.output)
+quiet emits reads k =
+    let writes : WritesFiles emits [] = reading_writes emits reads in
     (writes.created k ∙ append-nil (all_files k), writes.output k ∙ append-nil k.output)
 
 -- ---- a session opens no file
 
 module _ (plan : Plan) (before : Memories) where
-  not_opened : (now : Memories) (output : OutputEvent) (later : List OutputEvent) → IsTrue plan before now output
+  not_opened : (now : Memories) (output : OutputEvent) (later : List OutputEvent) → IsTrueReport plan before now output
       → openings_in (output ∷ later) ≡ openings_in later
   not_opened now output later (SignatureRead e) = ap (λ o. openings_in (o ∷ later)) e
   not_opened now output later (ChipErased has e after) = ap (λ o. openings_in (o ∷ later)) e
@@ -79,13 +79,13 @@ module _ (plan : Plan) (before : Memories) where
   not_opened now output later (StepFailed fault e) = ap (λ o. openings_in (o ∷ later)) e
   not_opened now output later (SessionDone e) = ap (λ o. openings_in (o ∷ later)) e
 
-  none_opened : (events : List (Event OutputEvent)) (turns : List Turn) (p : Programmer)
-      → SaidTrue device (λ q output. IsTrue plan before (memories_of q.chip) output) events turns p
+  none_opened : (events : List (Event OutputEvent)) (exchanges : List Exchange) (p : Programmer)
+      → EmittedTrue device (λ q output. IsTrueReport plan before (memories_of q.chip) output) events exchanges p
       → openings_in (outputs events) ≡ []
-  none_opened [] turns p were = refl
-  none_opened (Frame bytes ∷ events) turns p were = none_opened events (other_turns turns) _ were
-  none_opened (Said output ∷ events) turns p were =
-      not_opened (memories_of p.chip) output (outputs events) were.0 ∙ none_opened events turns p were.1
+  none_opened [] exchanges p were = refl
+  none_opened (Frame bytes ∷ events) exchanges p were = none_opened events (later_exchanges exchanges) _ were
+  none_opened (Emitted output ∷ events) exchanges p were =
+      not_opened (memories_of p.chip) output (outputs events) were.0 ∙ none_opened events exchanges p were.1
 
 openings_replaced : (name bytes : Bytes) (r : Record) → all_openings (with_replaced name bytes r) ≡ all_openings r
 openings_replaced name bytes r = grind (arith, nat_tests, append-nil, openings_append)
@@ -93,7 +93,7 @@ openings_replaced name bytes r = grind (arith, nat_tests, append-nil, openings_a
 -- ---- with status 0 the chip is saved
 
 saved_so : (out : List ℕ) (old new : DeskState) (file bytes : Bytes) (ran : ℕ) → (out ≡ [] → ran ≡ 0 → ⊥)
-    → IsSaved out old new file bytes ran 0 → Passes (with_replaced file bytes) old new
+    → IsSavedIfSent out old new file bytes ran 0 → ChangesRecord (with_replaced file bytes) old new
 saved_so [] old new file bytes ran some saved = absurd (some refl (sym saved.1))
 saved_so (byte ∷ out) old new file bytes ran some (inl saved) = saved.0.0
 saved_so (byte ∷ out) old new file bytes ran some (inr failed) = absurd (no_one failed.2)
@@ -114,14 +114,14 @@ module _ (settings : Settings) (file : Bytes) (old new : DeskState) (r : RunsOve
   zero : r.ran ≡ 0
   zero = search rules
 
-  came : ComesOverTurns r.plan before (memories_of left) (turns_of []) said r.ran
-      × Passes (after_all said) r.loaded_desk r.played_desk
+  came : EndsOverExchanges r.plan before (memories_of left) (exchanges_of_fates []) said r.ran
+      × ChangesRecord (after_events said) r.loaded_desk r.played_desk
   came = came_to r.plan (new_wire r.chip []) r.after r.loaded_desk r.played_desk r.ran r.line zero
 
   expected : IsExpectedRun r.plan before (memories_of left) said r.ran
   expected = came.0.success zero
 
-  replaced : Passes (with_replaced file (chip_file left)) r.played_desk new
+  replaced : ChangesRecord (with_replaced file (chip_file left)) r.played_desk new
   replaced = saved_so (sent r.after.transcript) r.played_desk new file (chip_file left) r.ran
       (no_silence r.plan r.chip r.after r.loaded_desk r.played_desk r.ran r.runs) r.saved
 
@@ -130,16 +130,16 @@ module _ (settings : Settings) (file : Bytes) (old new : DeskState) (r : RunsOve
   abbrev opening : Opening
   opening = found r.plan.part file r.loaded.held_desk r.loaded_desk r.chip r.loaded.loaded
 
-  gave : (found : Option Bytes) × ((opening ≡ read_whole file found) × IsChipOf r.plan.part found r.chip)
+  gave : (found : Option Bytes) × ((opening ≡ read_whole file found) × IsChipInFile r.plan.part found r.chip)
   gave = gave_chip r.plan.part file (r.loaded.loaded.passed ++ []) r.chip
-      (ap (λ (p : StageResult Chip). p.answer) (r.loaded.loaded.comes []))
+      (ap (λ (p : StageResult Chip). p.stage_outcome) (r.loaded.loaded.comes []))
 
-  loads : r.loaded_desk.kept ≡ after_all (Opens opening ∷ []) r.loaded.held_desk.kept
+  loads : r.loaded_desk.kept ≡ after_events (Opens opening ∷ []) r.loaded.held_desk.kept
   loads = found_kept r.plan.part file r.loaded.held_desk r.loaded_desk r.chip r.loaded.loaded
 
   none : openings_in said ≡ []
-  none = none_opened r.plan before (events_over r.plan r.after) (turns_of []) (fresh_programmer r.chip)
-      (emulated_wire r).line.believable
+  none = none_opened r.plan before (events_over r.plan r.after) (exchanges_of_fates []) (fresh_programmer r.chip)
+      (emulated_wire r).line.reports_are_true
 
   opened : all_openings new.kept ≡ all_openings r.planned_desk.kept ++ read_whole file gave.0 ∷ []
   opened =
@@ -156,12 +156,12 @@ module _ (settings : Settings) (file : Bytes) (old new : DeskState) (r : RunsOve
 
   -- ---- the files that memories were read into
 
-  planned_read : OnlyReads r.made.says
+  planned_read : OnlyReads r.made.emits
   planned_read = search (rules, only_reads settings (r.made.passed ++ []))
 
   begun : (all_files r.loaded_desk.kept ≡ all_files old.kept) × (r.loaded_desk.kept.output ≡ old.kept.output)
   begun =
-      let first = quiet r.made.says planned_read old.kept in
+      let first = quiet r.made.emits planned_read old.kept in
       let second = quiet (Opens opening ∷ []) tt r.loaded.held_desk.kept in (
         ap all_files loads ∙ (second.0 ∙ (ap all_files r.loaded.held.0 ∙ (ap all_files r.made.kept ∙ first.0))),
         ap (λ (k : Record). k.output) loads
@@ -169,20 +169,20 @@ module _ (settings : Settings) (file : Bytes) (old new : DeskState) (r : RunsOve
             ∙ (ap (λ (k : Record). k.output) r.loaded.held.0 ∙ (ap (λ (k : Record). k.output) r.made.kept ∙ first.1))),
       )
 
-  session_saved : AreSaved files r.loaded_desk r.played_desk
+  session_saved : FilesAreSaved files r.loaded_desk r.played_desk
   session_saved = these_saved said files r.loaded_desk r.played_desk
-      (subst (λ (says : List OutputEvent). WritesFiles says files) (sym expected.said)
+      (subst (λ (emits : List OutputEvent). WritesFiles emits files) (sym expected.said)
       (expected_writes r.plan before (sym expected.status_is ∙ zero))) came.1
 
-  saved : AreSaved files old r.played_desk
+  saved : FilesAreSaved files old r.played_desk
   saved = record {
     created = session_saved.created ∙ ap (λ (first : List Writing). first ++ named_files files) begun.0;
-    output = session_saved.output ∙ ap (λ (bytes : Bytes). bytes ++ put_out files) begun.1;
+    output = session_saved.output ∙ ap (λ (bytes : Bytes). bytes ++ dash_output files) begun.1;
   }
 
   -- ---- so the plan was kept
 
-  pub file_kept : KeepsPlan settings old new (λ plan. IsKeptIn file plan old new)
+  pub file_kept : KeepsPlan settings old new (λ plan. IsKeptInFile file plan old new)
   file_kept = (
     r.plan,
     (

@@ -2,16 +2,16 @@
 use Rattle.std.proofs.lemmas.Grind.{common_steps}
 use Rattle.std.proofs.Common.{◌≡◌, ◌∙◌, ◌⊎◌, ap, subst, sym, refl, inl, inr, ℕ, Bool, List, [], ◌∷◌, ◌++◌, append_assoc, append-nil, map, rules, arith}
 use Rattle.avr_desk.specs.Record.{Bytes, DeskState, Record, all_uses, files_among, use_of, with_absent}
-use Rattle.avr_desk.specs.Said.{OutputEvent, Opens, Line, Creates, after, after_all, after_opening}
+use Rattle.avr_desk.specs.OutputEvents.{OutputEvent, Opens, PrintsLine, CreatesFile, after, after_events, after_opening}
 use Rattle.avr_desk.specs.declared.record.FileUse.{FileUse}
 use Rattle.avr_desk.specs.declared.record.FileUse.TheVariants.{Opened}
 use Rattle.avr_desk.specs.declared.record.Opening.{Opening}
 use Rattle.avr_desk.specs.declared.record.Opening.TheVariants.{Absent, Found}
 use Rattle.avr_desk.specs.declared.record.Open.TheVariants.{ToRead}
 use Rattle.avr_desk.specs.declared.record.Reading.{Reading}
-use Rattle.avr_tool.specs.Emulated.{IsSaved}
+use Rattle.avr_tool.specs.Emulated.{IsSavedIfSent}
 use Rattle.avr_laws.specs.OnlyReading.{OnlyReads}
-use Rattle.avr_session.specs.Runs.{RunsTo, Devices, Lacking}
+use Rattle.avr_session.specs.Runs.{RunsWholeOrStops, Devices, MayAllocate}
 use Rattle.stk_host.specs.Dialog.{Dialog, outputs}
 
 -- These are the first uses at a desk. The file that it is reading may be the last of them; the file that it is writing
@@ -33,14 +33,14 @@ past_on : (uses : List FileUse) (output : OutputEvent) (r : Record) → ArePast 
 past_on uses (Opens (Absent name)) r past = put_by uses (Opened (Absent name) ∷ []) r (with_absent name r) past refl
 past_on uses (Opens (Found x)) r past = put_by uses [] r (after (Opens (Found x)) r) past
     (sym (append-nil (all_uses r)))
-past_on uses (Line bytes) r past = past
-past_on uses (Creates name) r past = put_by uses [] r (after (Creates name) r) past (sym (append-nil (all_uses r)))
+past_on uses (PrintsLine bytes) r past = past
+past_on uses (CreatesFile name) r past = put_by uses [] r (after (CreatesFile name) r) past (sym (append-nil (all_uses r)))
 past_on uses output r past = search rules
 
-pub past_all : (uses : List FileUse) (says : List OutputEvent) (r : Record) → ArePast uses r
-    → ArePast uses (after_all says r)
+pub past_all : (uses : List FileUse) (emits : List OutputEvent) (r : Record) → ArePast uses r
+    → ArePast uses (after_events emits r)
 past_all uses [] r past = past
-past_all uses (output ∷ says) r past = past_all uses says (after output r) (past_on uses output r past)
+past_all uses (output ∷ emits) r past = past_all uses emits (after output r) (past_on uses output r past)
 
 -- ---- reading and reporting alone
 
@@ -51,19 +51,19 @@ pub none_made : (openings : List Opening) → files_among (opened openings) ≡ 
 none_made [] = refl
 none_made (opening ∷ openings) = none_made openings
 
-pub only_opened : (says : List OutputEvent) (r : Record) → OnlyReads says
-    → (openings : List Opening) × (all_uses (after_all says r) ≡ all_uses r ++ opened openings)
+pub only_opened : (emits : List OutputEvent) (r : Record) → OnlyReads emits
+    → (openings : List Opening) × (all_uses (after_events emits r) ≡ all_uses r ++ opened openings)
 only_opened [] r reads = ([], sym (append-nil (all_uses r)))
-only_opened (Opens (Absent name) ∷ says) r reads =
-    let later = only_opened says (with_absent name r) reads in (
+only_opened (Opens (Absent name) ∷ emits) r reads =
+    let later = only_opened emits (with_absent name r) reads in (
       Absent name ∷ later.0,
       (search (rules, append_assoc)),
     )
-only_opened (Opens (Found x) ∷ says) r reads =
-    let later = only_opened says (after (Opens (Found x)) r) reads in
+only_opened (Opens (Found x) ∷ emits) r reads =
+    let later = only_opened emits (after (Opens (Found x)) r) reads in
     (Found x ∷ later.0, (search (rules, append_assoc)))
-only_opened (Line bytes ∷ says) r reads = only_opened says (after (Line bytes) r) reads
-only_opened (output ∷ says) r reads = absurd reads
+only_opened (PrintsLine bytes ∷ emits) r reads = only_opened emits (after (PrintsLine bytes) r) reads
+only_opened (output ∷ emits) r reads = absurd reads
 
 -- ---- what a session and a save do
 
@@ -73,15 +73,15 @@ opened_past (Absent name) r = inl ([], sym (append-nil (all_uses r ++ Opened (Ab
 opened_past (Found x) r = inr (x, refl, refl)
 
 pub run_past : (uses : List FileUse) (dialog : Dialog OutputEvent ℕ) (old new : Devices) (takes : Bool)
-    (Lacks : Lacking)
+    (Lacks : MayAllocate)
     (status : ℕ)
-    → RunsTo dialog old new takes Lacks status → ArePast uses old.desk.kept → ArePast uses new.desk.kept
+    → RunsWholeOrStops dialog old new takes Lacks status → ArePast uses old.desk.kept → ArePast uses new.desk.kept
 run_past uses dialog old new takes Lacks status (inl (place, ran)) past =
     subst (ArePast uses) (sym ran.kept) (past_all uses (outputs ran.events) old.desk.kept past)
 run_past uses dialog old new takes Lacks status (inr (broke, one)) past =
     subst (ArePast uses) (sym broke.kept) (search (rules, past_all))
 
 pub saved_past : (uses : List FileUse) (sent : List ℕ) (old new : DeskState) (file bytes : Bytes) (ran status : ℕ)
-    → IsSaved sent old new file bytes ran status
+    → IsSavedIfSent sent old new file bytes ran status
     → ArePast uses old.kept → ArePast uses new.kept
 saved_past uses sent old new file bytes ran status saved past = grind (arith, common_steps)

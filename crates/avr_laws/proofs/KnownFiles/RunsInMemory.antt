@@ -1,38 +1,38 @@
 -- A run over a desk in memory and a tape is the function of its files and that tape.
 use Rattle.std.proofs.Common.{◌≡◌, ◌∙◌, ◌⊎◌, inl, inr, ℕ, sym, ap, subst, refl, List, [], ◌∷◌, ◌++◌, append_assoc, append-nil, map, Option, rules}
 use Rattle.std.proofs.lemmas.List.{map-append}
-use Rattle.ghosts.specs.Stays.{Stays}
+use Rattle.ghosts.specs.Preserves.{Preserves}
 use Rattle.avr_cli.specs.declared.settings.Settings.{Settings}
 use Rattle.avr_desk.proofs.Stages.Breaks.{openings_in, openings_shown}
 use Rattle.avr_desk.proofs.Stages.Outputs.{after_append}
 use Rattle.avr_desk.proofs.Desks.InMemory.{all_true, begins_true}
 use Rattle.avr_desk.proofs.FileUses.Uses.{absent_used, files_used, openings_used}
 use Rattle.avr_desk.specs.Memory.{MemDeskState, Stock, memory_state, stock_of}
-use Rattle.avr_desk.specs.Playing.{Went, WentRefused}
+use Rattle.avr_desk.specs.Playing.{StageCompleted, StageRefused}
 use Rattle.avr_desk.specs.Record.{Bytes, DeskState, Record, all_files, all_openings, all_uses, file_of, files_among, nothing_kept, openings_among}
-use Rattle.avr_desk.specs.Said.{OutputEvent, Opens, Line, Creates, Writes, Outs, after, after_all}
-use Rattle.avr_desk.specs.Stage.{StageAnswer, Made, Refused, Unread, StageResult, all_told, told_in}
-use Rattle.avr_desk.specs.Truth.{AreTrue, HoldsTrue, IsTrueOpening}
+use Rattle.avr_desk.specs.OutputEvents.{OutputEvent, Opens, PrintsLine, CreatesFile, WritesFile, WritesOutput, after, after_events}
+use Rattle.avr_desk.specs.Stage.{StageOutcome, Produced, Refused, NotReadToEnd, StageResult, events_with_refusal, all_events_of}
+use Rattle.avr_desk.specs.Truth.{OpeningsAreTrue, HoldsTrue, IsTrueOpening}
 use Rattle.avr_desk.specs.declared.record.FileUse.{FileUse}
 use Rattle.avr_desk.specs.declared.record.FileUse.TheVariants.{Opened, Created}
 use Rattle.avr_desk.specs.declared.record.Opening.{Opening}
 use Rattle.avr_desk.specs.declared.record.Writing.{Writing}
 use Rattle.avr_laws.proofs.Plans.FilesRead.{seen_first, seen_is_planned}
 use Rattle.avr_laws.proofs.Plans.OnlyReading.{only_reads}
-use Rattle.avr_laws.specs.FilesRead.{AreSeen, lines_in, planned_of}
+use Rattle.avr_laws.specs.FilesRead.{AreTrueOpenings, lines_in, planned_from_files}
 use Rattle.avr_laws.specs.OnlyReading.{OnlyReads}
 use Rattle.avr_plan.specs.Plan.{Plan}
 use Rattle.avr_plan.specs.Planning.{planned}
 use Rattle.avr_session.specs.Run.{RunsSettings}
 use Rattle.avr_session.specs.Runs.{devices}
 use Rattle.avr_session.specs.Session.{session}
-use Rattle.avr_session.specs.Stopping.{IsPlayed}
-use Rattle.stk_host.specs.Dialog.{Event, Said, bytes_sent, outputs}
-use Rattle.stk_host.specs.Links.{IsOfTape, IsTrueSince, StreamState, TapeState, stream_state, tape_state}
+use Rattle.avr_session.specs.Stopping.{RanToStatus}
+use Rattle.stk_host.specs.Dialog.{Event, Emitted, bytes_sent, outputs}
+use Rattle.stk_host.specs.Links.{ConsumesTape, IsTrueSince, StreamState, TapeState, stream_state, tape_state}
 use Rattle.stk_host.specs.Transcript.{LinkState, Transcript, heard, sent}
 use Rattle.avr_tool.proofs.Runs.Joined.{said_outputs, said_bytes}
 use Rattle.avr_tool.specs.Headline.{IsStopped}
-use Rattle.avr_laws.specs.InMemory.{RunOutcome, shown_by, AreUnused, IsLeft, Leaves, LeavesStreams}
+use Rattle.avr_laws.specs.InMemory.{RunOutcome, outcome_shown, AreUnused, RunLeaves, LeavesOutcome, LeavesOverStreams}
 
 -- ---- the files were seen as they were before the run
 
@@ -42,17 +42,17 @@ AreOpened stock [] = Unit {0}
 AreOpened stock (opening ∷ openings) = IsTrueOpening stock [] opening × AreOpened stock openings
 
 -- the openings among these uses, if no file was made
-opened_uses : (stock : Stock) (uses : List FileUse) → files_among uses ≡ [] → AreTrue stock [] uses
+opened_uses : (stock : Stock) (uses : List FileUse) → files_among uses ≡ [] → OpeningsAreTrue stock [] uses
     → AreOpened stock (openings_among uses)
 opened_uses stock [] none are = tt
 opened_uses stock (Opened opening ∷ uses) none are = (are.0, opened_uses stock uses none are.1)
 opened_uses stock (Created file ∷ uses) none are = absurd (cc)
 
 -- the openings among these output events
-seen_outputs : (stock : Stock) (says : List OutputEvent) → AreOpened stock (openings_in says) → AreSeen stock says
+seen_outputs : (stock : Stock) (emits : List OutputEvent) → AreOpened stock (openings_in emits) → AreTrueOpenings stock emits
 seen_outputs stock [] are = tt
-seen_outputs stock (Opens opening ∷ says) are = (are.0, seen_outputs stock says are.1)
-seen_outputs stock (output ∷ says) are = seen_outputs stock says are
+seen_outputs stock (Opens opening ∷ emits) are = (are.0, seen_outputs stock emits are.1)
+seen_outputs stock (output ∷ emits) are = seen_outputs stock emits are
 
 -- ---- what is left, apart from openings
 
@@ -74,21 +74,21 @@ with_bytes bytes file = record file { bytes = file.bytes ++ bytes }
 
 abbrev left_after : OutputEvent → Left → Left
 left_after (Opens opening) v = record v { files = all_left v; file = [] }
-left_after (Line bytes) v = record v { messages = v.messages ++ bytes }
-left_after (Creates name) v = record v { files = all_left v; file = record { name = name; bytes = [] } ∷ [] }
-left_after (Writes bytes) v = record v { file = map (with_bytes bytes) v.file }
-left_after (Outs bytes) v = record v { output = v.output ++ bytes }
+left_after (PrintsLine bytes) v = record v { messages = v.messages ++ bytes }
+left_after (CreatesFile name) v = record v { files = all_left v; file = record { name = name; bytes = [] } ∷ [] }
+left_after (WritesFile bytes) v = record v { file = map (with_bytes bytes) v.file }
+left_after (WritesOutput bytes) v = record v { output = v.output ++ bytes }
 
 abbrev left_after_all : List OutputEvent → Left → Left
 left_after_all [] v = v
-left_after_all (output ∷ says) v = left_after_all says (left_after output v)
+left_after_all (output ∷ emits) v = left_after_all emits (left_after output v)
 
 left_on : (output : OutputEvent) (r : Record) → left_in (after output r) ≡ left_after output (left_in r)
 left_on output r = search (rules, absent_used, files_used)
 
-left_all : (says : List OutputEvent) (r : Record) → left_in (after_all says r) ≡ left_after_all says (left_in r)
+left_all : (emits : List OutputEvent) (r : Record) → left_in (after_events emits r) ≡ left_after_all emits (left_in r)
 left_all [] r = refl
-left_all (output ∷ says) r = left_all says (after output r) ∙ ap (left_after_all says) (left_on output r)
+left_all (output ∷ emits) r = left_all emits (after output r) ∙ ap (left_after_all emits) (left_on output r)
 
 -- reading and reporting make no file
 abbrev joined : List Bytes → Bytes
@@ -98,41 +98,41 @@ joined (line ∷ lines) = line ++ joined lines
 abbrev told_left : Bytes → Bytes → Left
 told_left messages output = record { messages = messages; output = output; files = []; file = [] }
 
-only_told : (says : List OutputEvent) (messages output : Bytes) → OnlyReads says
-    → left_after_all says (told_left messages output) ≡ told_left (messages ++ joined (lines_in says)) output
+only_told : (emits : List OutputEvent) (messages output : Bytes) → OnlyReads emits
+    → left_after_all emits (told_left messages output) ≡ told_left (messages ++ joined (lines_in emits)) output
 only_told [] messages output reads = ap (λ (m : Bytes). told_left m output) (sym (append-nil messages))
-only_told (Opens opening ∷ says) messages output reads = only_told says messages output reads
-only_told (Line bytes ∷ says) messages output reads = only_told says (messages ++ bytes) output reads
-    ∙ ap (λ (m : Bytes). told_left m output) (append_assoc messages bytes (joined (lines_in says)))
-only_told (event ∷ says) messages output reads = absurd reads
+only_told (Opens opening ∷ emits) messages output reads = only_told emits messages output reads
+only_told (PrintsLine bytes ∷ emits) messages output reads = only_told emits (messages ++ bytes) output reads
+    ∙ ap (λ (m : Bytes). told_left m output) (append_assoc messages bytes (joined (lines_in emits)))
+only_told (event ∷ emits) messages output reads = absurd reads
 
 -- so what planning leaves is the lines that it prints
-planning_left : (says : List OutputEvent) → OnlyReads says
-    → left_in (after_all says nothing_kept) ≡ told_left (joined (lines_in says)) []
-planning_left says reads = left_all says nothing_kept ∙ only_told says [] [] reads
+planning_left : (emits : List OutputEvent) → OnlyReads emits
+    → left_in (after_events emits nothing_kept) ≡ told_left (joined (lines_in emits)) []
+planning_left emits reads = left_all emits nothing_kept ∙ only_told emits [] [] reads
 
 -- ---- planning
 
 -- so were the openings before a refusal
-seen_before : (stock : Stock) (says : List OutputEvent) (answer : StageAnswer Plan)
-    → AreSeen stock (all_told says answer)
-    → AreSeen stock says
-seen_before stock says answer seen = search (rules, seen_first)
+seen_before : (stock : Stock) (emits : List OutputEvent) (stage_outcome : StageOutcome Plan)
+    → AreTrueOpenings stock (events_with_refusal emits stage_outcome)
+    → AreTrueOpenings stock emits
+seen_before stock emits stage_outcome seen = search (rules, seen_first)
 
-module _ (settings : Settings) (stock : Stock) (old m : DeskState) (answer : StageAnswer Plan)
-    (unused : old.kept ≡ nothing_kept) (are : AreTrue stock [] (all_uses m.kept))
-    (judged : answer ≡ Unread → ⊥) (went : Went (planned settings) old m answer) where
-  planned_is : planned settings (went.passed ++ []) ≡ record { says = went.says; answer = answer; left = [] }
+module _ (settings : Settings) (stock : Stock) (old m : DeskState) (stage_outcome : StageOutcome Plan)
+    (unused : old.kept ≡ nothing_kept) (are : OpeningsAreTrue stock [] (all_uses m.kept))
+    (judged : stage_outcome ≡ NotReadToEnd → ⊥) (went : StageCompleted (planned settings) old m stage_outcome) where
+  planned_is : planned settings (went.passed ++ []) ≡ record { emits = went.emits; stage_outcome = stage_outcome; openings_left = [] }
   planned_is = went.comes []
 
   abbrev told : List OutputEvent
-  told = all_told went.says answer
+  told = events_with_refusal went.emits stage_outcome
 
   only_read : OnlyReads told
   only_read = search (rules, only_reads settings (went.passed ++ []))
 
-  kept_is : m.kept ≡ after_all told nothing_kept
-  kept_is = went.kept ∙ ap (after_all told) unused
+  kept_is : m.kept ≡ after_events told nothing_kept
+  kept_is = went.kept ∙ ap (after_events told) unused
 
   no_files : all_files m.kept ≡ []
   no_files = ap all_files kept_is ∙ ap all_left (planning_left told only_read)
@@ -140,20 +140,20 @@ module _ (settings : Settings) (stock : Stock) (old m : DeskState) (answer : Sta
   opened : all_openings m.kept ≡ openings_in told
   opened = ap all_openings kept_is ∙ openings_shown told nothing_kept
 
-  pub seen : AreSeen stock told
+  pub seen : AreTrueOpenings stock told
   seen = seen_outputs stock told (subst (AreOpened stock) (openings_used m.kept ∙ opened)
       (opened_uses stock (all_uses m.kept) (files_used m.kept ∙ no_files) are))
 
-  both : ((planned_of settings stock).answer ≡ (planned settings (went.passed ++ [])).answer)
-      × (lines_in (told_in (planned_of settings stock)) ≡ lines_in (told_in (planned settings (went.passed ++ []))))
+  both : ((planned_from_files settings stock).stage_outcome ≡ (planned settings (went.passed ++ [])).stage_outcome)
+      × (lines_in (all_events_of (planned_from_files settings stock)) ≡ lines_in (all_events_of (planned settings (went.passed ++ []))))
   both = search (rules, seen_is_planned, seen_before, seen)
 
-  same_answer : (planned_of settings stock).answer ≡ answer
-  same_answer = both.0 ∙ ap (λ (p : StageResult Plan). p.answer) planned_is
+  same_answer : (planned_from_files settings stock).stage_outcome ≡ stage_outcome
+  same_answer = both.0 ∙ ap (λ (p : StageResult Plan). p.stage_outcome) planned_is
 
-  same_left : left_in (after_all (all_told (planned_of settings stock).says answer) nothing_kept) ≡ left_in m.kept
+  same_left : left_in (after_events (events_with_refusal (planned_from_files settings stock).emits stage_outcome) nothing_kept) ≡ left_in m.kept
   same_left =
-      let whole = told_in (planned_of settings stock) in
+      let whole = all_events_of (planned_from_files settings stock) in
       search (rules, both, same_answer, planning_left, only_reads, only_read, kept_is)
 
 -- ---- the run
@@ -164,15 +164,15 @@ outcome_of status sent v =
 
 -- what a run with these events and this status leaves
 abbrev pub left_by : List (Event OutputEvent) → ℕ → RunOutcome
-left_by events status = shown_by status (bytes_sent events) (after_all (outputs events) nothing_kept)
+left_by events status = outcome_shown status (bytes_sent events) (after_events (outputs events) nothing_kept)
 
 -- planning's output events, then these events, leave what the desk shows
-left_is : (status : ℕ) (says : List OutputEvent) (events : List (Event OutputEvent)) (between kept : Record)
+left_is : (status : ℕ) (emits : List OutputEvent) (events : List (Event OutputEvent)) (between kept : Record)
     (transcript : Transcript)
-    → left_in (after_all says nothing_kept) ≡ left_in between → kept ≡ after_all (outputs events) between
+    → left_in (after_events emits nothing_kept) ≡ left_in between → kept ≡ after_events (outputs events) between
     → bytes_sent events ≡ sent transcript
-    → left_by (map Said says ++ events) status ≡ shown_by status (sent transcript) kept
-left_is status says events between kept transcript alike then frames =
+    → left_by (map Emitted emits ++ events) status ≡ outcome_shown status (sent transcript) kept
+left_is status emits events between kept transcript alike then frames =
     search (rules, said_outputs, after_append, left_all, said_bytes)
 
 module _ (settings : Settings) (old new : MemDeskState) (before after : LinkState) (status : ℕ)
@@ -185,50 +185,50 @@ module _ (settings : Settings) (old new : MemDeskState) (before after : LinkStat
 
   -- the plan was made, and its session ran
   whole : (between : MemDeskState) (plan : Plan) → HoldsTrue stock between
-      → Went (planned settings) (memory_state old) (memory_state between) (Made plan)
-      → IsPlayed (session plan) (devices before (memory_state between)) (devices after (memory_state new)) status
-      → IsLeft settings stock (heard after.transcript) (shown_by status (sent after.transcript) new.kept)
+      → StageCompleted (planned settings) (memory_state old) (memory_state between) (Produced plan)
+      → RanToStatus (session plan) (devices before (memory_state between)) (devices after (memory_state new)) status
+      → RunLeaves settings stock (heard after.transcript) (outcome_shown status (sent after.transcript) new.kept)
   whole between plan holds went played_whole more =
       let ran = played_whole.1 in
-      let p = planned_of settings stock in
-      let judged : ◌≡◌ {A = StageAnswer Plan} (Made plan) Unread → ⊥ = λ e. cc in
+      let p = planned_from_files settings stock in
+      let judged : ◌≡◌ {A = StageOutcome Plan} (Produced plan) NotReadToEnd → ⊥ = λ e. cc in
       let are = all_true stock between holds in
-      let answer : p.answer ≡ Made plan =
-      same_answer settings stock (memory_state old) (memory_state between) (Made plan) unused.desk_is are judged went in
-      let alike = same_left settings stock (memory_state old) (memory_state between) (Made plan) unused.desk_is are
+      let stage_outcome : p.stage_outcome ≡ Produced plan =
+      same_answer settings stock (memory_state old) (memory_state between) (Produced plan) unused.desk_is are judged went in
+      let alike = same_left settings stock (memory_state old) (memory_state between) (Produced plan) unused.desk_is are
       judged went in
       let during : after.transcript ≡ ran.during =
       ran.grows ∙ ap (λ transcript. transcript ++ ran.during) silent_before in
-      let left : left_by (map Said p.says ++ ran.events) status ≡ shown_by status (sent after.transcript) new.kept =
-      left_is status p.says ran.events between.kept new.kept after.transcript alike ran.kept
+      let left : left_by (map Emitted p.emits ++ ran.events) status ≡ outcome_shown status (sent after.transcript) new.kept =
+      left_is status p.emits ran.events between.kept new.kept after.transcript alike ran.kept
       (ran.plays.all_sent ∙ ap sent (sym during)) in search rules
 
   -- it was refused
   refused : HoldsTrue stock new → after.transcript ≡ before.transcript
-      → WentRefused (planned settings) (memory_state old) (memory_state new)
-      → IsLeft settings stock (heard after.transcript) (shown_by 1 (sent after.transcript) new.kept)
+      → StageRefused (planned settings) (memory_state old) (memory_state new)
+      → RunLeaves settings stock (heard after.transcript) (outcome_shown 1 (sent after.transcript) new.kept)
   refused holds silent (line, went) more =
-      let p = planned_of settings stock in
-      let judged : ◌≡◌ {A = StageAnswer Plan} (Refused line) Unread → ⊥ = λ e. cc in
+      let p = planned_from_files settings stock in
+      let judged : ◌≡◌ {A = StageOutcome Plan} (Refused line) NotReadToEnd → ⊥ = λ e. cc in
       let are = all_true stock new holds in
-      let answer : p.answer ≡ Refused line =
+      let stage_outcome : p.stage_outcome ≡ Refused line =
       same_answer settings stock (memory_state old) (memory_state new) (Refused line) unused.desk_is are judged went in
       let alike = same_left settings stock (memory_state old) (memory_state new) (Refused line) unused.desk_is are
       judged went in
-      let events : map Said (p.says ++ Line line ∷ []) ++ [] ≡ map Said p.says ++ Said (Line line) ∷ [] =
-      append-nil (map Said (p.says ++ Line line ∷ [])) ∙ map-append Said p.says (Line line ∷ []) in
-      let left : left_by (map Said p.says ++ Said (Line line) ∷ []) 1 ≡ shown_by 1 (sent after.transcript) new.kept =
+      let events : map Emitted (p.emits ++ PrintsLine line ∷ []) ++ [] ≡ map Emitted p.emits ++ Emitted (PrintsLine line) ∷ [] =
+      append-nil (map Emitted (p.emits ++ PrintsLine line ∷ [])) ∙ map-append Emitted p.emits (PrintsLine line ∷ []) in
+      let left : left_by (map Emitted p.emits ++ Emitted (PrintsLine line) ∷ []) 1 ≡ outcome_shown 1 (sent after.transcript) new.kept =
       ap (λ (es : List (Event OutputEvent)). left_by es 1) (sym events)
-      ∙ left_is 1 (p.says ++ Line line ∷ []) [] new.kept new.kept after.transcript alike refl
+      ∙ left_is 1 (p.emits ++ PrintsLine line ∷ []) [] new.kept new.kept after.transcript alike refl
       (ap sent (sym (silent ∙ silent_before))) in search rules
 
   -- over what was received it leaves what is shown, and the link has not failed
   pub record LeavesShown : Type 0 where
-    pub is : IsLeft settings stock (heard after.transcript) (shown_by status (sent after.transcript) new.kept)
+    pub is : RunLeaves settings stock (heard after.transcript) (outcome_shown status (sent after.transcript) new.kept)
     pub sound : after.failures ≡ 0
 
   -- that, or it stopped
-  pub run_is : (between : MemDeskState) → Stays HoldsTrue old between → Stays HoldsTrue old new
+  pub run_is : (between : MemDeskState) → Preserves HoldsTrue old between → Preserves HoldsTrue old new
       → RunsSettings settings (devices before (memory_state old)) (memory_state between)
       (devices after (memory_state new))
       status
@@ -248,18 +248,18 @@ module _ (settings : Settings) (old new : MemDeskState) (before after : LinkStat
 -- ---- over a tape, and over streams
 
 module _ (settings : Settings) (old new : MemDeskState) (status : ℕ) where
-  over_tape : (before after : TapeState) → before.transcript ≡ [] → IsOfTape before after
-      → IsLeft settings (stock_of old) (heard after.transcript) (shown_by status (sent after.transcript) new.kept)
-      → Leaves settings (stock_of old) before.left (shown_by status (sent after.transcript) new.kept)
+  over_tape : (before after : TapeState) → before.transcript ≡ [] → ConsumesTape before after
+      → RunLeaves settings (stock_of old) (heard after.transcript) (outcome_shown status (sent after.transcript) new.kept)
+      → LeavesOutcome settings (stock_of old) before.left (outcome_shown status (sent after.transcript) new.kept)
   over_tape before after silent of_tape left = search (rules, append_assoc)
 
   pub run_is_over_tape : (before after : TapeState) (between : MemDeskState)
       (unused : AreUnused old (tape_state before))
-      → IsOfTape before after
-      → Stays HoldsTrue old between → Stays HoldsTrue old new
+      → ConsumesTape before after
+      → Preserves HoldsTrue old between → Preserves HoldsTrue old new
       → RunsSettings settings (devices (tape_state before) (memory_state old)) (memory_state between)
       (devices (tape_state after) (memory_state new)) status
-      → Leaves settings (stock_of old) before.left (shown_by status (sent after.transcript) new.kept)
+      → LeavesOutcome settings (stock_of old) before.left (outcome_shown status (sent after.transcript) new.kept)
       ⊎ IsStopped settings (devices (tape_state before) (memory_state old))
       (devices (tape_state after) (memory_state new))
       status
@@ -272,11 +272,11 @@ module _ (settings : Settings) (old new : MemDeskState) (status : ℕ) where
   pub run_is_over_streams : {R W : Type 0} (remaining : R → Option Bytes) (contents : W → Option Bytes)
       (before after : StreamState R W) (between : MemDeskState)
       (unused : AreUnused old (stream_state before)) → IsTrueSince remaining contents before after
-      → Stays HoldsTrue old between → Stays HoldsTrue old new
+      → Preserves HoldsTrue old between → Preserves HoldsTrue old new
       → RunsSettings settings (devices (stream_state before) (memory_state old)) (memory_state between)
       (devices (stream_state after) (memory_state new)) status
-      → LeavesStreams remaining contents settings (stock_of old) before after
-      (shown_by status (sent after.transcript) new.kept)
+      → LeavesOverStreams remaining contents settings (stock_of old) before after
+      (outcome_shown status (sent after.transcript) new.kept)
       ⊎ IsStopped settings (devices (stream_state before) (memory_state old))
       (devices (stream_state after) (memory_state new)) status
   run_is_over_streams remaining contents before after between unused true_since first all runs =

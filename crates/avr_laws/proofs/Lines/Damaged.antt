@@ -11,16 +11,16 @@ use Rattle.std.specs.Prelude.{All, bit_xor, fold, filter, ◌==◌}
 use Rattle.stk_frame.specs.Frame.{frame, xor_all}
 use Rattle.stk_frame.specs.Cut.{cut, frames, IsPiece, is_good, is_frame, body_of}
 use Rattle.stk_frame.proofs.Laws.{cut_first, frame_is_piece, frame_is_good, body_of_frame}
-use Rattle.stk_host.specs.Tape.{Tape, on_tape, bytes_in, Reading, Answered, answer, first_answer, is_answer, further, limit}
-use Rattle.stk_host.specs.Dialog.{Dialog, Done, Say, Ask, next}
+use Rattle.stk_host.specs.Tape.{Tape, on_tape, leading_bytes, Reading, Answered, answer, first_answer, is_answer, past_skipped, reply_byte_limit}
+use Rattle.stk_host.specs.Dialog.{Dialog, Done, Emit, Ask, next}
 use Rattle.stk_host.proofs.Tapes.Answers.{answer_silent, answer_ended, answer_waits, answer_found, on_tape_append, further_zero}
 use Rattle.stk_emu.specs.Device.{Device, refusal}
-use Rattle.stk_emu.specs.Lawful.{IsBody}
-use Rattle.stk_emu.specs.Turn.{Became, Kept, Obeyed, Anew, after_became}
-use Rattle.avr_tool.specs.Honest.{first_became, other_becames, on_answer}
-use Rattle.avr_laws.specs.AnyTape.{Got, getting, let_through, good_frames, CameThrough, became_by}
-use Rattle.avr_laws.specs.NoFrame.{given, IsAmong, WasSent, WereSent, MakesNoFrame}
-use Rattle.avr_laws.specs.Damaged.{DifferInOne, IsDamaged, Arrived, Arrival, Whole, Pause, Stop, as_tape, burst, IsOf, Refuses, AreReplies, up_to_reply, read_first, when_read, BringsReplies}
+use Rattle.stk_emu.specs.Lawful.{IsFrameBody}
+use Rattle.stk_emu.specs.Exchange.{Execution, NotExecuted, Executed, ThenRestarted, after_execution}
+use Rattle.avr_tool.specs.Authentic.{first_execution, later_executions, on_reading}
+use Rattle.avr_laws.specs.AnyTape.{FramesByRestart, adding_received, received_frames, good_frames, ReceivedSentFrames, executions_by_arrival}
+use Rattle.avr_laws.specs.NoForgedFrame.{frame_of_reply, IsAmongFirst, IsNotForged, AreNotForged, ForgesNoFrame}
+use Rattle.avr_laws.specs.Damaged.{DifferInOne, IsDamaged, Arrived, Arrival, FrameArrives, PauseArrives, EndArrives, tape_of_arrivals, frames_before_pause, IsReplyOfFirst, IsSomeRefusal, AreRecentReplies, bytes_up_to_reply, first_reading, IfRead, BringsReplies}
 
 -- ---- a damaged frame has its length, and a wrong XOR
 
@@ -114,17 +114,17 @@ IsGood piece = is_good piece ≡ true
 came_by : (piece more got : List ℕ) → IsPiece piece → got ≡ piece ++ more → frames got ≡ filter is_frame (piece ∷ cut more)
 came_by piece more got whole e = ap frames e ∙ ap (filter is_frame) (cut_first piece more whole)
 
-abbrev alone : List (List ℕ) → Got
+abbrev alone : List (List ℕ) → FramesByRestart
 alone got = (got, [])
 
 good_arrived : (sent : List (List ℕ)) (through : List Bool) (got : List ℕ) → All IsPiece sent → All IsGood sent
-    → Arrived sent through got → let_through (became_by through) sent ≡ alone (good_frames got)
+    → Arrived sent through got → received_frames (executions_by_arrival through) sent ≡ alone (good_frames got)
 good_arrived [] [] got whole good e = ap (λ (g : List ℕ). alone (good_frames g)) (sym e)
 good_arrived [] (true ∷ through) got whole good e = ap (λ (g : List ℕ). alone (good_frames g)) (sym e)
 good_arrived [] (false ∷ through) got whole good e = ap (λ (g : List ℕ). alone (good_frames g)) (sym e)
 good_arrived (piece ∷ sent) [] got whole good e = ap (λ (g : List ℕ). alone (good_frames g)) (sym e)
 good_arrived (piece ∷ sent) (true ∷ through) got whole good (more, e, later) =
-    ap (getting Obeyed piece) (good_arrived sent through more (All-tail IsPiece piece sent whole)
+    ap (adding_received Executed piece) (good_arrived sent through more (All-tail IsPiece piece sent whole)
     (All-tail IsGood piece sent good) later)
     ∙ ap alone (sym (ap (filter is_good) (came_by piece more got (All-head IsPiece piece sent whole) e)
     ∙ good_kept piece (cut more) (All-head IsGood piece sent good)))
@@ -136,13 +136,13 @@ good_arrived (piece ∷ sent) (false ∷ through) got whole good (inr (came, mor
     ∙ ap alone (sym (ap (filter is_good) (came_by came more got bad.0 e) ∙ bad_dropped came (cut more) bad.1))
 
 pub arrived_came : (sent : List (List ℕ)) (through : List Bool) (got : List ℕ) → All IsPiece sent → All IsGood sent
-    → Arrived sent through got → CameThrough got [] sent (became_by through)
+    → Arrived sent through got → ReceivedSentFrames got [] sent (executions_by_arrival through)
 arrived_came sent through got whole good came = record { good = good_arrived sent through got whole good came }
 
 -- ---- what the host receives: whose each piece is
 
 abbrev IsReply : List ℕ → Type 0
-IsReply reply = (reply ≡ []) ⊎ ((n : ℕ) × (body : List ℕ) × IsBody body × (reply ≡ frame n body))
+IsReply reply = (reply ≡ []) ⊎ ((n : ℕ) × (body : List ℕ) × IsFrameBody body × (reply ≡ frame n body))
 
 abbrev AllReplies : List (List ℕ) → Type 0
 AllReplies [] = Unit {0}
@@ -152,14 +152,14 @@ AllReplies (reply ∷ sent) = IsReply reply × AllReplies sent
 abbrev Sound : (List ℕ → Type 0) → List ℕ → Type 0
 Sound Claim piece = (piece ≡ []) ⊎ (IsPiece piece × (is_good piece ≡ true → Claim piece))
 
-whole_frame : (n : ℕ) (body : List ℕ) → IsBody body → IsPiece (frame n body)
+whole_frame : (n : ℕ) (body : List ℕ) → IsFrameBody body → IsPiece (frame n body)
 whole_frame n body b = frame_is_piece n body b.some b.few
 
-damaged_frame : (n : ℕ) (body came : List ℕ) → IsBody body → IsDamaged (frame n body) came → BadPiece came
+damaged_frame : (n : ℕ) (body came : List ℕ) → IsFrameBody body → IsDamaged (frame n body) came → BadPiece came
 damaged_frame n body came b d = damaged (frame n body) came (whole_frame n body b) (frame_is_good n body b.some) d
 
-one_of : (k : ℕ) (sent : List (List ℕ)) (piece : List ℕ) → AllReplies sent → IsOf k sent piece
-    → Sound (IsAmong k sent) piece
+one_of : (k : ℕ) (sent : List (List ℕ)) (piece : List ℕ) → AllReplies sent → IsReplyOfFirst k sent piece
+    → Sound (IsAmongFirst k sent) piece
 one_of zero sent piece all is = absurd is
 one_of (suc k) [] piece all is = absurd is
 one_of (suc k) (first ∷ sent) piece (inl none, all) (inl same) = inl (same ∙ none)
@@ -175,17 +175,17 @@ one_of (suc k) (first ∷ sent) piece (reply, all) (inr (inr is)) = elim (one_of
   | inr (whole, among) ↦ inr (whole, λ good. inr (among good))
 ]
 
-refused_body : IsBody refusal
+refused_body : IsFrameBody refusal
 refused_body = record { some = omega arith; few = omega arith }
 
-refuses : (piece : List ℕ) → Refuses piece → Sound (λ p. body_of p ≡ refusal) piece
+refuses : (piece : List ℕ) → IsSomeRefusal piece → Sound (λ p. body_of p ≡ refusal) piece
 refuses piece (n, inl same) =
     inr (subst IsPiece (sym same) (whole_frame n refusal refused_body), λ good. ap body_of same ∙ body_of_frame n refusal)
 refuses piece (n, inr d) =
     let bad = damaged_frame n refusal piece refused_body d in inr (bad.0, λ good. absurd (bad.1 good))
 
-was_sent : (sent : List (List ℕ)) (piece : List ℕ) → AllReplies sent → IsOf 256 sent piece ⊎ Refuses piece
-    → (piece ≡ []) ⊎ (IsPiece piece × WasSent sent piece)
+was_sent : (sent : List (List ℕ)) (piece : List ℕ) → AllReplies sent → IsReplyOfFirst 256 sent piece ⊎ IsSomeRefusal piece
+    → (piece ≡ []) ⊎ (IsPiece piece × IsNotForged sent piece)
 was_sent sent piece all (inl is) = elim (one_of 256 sent piece all is) [
   | inl none ↦ inl none
   | inr (whole, among) ↦ inr (whole, λ good. inr (among good))
@@ -200,19 +200,19 @@ no_piece n piece e = ap (is_answer n) e
 
 -- the bytes up to the awaited reply, and what may follow it
 abbrev Window : ℕ → List (List ℕ) → ℕ → Type 0
-Window n pieces most = length (up_to_reply n pieces) ≤ most
+Window n pieces most = length (bytes_up_to_reply n pieces) ≤ most
 
 window_front : (n : ℕ) (piece : List ℕ) (pieces : List (List ℕ)) (most : ℕ) → Window n (piece ∷ pieces) most
     → length piece ≤ most
 window_front n piece pieces most le =
-    omega (arith, le, length-append piece (if is_answer n piece then [] else up_to_reply n pieces))
+    omega (arith, le, length-append piece (if is_answer n piece then [] else bytes_up_to_reply n pieces))
 
 window_rest : (n : ℕ) (piece : List ℕ) (pieces : List (List ℕ)) (most : ℕ) → is_answer n piece ≡ false
     → Window n (piece ∷ pieces) most → Window n pieces (most - length piece)
 window_rest n piece pieces most other le =
-    let size = length-append piece (up_to_reply n pieces) in
-    let e : length (up_to_reply n (piece ∷ pieces)) ≡ length (piece ++ up_to_reply n pieces) =
-    ap (λ bs. length (piece ++ bs)) (cond-false (is_answer n piece) [] (up_to_reply n pieces) other) in
+    let size = length-append piece (bytes_up_to_reply n pieces) in
+    let e : length (bytes_up_to_reply n (piece ∷ pieces)) ≡ length (piece ++ bytes_up_to_reply n pieces) =
+    ap (λ bs. length (piece ++ bs)) (cond-false (is_answer n piece) [] (bytes_up_to_reply n pieces) other) in
     omega (arith, le, size, e)
 
 take_front : (piece bytes : List ℕ) (most : ℕ) → length piece ≤ most
@@ -225,16 +225,16 @@ take_none : (most : ℕ) → take {A = ℕ} most [] ≡ []
 take_none zero = refl
 take_none (suc most) = refl
 
-were_sent : (n most : ℕ) (sent pieces : List (List ℕ)) → AllReplies sent → AreReplies n sent pieces
-    → Window n pieces most → WereSent n sent (cut (take most (concat pieces)))
-were_sent n most sent [] all replies le = subst (λ bs. WereSent n sent (cut bs)) (sym (take_none most)) tt
+were_sent : (n most : ℕ) (sent pieces : List (List ℕ)) → AllReplies sent → AreRecentReplies n sent pieces
+    → Window n pieces most → AreNotForged n sent (cut (take most (concat pieces)))
+were_sent n most sent [] all replies le = subst (λ bs. AreNotForged n sent (cut bs)) (sym (take_none most)) tt
 were_sent n most sent (piece ∷ pieces) all (is, later) le = elim (was_sent sent piece all is) [
-  | inl none ↦ subst (λ p. WereSent n sent (cut (take most (p ++ concat pieces)))) (sym none)
+  | inl none ↦ subst (λ p. AreNotForged n sent (cut (take most (p ++ concat pieces)))) (sym none)
       (were_sent n most sent pieces all (later (no_piece n piece none))
       (omega (arith, window_rest n piece pieces most (no_piece n piece none) le)))
-  | inr (whole, was) ↦ subst (λ bs. WereSent n sent (cut bs))
+  | inr (whole, was) ↦ subst (λ bs. AreNotForged n sent (cut bs))
       (sym (take_front piece (concat pieces) most (window_front n piece pieces most le)))
-      (subst (WereSent n sent) (sym (cut_first piece (take (most - length piece) (concat pieces)) whole)) (
+      (subst (AreNotForged n sent) (sym (cut_first piece (take (most - length piece) (concat pieces)) whole)) (
         was,
         λ other. were_sent n (most - length piece) sent pieces all (later other)
             (window_rest n piece pieces most other le),
@@ -243,25 +243,25 @@ were_sent n most sent (piece ∷ pieces) all (is, later) le = elim (was_sent sen
 
 -- ---- how the bytes are read
 
-bytes_behind : (piece : List ℕ) (tape : Tape) → bytes_in (on_tape piece ++ tape) ≡ piece ++ bytes_in tape
+bytes_behind : (piece : List ℕ) (tape : Tape) → leading_bytes (on_tape piece ++ tape) ≡ piece ++ leading_bytes tape
 bytes_behind [] tape = refl
 bytes_behind (b ∷ piece) tape = ap (λ bs. b ∷ bs) (bytes_behind piece tape)
 
-burst_bytes : (come : List Arrival) → bytes_in (as_tape come) ≡ concat (burst come)
+burst_bytes : (come : List Arrival) → leading_bytes (tape_of_arrivals come) ≡ concat (frames_before_pause come)
 burst_bytes [] = refl
-burst_bytes (Whole piece ∷ come) = bytes_behind piece (as_tape come) ∙ ap (λ bs. piece ++ bs) (burst_bytes come)
-burst_bytes (Pause ∷ come) = refl
-burst_bytes (Stop ∷ come) = refl
+burst_bytes (FrameArrives piece ∷ come) = bytes_behind piece (tape_of_arrivals come) ∙ ap (λ bs. piece ++ bs) (burst_bytes come)
+burst_bytes (PauseArrives ∷ come) = refl
+burst_bytes (EndArrives ∷ come) = refl
 
 -- the awaited reply comes, as the end of these bytes
 abbrev Found : ℕ → List Arrival → List ℕ → Type 0
-Found n come bytes = (body : List ℕ) × (left : List Arrival) × (read_first n come ≡ Some (Answered body, left))
-    × (as_tape come ≡ on_tape bytes ++ as_tape left) × (first_answer n (cut bytes) ≡ Some (body, length bytes))
+Found n come bytes = (body : List ℕ) × (left : List Arrival) × (first_reading n come ≡ Some (Answered body, left))
+    × (tape_of_arrivals come ≡ on_tape bytes ++ tape_of_arrivals left) × (first_answer n (cut bytes) ≡ Some (body, length bytes))
 
 -- it doesn't come in these bytes, before a pause or the end
 abbrev Lost : ℕ → List Arrival → List ℕ → Type 0
-Lost n come bytes = (left : List Arrival) × (read_first n come ≡ read_first n left) × (burst left ≡ [])
-    × (as_tape come ≡ on_tape bytes ++ as_tape left) × (first_answer n (cut bytes) ≡ None)
+Lost n come bytes = (left : List Arrival) × (first_reading n come ≡ first_reading n left) × (frames_before_pause left ≡ [])
+    × (tape_of_arrivals come ≡ on_tape bytes ++ tape_of_arrivals left) × (first_answer n (cut bytes) ≡ None)
 
 joined : (piece bytes : List ℕ) (tape left : Tape) → tape ≡ on_tape bytes ++ left
     → on_tape piece ++ tape ≡ on_tape (piece ++ bytes) ++ left
@@ -269,14 +269,14 @@ joined piece bytes tape left e = ap (λ t. on_tape piece ++ t) e
     ∙ (sym (append_assoc (on_tape piece) (on_tape bytes) left) ∙ ap (λ t. t ++ left) (sym (on_tape_append piece bytes)))
 
 further_first : (n : ℕ) (piece bytes : List ℕ) → (piece ≡ []) ⊎ IsPiece piece → is_answer n piece ≡ false
-    → first_answer n (cut (piece ++ bytes)) ≡ further (length piece) (first_answer n (cut bytes))
+    → first_answer n (cut (piece ++ bytes)) ≡ past_skipped (length piece) (first_answer n (cut bytes))
 further_first n piece bytes (inl none) other = subst
-    (λ p. first_answer n (cut (p ++ bytes)) ≡ further (length p) (first_answer n (cut bytes))) (sym none)
+    (λ p. first_answer n (cut (p ++ bytes)) ≡ past_skipped (length p) (first_answer n (cut bytes))) (sym none)
     (further_zero (first_answer n (cut bytes)))
 further_first n piece bytes (inr whole) other =
     ap (first_answer n) (cut_first piece bytes whole)
     ∙ cond-false (is_answer n piece) (Some (body_of piece, length piece))
-    (further (length piece) (first_answer n (cut bytes))) other
+    (past_skipped (length piece) (first_answer n (cut bytes))) other
 
 no_reply : (n : ℕ) (piece : List ℕ) → piece ≡ [] → is_answer n piece ≡ true → ⊥
 no_reply n piece none is = false≢true (sym (no_piece n piece none) ∙ is)
@@ -288,45 +288,45 @@ shape piece (inr (whole, was)) = inr whole
 -- a frame in front that isn't the reply
 behind : (n : ℕ) (piece bytes : List ℕ) (come : List Arrival) → (piece ≡ []) ⊎ IsPiece piece
     → is_answer n piece ≡ false → Found n come bytes ⊎ Lost n come bytes
-    → Found n (Whole piece ∷ come) (piece ++ bytes) ⊎ Lost n (Whole piece ∷ come) (piece ++ bytes)
+    → Found n (FrameArrives piece ∷ come) (piece ++ bytes) ⊎ Lost n (FrameArrives piece ∷ come) (piece ++ bytes)
 behind n piece bytes come whole other (inl (body, left, is, tape, first)) =
     let size : length piece + length bytes ≡ length (piece ++ bytes) = sym (length-append piece bytes) in
     inl (
       body,
       left,
       cond-false (is_answer n piece) _ _ other ∙ is,
-      joined piece bytes (as_tape come) (as_tape left) tape,
+      joined piece bytes (tape_of_arrivals come) (tape_of_arrivals left) tape,
       further_first n piece bytes whole other
-          ∙ (ap (further (length piece)) first ∙ ap (λ k. Some (body, k)) size),
+          ∙ (ap (past_skipped (length piece)) first ∙ ap (λ k. Some (body, k)) size),
     )
 behind n piece bytes come whole other (inr (left, is, none, tape, first)) =
     inr (
       left,
       cond-false (is_answer n piece) _ _ other ∙ is,
       none,
-      joined piece bytes (as_tape come) (as_tape left) tape,
-      further_first n piece bytes whole other ∙ ap (further (length piece)) first,
+      joined piece bytes (tape_of_arrivals come) (tape_of_arrivals left) tape,
+      further_first n piece bytes whole other ∙ ap (past_skipped (length piece)) first,
     )
 
-looked : (n : ℕ) (sent : List (List ℕ)) (come : List Arrival) → AllReplies sent → AreReplies n sent (burst come)
-    → Found n come (up_to_reply n (burst come)) ⊎ Lost n come (up_to_reply n (burst come))
+looked : (n : ℕ) (sent : List (List ℕ)) (come : List Arrival) → AllReplies sent → AreRecentReplies n sent (frames_before_pause come)
+    → Found n come (bytes_up_to_reply n (frames_before_pause come)) ⊎ Lost n come (bytes_up_to_reply n (frames_before_pause come))
 looked n sent [] all replies = inr ([], refl, refl, refl, refl)
-looked n sent (Pause ∷ come) all replies = inr (Pause ∷ come, refl, refl, refl, refl)
-looked n sent (Stop ∷ come) all replies = inr (Stop ∷ come, refl, refl, refl, refl)
-looked n sent (Whole piece ∷ come) all (is, later) = elim (cases_Bool (is_answer n piece)) [
-  | inl found ↦ subst (λ bs. Found n (Whole piece ∷ come) (piece ++ bs) ⊎ Lost n (Whole piece ∷ come) (piece ++ bs))
-      (sym (cond-true (is_answer n piece) [] (up_to_reply n (burst come)) found))
+looked n sent (PauseArrives ∷ come) all replies = inr (PauseArrives ∷ come, refl, refl, refl, refl)
+looked n sent (EndArrives ∷ come) all replies = inr (EndArrives ∷ come, refl, refl, refl, refl)
+looked n sent (FrameArrives piece ∷ come) all (is, later) = elim (cases_Bool (is_answer n piece)) [
+  | inl found ↦ subst (λ bs. Found n (FrameArrives piece ∷ come) (piece ++ bs) ⊎ Lost n (FrameArrives piece ∷ come) (piece ++ bs))
+      (sym (cond-true (is_answer n piece) [] (bytes_up_to_reply n (frames_before_pause come)) found))
       (inl (taken found (was_sent sent piece all is)))
-  | inr other ↦ subst (λ bs. Found n (Whole piece ∷ come) (piece ++ bs) ⊎ Lost n (Whole piece ∷ come) (piece ++ bs))
-      (sym (cond-false (is_answer n piece) [] (up_to_reply n (burst come)) other))
-      (behind n piece (up_to_reply n (burst come)) come (shape piece (was_sent sent piece all is)) other
+  | inr other ↦ subst (λ bs. Found n (FrameArrives piece ∷ come) (piece ++ bs) ⊎ Lost n (FrameArrives piece ∷ come) (piece ++ bs))
+      (sym (cond-false (is_answer n piece) [] (bytes_up_to_reply n (frames_before_pause come)) other))
+      (behind n piece (bytes_up_to_reply n (frames_before_pause come)) come (shape piece (was_sent sent piece all is)) other
       (looked n sent come all (later other)))
 ]
   where
-    taken : is_answer n piece ≡ true → (piece ≡ []) ⊎ (IsPiece piece × WasSent sent piece)
-        → Found n (Whole piece ∷ come) (piece ++ [])
+    taken : is_answer n piece ≡ true → (piece ≡ []) ⊎ (IsPiece piece × IsNotForged sent piece)
+        → Found n (FrameArrives piece ∷ come) (piece ++ [])
     taken found (inl none) = absurd (no_reply n piece none found)
-    taken found (inr (whole, was)) = subst (Found n (Whole piece ∷ come)) (sym (append-nil piece)) (
+    taken found (inr (whole, was)) = subst (Found n (FrameArrives piece ∷ come)) (sym (append-nil piece)) (
       body_of piece,
       come,
       cond-true (is_answer n piece) _ _ found,
@@ -337,63 +337,63 @@ looked n sent (Whole piece ∷ come) all (is, later) = elim (cases_Bool (is_answ
 
 abbrev on_the_tape : Option (Reading × List Arrival) → Option (Reading × Tape)
 on_the_tape None = None
-on_the_tape (Some (reading, come)) = Some (reading, as_tape come)
+on_the_tape (Some (reading, come)) = Some (reading, tape_of_arrivals come)
 
-lost : (n : ℕ) (bytes : List ℕ) (left : List Arrival) → burst left ≡ [] → first_answer n (cut bytes) ≡ None
-    → length bytes < limit → answer n (on_tape bytes ++ as_tape left) ≡ on_the_tape (read_first n left)
+lost : (n : ℕ) (bytes : List ℕ) (left : List Arrival) → frames_before_pause left ≡ [] → first_answer n (cut bytes) ≡ None
+    → length bytes < reply_byte_limit → answer n (on_tape bytes ++ tape_of_arrivals left) ≡ on_the_tape (first_reading n left)
 lost n bytes [] none first lt = ap (answer n) (append-nil (on_tape bytes)) ∙ answer_waits n bytes first lt
-lost n bytes (Pause ∷ left) none first lt = answer_silent n bytes (as_tape left) first lt
-lost n bytes (Stop ∷ left) none first lt = answer_ended n bytes (as_tape left) first lt
-lost n bytes (Whole piece ∷ left) none first lt = cc
+lost n bytes (PauseArrives ∷ left) none first lt = answer_silent n bytes (tape_of_arrivals left) first lt
+lost n bytes (EndArrives ∷ left) none first lt = answer_ended n bytes (tape_of_arrivals left) first lt
+lost n bytes (FrameArrives piece ∷ left) none first lt = cc
 
-read : (n : ℕ) (come : List Arrival) (bytes : List ℕ) → Found n come bytes ⊎ Lost n come bytes → length bytes < limit
-    → answer n (as_tape come) ≡ on_the_tape (read_first n come)
+read : (n : ℕ) (come : List Arrival) (bytes : List ℕ) → Found n come bytes ⊎ Lost n come bytes → length bytes < reply_byte_limit
+    → answer n (tape_of_arrivals come) ≡ on_the_tape (first_reading n come)
 read n come bytes (inl (body, left, is, tape, first)) lt =
-    ap (answer n) tape ∙ (answer_found n bytes (as_tape left) body first (omega (arith, lt)) ∙ ap on_the_tape (sym is))
+    ap (answer n) tape ∙ (answer_found n bytes (tape_of_arrivals left) body first (omega (arith, lt)) ∙ ap on_the_tape (sym is))
 read n come bytes (inr (left, is, none, tape, first)) lt =
     ap (answer n) tape ∙ (lost n bytes left none first lt ∙ ap on_the_tape (sym is))
 
 -- ---- the law
 
-module _ {P : Type 0} (m : Device P) (bodies : (bytes : List ℕ) (p : P) → IsBody (m.answer bytes p)) where
-  given_reply : (n : ℕ) (bytes : List ℕ) (p : P) (became : Became) → IsReply (given m n bytes p became)
-  given_reply n bytes p Kept = inl refl
-  given_reply n bytes p Obeyed = inr (n, m.answer bytes p, bodies bytes p, refl)
-  given_reply n bytes p (Anew became) = inl refl
+module _ {P : Type 0} (m : Device P) (bodies : (bytes : List ℕ) (p : P) → IsFrameBody (m.answer bytes p)) where
+  given_reply : (n : ℕ) (bytes : List ℕ) (p : P) (execution : Execution) → IsReply (frame_of_reply m n bytes p execution)
+  given_reply n bytes p NotExecuted = inl refl
+  given_reply n bytes p Executed = inr (n, m.answer bytes p, bodies bytes p, refl)
+  given_reply n bytes p (ThenRestarted execution) = inl refl
 
-  pub brings_no_frame : {E R : Type 0} (d : Dialog E R) (n : ℕ) (come : List Arrival) (p : P) (becames : List Became)
-      (before : List (List ℕ)) → AllReplies before → BringsReplies m d n come p becames before
-      → MakesNoFrame m d n (as_tape come) p becames before
-  brings_no_frame (Done r) n come p becames before all brings = tt
-  brings_no_frame (Say e d) n come p becames before all brings = brings_no_frame d n come p becames before all brings
-  brings_no_frame (Ask bytes go_on) n come p becames before all (lt, replies, later) =
-      subst (on_answer (λ reading left.
-      WereSent n now (cut (take limit (bytes_in (as_tape come))))
-      × MakesNoFrame m (go_on reading) (next n) left afterwards (other_becames becames) now))
-      (sym (read n come (up_to_reply n (burst come)) (looked n now come all_now replies) lt))
-      (by (λ reading left claim. brings_no_frame (go_on reading) (next n) left afterwards (other_becames becames) now all_now claim)
-      (read_first n come) later)
+  pub brings_no_frame : {E R : Type 0} (d : Dialog E R) (n : ℕ) (come : List Arrival) (p : P) (executions : List Execution)
+      (before : List (List ℕ)) → AllReplies before → BringsReplies m d n come p executions before
+      → ForgesNoFrame m d n (tape_of_arrivals come) p executions before
+  brings_no_frame (Done r) n come p executions before all brings = tt
+  brings_no_frame (Emit e d) n come p executions before all brings = brings_no_frame d n come p executions before all brings
+  brings_no_frame (Ask bytes go_on) n come p executions before all (lt, replies, later) =
+      subst (on_reading (λ reading left.
+      AreNotForged n now (cut (take reply_byte_limit (leading_bytes (tape_of_arrivals come))))
+      × ForgesNoFrame m (go_on reading) (next n) left afterwards (later_executions executions) now))
+      (sym (read n come (bytes_up_to_reply n (frames_before_pause come)) (looked n now come all_now replies) lt))
+      (by (λ reading left claim. brings_no_frame (go_on reading) (next n) left afterwards (later_executions executions) now all_now claim)
+      (first_reading n come) later)
     where
       now : List (List ℕ)
-      now = given m n bytes p (first_became becames) ∷ before
+      now = frame_of_reply m n bytes p (first_execution executions) ∷ before
 
       afterwards : P
-      afterwards = after_became (first_became becames) (m.after bytes p) p m.reset
+      afterwards = after_execution (first_execution executions) (m.after bytes p) p m.reset
 
       all_now : AllReplies now
-      all_now = (given_reply n bytes p (first_became becames), all)
+      all_now = (given_reply n bytes p (first_execution executions), all)
 
-      were : WereSent n now (cut (take limit (bytes_in (as_tape come))))
-      were = subst (λ bs. WereSent n now (cut (take limit bs))) (sym (burst_bytes come))
-          (were_sent n limit now (burst come) all_now replies (omega (arith, lt)))
+      were : AreNotForged n now (cut (take reply_byte_limit (leading_bytes (tape_of_arrivals come))))
+      were = subst (λ bs. AreNotForged n now (cut (take reply_byte_limit bs))) (sym (burst_bytes come))
+          (were_sent n reply_byte_limit now (frames_before_pause come) all_now replies (omega (arith, lt)))
 
       by : ((reading : Reading) (left : List Arrival)
-          → BringsReplies m (go_on reading) (next n) left afterwards (other_becames becames) now
-          → MakesNoFrame m (go_on reading) (next n) (as_tape left) afterwards (other_becames becames) now)
+          → BringsReplies m (go_on reading) (next n) left afterwards (later_executions executions) now
+          → ForgesNoFrame m (go_on reading) (next n) (tape_of_arrivals left) afterwards (later_executions executions) now)
           → (o : Option (Reading × List Arrival))
-          → when_read (λ reading left. BringsReplies m (go_on reading) (next n) left afterwards (other_becames becames) now) o
-          → on_answer (λ reading left.
-          WereSent n now (cut (take limit (bytes_in (as_tape come))))
-          × MakesNoFrame m (go_on reading) (next n) left afterwards (other_becames becames) now) (on_the_tape o)
+          → IfRead (λ reading left. BringsReplies m (go_on reading) (next n) left afterwards (later_executions executions) now) o
+          → on_reading (λ reading left.
+          AreNotForged n now (cut (take reply_byte_limit (leading_bytes (tape_of_arrivals come))))
+          × ForgesNoFrame m (go_on reading) (next n) left afterwards (later_executions executions) now) (on_the_tape o)
       by each None claim = tt
       by each (Some (reading, left)) claim = (were, each reading left claim)

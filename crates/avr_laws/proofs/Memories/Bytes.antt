@@ -9,7 +9,7 @@ use Rattle.stk_emu.specs.Effect.{Image, with_image}
 use Rattle.stk_emu.specs.Given.{HoldsImage}
 use Rattle.stk_emu.proofs.Memories.LaidImages.{get_laid, length-laid}
 use Rattle.avr_part.specs.declared.part.Mem.{Mem}
-use Rattle.avr_session.specs.Standing.{Fine}
+use Rattle.avr_session.specs.Standing.{NoFault}
 use Rattle.avr_session.specs.Session.{standing}
 use Rattle.avr_tool.proofs.Plans.Standings.{faulty_fine}
 
@@ -24,6 +24,6 @@ pub bytes_same : (xs : List ℕ) → bytes_eq xs xs ≡ true
 bytes_same [] = refl
 bytes_same (x ∷ xs) = search rules
 
-pub no_difference_if_fine : (mem : Mem) (d : Option Difference) → standing (differs mem d) ≡ Fine → d ≡ None
+pub no_difference_if_fine : (mem : Mem) (d : Option Difference) → standing (differs mem d) ≡ NoFault → d ≡ None
 no_difference_if_fine mem None f = refl
 no_difference_if_fine mem (Some d) f = faulty_fine f

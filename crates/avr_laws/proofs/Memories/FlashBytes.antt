@@ -9,23 +9,23 @@ use Rattle.avr_plan.specs.Plan.{Plan}
 use Rattle.stk_emu.specs.Effect.{Image, Item, Erase, Write, Memories, and_in, are_locked, effect, effects}
 use Rattle.stk_emu.proofs.Memories.LaidImages.{length-and_in, get_and_in}
 use Rattle.avr_tool.specs.Items.{items, has_erase}
-use Rattle.avr_tool.specs.Outcome.{page_writes, IsTouched, IsDone}
-use Rattle.avr_laws.specs.WrittenBytes.{IsThere, AreThere, and_all, IsMade}
+use Rattle.avr_tool.specs.Outcome.{write_operations, HasFirstOperations, IsDone}
+use Rattle.avr_laws.specs.WrittenBytes.{IsWrittenAt, AreWrittenAt, and_all, IsMadeByImages}
 
-are_later : (item : Item) (xs : List Item) (addr : ℕ) (bytes : List ℕ) → AreThere xs addr bytes
-    → AreThere (item ∷ xs) addr bytes
+are_later : (item : Item) (xs : List Item) (addr : ℕ) (bytes : List ℕ) → AreWrittenAt xs addr bytes
+    → AreWrittenAt (item ∷ xs) addr bytes
 are_later item xs addr [] are = tt
 are_later item xs addr (b ∷ bytes) are = (inr are.0, are_later item xs addr bytes are.1)
 
 -- an erase
-erased : (xs : List Item) (addr before mid after : ℕ) → mid ≡ 255 → IsMade xs addr mid after
-    → IsMade (Erase ∷ xs) addr before after
+erased : (xs : List Item) (addr before mid after : ℕ) → mid ≡ 255 → IsMadeByImages xs addr mid after
+    → IsMadeByImages (Erase ∷ xs) addr before after
 erased xs addr before mid after e m = search (rules, are_later)
 
 -- a write whose byte is ANDed to the one before
 anded : (image : Image) (xs : List Item) (addr before byte mid after : ℕ) → byte_at image addr ≡ Some byte
     → mid ≡ bit_and before byte
-    → IsMade xs addr mid after → IsMade (Write Flash image ∷ xs) addr before after
+    → IsMadeByImages xs addr mid after → IsMadeByImages (Write Flash image ∷ xs) addr before after
 anded image xs addr before byte mid after at e m = elim m.first_is [
   | inl is ↦ record {
     first = before;
@@ -58,7 +58,7 @@ still_inside : (image : Image) (xs : List ℕ) (addr : ℕ) (lock : Bool) → ad
 still_inside image xs addr lock l = search (rules, length-and_in)
 
 joined : (image : Image) (xs : List Item) (addr before mid after : ℕ) → Writes image addr before mid
-    → IsMade xs addr mid after → IsMade (Write Flash image ∷ xs) addr before after
+    → IsMadeByImages xs addr mid after → IsMadeByImages (Write Flash image ∷ xs) addr before after
 joined image xs addr before mid after g' m = search (rules, are_later, anded)
 
 module _ (part : Part) (addr : ℕ) where
@@ -66,7 +66,7 @@ module _ (part : Part) (addr : ℕ) where
   byte m = get_or m.flash addr 0
 
   pub made : (xs : List Item) (m : Memories) → addr < length m.flash
-      → IsMade xs addr (byte m) (byte (effects part xs m))
+      → IsMadeByImages xs addr (byte m) (byte (effects part xs m))
   made [] m l = record { first = byte m; bytes = []; first_is = inl refl; are_there = tt; is = refl }
   made (Erase ∷ xs) m l =
       search (
@@ -88,14 +88,14 @@ module _ (part : Part) (addr : ℕ) where
   made (Write mem image ∷ xs) m l = search (rules, are_later, made xs (effect part (Write mem image) m) l)
 
 -- the first items of a list
-there_of : (k : ℕ) (xs : List Item) (addr byte : ℕ) → IsThere (take k xs) addr byte → IsThere xs addr byte
+there_of : (k : ℕ) (xs : List Item) (addr byte : ℕ) → IsWrittenAt (take k xs) addr byte → IsWrittenAt xs addr byte
 there_of zero xs addr byte is = absurd is
 there_of (suc k) [] addr byte is = absurd is
 there_of (suc k) (x ∷ xs) addr byte (inl is) = inl is
 there_of (suc k) (x ∷ xs) addr byte (inr is) = inr (there_of k xs addr byte is)
 
-all_there : (k : ℕ) (xs : List Item) (addr : ℕ) (bytes : List ℕ) → AreThere (take k xs) addr bytes
-    → AreThere xs addr bytes
+all_there : (k : ℕ) (xs : List Item) (addr : ℕ) (bytes : List ℕ) → AreWrittenAt (take k xs) addr bytes
+    → AreWrittenAt xs addr bytes
 all_there k xs addr [] are = tt
 all_there k xs addr (b ∷ bytes) are = (there_of k xs addr b are.0, all_there k xs addr bytes are.1)
 
@@ -107,21 +107,21 @@ erase_of (suc k) (Write mem image ∷ xs) has = erase_of k xs has
 
 pub done_made : (plan : Plan) (before after : Memories) (addr : ℕ) → addr < length before.flash
     → IsDone plan before after
-    → IsMade (items plan) addr (get_or before.flash addr 0) (get_or after.flash addr 0)
+    → IsMadeByImages (items plan) addr (get_or before.flash addr 0) (get_or after.flash addr 0)
 done_made plan before after addr l done =
     search (rules, made)
 
 pub touched_made : (plan : Plan) (before after : Memories) (addr : ℕ) → addr < length before.flash
-    → IsTouched plan before after
-    → IsMade (page_writes plan) addr (get_or before.flash addr 0) (get_or after.flash addr 0)
+    → HasFirstOperations plan before after
+    → IsMadeByImages (write_operations plan) addr (get_or before.flash addr 0) (get_or after.flash addr 0)
 touched_made plan before after addr l touched =
-    let m : IsMade (take touched.count (page_writes plan)) addr (get_or before.flash addr 0)
+    let m : IsMadeByImages (take touched.count (write_operations plan)) addr (get_or before.flash addr 0)
     (get_or after.flash addr 0) =
-    subst (λ (n : Memories). IsMade (take touched.count (page_writes plan)) addr (get_or before.flash addr 0)
+    subst (λ (n : Memories). IsMadeByImages (take touched.count (write_operations plan)) addr (get_or before.flash addr 0)
     (get_or n.flash addr 0)) (sym touched.memories)
-    (made plan.part addr (take touched.count (page_writes plan)) before l) in
-    let first_is : (m.first ≡ get_or before.flash addr 0) ⊎ ((m.first ≡ 255) × (has_erase (page_writes plan) ≡ true)) =
+    (made plan.part addr (take touched.count (write_operations plan)) before l) in
+    let first_is : (m.first ≡ get_or before.flash addr 0) ⊎ ((m.first ≡ 255) × (has_erase (write_operations plan) ≡ true)) =
     elim m.first_is [
       | inl same ↦ inl same
-      | inr blank ↦ inr (blank.0, erase_of touched.count (page_writes plan) blank.1)
+      | inr blank ↦ inr (blank.0, erase_of touched.count (write_operations plan) blank.1)
     ] in search (rules, all_there)

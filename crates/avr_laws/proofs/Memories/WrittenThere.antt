@@ -11,11 +11,11 @@ use Rattle.stk_emu.specs.Effect.{Image, Item, Erase, Write, Memories, with_image
 use Rattle.stk_emu.specs.Given.{HoldsImage}
 use Rattle.avr_laws.proofs.Memories.Bytes.{and_from_blank, laid_holds}
 use Rattle.stk_emu.proofs.Memories.LaidImages.{length-and_in, get_and_in}
-use Rattle.avr_tool.proofs.PageWrites.Pages.{effects_on}
-use Rattle.avr_tool.specs.Agrees.{Shows}
+use Rattle.avr_tool.proofs.WriteOperations.Pages.{effects_on}
+use Rattle.avr_tool.specs.ComparisonsAgree.{MemoryHoldsImage}
 use Rattle.avr_tool.specs.Items.{has_erase}
-use Rattle.avr_laws.specs.WrittenBytes.{LeaveFree, IsErasedFor, IsTaken}
-use Rattle.avr_tool.proofs.PageWrites.EachMemory.{same_memory, size_stays, others_stay}
+use Rattle.avr_laws.specs.WrittenBytes.{LeaveUnwritten, IsErasedFor, WriteTakesEffect}
+use Rattle.avr_tool.proofs.WriteOperations.EachMemory.{same_memory, size_stays, others_stay}
 use Rattle.avr_tool.proofs.Memories.LaidImages.{write_keeps}
 
 -- ---- an erased place stays blank until an image has a byte for it
@@ -30,7 +30,7 @@ module _ (part : Part) (mem : Mem) (addr : ℕ)
   abbrev IsInside : Memories → Type 0
   IsInside m = addr < length (memory_in part mem m)
 
-  stays_blank : (xs : List Item) (m : Memories) → IsInside m → LeaveFree xs mem addr → held m ≡ 255
+  stays_blank : (xs : List Item) (m : Memories) → IsInside m → LeaveUnwritten xs mem addr → held m ≡ 255
       → held (effects part xs m) ≡ 255
   stays_blank [] m inside free blank = blank
   stays_blank (Erase ∷ xs) m inside free blank =
@@ -39,7 +39,7 @@ module _ (part : Part) (mem : Mem) (addr : ℕ)
       stays_blank xs (write_effect other image m) (omega (arith, inside, size_stays part other mem image m)) free.1
       ((search (rules, cases_Bool, same_memory, write_keeps, eqb-true, others_stay)) ∙ blank)
 
-  pub erased_is_blank : (xs : List Item) (m : Memories) → IsInside m → LeaveFree xs mem addr → has_erase xs ≡ true
+  pub erased_is_blank : (xs : List Item) (m : Memories) → IsInside m → LeaveUnwritten xs mem addr → has_erase xs ≡ true
       → held (effects part xs m) ≡ 255
   erased_is_blank [] m inside free has = absurd (true≢false (sym has))
   erased_is_blank (Erase ∷ xs) m inside free has = search (rules, stays_blank)
@@ -89,10 +89,10 @@ module _ (part : Part) (image : Image) (first : List Item) (before : Memories) (
   lock_blank erased b is = erased_is_blank part Lock 0 (λ m inside. refl) (λ m. refl) first before (omega arith)
       (erased.1 0 b is) erased.0
 
-  there : (mem : Mem) → IsTaken mem image first mid → Shows part mem image (write_effect mem image mid)
+  there : (mem : Mem) → WriteTakesEffect mem image first mid → MemoryHoldsImage part mem image (write_effect mem image mid)
   there mem taken = search (rules, flash_there, flash_blank, eeprom_there, true≢false, anded_blank, lock_blank)
 
 pub written_there : (part : Part) (before now : Memories) (mem : Mem) (image : Image) (first : List Item)
     → HoldsBytes image → now ≡ effects part (first ++ Write mem image ∷ []) before
-    → IsTaken mem image first (effects part first before) → Shows part mem image now
+    → WriteTakesEffect mem image first (effects part first before) → MemoryHoldsImage part mem image now
 written_there part before now mem image first bytes is taken = search (rules, effects_on, there)

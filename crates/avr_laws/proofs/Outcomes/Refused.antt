@@ -1,8 +1,8 @@
 -- Outcomes that no run over a wire has.
 use Rattle.std.proofs.Common.{◌≡◌, ◌<◌, ◌*◌, ℕ, List, [], ◌++◌, map, ap, sym, ◌∙◌, subst, refl, arith, Option, Some, rules}
-use Rattle.avr_desk.specs.Record.{DeskState, Passes}
+use Rattle.avr_desk.specs.Record.{DeskState, ChangesRecord}
 use Rattle.avr_desk.specs.declared.record.Opening.{Opening}
-use Rattle.avr_desk.specs.Said.{after_all}
+use Rattle.avr_desk.specs.OutputEvents.{after_events}
 use Rattle.avr_plan.specs.Plan.{Plan}
 use Rattle.avr_session.specs.Runs.{devices}
 use Rattle.avr_session.specs.Session.{session}
@@ -10,60 +10,60 @@ use Rattle.avr_session.specs.Stopping.{link_state}
 use Rattle.stk_frame.specs.Cut.{body_of, frames}
 use Rattle.stk_host.specs.Dialog.{bytes_sent, outputs}
 use Rattle.stk_host.specs.Operations.{handshake, opening, closing, operation}
-use Rattle.stk_host.specs.Steps.{exchange, attempt, tries, play}
+use Rattle.stk_host.specs.Steps.{exchange, attempt, attempts_or_fault, play}
 use Rattle.stk_host.specs.Transcript.{Transcript, sent, heard}
 use Rattle.stk_host.specs.Tape.{answer, on_tape}
 use Rattle.stk_emu.specs.Effect.{effects}
 use Rattle.stk_emu.specs.Wired.{WiredState}
-use Rattle.avr_tool.specs.AnyLine.{OverAnyLine, Weight, weighed, bodies_in, memories}
+use Rattle.avr_tool.specs.OverFaultyLink.{SessionOverWire, Weight, total_weight, bodies_in, memories}
 use Rattle.avr_session.specs.PlanSteps.{run_steps}
 use Rattle.avr_tool.specs.ExpectedRun.{expected_run}
 use Rattle.avr_tool.specs.Items.{items}
 use Rattle.avr_laws.proofs.AnyWire.{came_to, untouched}
 use Rattle.avr_tool.specs.Headline.{run, IsRun}
-use Rattle.avr_laws.specs.Worked.{worked_settings, worked_answers, frames_due, lines_due}
+use Rattle.avr_laws.specs.Worked.{worked_settings, worked_replies, worked_frames, worked_lines}
 
 some_is : {A : Type 0} (a b : A) → ◌≡◌ {A = Option A} (Some a) (Some b) → a ≡ b
 some_is a b e = cc
 
 pub too_much : (plan : Plan) (w v : WiredState) (d e : DeskState) (status : ℕ) (weight : Weight)
-    → 4 * weighed weight (bodies_in (run_steps plan)) < weighed weight (map body_of (frames (sent v.transcript)))
-    → OverAnyLine plan w v d e status → ⊥
+    → 4 * total_weight weight (bodies_in (run_steps plan)) < total_weight weight (map body_of (frames (sent v.transcript)))
+    → SessionOverWire plan w v d e status → ⊥
 too_much plan w v d e status weight more over = let most = over.line.four weight in absurd (omega (arith, more, most))
 
 pub not_all_written : (plan : Plan) (w v : WiredState) (d e : DeskState)
-    → (memories v ≡ effects plan.part (items plan) (memories w) → ⊥) → OverAnyLine plan w v d e 0 → ⊥
+    → (memories v ≡ effects plan.part (items plan) (memories w) → ⊥) → SessionOverWire plan w v d e 0 → ⊥
 not_all_written plan w v d e other over = other ((came_to plan w v d e 0 over refl).0.done refl).memories
 
-pub said_otherwise : (plan : Plan) (w v : WiredState) (d e : DeskState)
-    → (Passes (after_all (expected_run plan (memories w)).says) d e → ⊥) → OverAnyLine plan w v d e 0 → ⊥
-said_otherwise plan w v d e other over = search rules
+pub output_otherwise : (plan : Plan) (w v : WiredState) (d e : DeskState)
+    → (ChangesRecord (after_events (expected_run plan (memories w)).emits) d e → ⊥) → SessionOverWire plan w v d e 0 → ⊥
+output_otherwise plan w v d e other over = search rules
 
 pub touched_in_silence : (plan : Plan) (w v : WiredState) (d e : DeskState) (status : ℕ)
     → frames (sent v.transcript) ≡ []
-    → (memories v ≡ memories w → ⊥) → OverAnyLine plan w v d e status → ⊥
+    → (memories v ≡ memories w → ⊥) → SessionOverWire plan w v d e status → ⊥
 touched_in_silence plan w v d e status none other over = other (untouched plan w v d e status over none)
 
 -- ---- the worked run
 
-pub answered_due : (openings : List Opening) → (run worked_settings openings worked_answers).outcome ≡ Some (0, 7, [])
-unfolding session opening handshake operation closing play tries attempt exchange answer
+pub answered_due : (openings : List Opening) → (run worked_settings openings worked_replies).outcome ≡ Some (0, 7, [])
+unfolding session opening handshake operation closing play attempts_or_fault attempt exchange answer
 answered_due openings = refl
 
-pub sent_due : (openings : List Opening) → bytes_sent (run worked_settings openings worked_answers).events ≡ frames_due
-unfolding session opening handshake operation closing play tries attempt exchange answer
+pub sent_due : (openings : List Opening) → bytes_sent (run worked_settings openings worked_replies).events ≡ worked_frames
+unfolding session opening handshake operation closing play attempts_or_fault attempt exchange answer
 sent_due openings = refl
 
-pub said_due : (openings : List Opening) → outputs (run worked_settings openings worked_answers).events ≡ lines_due
-unfolding session opening handshake operation closing play tries attempt exchange answer
+pub said_due : (openings : List Opening) → outputs (run worked_settings openings worked_replies).events ≡ worked_lines
+unfolding session opening handshake operation closing play attempts_or_fault attempt exchange answer
 said_due openings = refl
 
-module _ (transcript : Transcript) (a b : ℕ) (d e : DeskState) (status : ℕ) (all : heard transcript ≡ worked_answers)
+module _ (transcript : Transcript) (a b : ℕ) (d e : DeskState) (status : ℕ) (all : heard transcript ≡ worked_replies)
     (x : IsRun worked_settings (devices (link_state [] a) d) (devices (link_state transcript b) e) status) where
   passed : x.during ≡ transcript
   passed = sym x.grows
 
-  played_over : run worked_settings (x.openings ++ []) (worked_answers ++ [])
+  played_over : run worked_settings (x.openings ++ []) (worked_replies ++ [])
       ≡ record { events = x.events; outcome = Some (status, x.next, on_tape x.left ++ []) }
   played_over = subst (λ tape. run worked_settings (x.openings ++ []) (tape ++ [])
       ≡ record { events = x.events; outcome = Some (status, x.next, on_tape x.left ++ []) }) (ap heard passed ∙ all)
@@ -73,14 +73,14 @@ module _ (transcript : Transcript) (a b : ℕ) (d e : DeskState) (status : ℕ) 
   worked_status = ap (λ z. z.0) (some_is (status, x.next, on_tape x.left ++ []) (0, 7, [])
       (sym (ap (λ p. p.outcome) played_over) ∙ answered_due (x.openings ++ [])))
 
-  pub worked_sent : sent transcript ≡ frames_due
+  pub worked_sent : sent transcript ≡ worked_frames
   worked_sent = ap sent (sym passed) ∙ (sym x.all_sent
       ∙ (sym (ap (λ p. bytes_sent p.events) played_over) ∙ sent_due (x.openings ++ [])))
 
-  worked_said : outputs x.events ≡ lines_due
+  worked_said : outputs x.events ≡ worked_lines
   worked_said = sym (ap (λ p. outputs p.events) played_over) ∙ said_due (x.openings ++ [])
 
-pub another_status : (transcript : Transcript) (a b : ℕ) (d e : DeskState) → heard transcript ≡ worked_answers
+pub another_status : (transcript : Transcript) (a b : ℕ) (d e : DeskState) → heard transcript ≡ worked_replies
     → IsRun worked_settings (devices (link_state [] a) d) (devices (link_state transcript b) e) 1 → ⊥
 another_status transcript a b d e all x = absurd (one_no (worked_status transcript a b d e 1 all x))
   where
@@ -88,14 +88,14 @@ another_status transcript a b d e all x = absurd (one_no (worked_status transcri
     one_no e = cc
 
 pub another_frame : (transcript : Transcript) (a b : ℕ) (d e : DeskState) (status : ℕ)
-    → heard transcript ≡ worked_answers
-    → (sent transcript ≡ frames_due → ⊥) → IsRun worked_settings (devices (link_state [] a) d)
+    → heard transcript ≡ worked_replies
+    → (sent transcript ≡ worked_frames → ⊥) → IsRun worked_settings (devices (link_state [] a) d)
     (devices (link_state transcript b) e)
     status → ⊥
 another_frame transcript a b d e status all other x = other (worked_sent transcript a b d e status all x)
 
 pub another_line : (transcript : Transcript) (a b : ℕ) (d e : DeskState) (status : ℕ)
-    → heard transcript ≡ worked_answers
-    → (Passes (after_all lines_due) d e → ⊥)
+    → heard transcript ≡ worked_replies
+    → (ChangesRecord (after_events worked_lines) d e → ⊥)
     → IsRun worked_settings (devices (link_state [] a) d) (devices (link_state transcript b) e) status → ⊥
 another_line transcript a b d e status all other x = search (rules, worked_said, x.kept)

@@ -7,35 +7,35 @@ use Rattle.avr_cli.specs.declared.settings.Switches.{Switches}
 use Rattle.avr_desk.proofs.FileUses.Uses.{files_absent, files_opened, files_used}
 use Rattle.avr_desk.proofs.Stages.Outputs.{after_append}
 use Rattle.avr_desk.specs.Named.{is_dash}
-use Rattle.avr_desk.specs.Record.{Bytes, DeskState, Passes, Record, all_files}
-use Rattle.avr_desk.specs.Said.{OutputEvent, Opens, Line, Creates, Writes, Outs, after_all}
+use Rattle.avr_desk.specs.Record.{Bytes, DeskState, ChangesRecord, Record, all_files}
+use Rattle.avr_desk.specs.OutputEvents.{OutputEvent, Opens, PrintsLine, CreatesFile, WritesFile, WritesOutput, after_events}
 use Rattle.avr_desk.specs.declared.record.Open.TheVariants.{ToRead}
 use Rattle.avr_desk.specs.declared.record.Opening.{Opening}
 use Rattle.avr_desk.specs.declared.record.Opening.TheVariants.{Absent, Found}
 use Rattle.avr_desk.specs.declared.record.Writing.{Writing}
 use Rattle.avr_part.specs.Part.{Part}
 use Rattle.avr_plan.specs.Plan.{Plan}
-use Rattle.avr_session.specs.Actions.{TheErase, TheWrite, Action, OpenSession, EraseChip, WriteImage, CompareImage, SaveMemory, LeaveOut, actions}
+use Rattle.avr_session.specs.Actions.{SkippedErase, SkippedWrite, Action, OpenSession, EraseChip, WriteImage, CompareImage, SaveMemory, SkipAction, actions}
 use Rattle.avr_session.specs.Lines.{informs, warns}
-use Rattle.avr_session.specs.Session.{fault_or, saving_says, status_of}
-use Rattle.avr_session.specs.Standing.{Standing, Fine, Faulty, Over}
+use Rattle.avr_session.specs.Session.{fault_line_or, saving_output, status_of}
+use Rattle.avr_session.specs.Standing.{Standing, NoFault, Faulty, Over}
 use Rattle.stk_host.specs.declared.fault.HostFault.{HostFault}
 use Rattle.stk_emu.specs.Effect.{Memories, effects}
 use Rattle.avr_tool.specs.ExpectedRun.{Expected, action_expected, actions_expected, ending_says, expected_run, then_from}
 use Rattle.avr_tool.specs.Items.{action_items}
-use Rattle.avr_laws.specs.Kept.{AreSaved, action_files, actions_files, named_files, put_out, saved_files}
+use Rattle.avr_laws.specs.Kept.{FilesAreSaved, action_files, actions_files, named_files, dash_output, saved_files}
 use Rattle.avr_laws.specs.OnlyReading.{OnlyReads}
 
 -- ---- what is done at a desk writes these files
 
-pub record WritesFiles (says : List OutputEvent) (files : List Writing) : Type 0 where
-  pub created : (r : Record) → all_files (after_all says r) ≡ all_files r ++ named_files files
-  pub output : (r : Record) → (after_all says r).output ≡ r.output ++ put_out files
+pub record WritesFiles (emits : List OutputEvent) (files : List Writing) : Type 0 where
+  pub created : (r : Record) → all_files (after_events emits r) ≡ all_files r ++ named_files files
+  pub output : (r : Record) → (after_events emits r).output ≡ r.output ++ dash_output files
 
 named_joined : (fs gs : List Writing) → named_files (fs ++ gs) ≡ named_files fs ++ named_files gs
 named_joined fs gs = filter-append (λ (file : Writing). not (is_dash file.name)) fs gs
 
-put_joined : (fs gs : List Writing) → put_out (fs ++ gs) ≡ put_out fs ++ put_out gs
+put_joined : (fs gs : List Writing) → dash_output (fs ++ gs) ≡ dash_output fs ++ dash_output gs
 put_joined [] gs = refl
 put_joined (f ∷ fs) gs = search (rules, cases_Bool, append_assoc, put_joined fs gs)
 
@@ -44,20 +44,20 @@ none = record { created = λ r. sym (append-nil (all_files r)); output = λ r. s
 
 pub both : (a b : List OutputEvent) (fs gs : List Writing) → WritesFiles a fs → WritesFiles b gs → WritesFiles (a ++ b) (fs ++ gs)
 both a b fs gs first second = record {
-  created = λ r. ap all_files (after_append a b r) ∙ (second.created (after_all a r)
+  created = λ r. ap all_files (after_append a b r) ∙ (second.created (after_events a r)
       ∙ (ap (λ (files : List Writing). files ++ named_files gs) (first.created r)
       ∙ (append_assoc (all_files r) (named_files fs) (named_files gs)
       ∙ ap (λ (files : List Writing). all_files r ++ files) (sym (named_joined fs gs)))));
-  output = λ r. ap (λ (r : Record). r.output) (after_append a b r) ∙ (second.output (after_all a r)
-      ∙ (ap (λ (bytes : Bytes). bytes ++ put_out gs) (first.output r)
-      ∙ (append_assoc r.output (put_out fs) (put_out gs)
+  output = λ r. ap (λ (r : Record). r.output) (after_append a b r) ∙ (second.output (after_events a r)
+      ∙ (ap (λ (bytes : Bytes). bytes ++ dash_output gs) (first.output r)
+      ∙ (append_assoc r.output (dash_output fs) (dash_output gs)
       ∙ ap (λ (bytes : Bytes). r.output ++ bytes) (sym (put_joined fs gs)))));
 }
 
-line : (bytes : Bytes) → WritesFiles (Line bytes ∷ []) []
+line : (bytes : Bytes) → WritesFiles (PrintsLine bytes ∷ []) []
 line bytes = record { created = λ r. sym (append-nil (all_files r)); output = λ r. sym (append-nil r.output) }
 
-if_line : (b : Bool) (bytes : Bytes) → WritesFiles (if b then [] else Line bytes ∷ []) []
+if_line : (b : Bool) (bytes : Bytes) → WritesFiles (if b then [] else PrintsLine bytes ∷ []) []
 if_line true bytes = none
 if_line false bytes = line bytes
 
@@ -69,18 +69,18 @@ opened (Absent name) = record {
 opened (Found reading) = record { created = λ r. files_opened (ToRead reading) r; output = λ r. sym (append-nil r.output) }
 
 saved_as : (b : Bool) (file text : Bytes) → is_dash file ≡ b
-    → WritesFiles (if b then Outs text ∷ [] else Creates file ∷ Writes text ∷ []) (record { name = file; bytes = text } ∷ [])
+    → WritesFiles (if b then WritesOutput text ∷ [] else CreatesFile file ∷ WritesFile text ∷ []) (record { name = file; bytes = text } ∷ [])
 saved_as true file text is = record { created = λ r. search (rules, is, append-nil); output = λ r. search (rules, is, append-nil) }
 saved_as false file text is =
     record { created = λ r. search (rules, is, files_used); output = λ r. search (rules, is, append-nil) }
 
 -- ---- planning writes none
 
-pub reading_writes : (says : List OutputEvent) → OnlyReads says → WritesFiles says []
+pub reading_writes : (emits : List OutputEvent) → OnlyReads emits → WritesFiles emits []
 reading_writes [] reads = none
-reading_writes (Opens opening ∷ says) reads = both (Opens opening ∷ []) says [] [] (opened opening) (reading_writes says reads)
-reading_writes (Line bytes ∷ says) reads = both (Line bytes ∷ []) says [] [] (line bytes) (reading_writes says reads)
-reading_writes (output ∷ says) reads = absurd reads
+reading_writes (Opens opening ∷ emits) reads = both (Opens opening ∷ []) emits [] [] (opened opening) (reading_writes emits reads)
+reading_writes (PrintsLine bytes ∷ emits) reads = both (PrintsLine bytes ∷ []) emits [] [] (line bytes) (reading_writes emits reads)
+reading_writes (output ∷ emits) reads = absurd reads
 
 -- ---- the actions of the expected run
 
@@ -91,30 +91,30 @@ warned : (quiet : ℕ) (pieces : List Bytes) → WritesFiles (warns quiet pieces
 warned quiet pieces = if_line _ _
 
 saved_then : (file text : Bytes) (quiet : ℕ) (pieces : List Bytes)
-    → WritesFiles (saving_says file text ++ informs quiet pieces) (record { name = file; bytes = text } ∷ [])
+    → WritesFiles (saving_output file text ++ informs quiet pieces) (record { name = file; bytes = text } ∷ [])
 saved_then file text quiet pieces =
-    both (saving_says file text) (informs quiet pieces) (record { name = file; bytes = text } ∷ []) []
+    both (saving_output file text) (informs quiet pieces) (record { name = file; bytes = text } ∷ []) []
     (saved_as (is_dash file) file text refl) (informed quiet pieces)
 
 -- of an outcome without files
 told : {A : Type 0} (part : Part) (good : A → List OutputEvent) (outcome : Result A HostFault)
-    → ((a : A) → WritesFiles (good a) []) → WritesFiles (fault_or part good outcome) []
+    → ((a : A) → WritesFiles (good a) []) → WritesFiles (fault_line_or part good outcome) []
 told part good (Ok a) each = each a
 told part good (Err fault) each = line _
 
-same_signature : (b : Bool) (says : List OutputEvent) → WritesFiles says [] → WritesFiles (if b then [] else says) []
-same_signature true says writes = none
-same_signature false says writes = writes
+same_signature : (b : Bool) (emits : List OutputEvent) → WritesFiles emits [] → WritesFiles (if b then [] else emits) []
+same_signature true emits writes = none
+same_signature false emits writes = writes
 
 module _ (part : Part) (s : Switches) where
-  of_action : (action : Action) (m : Memories) → WritesFiles (action_expected part s action m).says (action_files part s action m)
+  of_action : (action : Action) (m : Memories) → WritesFiles (action_expected part s action m).emits (action_files part s action m)
   of_action OpenSession m = search (rules, both, informed, warned, same_signature)
   of_action EraseChip m = search (rules, informed)
   of_action (WriteImage mem image) m = search (rules, informed)
   of_action (CompareImage mem image) m = search (rules, told, informed)
   of_action (SaveMemory mem format file) m = search (rules, saved_then)
-  of_action (LeaveOut TheErase) m = search (rules, warned)
-  of_action (LeaveOut (TheWrite mem image)) m = search (rules, informed)
+  of_action (SkipAction SkippedErase) m = search (rules, warned)
+  of_action (SkipAction (SkippedWrite mem image)) m = search (rules, informed)
 
   leaves : (action : Action) (m : Memories)
       → (action_expected part s action m).memories ≡ effects part (action_items action) m
@@ -123,48 +123,48 @@ module _ (part : Part) (s : Switches) where
   leaves (WriteImage mem image) m = refl
   leaves (CompareImage mem image) m = refl
   leaves (SaveMemory mem format file) m = refl
-  leaves (LeaveOut what) m = refl
+  leaves (SkipAction what) m = refl
 
   in_turn : (first : Expected) (standing : Standing) (next : Memories → Expected) (fs gs : List Writing)
-      → first.standing ≡ standing → WritesFiles first.says fs
-      → ((next first.memories).standing ≡ Fine → WritesFiles (next first.memories).says gs)
-      → (then_from first standing next).standing ≡ Fine → WritesFiles (then_from first standing next).says (fs ++ gs)
-  in_turn first Fine next fs gs is one more fine = both _ _ fs gs one (more fine)
+      → first.standing ≡ standing → WritesFiles first.emits fs
+      → ((next first.memories).standing ≡ NoFault → WritesFiles (next first.memories).emits gs)
+      → (then_from first standing next).standing ≡ NoFault → WritesFiles (then_from first standing next).emits (fs ++ gs)
+  in_turn first NoFault next fs gs is one more fine = both _ _ fs gs one (more fine)
   in_turn first Faulty next fs gs is one more fine = absurd (cc (sym is ∙ fine))
   in_turn first Over next fs gs is one more fine = absurd (cc (sym is ∙ fine))
 
-  of_actions : (all : List Action) (m : Memories) → (actions_expected part s all m).standing ≡ Fine
-      → WritesFiles (actions_expected part s all m).says (actions_files part s all m)
+  of_actions : (all : List Action) (m : Memories) → (actions_expected part s all m).standing ≡ NoFault
+      → WritesFiles (actions_expected part s all m).emits (actions_files part s all m)
   of_actions [] m fine = none
   of_actions (action ∷ all) m fine =
       let first = action_expected part s action m in
       in_turn first first.standing (actions_expected part s all) (action_files part s action m)
       (actions_files part s all (effects part (action_items action) m)) refl (of_action action m)
-      (subst (λ (n : Memories). (actions_expected part s all n).standing ≡ Fine
-      → WritesFiles (actions_expected part s all n).says (actions_files part s all (effects part (action_items action) m)))
+      (subst (λ (n : Memories). (actions_expected part s all n).standing ≡ NoFault
+      → WritesFiles (actions_expected part s all n).emits (actions_files part s all (effects part (action_items action) m)))
       (sym (leaves action m)) (of_actions all (effects part (action_items action) m))) fine
 
-fine_by : (standing : Standing) → status_of standing ≡ 0 → standing ≡ Fine
-fine_by Fine is = refl
+fine_by : (standing : Standing) → status_of standing ≡ 0 → standing ≡ NoFault
+fine_by NoFault is = refl
 fine_by Faulty is = absurd (cc is)
 fine_by Over is = absurd (cc is)
 
 pub expected_writes : (plan : Plan) (m : Memories) → (expected_run plan m).status ≡ 0
-    → WritesFiles (expected_run plan m).says (saved_files plan m)
+    → WritesFiles (expected_run plan m).emits (saved_files plan m)
 expected_writes plan m zero =
     let working = actions_expected plan.part plan.switches (actions plan) m in
-    let fine : working.standing ≡ Fine = fine_by working.standing zero in
-    subst (λ (files : List Writing). WritesFiles (expected_run plan m).says files) (append-nil (saved_files plan m))
-    (both working.says (ending_says plan working.standing) (saved_files plan m) []
+    let fine : working.standing ≡ NoFault = fine_by working.standing zero in
+    subst (λ (files : List Writing). WritesFiles (expected_run plan m).emits files) (append-nil (saved_files plan m))
+    (both working.emits (ending_says plan working.standing) (saved_files plan m) []
     (of_actions plan.part plan.switches (actions plan) m fine)
     (subst (λ (standing : Standing). WritesFiles (ending_says plan standing) []) (sym fine)
     (informed plan.switches.quiet (codes "done" ∷ []))))
 
 -- ---- a whole run
 
-pub these_saved : (says : List OutputEvent) (files : List Writing) (old now : DeskState) → WritesFiles says files
-    → Passes (after_all says) old now → AreSaved files old now
-these_saved says files old now writes passes = record {
+pub these_saved : (emits : List OutputEvent) (files : List Writing) (old now : DeskState) → WritesFiles emits files
+    → ChangesRecord (after_events emits) old now → FilesAreSaved files old now
+these_saved emits files old now writes passes = record {
   created = ap all_files passes ∙ writes.created old.kept;
   output = ap (λ (r : Record). r.output) passes ∙ writes.output old.kept;
 }

@@ -8,55 +8,55 @@ use Rattle.avr_session.specs.Session.{session}
 use Rattle.stk_emu.specs.Device.{device}
 use Rattle.stk_emu.specs.Effect.{Memories, effects, erase_keeps_eeprom, memories_of}
 use Rattle.stk_emu.specs.Programmer.{Programmer}
-use Rattle.stk_emu.specs.Turn.{Became}
+use Rattle.stk_emu.specs.Exchange.{Execution}
 use Rattle.stk_frame.specs.Cut.{frames}
 use Rattle.stk_host.specs.Dialog.{bytes_sent, played}
-use Rattle.stk_host.specs.Play.{IsPrefixOf}
+use Rattle.stk_host.specs.Play.{IsBytePrefixOf}
 use Rattle.stk_host.specs.Transcript.{Transcript, heard, sent}
-use Rattle.avr_tool.specs.Agrees.{Shows}
+use Rattle.avr_tool.specs.ComparisonsAgree.{MemoryHoldsImage}
 use Rattle.avr_tool.specs.Items.{asked_items, has_erase, items}
 use Rattle.avr_tool.specs.Outcome.{IsDone}
 use Rattle.avr_tool.specs.Written.{written_to}
-use Rattle.avr_tool.proofs.OverTurns.{its_part, its_sizes}
-use Rattle.avr_laws.specs.Again.{AreKeeping}
-use Rattle.avr_laws.specs.AnyLink.{ReportsOverTurns}
-use Rattle.avr_laws.specs.AnyTape.{CameThrough, after_bytes, turns_heard}
+use Rattle.avr_tool.proofs.OverExchanges.{its_part, its_sizes}
+use Rattle.avr_laws.specs.Again.{ItemsKeepEeprom}
+use Rattle.avr_laws.specs.AnyLink.{ReportsOverExchanges}
+use Rattle.avr_laws.specs.AnyTape.{ReceivedSentFrames, after_received_bytes, turns_heard}
 use Rattle.avr_laws.specs.Kept.{IsKept, Keeps, NoneForged}
-use Rattle.avr_laws.specs.NoFrame.{MakesNoFrame}
+use Rattle.avr_laws.specs.NoForgedFrame.{ForgesNoFrame}
 use Rattle.avr_laws.proofs.AnyLink.{end_bytes}
 use Rattle.avr_laws.proofs.SecondRun.Status.{done_again}
 
 module _ (plan : Plan) (first second : Transcript) (old now : DeskState) (p q : Programmer)
     (fitted : All (IsFitted plan.part) plan.tasks) (sound : IsSoundChip p.chip) (part_is : p.chip.part ≡ plan.part)
     (keeping : has_erase (items plan) ≡ true → erase_keeps_eeprom plan.part (memories_of p.chip) ≡ true
-    → AreKeeping plan.part (items plan)) where
+    → ItemsKeepEeprom plan.part (items plan)) where
   -- the memories that the first run left
-  module _ (got : List ℕ) (later : List (List ℕ)) (becames : List Became)
-      (prefix : IsPrefixOf (sent first) (bytes_sent (played (session plan) 1 (heard first)).events))
-      (came : CameThrough got later (frames (sent first)) becames)
-      (none : MakesNoFrame device (session plan) 1 (heard first) p becames []) where
-    ended : ReportsOverTurns plan p (after_bytes device got later p)
-        (turns_heard (session plan) 1 (heard first) becames) (sent first)
+  module _ (got : List ℕ) (later : List (List ℕ)) (executions : List Execution)
+      (prefix : IsBytePrefixOf (sent first) (bytes_sent (played (session plan) 1 (heard first)).events))
+      (came : ReceivedSentFrames got later (frames (sent first)) executions)
+      (none : ForgesNoFrame device (session plan) 1 (heard first) p executions []) where
+    ended : ReportsOverExchanges plan p (after_received_bytes device got later p)
+        (turns_heard (session plan) 1 (heard first) executions) (sent first)
         (played (session plan) 1 (heard first)).events
-    ended = end_bytes plan p sound part_is fitted got (sent first) later becames (heard first) came none prefix
+    ended = end_bytes plan p sound part_is fitted got (sent first) later executions (heard first) came none prefix
 
-    module _ (over : List ℕ) (more : List (List ℕ)) (others : List Became) (sound_then : IsSoundChip q.chip)
+    module _ (over : List ℕ) (more : List (List ℕ)) (others : List Execution) (sound_then : IsSoundChip q.chip)
         (part_then : q.chip.part ≡ plan.part)
-        (left : memories_of q.chip ≡ memories_of (after_bytes device got later p).chip)
-        (kept : IsKept plan second old now) (came_then : CameThrough over more (frames (sent second)) others)
+        (left : memories_of q.chip ≡ memories_of (after_received_bytes device got later p).chip)
+        (kept : IsKept plan second old now) (came_then : ReceivedSentFrames over more (frames (sent second)) others)
         (none_then : NoneForged device (frames (sent second)) (heard second) q others []) where
-      keeps : Keeps plan (memories_of q.chip) (memories_of (after_bytes device over more q).chip) old now
+      keeps : Keeps plan (memories_of q.chip) (memories_of (after_received_bytes device over more q).chip) old now
       keeps = kept q over more others sound_then part_then came_then none_then
 
-      pub as_one : memories_of (after_bytes device over more q).chip
+      pub as_one : memories_of (after_received_bytes device over more q).chip
           ≡ effects plan.part (items plan) (memories_of p.chip)
-      as_one = done_again plan (memories_of p.chip) (memories_of (after_bytes device got later p).chip)
-          (memories_of (after_bytes device over more q).chip) (its_part plan p sound part_is fitted) fitted
+      as_one = done_again plan (memories_of p.chip) (memories_of (after_received_bytes device got later p).chip)
+          (memories_of (after_received_bytes device over more q).chip) (its_part plan p sound part_is fitted) fitted
           (its_sizes plan p sound part_is fitted) keeping
-          (record { count = ended.leaves.page_writes.count; memories = ended.leaves.page_writes.memories })
-          (subst (λ (m : Memories). IsDone plan m (memories_of (after_bytes device over more q).chip)) left keeps.done)
+          (record { count = ended.leaves.write_operations.count; memories = ended.leaves.write_operations.memories })
+          (subst (λ (m : Memories). IsDone plan m (memories_of (after_received_bytes device over more q).chip)) left keeps.done)
 
       pub images_there : plan.switches.no_verify ≡ false → (mem : Mem)
-          → Shows plan.part mem (written_to plan.part mem (asked_items plan))
-          (memories_of (after_bytes device over more q).chip)
+          → MemoryHoldsImage plan.part mem (written_to plan.part mem (asked_items plan))
+          (memories_of (after_received_bytes device over more q).chip)
       images_there verified mem = (keeps.images verified).images mem

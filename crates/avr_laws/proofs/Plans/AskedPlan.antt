@@ -11,8 +11,8 @@ use Rattle.avr_cli.specs.declared.update.Op.{Op}
 use Rattle.avr_cli.specs.declared.update.Op.TheVariants as op
 use Rattle.avr_cli.specs.declared.update.Update.{Update}
 use Rattle.avr_desk.specs.Record.{Bytes}
-use Rattle.avr_desk.specs.Said.{OutputEvent, Opens}
-use Rattle.avr_desk.specs.Stage.{Stage, Made, ◌>>=◌, verdict_stage, output_stage, file_stage}
+use Rattle.avr_desk.specs.OutputEvents.{OutputEvent, Opens}
+use Rattle.avr_desk.specs.Stage.{Stage, Produced, ◌>>=◌, result_stage, output_stage, file_stage}
 use Rattle.avr_desk.specs.declared.record.Opening.{Opening}
 use Rattle.avr_desk.specs.declared.record.Opening.TheVariants.{Absent, Found}
 use Rattle.avr_part.specs.Mem.{is_writable}
@@ -22,23 +22,23 @@ use Rattle.avr_part.specs.declared.fault.PartFault.{PartFault}
 use Rattle.avr_part.specs.declared.part.Mem.{Mem}
 use Rattle.avr_records.specs.declared.kind.Ending.{Ending}
 use Rattle.avr_laws.proofs.Plans.Fitted.{Image, given, settled}
-use Rattle.avr_laws.specs.AskedPlan.{Giving, HasImage, IsTaskOf, AreTasksOf, ArePartsOf, IsAsked}
-use Rattle.avr_plan.specs.ImageFile.{image_within, kind_of, whole_file}
+use Rattle.avr_laws.specs.AskedPlan.{GivesText, HasImage, IsTaskOf, AreTasksOf, ArePartsOf, IsAsked}
+use Rattle.avr_plan.specs.ImageFile.{image_within, kind_of, image_of_file}
 use Rattle.avr_plan.specs.Plan.{Plan}
-use Rattle.avr_plan.specs.Planning.{planned, judged_parts, part_or_line, parts_stage, part_stage, tasks_stage, task_stage, op_stage, update_image, image_stage, file_image_stage, judged_image, warning_says}
+use Rattle.avr_plan.specs.Planning.{planned, checked_parts, part_or_line, parts_stage, part_stage, tasks_stage, task_stage, op_stage, update_image, image_stage, file_image_stage, checked_image, warning_events}
 use Rattle.avr_laws.proofs.Limits.{LARGEST_IMAGE_FILE, LARGEST_PART_FILE}
 use Rattle.avr_plan.specs.declared.planned.Task.{Task}
 use Rattle.avr_plan.specs.declared.planned.Task.TheVariants.{Write, Verify}
 
 -- ---- what whole openings gave
 
-module _ (Gives : Giving) where
+module _ (Gives : GivesText) where
   -- Each whole opening among these output events gave this.
   abbrev pub AreGiven : List OutputEvent → Type 0
   AreGiven [] = Unit {0}
-  AreGiven (Opens (Found reading) ∷ says) =
-      (reading.ended ≡ true → Gives reading.name reading.bytes) × AreGiven says
-  AreGiven (output ∷ says) = AreGiven says
+  AreGiven (Opens (Found reading) ∷ emits) =
+      (reading.ended ≡ true → Gives reading.name reading.bytes) × AreGiven emits
+  AreGiven (output ∷ emits) = AreGiven emits
 
   given_first : (first second : List OutputEvent) → AreGiven (first ++ second) → AreGiven first
   given_first [] second are = tt
@@ -55,12 +55,12 @@ module _ (Gives : Giving) where
   -- ---- what a stage made over openings that gave this
 
   record Saw {A : Type 0} (stage : Stage A) (openings : List Opening) (a : A) : Type 0 where
-    made : (stage openings).answer ≡ Made a
-    are : AreGiven (stage openings).says
+    made : (stage openings).stage_outcome ≡ Produced a
+    are : AreGiven (stage openings).emits
 
   saw_first : {A B : Type 0} (stage : Stage A) (go_on : A → Stage B) (openings : List Opening) (b : B)
       → Saw (stage >>= go_on) openings b
-      → (a : A) × (Saw stage openings a × Saw (go_on a) (stage openings).left b)
+      → (a : A) × (Saw stage openings a × Saw (go_on a) (stage openings).openings_left b)
   saw_first stage go_on openings b saw = search (rules, given_first, given_second)
 
   -- ---- a file
@@ -74,21 +74,21 @@ module _ (Gives : Giving) where
     file_saw : (openings : List Opening) (a : A) → Saw (file_stage name limit judge) openings a → IsOf name judge a
     file_saw openings a saw = search (rules, nat_tests, limited)
 
-  limited_parts : (name text : Bytes) (parts : List Part) → judged_parts name text ≡ Ok parts
+  limited_parts : (name text : Bytes) (parts : List Part) → checked_parts name text ≡ Ok parts
       → length text ≤ LARGEST_PART_FILE
   limited_parts name text parts is = search (rules, nat_tests)
 
   -- what an image's file is, within the limit
   abbrev IsWithin : Format → Bytes → ℕ → Image × Ending → Type 0
   IsWithin kind text size made =
-      (length text ≤ LARGEST_IMAGE_FILE) × (whole_file (kind_of kind text) text size ≡ Ok made)
+      (length text ≤ LARGEST_IMAGE_FILE) × (image_of_file (kind_of kind text) text size ≡ Ok made)
 
   within : (kind : Format) (text : Bytes) (size : ℕ) (made : Image × Ending)
       → image_within LARGEST_IMAGE_FILE kind text size ≡ Ok made → IsWithin kind text size made
   within kind text size made is = search (rules, nat_tests)
 
   within_judged : (name : Bytes) (kind : Format) (size : ℕ) (text : Bytes) (made : Image × Ending)
-      → judged_image name kind size text ≡ Ok made → IsWithin kind text size made
+      → checked_image name kind size text ≡ Ok made → IsWithin kind text size made
   within_judged name kind size text made is =
       within kind text size made (given name (image_within LARGEST_IMAGE_FILE kind text size) made is)
 
@@ -97,11 +97,11 @@ module _ (Gives : Giving) where
   file_image : (switches : Switches) (name : Bytes) (kind : Format) (size : ℕ) (openings : List Opening) (image : Image)
       → Saw (file_image_stage switches name kind size) openings image
       → (text : Bytes) × (ending : Ending) × Gives name text × (length text ≤ LARGEST_IMAGE_FILE)
-      × (whole_file (kind_of kind text) text size ≡ Ok (image, ending))
+      × (image_of_file (kind_of kind text) text size ≡ Ok (image, ending))
   file_image switches name kind size openings image saw =
-      let judge = judged_image name kind size in
+      let judge = checked_image name kind size in
       let first = saw_first (file_stage name LARGEST_IMAGE_FILE judge)
-      (λ (g : Image × Ending). output_stage (warning_says switches name g.1) >>= λ ok. verdict_stage (Ok g.0))
+      (λ (g : Image × Ending). output_stage (warning_events switches name g.1) >>= λ ok. result_stage (Ok g.0))
       openings image saw in
       let file = file_saw name LARGEST_IMAGE_FILE judge (λ text made is. (within_judged name kind size text made is).0)
       openings first.0 first.1.0 in
@@ -117,10 +117,10 @@ module _ (Gives : Giving) where
 
   module _ (switches : Switches) (part : Part) where
     imaged : (u : Update) (make : Image → Task) (openings : List Opening) (task : Task)
-        → Saw (update_image switches part u >>= λ made. verdict_stage (Ok (make made))) openings task
+        → Saw (update_image switches part u >>= λ made. result_stage (Ok (make made))) openings task
         → (made : Image) × (HasImage Gives u.file u.format (size_of u.memory part) made × (task ≡ make made))
     imaged u make openings task saw =
-        let first = saw_first (update_image switches part u) (λ made. verdict_stage (Ok (make made))) openings
+        let first = saw_first (update_image switches part u) (λ made. result_stage (Ok (make made))) openings
         task saw in
         let same : task ≡ make first.0 = cc in (
           first.0,
@@ -144,13 +144,13 @@ module _ (Gives : Giving) where
         → Saw (tasks_stage switches part before updates) openings made
         → (later : List Task) × ((made ≡ before ++ later) × AreTasksOf Gives part updates later)
     tasks before [] openings made saw =
-        let last : Made before ≡ Made made = saw.made in
+        let last : Produced before ≡ Produced made = saw.made in
         let same : made ≡ before = cc in
         ([], (same ∙ sym (append-nil before), tt))
     tasks before (u ∷ updates) openings made saw =
         let first = saw_first (task_stage switches part u)
         (λ task. tasks_stage switches part (before ++ task ∷ []) updates) openings made saw in
-        let rest = tasks (before ++ first.0 ∷ []) updates (task_stage switches part u openings).left made first.1.1 in
+        let rest = tasks (before ++ first.0 ∷ []) updates (task_stage switches part u openings).openings_left made first.1.1 in
         search (rules, append_assoc, operation)
 
     all_tasks : (updates : List Update) (openings : List Opening) (made : List Task)
@@ -161,7 +161,7 @@ module _ (Gives : Giving) where
   part_given : (id : Bytes) (r : Result Part PartFault) (part : Part) → part_or_line id r ≡ Ok part → r ≡ Ok part
   part_given id r part is = search rules
 
-  parts_given : (name : Bytes) (text : Bytes) (parts : List Part) → judged_parts name text ≡ Ok parts
+  parts_given : (name : Bytes) (text : Bytes) (parts : List Part) → checked_parts name text ≡ Ok parts
       → parts_of text ≡ Ok parts
   parts_given name text parts is = search (rules, nat_tests)
 
@@ -169,20 +169,20 @@ module _ (Gives : Giving) where
       → Saw (parts_stage file) openings parts → ArePartsOf Gives file parts
   parts_saw None openings parts saw = search rules
   parts_saw (Some name) openings parts saw =
-      let file = file_saw name LARGEST_PART_FILE (judged_parts name) (limited_parts name) openings parts saw in
+      let file = file_saw name LARGEST_PART_FILE (checked_parts name) (limited_parts name) openings parts saw in
       (file.0, file.1.0, parts_given name file.0 parts file.1.1)
 
   -- THE LAW
-  pub plan_asked : (s : Settings) (openings : List Opening) (plan : Plan) → AreGiven (planned s openings).says
-      → (planned s openings).answer ≡ Made plan → IsAsked s Gives plan
+  pub plan_asked : (s : Settings) (openings : List Opening) (plan : Plan) → AreGiven (planned s openings).emits
+      → (planned s openings).stage_outcome ≡ Produced plan → IsAsked s Gives plan
   plan_asked s openings plan are made =
       let of_part : Part → Stage Plan = λ part. tasks_stage s.switches part [] s.updates
-      >>= λ tasks. verdict_stage (Ok (record { part = part; tasks = tasks; switches = s.switches })) in
+      >>= λ tasks. result_stage (Ok (record { part = part; tasks = tasks; switches = s.switches })) in
       let whole : Saw (planned s) openings plan = record { made = made; are = are } in
       let parts = saw_first (parts_stage s.parts) (λ all. part_stage s.part all >>= of_part) openings plan whole in
       let part = saw_first (part_stage s.part parts.0) of_part _ plan parts.1.1 in
       let done = saw_first (tasks_stage s.switches part.0 [] s.updates)
-      (λ ts. verdict_stage (Ok (record { part = part.0; tasks = ts; switches = s.switches }))) _ plan part.1.1 in
+      (λ ts. result_stage (Ok (record { part = part.0; tasks = ts; switches = s.switches }))) _ plan part.1.1 in
       let same : record { part = part.0; tasks = done.0; switches = s.switches } ≡ plan = cc in
       subst (IsAsked s Gives) same (record {
         parts = parts.0;

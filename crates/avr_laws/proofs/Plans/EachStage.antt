@@ -8,7 +8,7 @@ use Rattle.avr_cli.specs.declared.update.Op.{Op}
 use Rattle.avr_cli.specs.declared.update.Op.TheVariants as op
 use Rattle.avr_cli.specs.declared.update.Update.{Update}
 use Rattle.avr_desk.specs.Record.{Bytes}
-use Rattle.avr_desk.specs.Stage.{Stage, ◌>>=◌, output_stage, verdict_stage, file_stage}
+use Rattle.avr_desk.specs.Stage.{Stage, ◌>>=◌, output_stage, result_stage, file_stage}
 use Rattle.avr_part.specs.BuiltIn.{part_of_id}
 use Rattle.avr_part.specs.Mem.{is_writable}
 use Rattle.avr_part.specs.Part.{Part}
@@ -17,18 +17,18 @@ use Rattle.avr_laws.proofs.Limits.{LARGEST_IMAGE_FILE, LARGEST_PART_FILE}
 use Rattle.avr_laws.specs.FilesRead.{part_file, image_file, file_of_op, files_of, files_read}
 use Rattle.avr_plan.specs.Lines.{read_only_line}
 use Rattle.avr_plan.specs.Plan.{Plan}
-use Rattle.avr_plan.specs.Planning.{judged_parts, parts_stage, part_or_line, part_stage, warning_says, judged_image, file_image_stage, image_stage, update_image, write_stage, op_stage, task_stage, tasks_stage, planned}
+use Rattle.avr_plan.specs.Planning.{checked_parts, parts_stage, part_or_line, part_stage, warning_events, checked_image, file_image_stage, image_stage, update_image, write_stage, op_stage, task_stage, tasks_stage, planned}
 use Rattle.avr_plan.specs.declared.planned.Task.{Task}
 use Rattle.avr_plan.specs.declared.planned.Task.TheVariants.{Write}
 use Rattle.avr_records.specs.declared.kind.Ending.{Ending}
 
 module _ (Holds : (A : Type 0) → Stage A → List Bytes → Type 0)
-    (settled : (A : Type 0) (result : Result A Bytes) → Holds A (verdict_stage result) [])
+    (settled : (A : Type 0) (result : Result A Bytes) → Holds A (result_stage result) [])
     (warned : (s : Switches) (name : Bytes) (ending : Ending)
-    → Holds (Unit {0}) (output_stage (warning_says s name ending)) [])
-    (of_parts : (name : Bytes) → Holds (List Part) (file_stage name LARGEST_PART_FILE (judged_parts name)) (name ∷ []))
+    → Holds (Unit {0}) (output_stage (warning_events s name ending)) [])
+    (of_parts : (name : Bytes) → Holds (List Part) (file_stage name LARGEST_PART_FILE (checked_parts name)) (name ∷ []))
     (of_image : (name : Bytes) (kind : Format) (size : ℕ)
-    → Holds (List (Option ℕ) × Ending) (file_stage name LARGEST_IMAGE_FILE (judged_image name kind size)) (name ∷ []))
+    → Holds (List (Option ℕ) × Ending) (file_stage name LARGEST_IMAGE_FILE (checked_image name kind size)) (name ∷ []))
     (onward : (A B : Type 0) (stage : Stage A) (go_on : A → Stage B) (first back : List Bytes) → Holds A stage first
     → ((a : A) → Holds B (go_on a) back) → Holds B (stage >>= go_on) (first ++ back)) where
   -- nothing more is read after it
@@ -54,15 +54,15 @@ module _ (Holds : (A : Type 0) → Stage A → List Bytes → Type 0)
     module _ (part : Part) where
       -- an update's image, then its task
       imaged : (u : Update) (make : List (Option ℕ) → Task)
-          → Holds Task (update_image s part u >>= λ bytes. verdict_stage (Ok (make bytes))) (image_file u.file u.format)
+          → Holds Task (update_image s part u >>= λ bytes. result_stage (Ok (make bytes))) (image_file u.file u.format)
       imaged u make = search (rules, last, image)
 
       write : (u : Update) → Holds Task (write_stage s part u) (file_of_op u op.Write)
       write u = by_memory (is_writable u.memory)
         where
           by_memory : (b : Bool) → Holds Task
-              (if b then (update_image s part u >>= λ bytes. verdict_stage (Ok (Write u.memory bytes)))
-              else verdict_stage (Err (read_only_line u.memory)))
+              (if b then (update_image s part u >>= λ bytes. result_stage (Ok (Write u.memory bytes)))
+              else result_stage (Err (read_only_line u.memory)))
               (if b then image_file u.file u.format else [])
           by_memory true = imaged u (Write u.memory)
           by_memory false = settled Task (Err (read_only_line u.memory))
@@ -80,7 +80,7 @@ module _ (Holds : (A : Type 0) → Stage A → List Bytes → Type 0)
 
   -- the plan made of a part and tasks
   abbrev made : Settings → Part → List Task → Stage Plan
-  made s part tasks = verdict_stage (Ok (record { part = part; tasks = tasks; switches = s.switches }))
+  made s part tasks = result_stage (Ok (record { part = part; tasks = tasks; switches = s.switches }))
 
   pub whole_plan : (s : Settings) → Holds Plan (planned s) (files_read s)
   whole_plan s =

@@ -4,63 +4,63 @@ use Rattle.std.proofs.lemmas.Bool.Decides.{nat_tests}
 use Rattle.std.proofs.lemmas.List.{take-append-le, take-append-drop, length-take-le, map-append}
 use Rattle.avr_cli.specs.declared.settings.Settings.{Settings}
 use Rattle.avr_cli.specs.declared.update.Format.{Format}
-use Rattle.avr_desk.specs.Memory.{Stock, stood_for}
+use Rattle.avr_desk.specs.Memory.{Stock, content_of_name}
 use Rattle.avr_desk.specs.Record.{Bytes}
-use Rattle.avr_desk.specs.Said.{OutputEvent, Opens, Line}
-use Rattle.avr_desk.specs.Stage.{Stage, StageResult, StageAnswer, Made, Refused, Unread, told_in, behind_outputs, going_on, ◌>>=◌, output_stage, verdict_stage, under_name, content_stage, file_stage}
+use Rattle.avr_desk.specs.OutputEvents.{OutputEvent, Opens, PrintsLine}
+use Rattle.avr_desk.specs.Stage.{Stage, StageResult, StageOutcome, Produced, Refused, NotReadToEnd, all_events_of, with_events_before, continued_stage, ◌>>=◌, output_stage, result_stage, renamed_opening, content_stage, file_stage}
 use Rattle.avr_desk.specs.Truth.{IsTrueOpening}
 use Rattle.avr_desk.specs.declared.record.Opening.{Opening}
 use Rattle.avr_laws.proofs.Limits.{LARGEST_IMAGE_FILE, LARGEST_PART_FILE}
 use Rattle.avr_plan.proofs.Files.Images.{kind-prefix}
 use Rattle.avr_laws.proofs.Plans.EachStage.{whole_plan}
 use Rattle.avr_records.specs.declared.kind.Found.{Found as FoundKind}
-use Rattle.avr_laws.specs.FilesRead.{files_read, read_whole, files_give, planned_of, lines_in, AreSeen}
-use Rattle.avr_plan.specs.ImageFile.{file_within, kind_of}
-use Rattle.avr_plan.specs.Planning.{judged_parts, warning_says, judged_image, planned}
+use Rattle.avr_laws.specs.FilesRead.{files_read, read_whole, openings_of_files, planned_from_files, lines_in, AreTrueOpenings}
+use Rattle.avr_plan.specs.ImageFile.{image_of_file_within, kind_of}
+use Rattle.avr_plan.specs.Planning.{checked_parts, warning_events, checked_image, planned}
 
 -- ---- the openings
 
-pub seen_first : (stock : Stock) (first second : List OutputEvent) → AreSeen stock (first ++ second)
-    → AreSeen stock first
+pub seen_first : (stock : Stock) (first second : List OutputEvent) → AreTrueOpenings stock (first ++ second)
+    → AreTrueOpenings stock first
 seen_first stock [] second seen = tt
 seen_first stock (Opens opening ∷ first) second seen = (seen.0, seen_first stock first second seen.1)
 seen_first stock (output ∷ first) second seen = seen_first stock first second seen
 
-pub seen_second : (stock : Stock) (first second : List OutputEvent) → AreSeen stock (first ++ second)
-    → AreSeen stock second
+pub seen_second : (stock : Stock) (first second : List OutputEvent) → AreTrueOpenings stock (first ++ second)
+    → AreTrueOpenings stock second
 seen_second stock [] second seen = seen
 seen_second stock (Opens opening ∷ first) second seen = seen_second stock first second seen.1
 seen_second stock (output ∷ first) second seen = seen_second stock first second seen
 
 lines_append : (first second : List OutputEvent) → lines_in (first ++ second) ≡ lines_in first ++ lines_in second
 lines_append [] second = refl
-lines_append (Line bytes ∷ first) second = ap (λ (ls : List Bytes). bytes ∷ ls) (lines_append first second)
+lines_append (PrintsLine bytes ∷ first) second = ap (λ (ls : List Bytes). bytes ∷ ls) (lines_append first second)
 lines_append (output ∷ first) second = lines_append first second
 
 -- ---- one stage over two lists of openings
 
 -- it has the same outcome and the same output, and if it succeeds it leaves the rest
 pub record IsSame {A : Type 0} (p q : StageResult A) (rest : List Opening) : Type 0 where
-  pub answer : q.answer ≡ p.answer
-  pub lines : lines_in q.says ≡ lines_in p.says
-  pub left : (a : A) → p.answer ≡ Made a → q.left ≡ rest
+  pub stage_outcome : q.stage_outcome ≡ p.stage_outcome
+  pub lines : lines_in q.emits ≡ lines_in p.emits
+  pub openings_left : (a : A) → p.stage_outcome ≡ Produced a → q.openings_left ≡ rest
 
 module _ (stock : Stock) where
   -- a stage that reads the files of these names: over the bytes that it saw it is what it is over the whole files
   abbrev Sees : {A : Type 0} → Stage A → List Bytes → Type 0
-  Sees stage names = (openings rest : List Opening) → AreSeen stock (stage openings).says
-      → ((stage openings).answer ≡ Unread → ⊥)
-      → IsSame (stage openings) (stage (files_give stock names ++ rest)) rest
+  Sees stage names = (openings rest : List Opening) → AreTrueOpenings stock (stage openings).emits
+      → ((stage openings).stage_outcome ≡ NotReadToEnd → ⊥)
+      → IsSame (stage openings) (stage (openings_of_files stock names ++ rest)) rest
 
   same_verdict : {A : Type 0} (one other : Result A Bytes) (openings rest : List Opening) → other ≡ one
-      → IsSame (verdict_stage one openings) (verdict_stage other rest) rest
+      → IsSame (result_stage one openings) (result_stage other rest) rest
   same_verdict one other openings rest is = search rules
 
-  settled_fixed : {A : Type 0} (result : Result A Bytes) → Sees (verdict_stage result) []
+  settled_fixed : {A : Type 0} (result : Result A Bytes) → Sees (result_stage result) []
   settled_fixed result openings rest seen read = same_verdict result result openings rest refl
 
-  says_fixed : (says : List OutputEvent) → Sees (output_stage says) []
-  says_fixed says openings rest seen read = record { answer = refl; lines = refl; left = λ made is. refl }
+  says_fixed : (emits : List OutputEvent) → Sees (output_stage emits) []
+  says_fixed emits openings rest seen read = record { stage_outcome = refl; lines = refl; openings_left = λ made is. refl }
 
   onward : {A B : Type 0} (stage : Stage A) (go_on : A → Stage B) (prefix back : List Bytes) → Sees stage prefix
       → ((a : A) → Sees (go_on a) back)
@@ -68,16 +68,16 @@ module _ (stock : Stock) where
   onward {A = A} stage go_on prefix back first second openings rest seen read =
       search (rules, map-append, append_assoc, of_first, whole)
     where
-      of_first : (p : StageResult A) (answer : StageAnswer A) → p.answer ≡ answer
-          → AreSeen stock (going_on p.says p.left go_on answer).says → AreSeen stock p.says
-      of_first p (Made a) is seen = seen_first stock p.says (go_on a p.left).says seen
+      of_first : (p : StageResult A) (stage_outcome : StageOutcome A) → p.stage_outcome ≡ stage_outcome
+          → AreTrueOpenings stock (continued_stage p.emits p.openings_left go_on stage_outcome).emits → AreTrueOpenings stock p.emits
+      of_first p (Produced a) is seen = seen_first stock p.emits (go_on a p.openings_left).emits seen
       of_first p (Refused line) is seen = seen
-      of_first p Unread is seen = seen
+      of_first p NotReadToEnd is seen = seen
 
-      whole : (p q : StageResult A) → IsSame p q (files_give stock back ++ rest)
-          → AreSeen stock (going_on p.says p.left go_on p.answer).says
-          → ((going_on p.says p.left go_on p.answer).answer ≡ Unread → ⊥)
-          → IsSame (going_on p.says p.left go_on p.answer) (going_on q.says q.left go_on q.answer) rest
+      whole : (p q : StageResult A) → IsSame p q (openings_of_files stock back ++ rest)
+          → AreTrueOpenings stock (continued_stage p.emits p.openings_left go_on p.stage_outcome).emits
+          → ((continued_stage p.emits p.openings_left go_on p.stage_outcome).stage_outcome ≡ NotReadToEnd → ⊥)
+          → IsSame (continued_stage p.emits p.openings_left go_on p.stage_outcome) (continued_stage q.emits q.openings_left go_on q.stage_outcome) rest
       whole p q same seen read = search (rules, seen_second, lines_append)
 
   -- ---- a file
@@ -89,25 +89,25 @@ module _ (stock : Stock) where
   module _ {A : Type 0} (name : Bytes) (limit : ℕ) (judge : Bytes → Result A Bytes)
       (limited : IsLimited limit judge) where
     -- the bytes seen of it, and the whole of it
-    of_opening : (opening : Opening) (openings rest : List Opening) → IsTrueOpening stock [] (under_name name opening)
-        → ((content_stage name limit judge (under_name name opening) openings).answer ≡ Unread → ⊥)
-        → IsSame (content_stage name limit judge (under_name name opening) openings)
-        (content_stage name limit judge (under_name name (read_whole name (stood_for stock [] name))) rest) rest
+    of_opening : (opening : Opening) (openings rest : List Opening) → IsTrueOpening stock [] (renamed_opening name opening)
+        → ((content_stage name limit judge (renamed_opening name opening) openings).stage_outcome ≡ NotReadToEnd → ⊥)
+        → IsSame (content_stage name limit judge (renamed_opening name opening) openings)
+        (content_stage name limit judge (renamed_opening name (read_whole name (content_of_name stock [] name))) rest) rest
     of_opening opening openings rest is read = search (rules, same_verdict)
 
     -- the same, after its opening
     behind_opening : (opening : Opening) (openings rest : List Opening)
-        → IsTrueOpening stock [] (under_name name opening)
-        → ((content_stage name limit judge (under_name name opening) openings).answer ≡ Unread → ⊥)
-        → IsSame (behind_outputs (Opens (under_name name opening) ∷ [])
-        (content_stage name limit judge (under_name name opening) openings))
-        (file_stage name limit judge (read_whole name (stood_for stock [] name) ∷ rest)) rest
+        → IsTrueOpening stock [] (renamed_opening name opening)
+        → ((content_stage name limit judge (renamed_opening name opening) openings).stage_outcome ≡ NotReadToEnd → ⊥)
+        → IsSame (with_events_before (Opens (renamed_opening name opening) ∷ [])
+        (content_stage name limit judge (renamed_opening name opening) openings))
+        (file_stage name limit judge (read_whole name (content_of_name stock [] name) ∷ rest)) rest
     behind_opening opening openings rest is read = search (rules, of_opening)
 
     file : Sees (file_stage name limit judge) (name ∷ [])
     file x0 rest seen read = search (rules, behind_opening)
 
-  pub limited_parts : (name : Bytes) → IsLimited LARGEST_PART_FILE (judged_parts name)
+  pub limited_parts : (name : Bytes) → IsLimited LARGEST_PART_FILE (checked_parts name)
   limited_parts name bytes more past = search (rules, length-append)
 
   same_kind : (kind : Format) (bytes more : Bytes) → 1024 ≤ length bytes
@@ -119,7 +119,7 @@ module _ (stock : Stock) where
       let whole : prefix ++ back ≡ bytes = take-append-drop 1024 bytes in search (rules, kind-prefix, append_assoc)
 
   pub limited_image : (name : Bytes) (kind : Format) (size : ℕ)
-      → IsLimited LARGEST_IMAGE_FILE (judged_image name kind size)
+      → IsLimited LARGEST_IMAGE_FILE (checked_image name kind size)
   limited_image name kind size bytes more past =
       let one : nat_le (length bytes) LARGEST_IMAGE_FILE ≡ false = grind (arith, nat_tests) in
       let other : nat_le (length (bytes ++ more)) LARGEST_IMAGE_FILE ≡ false = search (rules, length-append) in
@@ -130,20 +130,20 @@ module _ (stock : Stock) where
       past_limit : (found whole : FoundKind) → nat_le (length bytes) LARGEST_IMAGE_FILE ≡ false
           → nat_le (length (bytes ++ more)) LARGEST_IMAGE_FILE ≡ false
           → take LARGEST_IMAGE_FILE (bytes ++ more) ≡ take LARGEST_IMAGE_FILE bytes → whole ≡ found
-          → file_within LARGEST_IMAGE_FILE whole (bytes ++ more) size ≡ file_within LARGEST_IMAGE_FILE found bytes size
+          → image_of_file_within LARGEST_IMAGE_FILE whole (bytes ++ more) size ≡ image_of_file_within LARGEST_IMAGE_FILE found bytes size
       past_limit found whole one other prefix same = rw (one, other, prefix, same) refl
 
   plan_sees : (s : Settings) → Sees (planned s) (files_read s)
   plan_sees = whole_plan (λ A stage names. Sees {A = A} stage names) (λ A result. settled_fixed result)
-      (λ s name ending. says_fixed (warning_says s name ending))
-      (λ name. file name LARGEST_PART_FILE (judged_parts name) (limited_parts name))
-      (λ name kind size. file name LARGEST_IMAGE_FILE (judged_image name kind size) (limited_image name kind size))
+      (λ s name ending. says_fixed (warning_events s name ending))
+      (λ name. file name LARGEST_PART_FILE (checked_parts name) (limited_parts name))
+      (λ name kind size. file name LARGEST_IMAGE_FILE (checked_image name kind size) (limited_image name kind size))
       (λ A B stage go_on first back f g. onward stage go_on first back f g)
 
   -- planning over what was seen of the files is planning over the files
-  pub seen_is_planned : (s : Settings) (openings : List Opening) → AreSeen stock (planned s openings).says
-      → ((planned s openings).answer ≡ Unread → ⊥)
-      → ((planned_of s stock).answer ≡ (planned s openings).answer)
-      × (lines_in (told_in (planned_of s stock)) ≡ lines_in (told_in (planned s openings)))
+  pub seen_is_planned : (s : Settings) (openings : List Opening) → AreTrueOpenings stock (planned s openings).emits
+      → ((planned s openings).stage_outcome ≡ NotReadToEnd → ⊥)
+      → ((planned_from_files s stock).stage_outcome ≡ (planned s openings).stage_outcome)
+      × (lines_in (all_events_of (planned_from_files s stock)) ≡ lines_in (all_events_of (planned s openings)))
   seen_is_planned s openings seen read =
       let same = plan_sees s openings [] seen read in search (rules, lines_append)

@@ -11,19 +11,19 @@ use Rattle.avr_cli.specs.declared.update.Op.{Op}
 use Rattle.avr_cli.specs.declared.update.Op.TheVariants as op
 use Rattle.avr_cli.specs.declared.update.Update.{Update}
 use Rattle.avr_image.specs.declared.fault.ImageFault.{ImageFault}
-use Rattle.avr_image.specs.Values.{values, all_ok, onto_ok, fitting, fitting_value, value_of}
+use Rattle.avr_image.specs.Values.{image_of_values, all_ok, onto_ok, fitting, byte_of_value, value_of}
 use Rattle.avr_image.proofs.Lemmas.{laid_size, from_zero_is_a_span}
 use Rattle.avr_desk.specs.Record.{Bytes}
-use Rattle.avr_desk.specs.Stage.{Stage, Made, ◌>>=◌, verdict_stage, open_stage, file_stage, content_stage, output_stage}
+use Rattle.avr_desk.specs.Stage.{Stage, Produced, ◌>>=◌, result_stage, open_stage, file_stage, content_stage, output_stage}
 use Rattle.avr_desk.specs.declared.record.Opening.{Opening}
 use Rattle.avr_part.specs.Mem.{is_writable}
 use Rattle.avr_part.specs.Part.{Part, size_of}
 use Rattle.avr_records.specs.declared.kind.Ending.{Ending}
 use Rattle.avr_plan.proofs.Files.Sizes.{image-size}
 use Rattle.avr_plan.proofs.Stages.Tasks.{all_one}
-use Rattle.avr_plan.specs.ImageFile.{Given, image_within}
+use Rattle.avr_plan.specs.ImageFile.{ImageOrBadFile, image_within}
 use Rattle.avr_plan.specs.Plan.{Plan, IsFitted}
-use Rattle.avr_plan.specs.Planning.{planned, parts_stage, part_stage, tasks_stage, task_stage, op_stage, write_stage, update_image, file_image_stage, judged_image, image_or_line, warning_says}
+use Rattle.avr_plan.specs.Planning.{planned, parts_stage, part_stage, tasks_stage, task_stage, op_stage, write_stage, update_image, file_image_stage, checked_image, image_or_line, warning_events}
 use Rattle.avr_laws.proofs.Limits.{LARGEST_IMAGE_FILE}
 use Rattle.avr_plan.specs.declared.planned.Task.{Task}
 use Rattle.avr_plan.specs.declared.planned.Task.TheVariants.{Write, Verify, Read}
@@ -35,33 +35,33 @@ Image = List (Option ℕ)
 
 abbrev Earlier : {A B : Type 0} → Stage A → (A → Stage B) → List Opening → B → Type 0
 Earlier {A} stage go_on openings b =
-    (a : A) × (((stage openings).answer ≡ Made a) × ((go_on a (stage openings).left).answer ≡ Made b))
+    (a : A) × (((stage openings).stage_outcome ≡ Produced a) × ((go_on a (stage openings).openings_left).stage_outcome ≡ Produced b))
 
 earlier : {A B : Type 0} (stage : Stage A) (go_on : A → Stage B) (openings : List Opening) (b : B)
-    → ((stage >>= go_on) openings).answer ≡ Made b → Earlier stage go_on openings b
+    → ((stage >>= go_on) openings).stage_outcome ≡ Produced b → Earlier stage go_on openings b
 earlier stage go_on openings b is = search rules
 
 pub settled : {A : Type 0} (r : Result A Bytes) (openings : List Opening) (a : A)
-    → (verdict_stage r openings).answer ≡ Made a → r ≡ Ok a
+    → (result_stage r openings).stage_outcome ≡ Produced a → r ≡ Ok a
 settled r openings b is = search rules
 
 -- ---- the image of a file
 
 content : {A : Type 0} (name : Bytes) (limit : ℕ) (judge : Bytes → Result A Bytes) (opening : Opening)
-    (openings : List Opening) (a : A) → (content_stage name limit judge opening openings).answer ≡ Made a
+    (openings : List Opening) (a : A) → (content_stage name limit judge opening openings).stage_outcome ≡ Produced a
     → (bytes : Bytes) × (judge bytes ≡ Ok a)
 content name limit judge opening openings a is = search rules
 
-pub given : (file : Bytes) (r : Given) (p : Image × Ending) → image_or_line file r ≡ Ok p → r ≡ Ok p
+pub given : (file : Bytes) (r : ImageOrBadFile) (p : Image × Ending) → image_or_line file r ≡ Ok p → r ≡ Ok p
 given file r p is = search rules
 
 file_size : (switches : Switches) (file : Bytes) (kind : Format) (size : ℕ) (openings : List Opening) (image : Image)
-    → (file_image_stage switches file kind size openings).answer ≡ Made image → length image ≡ size
+    → (file_image_stage switches file kind size openings).stage_outcome ≡ Produced image → length image ≡ size
 file_size switches file kind size openings image is =
-    let judge = judged_image file kind size in
+    let judge = checked_image file kind size in
     let stage = file_stage file LARGEST_IMAGE_FILE judge in
-    let first = earlier stage (λ (g : Image × Ending). output_stage (warning_says switches file g.1)
-    >>= λ ok. verdict_stage (Ok g.0)) openings image is in
+    let first = earlier stage (λ (g : Image × Ending). output_stage (warning_events switches file g.1)
+    >>= λ ok. result_stage (Ok g.0)) openings image is in
     let opened = earlier (open_stage file) (content_stage file LARGEST_IMAGE_FILE judge) openings first.0 first.1.0 in
     let read = content file LARGEST_IMAGE_FILE judge opened.0 _ first.0 opened.1.1 in
     let whole = given file (image_within LARGEST_IMAGE_FILE kind read.0 size) first.0 read.1 in
@@ -75,29 +75,29 @@ onto : (r : Result ℕ ImageFault) (rs : Result (List ℕ) ImageFault) (bytes : 
 onto r rs bytes is = search rules
 
 inside : (size k : ℕ) (texts : List (List ℕ)) (bytes : List ℕ)
-    → all_ok (map (fitting_value size) (enumerate_from k texts)) ≡ Ok bytes
+    → all_ok (map (byte_of_value size) (enumerate_from k texts)) ≡ Ok bytes
     → (bytes ≡ []) ⊎ (k + length bytes ≤ size)
 inside size k [] bytes is = inl cc
 inside size k (text ∷ texts) bytes is =
-    let rest = all_ok (map (fitting_value size) (enumerate_from (k + 1) texts)) in
+    let rest = all_ok (map (byte_of_value size) (enumerate_from (k + 1) texts)) in
     let one = onto (fitting size k (value_of text)) rest bytes is in
     let more = inside size (k + 1) texts one.1 one.2.1.0 in search rules
 
-value_size : (text : Bytes) (size : ℕ) (image : Image) → values text size ≡ Ok image → length image ≡ size
+value_size : (text : Bytes) (size : ℕ) (image : Image) → image_of_values text size ≡ Ok image → length image ≡ size
 value_size text size image is = search (rules, from_zero_is_a_span, laid_size, length-replicate, inside)
 
 -- ---- the tasks
 
 module _ (switches : Switches) (part : Part) where
   imaged : (u : Update) (make : Image → Task) (openings : List Opening) (task : Task)
-      → ((update_image switches part u >>= λ image. verdict_stage (Ok (make image))) openings).answer ≡ Made task
+      → ((update_image switches part u >>= λ image. result_stage (Ok (make image))) openings).stage_outcome ≡ Produced task
       → (image : Image) × ((length image ≡ size_of u.memory part) × (task ≡ make image))
   imaged u make openings task is =
-      let first = earlier (update_image switches part u) (λ image. verdict_stage (Ok (make image))) openings task
+      let first = earlier (update_image switches part u) (λ image. result_stage (Ok (make image))) openings task
       is in search (rules, value_size, file_size)
 
   write : (u : Update) (openings : List Opening) (task : Task)
-      → (write_stage switches part u openings).answer ≡ Made task → IsFitted part task
+      → (write_stage switches part u openings).stage_outcome ≡ Produced task → IsFitted part task
   write u openings task is = elim (cases_Bool (is_writable u.memory)) [
     | inl may ↦
         let made = imaged u (Write u.memory) openings task (rw may at is) in
@@ -106,31 +106,31 @@ module _ (switches : Switches) (part : Part) where
   ]
 
   operation : (u : Update) (o : Op) (openings : List Opening) (task : Task)
-      → (op_stage switches part u o openings).answer ≡ Made task → IsFitted part task
+      → (op_stage switches part u o openings).stage_outcome ≡ Produced task → IsFitted part task
   operation u op.Write openings task is = write u openings task is
   operation u op.Verify openings task is = search (rules, imaged u (Verify u.memory) openings task is)
   operation u op.Read openings task is =
       let same : Read u.memory u.format u.file ≡ task = cc in subst (IsFitted part) same tt
 
   tasks : (before : List Task) (updates : List Update) (openings : List Opening) (made : List Task)
-      → All (IsFitted part) before → (tasks_stage switches part before updates openings).answer ≡ Made made
+      → All (IsFitted part) before → (tasks_stage switches part before updates openings).stage_outcome ≡ Produced made
       → All (IsFitted part) made
   tasks before [] openings made fitted is =
       let same : before ≡ made = cc in subst (All (IsFitted part)) same fitted
   tasks before (u ∷ updates) openings made fitted is =
       let first = earlier (task_stage switches part u) (λ task. tasks_stage switches part (before ++ task ∷ []) updates)
       openings made is in
-      search (rules, all_one, operation, tasks (before ++ first.0 ∷ []) updates (task_stage switches part u openings).left made (All-append (IsFitted part) before (first.0 ∷ []) fitted (all_one (IsFitted part) first.0 (operation u u.op openings first.0 first.1.0))) first.1.1)
+      search (rules, all_one, operation, tasks (before ++ first.0 ∷ []) updates (task_stage switches part u openings).openings_left made (All-append (IsFitted part) before (first.0 ∷ []) fitted (all_one (IsFitted part) first.0 (operation u u.op openings first.0 first.1.0))) first.1.1)
 
 pub plan_fitted : (s : Settings) (openings : List Opening) (plan : Plan)
-    → (planned s openings).answer ≡ Made plan → All (IsFitted plan.part) plan.tasks
+    → (planned s openings).stage_outcome ≡ Produced plan → All (IsFitted plan.part) plan.tasks
 plan_fitted s openings plan is =
     let of_part : Part → Stage Plan = λ part. tasks_stage s.switches part [] s.updates
-    >>= λ tasks. verdict_stage (Ok (record { part = part; tasks = tasks; switches = s.switches })) in
+    >>= λ tasks. result_stage (Ok (record { part = part; tasks = tasks; switches = s.switches })) in
     let parts = earlier (parts_stage s.parts) (λ all. part_stage s.part all >>= of_part) openings plan is in
     let part = earlier (part_stage s.part parts.0) of_part _ plan parts.1.1 in
     let done = earlier (tasks_stage s.switches part.0 [] s.updates)
-    (λ ts. verdict_stage (Ok (record { part = part.0; tasks = ts; switches = s.switches }))) _ plan part.1.1 in
+    (λ ts. result_stage (Ok (record { part = part.0; tasks = ts; switches = s.switches }))) _ plan part.1.1 in
     let same : record { part = part.0; tasks = done.0; switches = s.switches } ≡ plan = cc in
     subst (λ (p : Plan). All (IsFitted p.part) p.tasks) same
     (tasks s.switches part.0 [] s.updates _ done.0 (search rules) done.1.0)

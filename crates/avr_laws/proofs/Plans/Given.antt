@@ -7,11 +7,11 @@ use Rattle.avr_cli.specs.declared.update.Format.{Format}
 use Rattle.avr_cli.specs.declared.update.Format.TheVariants.{Immediate}
 use Rattle.avr_cli.specs.declared.update.Update.{Update}
 use Rattle.avr_desk.proofs.Stages.Breaks.{openings_in, openings_shown}
-use Rattle.avr_desk.specs.Memory.{Stock, stood_for}
-use Rattle.avr_desk.specs.Record.{Bytes, DeskState, Passes, Record, all_openings}
-use Rattle.avr_desk.specs.Said.{OutputEvent, Opens, after_all}
-use Rattle.avr_desk.specs.Playing.{Went}
-use Rattle.avr_desk.specs.Stage.{Made, StageResult}
+use Rattle.avr_desk.specs.Memory.{Stock, content_of_name}
+use Rattle.avr_desk.specs.Record.{Bytes, DeskState, ChangesRecord, Record, all_openings}
+use Rattle.avr_desk.specs.OutputEvents.{OutputEvent, Opens, after_events}
+use Rattle.avr_desk.specs.Playing.{StageCompleted}
+use Rattle.avr_desk.specs.Stage.{Produced, StageResult}
 use Rattle.avr_desk.specs.declared.record.Opening.{Opening}
 use Rattle.avr_desk.specs.declared.record.Opening.TheVariants.{Absent, Found}
 use Rattle.avr_part.specs.Part.{Part}
@@ -21,54 +21,54 @@ use Rattle.avr_plan.specs.declared.planned.Task.{Task}
 use Rattle.avr_plan.specs.declared.planned.Task.TheVariants.{Write, Verify, Read}
 use Rattle.avr_laws.proofs.Plans.Fitted.{Image}
 use Rattle.avr_laws.proofs.Plans.AskedPlan.{AreGiven, plan_asked}
-use Rattle.avr_laws.specs.AskedPlan.{ArePartsOf, AreTasksOf, Gave, Giving, HasImage, Holding, IsAsked, IsTaskOf}
-use Rattle.avr_laws.specs.FilesRead.{AreSeen}
+use Rattle.avr_laws.specs.AskedPlan.{ArePartsOf, AreTasksOf, FileGave, GivesText, HasImage, FileHolds, IsAsked, IsTaskOf}
+use Rattle.avr_laws.specs.FilesRead.{AreTrueOpenings}
 
 -- ---- at files in memory
 
-seen_given : (stock : Stock) (says : List OutputEvent) → AreSeen stock says
-    → AreGiven (Holding (stood_for stock [])) says
+seen_given : (stock : Stock) (emits : List OutputEvent) → AreTrueOpenings stock emits
+    → AreGiven (FileHolds (content_of_name stock [])) emits
 seen_given stock [] seen = tt
-seen_given stock (Opens (Found reading) ∷ says) seen = search (rules, seen_given stock says seen.1)
-seen_given stock (Opens (Absent name) ∷ says) seen = seen_given stock says seen.1
-seen_given stock (output ∷ says) seen = seen_given stock says seen
+seen_given stock (Opens (Found reading) ∷ emits) seen = search (rules, seen_given stock emits seen.1)
+seen_given stock (Opens (Absent name) ∷ emits) seen = seen_given stock emits seen.1
+seen_given stock (output ∷ emits) seen = seen_given stock emits seen
 
 pub seen_asked : (stock : Stock) (s : Settings) (openings : List Opening) (plan : Plan)
-    → AreSeen stock (planned s openings).says
-    → (planned s openings).answer ≡ Made plan → IsAsked s (Holding (stood_for stock [])) plan
+    → AreTrueOpenings stock (planned s openings).emits
+    → (planned s openings).stage_outcome ≡ Produced plan → IsAsked s (FileHolds (content_of_name stock [])) plan
 seen_asked stock s openings plan seen made =
-    plan_asked (Holding (stood_for stock [])) s openings plan (seen_given stock (planned s openings).says seen) made
+    plan_asked (FileHolds (content_of_name stock [])) s openings plan (seen_given stock (planned s openings).emits seen) made
 
 -- ---- by a desk's record
 
-module _ (G H : Giving) (each : (name text : Bytes) → G name text → H name text) where
-  given_more : (says : List OutputEvent) → AreGiven G says → AreGiven H says
+module _ (G H : GivesText) (each : (name text : Bytes) → G name text → H name text) where
+  given_more : (emits : List OutputEvent) → AreGiven G emits → AreGiven H emits
   given_more [] are = tt
-  given_more (Opens (Found reading) ∷ says) are =
-      (λ ended. each reading.name reading.bytes (are.0 ended), given_more says are.1)
-  given_more (Opens (Absent name) ∷ says) are = given_more says are
-  given_more (output ∷ says) are = given_more says are
+  given_more (Opens (Found reading) ∷ emits) are =
+      (λ ended. each reading.name reading.bytes (are.0 ended), given_more emits are.1)
+  given_more (Opens (Absent name) ∷ emits) are = given_more emits are
+  given_more (output ∷ emits) are = given_more emits are
 
 -- this whole text is of one of these openings
-abbrev Among : List Opening → Giving
+abbrev Among : List Opening → GivesText
 Among openings name text = Contains openings (Found (record { name = name; bytes = text; ended = true }))
 
 later : (first : List Opening) (openings : List Opening) (name text : Bytes) → Among openings name text
     → Among (first ++ openings) name text
 later first openings name text among = Contains-append_right first openings _ among
 
-among : (says : List OutputEvent) → AreGiven (Among (openings_in says)) says
+among : (emits : List OutputEvent) → AreGiven (Among (openings_in emits)) emits
 among [] = tt
-among (Opens (Found reading) ∷ says) = (
-  λ ended. subst (λ (b : Bool). Contains (Found reading ∷ openings_in says) (Found (record reading { ended = b })))
+among (Opens (Found reading) ∷ emits) = (
+  λ ended. subst (λ (b : Bool). Contains (Found reading ∷ openings_in emits) (Found (record reading { ended = b })))
       ended (0, omega arith, refl),
-  given_more (Among (openings_in says)) (Among (Found reading ∷ openings_in says))
-      (later (Found reading ∷ []) (openings_in says)) says (among says),
+  given_more (Among (openings_in emits)) (Among (Found reading ∷ openings_in emits))
+      (later (Found reading ∷ []) (openings_in emits)) emits (among emits),
 )
-among (Opens (Absent name) ∷ says) =
-    given_more (Among (openings_in says)) (Among (Absent name ∷ openings_in says))
-    (later (Absent name ∷ []) (openings_in says)) says (among says)
-among (output ∷ says) = among says
+among (Opens (Absent name) ∷ emits) =
+    given_more (Among (openings_in emits)) (Among (Absent name ∷ openings_in emits))
+    (later (Absent name ∷ []) (openings_in emits)) emits (among emits)
+among (output ∷ emits) = among emits
 
 openings_joined : (first second : List OutputEvent)
     → openings_in (first ++ second) ≡ openings_in first ++ openings_in second
@@ -80,7 +80,7 @@ past [] ys = refl
 past (x ∷ xs) ys = past xs ys
 
 -- what was opened since is in the output
-since : (old new : DeskState) (outputs : List OutputEvent) → Passes (after_all outputs) old new
+since : (old new : DeskState) (outputs : List OutputEvent) → ChangesRecord (after_events outputs) old new
     → drop (length (all_openings old.kept)) (all_openings new.kept) ≡ openings_in outputs
 since old new outputs passes =
     ap (λ (r : Record). drop (length (all_openings old.kept)) (all_openings r)) passes
@@ -89,26 +89,26 @@ since old new outputs passes =
 
 -- so a plan is the one that the settings and the files that were opened ask for
 pub desk_asked : (s : Settings) (openings : List Opening) (plan : Plan) (old new : DeskState)
-    (more : List OutputEvent) → (planned s openings).answer ≡ Made plan
-    → Passes (after_all ((planned s openings).says ++ more)) old new → IsAsked s (Gave old new) plan
+    (more : List OutputEvent) → (planned s openings).stage_outcome ≡ Produced plan
+    → ChangesRecord (after_events ((planned s openings).emits ++ more)) old new → IsAsked s (FileGave old new) plan
 desk_asked s openings plan old new more made passes =
-    let says = (planned s openings).says in
-    let are : openings_in says ++ openings_in more
+    let emits = (planned s openings).emits in
+    let are : openings_in emits ++ openings_in more
     ≡ drop (length (all_openings old.kept)) (all_openings new.kept) =
-    sym (since old new (says ++ more) passes ∙ openings_joined says more) in
-    plan_asked (Gave old new) s openings plan
-    (given_more (Among (openings_in says)) (Gave old new)
+    sym (since old new (emits ++ more) passes ∙ openings_joined emits more) in
+    plan_asked (FileGave old new) s openings plan
+    (given_more (Among (openings_in emits)) (FileGave old new)
     (λ name text among. subst (λ (os : List Opening). Among os name text) are
-    (Contains-append_left (openings_in says) (openings_in more) _ among))
-    says (among says)) made
+    (Contains-append_left (openings_in emits) (openings_in more) _ among))
+    emits (among emits)) made
 
-pub went_asked : (s : Settings) (plan : Plan) (old new : DeskState) → Went (planned s) old new (Made plan)
-    → IsAsked s (Gave old new) plan
+pub went_asked : (s : Settings) (plan : Plan) (old new : DeskState) → StageCompleted (planned s) old new (Produced plan)
+    → IsAsked s (FileGave old new) plan
 went_asked s plan old new went =
     desk_asked s (went.passed ++ []) plan old new []
-    (ap (λ (p : StageResult Plan). p.answer) (went.comes []))
-    (subst (λ (says : List OutputEvent). Passes (after_all says) old new)
-    (sym (append-nil _ ∙ ap (λ (p : StageResult Plan). p.says) (went.comes []))) went.kept)
+    (ap (λ (p : StageResult Plan). p.stage_outcome) (went.comes []))
+    (subst (λ (emits : List OutputEvent). ChangesRecord (after_events emits) old new)
+    (sym (append-nil _ ∙ ap (λ (p : StageResult Plan). p.emits) (went.comes []))) went.kept)
 
 -- ---- a later state of the desk shows the same openings, and more
 
@@ -117,7 +117,7 @@ drop_more zero xs ys x has = Contains-append_left xs ys x has
 drop_more (suc n) [] ys x has = absurd (let below = has.1 in omega (arith, below))
 drop_more (suc n) (y ∷ xs) ys x has = drop_more n xs ys x has
 
-module _ (G H : Giving) (each : (name text : Bytes) → G name text → H name text) where
+module _ (G H : GivesText) (each : (name text : Bytes) → G name text → H name text) where
   image_more : (name : Bytes) (kind : Format) (size : ℕ) (image : Image) → HasImage G name kind size image
       → HasImage H name kind size image
   image_more name Immediate size image has = has
@@ -149,10 +149,10 @@ module _ (G H : Giving) (each : (name text : Bytes) → G name text → H name t
   }
 
 pub later_asked : (s : Settings) (plan : Plan) (old mid new : DeskState) (more : List Opening)
-    → all_openings new.kept ≡ all_openings mid.kept ++ more → IsAsked s (Gave old mid) plan
-    → IsAsked s (Gave old new) plan
+    → all_openings new.kept ≡ all_openings mid.kept ++ more → IsAsked s (FileGave old mid) plan
+    → IsAsked s (FileGave old new) plan
 later_asked s plan old mid new more grows asked =
-    asked_more (Gave old mid) (Gave old new)
+    asked_more (FileGave old mid) (FileGave old new)
     (λ name text among. subst (λ (os : List Opening). Contains (drop (length (all_openings old.kept)) os)
     (Found (record { name = name; bytes = text; ended = true })))
     (sym grows) (drop_more (length (all_openings old.kept)) (all_openings mid.kept) more

@@ -4,9 +4,9 @@ use Rattle.avr_part.specs.Part.{Part}
 use Rattle.avr_plan.specs.Plan.{Plan}
 use Rattle.avr_session.specs.Actions.{Action, erase_actions, tasks_actions}
 use Rattle.stk_emu.specs.Effect.{Memories, Item, Erase, Write, effects}
-use Rattle.avr_tool.specs.Agrees.{ActionsAgree, Agrees}
+use Rattle.avr_tool.specs.ComparisonsAgree.{EachComparisonAgrees, ComparisonsAgree}
 use Rattle.avr_tool.specs.Items.{actions_items, items, has_erase}
-use Rattle.stk_emu.specs.PageWrites.{AllFitItems}
+use Rattle.stk_emu.specs.WriteOperations.{ItemsFit}
 use Rattle.avr_tool.proofs.Plans.Items.{erase_if, items_are, tasks_write, writes}
 use Rattle.avr_tool.proofs.Plans.Fits.{AllFitActions}
 
@@ -27,11 +27,11 @@ erase_first plan first later e =
     (sym (items_are plan) ∙ e)
 
 pub plan_agrees : (plan : Plan) (m : Memories)
-    → ActionsAgree plan.part (tasks_actions plan.switches plan.tasks)
-    (effects plan.part (actions_items (erase_actions plan.switches plan.tasks)) m) → Agrees plan m
+    → EachComparisonAgrees plan.part (tasks_actions plan.switches plan.tasks)
+    (effects plan.part (actions_items (erase_actions plan.switches plan.tasks)) m) → ComparisonsAgree plan m
 plan_agrees plan m agree = search rules
 
 module _ (part : Part) where
-  pub items_fit : (actions : List Action) → AllFitActions part actions → AllFitItems part (actions_items actions)
+  pub items_fit : (actions : List Action) → AllFitActions part actions → ItemsFit part (actions_items actions)
   items_fit [] fits = tt
   items_fit (action ∷ actions) fits = search (rules, items_fit actions fits.1)

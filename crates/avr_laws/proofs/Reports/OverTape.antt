@@ -4,96 +4,96 @@ use Rattle.std.proofs.lemmas.Bool.{cond-true}
 use Rattle.std.proofs.Common.{◌≡◌, ℕ, zero, suc, List, [], ◌∷◌, ◌++◌, length, refl, subst, Option, Some, None, rules}
 use Rattle.stk_frame.specs.Frame.{frame}
 use Rattle.stk_host.specs.Tape.{Tape, Reading, answer}
-use Rattle.stk_host.specs.Dialog.{Dialog, Done, Say, Ask, Event, Frame, Said, Played, played, by_answer, next, frames_in}
+use Rattle.stk_host.specs.Dialog.{Dialog, Done, Emit, Ask, Event, Frame, Emitted, Played, played, continue_with_reading, next, frames_in}
 use Rattle.stk_emu.specs.declared.fate.Fate.{Fate}
 use Rattle.stk_emu.specs.Device.{Device, after_frame}
-use Rattle.stk_emu.specs.Lawful.{IsBody}
-use Rattle.stk_emu.specs.Along.{AsksBodies}
-use Rattle.stk_emu.specs.Turn.{Turn, Became, became_in, after_became, after_turn, first_turn, other_turns, IsHonest}
-use Rattle.stk_emu.specs.Wire.{turns_of, becames_of}
+use Rattle.stk_emu.specs.Lawful.{IsFrameBody}
+use Rattle.stk_emu.specs.DialogOverExchanges.{SendsValidBodies}
+use Rattle.stk_emu.specs.Exchange.{Exchange, Execution, execution_in, after_execution, after_exchange, first_exchange, later_exchanges, IsAuthentic}
+use Rattle.stk_emu.specs.Wire.{exchanges_of_fates, executions_of_fates}
 use Rattle.avr_laws.specs.AnyTape.{turn_by, turns_from, turns_heard}
-use Rattle.avr_tool.specs.Honest.{first_became, other_becames, on_answer, AreHonest}
-use Rattle.avr_laws.proofs.Lines.AnyTape.{honest_turn}
-use Rattle.avr_laws.specs.Told.{TellsTrue, SaidTrue}
+use Rattle.avr_tool.specs.Authentic.{first_execution, later_executions, on_reading, RepliesAreAuthentic}
+use Rattle.avr_laws.proofs.Lines.AnyTape.{authentic_exchange}
+use Rattle.avr_laws.specs.TrueReports.{ReportsTrue, EmittedTrue}
 
 -- ---- what happened to the programmer at the first frames, and their exchanges
 
-abbrev pub ByTurns : ℕ → List Became → List Turn → Type 0
-ByTurns zero becames turns = Unit {0}
-ByTurns (suc k) becames turns =
-    (first_became becames ≡ became_in (first_turn turns)) × ByTurns k (other_becames becames) (other_turns turns)
+abbrev pub ByExchanges : ℕ → List Execution → List Exchange → Type 0
+ByExchanges zero executions exchanges = Unit {0}
+ByExchanges (suc k) executions exchanges =
+    (first_execution executions ≡ execution_in (first_exchange exchanges)) × ByExchanges k (later_executions executions) (later_exchanges exchanges)
 
-pub by_fates : (k : ℕ) (fates : List Fate) → ByTurns k (becames_of k fates) (turns_of fates)
+pub by_fates : (k : ℕ) (fates : List Fate) → ByExchanges k (executions_of_fates k fates) (exchanges_of_fates fates)
 by_fates zero fates = tt
 by_fates (suc k) [] = (refl, by_fates k [])
 by_fates (suc k) (fate ∷ fates) = (refl, by_fates k fates)
 
-by_reading : (became : Became) (reading : Reading) → became ≡ became_in (turn_by became reading)
-by_reading became reading = search rules
+by_reading : (execution : Execution) (reading : Reading) → execution ≡ execution_in (turn_by execution reading)
+by_reading execution reading = search rules
 
-by_answered : {E R : Type 0} (becames : List Became) (go_on : Reading → Tape → Played E R)
-    (more : Reading → Tape → List Turn) (o : Option (Reading × Tape))
+by_answered : {E R : Type 0} (executions : List Execution) (go_on : Reading → Tape → Played E R)
+    (more : Reading → Tape → List Exchange) (o : Option (Reading × Tape))
     → ((reading : Reading) (left : Tape)
-    → ByTurns (length (frames_in (go_on reading left).events)) (other_becames becames) (more reading left))
-    → ByTurns (suc (length (frames_in (by_answer go_on o).events))) becames (turns_from (first_became becames) more o)
-by_answered becames go_on more o each = search (rules, by_reading)
+    → ByExchanges (length (frames_in (go_on reading left).events)) (later_executions executions) (more reading left))
+    → ByExchanges (suc (length (frames_in (continue_with_reading go_on o).events))) executions (turns_from (first_execution executions) more o)
+by_answered executions go_on more o each = search (rules, by_reading)
 
-pub by_tape : {E R : Type 0} (d : Dialog E R) (n : ℕ) (tape : Tape) (becames : List Became)
-    → ByTurns (length (frames_in (played d n tape).events)) becames (turns_heard d n tape becames)
-by_tape (Done r) n tape becames = tt
-by_tape (Say e d) n tape becames = by_tape d n tape becames
-by_tape (Ask bytes go_on) n tape becames =
-    by_answered becames (λ reading. played (go_on reading) (next n))
-    (λ reading left. turns_heard (go_on reading) (next n) left (other_becames becames)) (answer n tape)
-    (λ reading left. by_tape (go_on reading) (next n) left (other_becames becames))
+pub by_tape : {E R : Type 0} (d : Dialog E R) (n : ℕ) (tape : Tape) (executions : List Execution)
+    → ByExchanges (length (frames_in (played d n tape).events)) executions (turns_heard d n tape executions)
+by_tape (Done r) n tape executions = tt
+by_tape (Emit e d) n tape executions = by_tape d n tape executions
+by_tape (Ask bytes go_on) n tape executions =
+    by_answered executions (λ reading. played (go_on reading) (next n))
+    (λ reading left. turns_heard (go_on reading) (next n) left (later_executions executions)) (answer n tape)
+    (λ reading left. by_tape (go_on reading) (next n) left (later_executions executions))
 
 module _ {P : Type 0} (m : Device P) where
   -- whatever exchanges its questions have, a dialog reports what is true
   abbrev AlwaysTrue : {E R : Type 0} → (P → E → Type 0) → Dialog E R → P → Type 0
-  AlwaysTrue T d p = (k : ℕ) (turns : List Turn) → TellsTrue m T k d p turns
+  AlwaysTrue T d p = (k : ℕ) (exchanges : List Exchange) → ReportsTrue m T k d p exchanges
 
   asked : {E R : Type 0} (T : P → E → Type 0) (bytes : List ℕ) (go_on : Reading → Dialog E R) (n : ℕ) (tape : Tape)
-      (p : P) (becames : List Became) (turns : List Turn) (o : Option (Reading × Tape)) → answer n tape ≡ o
-      → IsBody bytes → AlwaysTrue T (Ask bytes go_on) p
+      (p : P) (executions : List Execution) (exchanges : List Exchange) (o : Option (Reading × Tape)) → answer n tape ≡ o
+      → IsFrameBody bytes → AlwaysTrue T (Ask bytes go_on) p
       → ((reading : Reading) (left : Tape) (q : P) → AlwaysTrue T (go_on reading) q
-      → AreHonest m (go_on reading) (next n) left q (other_becames becames)
-      → ByTurns (length (frames_in (played (go_on reading) (next n) left).events)) (other_becames becames)
-      (other_turns turns)
-      → SaidTrue m T (played (go_on reading) (next n) left).events (other_turns turns) q)
-      → on_answer (λ reading left.
-      IsHonest m bytes p (first_became becames) reading
-      × AreHonest m (go_on reading) (next n) left (after_became (first_became becames) (m.after bytes p) p m.reset)
-      (other_becames becames)) o
-      → ByTurns (suc (length (frames_in (by_answer (λ reading. played (go_on reading) (next n)) o).events))) becames
-      turns
-      → SaidTrue m T (Frame (frame n bytes) ∷ (by_answer (λ reading. played (go_on reading) (next n)) o).events) turns p
-  asked T bytes go_on n tape p becames turns None e b tells each h same = tt
-  asked T bytes go_on n tape p becames turns (Some (reading, left)) e b tells each h same =
-      let became = first_became becames in
-      let q = after_became became (m.after bytes p) p m.reset in
-      let t = honest_turn m bytes p became reading h.0 in
+      → RepliesAreAuthentic m (go_on reading) (next n) left q (later_executions executions)
+      → ByExchanges (length (frames_in (played (go_on reading) (next n) left).events)) (later_executions executions)
+      (later_exchanges exchanges)
+      → EmittedTrue m T (played (go_on reading) (next n) left).events (later_exchanges exchanges) q)
+      → on_reading (λ reading left.
+      IsAuthentic m bytes p (first_execution executions) reading
+      × RepliesAreAuthentic m (go_on reading) (next n) left (after_execution (first_execution executions) (m.after bytes p) p m.reset)
+      (later_executions executions)) o
+      → ByExchanges (suc (length (frames_in (continue_with_reading (λ reading. played (go_on reading) (next n)) o).events))) executions
+      exchanges
+      → EmittedTrue m T (Frame (frame n bytes) ∷ (continue_with_reading (λ reading. played (go_on reading) (next n)) o).events) exchanges p
+  asked T bytes go_on n tape p executions exchanges None e b tells each h same = tt
+  asked T bytes go_on n tape p executions exchanges (Some (reading, left)) e b tells each h same =
+      let execution = first_execution executions in
+      let q = after_execution execution (m.after bytes p) p m.reset in
+      let t = authentic_exchange m bytes p execution reading h.0 in
       let inner : AlwaysTrue T (go_on reading) q =
-      λ k turns. subst (λ r. TellsTrue m T k (go_on reading) r turns) t.1
-      (subst (λ x. TellsTrue m T k (go_on x) (after_turn (turn_by became reading) (m.after bytes p) p m.reset) turns)
-      t.0 (tells (suc k) (turn_by became reading ∷ turns))) in search (rules, cond-true, frame_is_good, body_of_frame)
+      λ k exchanges. subst (λ r. ReportsTrue m T k (go_on reading) r exchanges) t.1
+      (subst (λ x. ReportsTrue m T k (go_on x) (after_exchange (turn_by execution reading) (m.after bytes p) p m.reset) exchanges)
+      t.0 (tells (suc k) (turn_by execution reading ∷ exchanges))) in search (rules, cond-true, frame_is_good, body_of_frame)
 
   pub told_any : {E R : Type 0} (T : P → E → Type 0) (d : Dialog E R) (n : ℕ) (tape : Tape) (p : P)
-      (becames : List Became) (turns : List Turn) → AsksBodies d → AlwaysTrue T d p
-      → AreHonest m d n tape p becames → ByTurns (length (frames_in (played d n tape).events)) becames turns
-      → SaidTrue m T (played d n tape).events turns p
-  told_any T (Done r) n tape p becames turns asks tells h same = tt
-  told_any T (Say e d) n tape p becames turns asks tells h same =
-      ((tells 0 []).0, told_any T d n tape p becames turns asks (λ k turns. (tells k turns).1) h same)
-  told_any T (Ask bytes go_on) n tape p becames turns asks tells h same =
-      asked T bytes go_on n tape p becames turns (answer n tape) refl asks.0 tells
-      (λ reading left q inner honest alike. told_any T (go_on reading) (next n) left q (other_becames becames)
-      (other_turns turns) (asks.1 reading) inner honest alike) h same
+      (executions : List Execution) (exchanges : List Exchange) → SendsValidBodies d → AlwaysTrue T d p
+      → RepliesAreAuthentic m d n tape p executions → ByExchanges (length (frames_in (played d n tape).events)) executions exchanges
+      → EmittedTrue m T (played d n tape).events exchanges p
+  told_any T (Done r) n tape p executions exchanges asks tells h same = tt
+  told_any T (Emit e d) n tape p executions exchanges asks tells h same =
+      ((tells 0 []).0, told_any T d n tape p executions exchanges asks (λ k exchanges. (tells k exchanges).1) h same)
+  told_any T (Ask bytes go_on) n tape p executions exchanges asks tells h same =
+      asked T bytes go_on n tape p executions exchanges (answer n tape) refl asks.0 tells
+      (λ reading left q inner honest alike. told_any T (go_on reading) (next n) left q (later_executions executions)
+      (later_exchanges exchanges) (asks.1 reading) inner honest alike) h same
 
   -- so of a prefix of the events
-  pub said_prefix : {E : Type 0} (T : P → E → Type 0) (x y : List (Event E)) (turns : List Turn) (p : P)
-      → SaidTrue m T (x ++ y) turns p → SaidTrue m T x turns p
-  said_prefix T [] y turns p all = tt
-  said_prefix T (Frame bytes ∷ x) y turns p all =
-      said_prefix T x y (other_turns turns)
-      (after_turn (first_turn turns) (after_frame m bytes p) p m.reset) all
-  said_prefix T (Said e ∷ x) y turns p all = (all.0, said_prefix T x y turns p all.1)
+  pub results_prefix : {E : Type 0} (T : P → E → Type 0) (x y : List (Event E)) (exchanges : List Exchange) (p : P)
+      → EmittedTrue m T (x ++ y) exchanges p → EmittedTrue m T x exchanges p
+  results_prefix T [] y exchanges p all = tt
+  results_prefix T (Frame bytes ∷ x) y exchanges p all =
+      results_prefix T x y (later_exchanges exchanges)
+      (after_exchange (first_exchange exchanges) (after_frame m bytes p) p m.reset) all
+  results_prefix T (Emitted e ∷ x) y exchanges p all = (all.0, results_prefix T x y exchanges p all.1)

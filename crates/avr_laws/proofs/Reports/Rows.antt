@@ -6,16 +6,16 @@ use Rattle.std.proofs.lemmas.List.{append-nil, reverse-append, take-append-le}
 use Rattle.std.specs.Prelude.{codes, reverse, slice_index}
 use Rattle.avr_desk.specs.Record.{Bytes}
 use Rattle.avr_desk.specs.Lines.{information}
-use Rattle.avr_desk.specs.Said.{OutputEvent, Line, Creates, Writes, Outs}
+use Rattle.avr_desk.specs.OutputEvents.{OutputEvent, PrintsLine, CreatesFile, WritesFile, WritesOutput}
 use Rattle.avr_part.specs.declared.part.Mem.{Mem}
 use Rattle.avr_part.specs.declared.part.Mem.TheVariants.{Eeprom}
 use Rattle.avr_plan.specs.Plan.{Plan}
 use Rattle.avr_plan.specs.declared.planned.Task.TheVariants as task
 use Rattle.avr_session.specs.Lines.{fault_line}
 use Rattle.stk_emu.specs.Effect.{Image, Memories, Item, Write, effects}
-use Rattle.avr_laws.specs.Again.{chip_of}
+use Rattle.avr_laws.specs.Again.{chip_filled_with}
 use Rattle.avr_tool.specs.Items.{items}
-use Rattle.avr_laws.specs.Told.{count_line, IsTrue}
+use Rattle.avr_laws.specs.TrueReports.{count_line, IsTrueReport}
 use Rattle.avr_laws.proofs.SecondRun.PlanRows.{tiny, erasing}
 
 abbrev image : Image
@@ -26,11 +26,11 @@ plan = record { part = tiny; tasks = task.Write Eeprom image ∷ []; switches = 
 
 -- a chip of 00
 abbrev zeros : Memories
-zeros = chip_of tiny 0
+zeros = chip_filled_with tiny 0
 
 -- the last bytes of a line, last first
 abbrev ends : OutputEvent → List ℕ
-ends (Line bytes) = take 10 (reverse bytes)
+ends (PrintsLine bytes) = take 10 (reverse bytes)
 ends output = []
 
 joined : (m n c d e l : List ℕ) → m ++ ((n ++ (c ++ (d ++ (e ++ [])))) ++ l) ≡ (m ++ (n ++ (c ++ d))) ++ (e ++ l)
@@ -59,17 +59,17 @@ not_begun mem bytes (x ∷ y ∷ rest) later order now = search (rules, no_more)
 
 -- the byte of a line at this place, and whether it is a line
 abbrev byte : ℕ → OutputEvent → ℕ
-byte place (Line bytes) = slice_index bytes place
+byte place (PrintsLine bytes) = slice_index bytes place
 byte place output = 0
 
-not_saved : (line file text : Bytes) → (Line line ≡ Creates file)
-    ⊎ ((Line line ≡ Writes text) ⊎ (Line line ≡ Outs text)) → ⊥
+not_saved : (line file text : Bytes) → (PrintsLine line ≡ CreatesFile file)
+    ⊎ ((PrintsLine line ≡ WritesFile text) ⊎ (PrintsLine line ≡ WritesOutput text)) → ⊥
 not_saved line file text d' = search rules
 
-never_written : IsTrue plan zeros zeros (count_line Eeprom 1 (codes " bytes written")) → ⊥
+never_written : IsTrueReport plan zeros zeros (count_line Eeprom 1 (codes " bytes written")) → ⊥
 unfolding fault_line
 never_written a' = search (rules, not_begun, written_ends, reverse-append, take-append-le, not_saved)
 
-never_erased : IsTrue plan zeros zeros (Line (information (codes "chip erased" ∷ []))) → ⊥
+never_erased : IsTrueReport plan zeros zeros (PrintsLine (information (codes "chip erased" ∷ []))) → ⊥
 unfolding fault_line
 never_erased a' = search (rules, not_begun, reverse-append, take-append-le, not_saved)

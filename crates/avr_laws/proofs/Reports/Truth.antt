@@ -8,29 +8,29 @@ use Rattle.avr_desk.specs.Record.{Bytes}
 use Rattle.avr_cli.specs.declared.update.Format.{Format}
 use Rattle.avr_image.specs.Image.{byte_count}
 use Rattle.avr_desk.specs.Lines.{information, warning}
-use Rattle.avr_desk.specs.Said.{OutputEvent, Line, Creates, Writes, Outs}
+use Rattle.avr_desk.specs.OutputEvents.{OutputEvent, PrintsLine, CreatesFile, WritesFile, WritesOutput}
 use Rattle.avr_part.specs.Part.{IsPart}
 use Rattle.avr_part.specs.declared.part.Mem.{Mem}
 use Rattle.avr_plan.specs.Plan.{Plan, IsFitted}
-use Rattle.avr_session.specs.Actions.{TheErase, TheWrite, Action, OpenSession, EraseChip, WriteImage, CompareImage, SaveMemory, LeaveOut, actions}
+use Rattle.avr_session.specs.Actions.{SkippedErase, SkippedWrite, Action, OpenSession, EraseChip, WriteImage, CompareImage, SaveMemory, SkipAction, actions}
 use Rattle.avr_session.specs.FileText.{file_text}
 use Rattle.avr_session.specs.Lines.{informs, fault_line}
-use Rattle.avr_session.specs.Session.{opening_says, saving_says, bytes_say, written_says, verified_says, read_says, standing, session}
-use Rattle.stk_host.specs.Dialog.{Dialog, Done, Say, Ask}
+use Rattle.avr_session.specs.Session.{opening_output, saving_output, bytes_output, written_output, verified_output, read_output, standing, session}
+use Rattle.stk_host.specs.Dialog.{Dialog, Done, Emit, Ask}
 use Rattle.stk_host.specs.Operations.{difference_from, comparison, host_fault}
 use Rattle.stk_host.specs.declared.fault.HostFault.{HostFault}
 use Rattle.stk_host.specs.declared.fault.StepFault.{StepFault}
-use Rattle.stk_emu.specs.Turn.{Turn}
+use Rattle.stk_emu.specs.Exchange.{Exchange}
 use Rattle.stk_emu.specs.Device.{device}
 use Rattle.stk_emu.specs.Effect.{Memories, Image, Item, Erase, Write, effect, effects, memories_of, memory_in}
 use Rattle.stk_emu.specs.Programmer.{Programmer}
-use Rattle.stk_emu.specs.Settled.{Idle, Settled, FitsPart}
+use Rattle.stk_emu.specs.Settled.{HasMemories, Settled, FitsPart}
 use Rattle.avr_tool.proofs.Given.Comparisons.{no_difference}
-use Rattle.avr_tool.proofs.PageWrites.Pages.{effects_on}
+use Rattle.avr_tool.proofs.WriteOperations.Pages.{effects_on}
 use Rattle.avr_tool.specs.Items.{action_items, actions_items, items}
-use Rattle.avr_laws.specs.Told.{TellsTrue, count_line, kept_in, IsTrue, ChipErased, BytesWritten, BytesVerified, Differed, BytesSaved, BytesRead, EraseLeftOut, WriteLeftOut, StepFailed, SessionDone}
-use Rattle.avr_tool.proofs.AnyLine.EachAction.{Comes, Passes, ActionTrue, ActionsTrue, opening_comes}
-use Rattle.avr_tool.proofs.AnyLine.Sessions.{AtMoment, AtEnd, anyhow, session_prints}
+use Rattle.avr_laws.specs.TrueReports.{ReportsTrue, count_line, saved_bytes, IsTrueReport, ChipErased, BytesWritten, BytesVerified, Differed, BytesSaved, BytesRead, EraseLeftOut, WriteLeftOut, StepFailed, SessionDone}
+use Rattle.avr_tool.proofs.OverFaultyLink.EachAction.{Comes, Passes, ActionTrue, ActionsTrue, opening_comes}
+use Rattle.avr_tool.proofs.OverFaultyLink.Sessions.{AtMoment, AtEnd, anyhow, session_prints}
 use Rattle.avr_laws.proofs.Memories.Bytes.{bytes_same, no_difference_if_fine}
 use Rattle.avr_tool.proofs.Hosts.OneLink.{Spot, on_link, this_link}
 use Rattle.avr_tool.proofs.Hosts.Outputs.{AllTrue, End, Moment, Prints, PrintsFrom}
@@ -44,9 +44,9 @@ link = this_link device
 
 -- each output event of a dialog that prints what is true is true at that moment
 all_true : (True : OutputEvent → Programmer → Type 0) {R : Type 0} (Now : Moment) (After : End R) (k : ℕ) (d : Dialog OutputEvent R) (z : Spot)
-    → PrintsFrom True Now After d z → TellsTrue device (λ q output. True output q) k d z.0 z.1
+    → PrintsFrom True Now After d z → ReportsTrue device (λ q output. True output q) k d z.0 z.1
 all_true True Now After k (Done r) z h = tt
-all_true True Now After k (Say output d) z h =
+all_true True Now After k (Emit output d) z h =
     (h.0, all_true True (λ x. Now (output ∷ x)) (λ r x. After r (output ∷ x)) k d z h.1)
 all_true True Now After zero (Ask bytes go_on) z h = tt
 all_true True Now After (suc k) (Ask bytes go_on) z h = all_true True Now After k (go_on _) (link.after bytes z tt) h.1
@@ -64,22 +64,22 @@ hold_unless T false x q t = (t, tt)
 
 module _ (plan : Plan) (sound : IsPart plan.part) (m0 : Memories) (f0 : FitsPart plan.part m0) where
   abbrev pub T : OutputEvent → Programmer → Type 0
-  T output q = IsTrue plan m0 (memories_of q.chip) output
+  T output q = IsTrueReport plan m0 (memories_of q.chip) output
 
-  informs_hold : (quiet : ℕ) (pieces : List Bytes) (q : Programmer) → T (Line (information pieces)) q
+  informs_hold : (quiet : ℕ) (pieces : List Bytes) (q : Programmer) → T (PrintsLine (information pieces)) q
       → AllTrue T (informs quiet pieces) q
-  informs_hold quiet pieces q t = hold_unless T (nat_lt 0 quiet) (Line (information pieces)) q t
+  informs_hold quiet pieces q t = hold_unless T (nat_lt 0 quiet) (PrintsLine (information pieces)) q t
 
   counts_hold : (mem : Mem) (count : ℕ) (done_text : Bytes) (q : Programmer) → T (count_line mem count done_text) q
-      → AllTrue T (bytes_say plan.switches.quiet mem count done_text) q
+      → AllTrue T (bytes_output plan.switches.quiet mem count done_text) q
   counts_hold mem count done_text q t = search (rules, informs_hold)
 
-  failed : (fault : StepFault) (q : Programmer) → AllTrue T (Line (fault_line plan.part (host_fault fault)) ∷ []) q
+  failed : (fault : StepFault) (q : Programmer) → AllTrue T (PrintsLine (fault_line plan.part (host_fault fault)) ∷ []) q
   failed fault q = (StepFailed fault refl, tt)
 
   -- ---- the opening
 
-  own_signature : (quiet : ℕ) (q : Programmer) → AllTrue T (opening_says quiet plan.part (Ok plan.part.signature)) q
+  own_signature : (quiet : ℕ) (q : Programmer) → AllTrue T (opening_output quiet plan.part (Ok plan.part.signature)) q
   own_signature quiet q =
       search (rules, hold_on, informs_hold, bytes_same)
 
@@ -87,7 +87,7 @@ module _ (plan : Plan) (sound : IsPart plan.part) (m0 : Memories) (f0 : FitsPart
 
   compared_now : (mem : Mem) (image : Image) (q : Programmer) → Contains (actions plan) (CompareImage mem image)
       → (r : Result ⊤ HostFault) → comparison mem image (memory_in plan.part mem (memories_of q.chip)) ≡ r
-      → AllTrue T (verified_says plan.switches.quiet plan.part mem image r) q
+      → AllTrue T (verified_output plan.switches.quiet plan.part mem image r) q
   compared_now mem image q has (Ok a) e =
       counts_hold mem (byte_count image) (codes " bytes verified") q
       (BytesVerified mem image has refl
@@ -98,16 +98,16 @@ module _ (plan : Plan) (sound : IsPart plan.part) (m0 : Memories) (f0 : FitsPart
 
   saved_now : (b : Bool) (mem : Mem) (format : Format) (file : Bytes) (q : Programmer)
       → Contains (actions plan) (SaveMemory mem format file) → (text : Bytes)
-      → text ≡ file_text format (kept_in plan mem (memories_of q.chip))
-      → AllTrue T (if b then Outs text ∷ [] else Creates file ∷ Writes text ∷ []) q
-  saved_now true mem format file q has text e = (BytesSaved mem format file has (inr (inr (ap Outs e))), tt)
+      → text ≡ file_text format (saved_bytes plan mem (memories_of q.chip))
+      → AllTrue T (if b then WritesOutput text ∷ [] else CreatesFile file ∷ WritesFile text ∷ []) q
+  saved_now true mem format file q has text e = (BytesSaved mem format file has (inr (inr (ap WritesOutput e))), tt)
   saved_now false mem format file q has text e =
-      (BytesSaved mem format file has (inl refl), (BytesSaved mem format file has (inr (inl (ap Writes e))), tt))
+      (BytesSaved mem format file has (inl refl), (BytesSaved mem format file has (inr (inl (ap WritesFile e))), tt))
 
   written_now : (mem : Mem) (image : Image) (first later : List Item) (q : Programmer)
       → items plan ≡ first ++ Write mem image ∷ later
       → memories_of q.chip ≡ effects plan.part (Write mem image ∷ []) (effects plan.part first m0)
-      → AllTrue T (written_says plan.switches.quiet plan.part mem image (Ok tt)) q
+      → AllTrue T (written_output plan.switches.quiet plan.part mem image (Ok tt)) q
   written_now mem image first later q order is =
       counts_hold mem (byte_count image) (codes " bytes written") q
       (BytesWritten mem image first later refl order
@@ -139,22 +139,22 @@ module _ (plan : Plan) (sound : IsPart plan.part) (m0 : Memories) (f0 : FitsPart
       by_kind (WriteImage mem image) fits has order = λ q is.
           written_now mem image (actions_items done) (actions_items later) q order is
       by_kind (CompareImage mem image) fits has order = λ q is.
-          subst (λ z. AllTrue T (verified_says plan.switches.quiet plan.part mem image
+          subst (λ z. AllTrue T (verified_output plan.switches.quiet plan.part mem image
           (comparison mem image (memory_in plan.part mem z))) q) is
           (compared_now mem image q has (comparison mem image (memory_in plan.part mem (memories_of q.chip))) refl)
       by_kind (SaveMemory mem format file) fits has order = λ q is.
-          subst (λ z. AllTrue T (read_says plan.switches mem format file (memory_in plan.part mem z)) q) is
-          (hold_on T (saving_says file (file_text format (kept_in plan mem (memories_of q.chip))))
-          (bytes_say plan.switches.quiet mem (length (kept_in plan mem (memories_of q.chip)))
+          subst (λ z. AllTrue T (read_output plan.switches mem format file (memory_in plan.part mem z)) q) is
+          (hold_on T (saving_output file (file_text format (saved_bytes plan mem (memories_of q.chip))))
+          (bytes_output plan.switches.quiet mem (length (saved_bytes plan mem (memories_of q.chip)))
           (codes " bytes read")) q
           (saved_now (bytes_eq file (codes "-")) mem format file q has
-          (file_text format (kept_in plan mem (memories_of q.chip))) refl)
-          (counts_hold mem (length (kept_in plan mem (memories_of q.chip))) (codes " bytes read") q
+          (file_text format (saved_bytes plan mem (memories_of q.chip))) refl)
+          (counts_hold mem (length (saved_bytes plan mem (memories_of q.chip))) (codes " bytes read") q
           (BytesRead mem format file has refl)))
-      by_kind (LeaveOut TheErase) fits has order = λ q is.
-          hold_unless T (nat_lt 1 plan.switches.quiet) (Line (warning (codes "chip not erased because of -n" ∷ []))) q
+      by_kind (SkipAction SkippedErase) fits has order = λ q is.
+          hold_unless T (nat_lt 1 plan.switches.quiet) (PrintsLine (warning (codes "chip not erased because of -n" ∷ []))) q
           (EraseLeftOut has refl)
-      by_kind (LeaveOut (TheWrite mem image)) fits has order = λ q is.
+      by_kind (SkipAction (SkippedWrite mem image)) fits has order = λ q is.
           counts_hold mem (byte_count image) (codes " bytes not written") q (WriteLeftOut mem image has refl)
 
   -- the memories after one more action
@@ -186,15 +186,15 @@ module _ (plan : Plan) (sound : IsPart plan.part) (m0 : Memories) (f0 : FitsPart
       (λ q is. own_signature plan.switches.quiet q)
       (actions_true (work plan) (OpenSession ∷ []) (work_fits plan fitted) refl) z opened
 
-  pub session_goes : All (IsFitted plan.part) plan.tasks → (p : Programmer) (turns : List Turn) → Idle plan.part m0 p
-      → Prints T (AtMoment plan m0) (AtEnd plan m0 ⊤) (session plan) (p, turns)
-  session_goes fitted p turns idle =
-      session_prints_true fitted (λ m z. Settled plan.part m z.0) ⊤ (anyhow plan.part sound plan.switches) (p, turns)
+  pub session_goes : All (IsFitted plan.part) plan.tasks → (p : Programmer) (exchanges : List Exchange) → HasMemories plan.part m0 p
+      → Prints T (AtMoment plan m0) (AtEnd plan m0 ⊤) (session plan) (p, exchanges)
+  session_goes fitted p exchanges idle =
+      session_prints_true fitted (λ m z. Settled plan.part m z.0) ⊤ (anyhow plan.part sound plan.switches) (p, exchanges)
       (on_link device (opening_comes plan.part sound plan.switches m0 f0 p idle))
 
-  pub session_tells : All (IsFitted plan.part) plan.tasks → (k : ℕ) (p : Programmer) (turns : List Turn)
-      → Idle plan.part m0 p
-      → TellsTrue device (λ q output. IsTrue plan m0 (memories_of q.chip) output) k (session plan) p turns
-  session_tells fitted k p turns idle =
-      all_true T (AtMoment plan m0) (AtEnd plan m0 ⊤) k (session plan) (p, turns)
-      (session_goes fitted p turns idle).holds
+  pub session_tells : All (IsFitted plan.part) plan.tasks → (k : ℕ) (p : Programmer) (exchanges : List Exchange)
+      → HasMemories plan.part m0 p
+      → ReportsTrue device (λ q output. IsTrueReport plan m0 (memories_of q.chip) output) k (session plan) p exchanges
+  session_tells fitted k p exchanges idle =
+      all_true T (AtMoment plan m0) (AtEnd plan m0 ⊤) k (session plan) (p, exchanges)
+      (session_goes fitted p exchanges idle).holds

@@ -1,51 +1,51 @@
 -- The output of a session is that of its expected run, up to the first action that doesn't complete.
 use Rattle.std.proofs.Common.{◌≡◌, ℕ, List, [], ◌∷◌, ◌++◌, append_assoc, refl, sym, ap, ◌∙◌, All, Option, Some, None, rules}
 use Rattle.avr_cli.specs.declared.settings.Switches.{Switches}
-use Rattle.avr_desk.specs.Said.{OutputEvent}
+use Rattle.avr_desk.specs.OutputEvents.{OutputEvent}
 use Rattle.avr_part.specs.Part.{Part, IsPart}
 use Rattle.avr_plan.specs.Plan.{Plan, IsFitted}
 use Rattle.avr_session.specs.Actions.{Action, actions}
 use Rattle.avr_session.specs.Session.{session}
-use Rattle.avr_session.specs.Standing.{Standing, Fine}
+use Rattle.avr_session.specs.Standing.{Standing, NoFault}
 use Rattle.stk_host.specs.Dialog.{Done, played, outputs}
 use Rattle.stk_host.specs.Tape.{Tape}
-use Rattle.stk_emu.specs.Along.{along, said_along}
+use Rattle.stk_emu.specs.DialogOverExchanges.{state_after, outputs_after}
 use Rattle.stk_emu.specs.Device.{device}
 use Rattle.stk_emu.specs.Effect.{Memories}
 use Rattle.stk_emu.specs.Programmer.{Programmer}
-use Rattle.stk_emu.specs.Settled.{Idle, FitsPart}
-use Rattle.stk_emu.specs.Turn.{Turn, Became}
-use Rattle.avr_tool.proofs.AnyLine.FrameSizes.{session_asks}
+use Rattle.stk_emu.specs.Settled.{HasMemories, FitsPart}
+use Rattle.stk_emu.specs.Exchange.{Exchange, Execution}
+use Rattle.avr_tool.proofs.OverFaultyLink.FrameSizes.{session_asks}
 use Rattle.avr_laws.proofs.Lines.AnyTape.{goes_as}
-use Rattle.avr_tool.proofs.AnyLine.Outcomes.{session_along}
-use Rattle.avr_laws.specs.AnyTape.{GoesAs}
-use Rattle.avr_tool.specs.Honest.{AreHonest}
+use Rattle.avr_tool.proofs.OverFaultyLink.Outcomes.{session_along}
+use Rattle.avr_laws.specs.AnyTape.{GoesAlongExchanges}
+use Rattle.avr_tool.specs.Authentic.{RepliesAreAuthentic}
 use Rattle.avr_tool.specs.ExpectedRun.{Expected, then_from, ◌then◌, action_expected, actions_expected, working_expected, ending_says, expected_run}
-use Rattle.avr_tool.specs.Foretold.{SaysFirst, IsForetold, EndsAsForetold}
+use Rattle.avr_tool.specs.ExpectedOutput.{FirstActionsOutput, IsExpectedOutput, EndsAsExpected}
 
 module _ (plan : Plan) (sound : IsPart plan.part) (fitted : All (IsFitted plan.part) plan.tasks) (m : Memories)
     (f : FitsPart plan.part m) where
   -- AT EACH MOMENT, and at its end
-  pub foretold_now : (k : ℕ) (p : Programmer) (turns : List Turn) → Idle plan.part m p
-      → IsForetold plan m (said_along device k (session plan) p turns)
-  foretold_now k p turns idle = (session_along plan sound m f fitted p turns idle k).now.1
+  pub foretold_now : (k : ℕ) (p : Programmer) (exchanges : List Exchange) → HasMemories plan.part m p
+      → IsExpectedOutput plan m (outputs_after device k (session plan) p exchanges)
+  foretold_now k p exchanges idle = (session_along plan sound m f fitted p exchanges idle k).now.1
 
-  pub foretold_end : (k status : ℕ) (p : Programmer) (turns : List Turn) → Idle plan.part m p
-      → (along device k (session plan) p turns).dialog ≡ Done status
-      → EndsAsForetold plan m (said_along device k (session plan) p turns) status
-  foretold_end k status p turns idle e = search (rules, session_along plan sound m f fitted p turns idle k)
+  pub foretold_end : (k status : ℕ) (p : Programmer) (exchanges : List Exchange) → HasMemories plan.part m p
+      → (state_after device k (session plan) p exchanges).dialog ≡ Done status
+      → EndsAsExpected plan m (outputs_after device k (session plan) p exchanges) status
+  foretold_end k status p exchanges idle e = search (rules, session_along plan sound m f fitted p exchanges idle k)
 
   -- and in a play over any tape that is authentic
-  pub foretold_on_tape : (p : Programmer) (tape : Tape) (becames : List Became) → Idle plan.part m p
-      → AreHonest device (session plan) 1 tape p becames
-      → IsForetold plan m (outputs (played (session plan) 1 tape).events)
-  foretold_on_tape p tape becames idle honest = by_outcome (played (session plan) 1 tape).outcome refl
+  pub foretold_on_tape : (p : Programmer) (tape : Tape) (executions : List Execution) → HasMemories plan.part m p
+      → RepliesAreAuthentic device (session plan) 1 tape p executions
+      → IsExpectedOutput plan m (outputs (played (session plan) 1 tape).events)
+  foretold_on_tape p tape executions idle honest = by_outcome (played (session plan) 1 tape).outcome refl
     where
-      goes : GoesAs device (session plan) 1 tape p becames
-      goes = goes_as device (session plan) 1 tape p becames (session_asks plan sound fitted) honest
+      goes : GoesAlongExchanges device (session plan) 1 tape p executions
+      goes = goes_as device (session plan) 1 tape p executions (session_asks plan sound fitted) honest
 
       by_outcome : (o : Option (ℕ × ℕ × Tape)) → (played (session plan) 1 tape).outcome ≡ o
-          → IsForetold plan m (outputs (played (session plan) 1 tape).events)
+          → IsExpectedOutput plan m (outputs (played (session plan) 1 tape).events)
       by_outcome None e =
           let w = goes.waits e in
           search (rules, foretold_now)
@@ -60,28 +60,28 @@ then_at : (first : Expected) (next : Memories → Expected) (at : Standing) → 
 then_at first next at e = ap (λ x. then_from first x next) e
 
 was_fine : (first : Expected) (next : Memories → Expected) (at : Standing) → first.standing ≡ at
-    → (first then next).standing ≡ Fine → first.standing ≡ Fine
+    → (first then next).standing ≡ NoFault → first.standing ≡ NoFault
 was_fine first next at stands fine = search (rules, then_at)
 
 actions_prefix : (part : Part) (s : Switches) (done more : List Action) (m : Memories)
-    → (actions_expected part s done m).standing ≡ Fine
-    → (later : List OutputEvent) × ((actions_expected part s (done ++ more) m).says
-    ≡ (actions_expected part s done m).says ++ later)
-actions_prefix part s [] more m fine = ((actions_expected part s more m).says, refl)
+    → (actions_expected part s done m).standing ≡ NoFault
+    → (later : List OutputEvent) × ((actions_expected part s (done ++ more) m).emits
+    ≡ (actions_expected part s done m).emits ++ later)
+actions_prefix part s [] more m fine = ((actions_expected part s more m).emits, refl)
 actions_prefix part s (action ∷ done) more m fine =
     let c = action_expected part s action m in
     let stands = was_fine c (actions_expected part s done) c.standing refl fine in
-    let on = then_at c (actions_expected part s done) Fine stands in
+    let on = then_at c (actions_expected part s done) NoFault stands in
     let rest = actions_prefix part s done more c.memories (sym (ap (λ x. x.standing) on) ∙ fine) in
     search (rules, then_at, append_assoc)
 
-pub first_prefix : (plan : Plan) (m : Memories) (says : List OutputEvent)
-    → SaysFirst plan.part plan.switches (actions plan) m says
-    → (later : List OutputEvent) × ((expected_run plan m).says ≡ says ++ later)
-first_prefix plan m says first =
+pub first_prefix : (plan : Plan) (m : Memories) (emits : List OutputEvent)
+    → FirstActionsOutput plan.part plan.switches (actions plan) m emits
+    → (later : List OutputEvent) × ((expected_run plan m).emits ≡ emits ++ later)
+first_prefix plan m emits first =
     let prefix = actions_prefix plan.part plan.switches first.done first.more m first.fine in
     let ending = ending_says plan (working_expected plan m).standing in (
       prefix.0 ++ ending,
       ap (λ xs. xs ++ ending) (search rules)
-          ∙ append_assoc says prefix.0 ending,
+          ∙ append_assoc emits prefix.0 ending,
     )

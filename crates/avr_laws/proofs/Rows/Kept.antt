@@ -16,25 +16,25 @@ use Rattle.avr_part.specs.BuiltIn.{m328p}
 use Rattle.avr_part.specs.State.{fresh_state}
 use Rattle.stk_emu.specs.Device.{device}
 use Rattle.stk_emu.specs.Programmer.{Programmer, fresh_programmer}
-use Rattle.stk_emu.specs.Turn.{Became, Obeyed}
+use Rattle.stk_emu.specs.Exchange.{Execution, Executed}
 use Rattle.stk_frame.specs.Cut.{body_of, cut, frames, seq_of}
 use Rattle.stk_frame.specs.Frame.{frame}
-use Rattle.stk_host.specs.Tape.{Answered, Reading, Tape, answer, bytes_in, is_answer, limit, on_tape}
-use Rattle.avr_tool.specs.Honest.{on_answer}
-use Rattle.avr_laws.specs.AnyTape.{CameThrough}
-use Rattle.avr_laws.specs.AskedPlan.{Gave}
-use Rattle.avr_laws.specs.Kept.{AreSaved, NoneForged, named_files, saved_files}
-use Rattle.avr_laws.specs.NoFrame.{WereSent}
-use Rattle.avr_laws.specs.Worked.{frames_due, fuse_plan, worked_answers}
+use Rattle.stk_host.specs.Tape.{Answered, Reading, Tape, answer, leading_bytes, is_answer, reply_byte_limit, on_tape}
+use Rattle.avr_tool.specs.Authentic.{on_reading}
+use Rattle.avr_laws.specs.AnyTape.{ReceivedSentFrames}
+use Rattle.avr_laws.specs.AskedPlan.{FileGave}
+use Rattle.avr_laws.specs.Kept.{FilesAreSaved, NoneForged, named_files, saved_files}
+use Rattle.avr_laws.specs.NoForgedFrame.{AreNotForged}
+use Rattle.avr_laws.specs.Worked.{worked_frames, fuse_plan, worked_replies}
 
 abbrev programmer : Programmer
 programmer = fresh_programmer (fresh_state m328p)
 
-abbrev obeyed : List Became
-obeyed = Obeyed ∷ Obeyed ∷ Obeyed ∷ Obeyed ∷ Obeyed ∷ Obeyed ∷ []
+abbrev executed : List Execution
+executed = Executed ∷ Executed ∷ Executed ∷ Executed ∷ Executed ∷ Executed ∷ []
 
 -- all its frames were received
-pub worked_came : CameThrough frames_due [] (frames frames_due) obeyed
+pub worked_came : ReceivedSentFrames worked_frames [] (frames worked_frames) executed
 worked_came = record { good = refl }
 
 -- and each reply is the programmer's own
@@ -57,19 +57,19 @@ abbrev sixth : List ℕ
 sixth = 0x1B ∷ 0x06 ∷ 0x00 ∷ 0x02 ∷ 0x0E ∷ 0x11 ∷ 0x00 ∷ 0x00 ∷ []
 
 own : (piece reply : List ℕ) (pieces others : List (List ℕ)) (tape left : Tape) (p : Programmer)
-    (becames : List Became) (before : List (List ℕ)) (reading : Reading)
-    → answer (seq_of piece) tape ≡ Some (reading, left) → cut (take limit (bytes_in tape)) ≡ reply ∷ others
+    (executions : List Execution) (before : List (List ℕ)) (reading : Reading)
+    → answer (seq_of piece) tape ≡ Some (reading, left) → cut (take reply_byte_limit (leading_bytes tape)) ≡ reply ∷ others
     → frame (seq_of piece) (device.answer (body_of piece) p) ≡ reply → is_answer (seq_of piece) reply ≡ true
-    → NoneForged device pieces left (device.after (body_of piece) p) becames
+    → NoneForged device pieces left (device.after (body_of piece) p) executions
     (frame (seq_of piece) (device.answer (body_of piece) p) ∷ before)
-    → NoneForged device (piece ∷ pieces) tape p (Obeyed ∷ becames) before
-own piece reply pieces others tape left p becames before reading read cut_is own_is taken rest =
-    subst (on_answer (λ reading left.
-    WereSent (seq_of piece) (frame (seq_of piece) (device.answer (body_of piece) p) ∷ before)
-    (cut (take limit (bytes_in tape)))
-    × NoneForged device pieces left (device.after (body_of piece) p) becames
+    → NoneForged device (piece ∷ pieces) tape p (Executed ∷ executions) before
+own piece reply pieces others tape left p executions before reading read cut_is own_is taken rest =
+    subst (on_reading (λ reading left.
+    AreNotForged (seq_of piece) (frame (seq_of piece) (device.answer (body_of piece) p) ∷ before)
+    (cut (take reply_byte_limit (leading_bytes tape)))
+    × NoneForged device pieces left (device.after (body_of piece) p) executions
     (frame (seq_of piece) (device.answer (body_of piece) p) ∷ before))) (sym read) (
-      subst (WereSent (seq_of piece) (frame (seq_of piece) (device.answer (body_of piece) p) ∷ before)) (sym cut_is)
+      subst (AreNotForged (seq_of piece) (frame (seq_of piece) (device.answer (body_of piece) p) ∷ before)) (sym cut_is)
           ((λ good. inr (inl (sym own_is)), λ other. absurd (true≢false (sym taken ∙ other)))),
       rest,
     )
@@ -125,18 +125,18 @@ sent_fifth = frame (seq_of asked_fifth) (device.answer (body_of asked_fifth) at_
 abbrev sent_sixth : List (List ℕ)
 sent_sixth = frame (seq_of asked_sixth) (device.answer (body_of asked_sixth) at_sixth) ∷ sent_fifth
 
-pub worked_forges_none : NoneForged device (frames frames_due) worked_answers programmer obeyed []
+pub worked_forges_none : NoneForged device (frames worked_frames) worked_replies programmer executed []
 unfolding answer
 worked_forges_none =
-    own asked_first first (asked_second ∷ asked_third ∷ asked_fourth ∷ asked_fifth ∷ asked_sixth ∷ []) (second ∷ third ∷ fourth ∷ fifth ∷ sixth ∷ []) (on_tape (first ++ second ++ third ++ fourth ++ fifth ++ sixth)) (on_tape (second ++ third ++ fourth ++ fifth ++ sixth)) programmer (Obeyed ∷ Obeyed ∷ Obeyed ∷ Obeyed ∷ Obeyed ∷ []) []
+    own asked_first first (asked_second ∷ asked_third ∷ asked_fourth ∷ asked_fifth ∷ asked_sixth ∷ []) (second ∷ third ∷ fourth ∷ fifth ∷ sixth ∷ []) (on_tape (first ++ second ++ third ++ fourth ++ fifth ++ sixth)) (on_tape (second ++ third ++ fourth ++ fifth ++ sixth)) programmer (Executed ∷ Executed ∷ Executed ∷ Executed ∷ Executed ∷ []) []
     (Answered (body_of first)) refl refl refl refl (
-    own asked_second second (asked_third ∷ asked_fourth ∷ asked_fifth ∷ asked_sixth ∷ []) (third ∷ fourth ∷ fifth ∷ sixth ∷ []) (on_tape (second ++ third ++ fourth ++ fifth ++ sixth)) (on_tape (third ++ fourth ++ fifth ++ sixth)) at_second (Obeyed ∷ Obeyed ∷ Obeyed ∷ Obeyed ∷ []) sent_first
+    own asked_second second (asked_third ∷ asked_fourth ∷ asked_fifth ∷ asked_sixth ∷ []) (third ∷ fourth ∷ fifth ∷ sixth ∷ []) (on_tape (second ++ third ++ fourth ++ fifth ++ sixth)) (on_tape (third ++ fourth ++ fifth ++ sixth)) at_second (Executed ∷ Executed ∷ Executed ∷ Executed ∷ []) sent_first
     (Answered (body_of second)) refl refl refl refl (
-    own asked_third third (asked_fourth ∷ asked_fifth ∷ asked_sixth ∷ []) (fourth ∷ fifth ∷ sixth ∷ []) (on_tape (third ++ fourth ++ fifth ++ sixth)) (on_tape (fourth ++ fifth ++ sixth)) at_third (Obeyed ∷ Obeyed ∷ Obeyed ∷ []) sent_second
+    own asked_third third (asked_fourth ∷ asked_fifth ∷ asked_sixth ∷ []) (fourth ∷ fifth ∷ sixth ∷ []) (on_tape (third ++ fourth ++ fifth ++ sixth)) (on_tape (fourth ++ fifth ++ sixth)) at_third (Executed ∷ Executed ∷ Executed ∷ []) sent_second
     (Answered (body_of third)) refl refl refl refl (
-    own asked_fourth fourth (asked_fifth ∷ asked_sixth ∷ []) (fifth ∷ sixth ∷ []) (on_tape (fourth ++ fifth ++ sixth)) (on_tape (fifth ++ sixth)) at_fourth (Obeyed ∷ Obeyed ∷ []) sent_third
+    own asked_fourth fourth (asked_fifth ∷ asked_sixth ∷ []) (fifth ∷ sixth ∷ []) (on_tape (fourth ++ fifth ++ sixth)) (on_tape (fifth ++ sixth)) at_fourth (Executed ∷ Executed ∷ []) sent_third
     (Answered (body_of fourth)) refl refl refl refl (
-    own asked_fifth fifth (asked_sixth ∷ []) (sixth ∷ []) (on_tape (fifth ++ sixth)) (on_tape (sixth)) at_fifth (Obeyed ∷ []) sent_fourth
+    own asked_fifth fifth (asked_sixth ∷ []) (sixth ∷ []) (on_tape (fifth ++ sixth)) (on_tape (sixth)) at_fifth (Executed ∷ []) sent_fourth
     (Answered (body_of fifth)) refl refl refl refl (
     own asked_sixth sixth [] [] (on_tape (sixth)) [] at_sixth [] sent_fifth
     (Answered (body_of sixth)) refl refl refl refl (
@@ -157,7 +157,7 @@ first_byte [] = 0
 first_byte (file ∷ files) = slice_index file.bytes 0
 
 pub another_text : (m : Memories) (old now : DeskState) (byte : ℕ) → (m.lfuse ≡ byte → ⊥) → all_files old.kept ≡ []
-    → AreSaved (saved_files reading_plan m) old now
+    → FilesAreSaved (saved_files reading_plan m) old now
     → all_files now.kept ≡ record { name = codes "fuse"; bytes = byte ∷ [] } ∷ [] → ⊥
 another_text m old now byte differs empty saved is =
     let same : record { name = codes "fuse"; bytes = byte ∷ [] } ∷ []
@@ -167,7 +167,7 @@ another_text m old now byte differs empty saved is =
     differs (sym (ap first_byte same))
 
 pub no_file : (m : Memories) (old now : DeskState) → all_files old.kept ≡ []
-    → AreSaved (saved_files reading_plan m) old now → all_files now.kept ≡ [] → ⊥
+    → FilesAreSaved (saved_files reading_plan m) old now → all_files now.kept ≡ [] → ⊥
 no_file m old now empty saved is =
     let same : [] ≡ [] ++ named_files (record { name = codes "fuse"; bytes = m.lfuse ∷ [] } ∷ []) =
     sym is ∙ (saved.created ∙ (ap (λ (files : List Writing). files ++ named_files (saved_files reading_plan m)) empty
@@ -182,7 +182,7 @@ is_ended (Found reading) = reading.ended
 
 pub half_read : (old now : DeskState) (name text : Bytes) → all_openings old.kept ≡ []
     → all_openings now.kept ≡ Found (record { name = name; bytes = text; ended = false }) ∷ []
-    → Gave old now name text → ⊥
+    → FileGave old now name text → ⊥
 half_read old now name text empty half gave =
     let has = subst (λ (os : List Opening). Contains (drop (length os) (all_openings now.kept))
     (Found (record { name = name; bytes = text; ended = true }))) empty gave in

@@ -9,22 +9,22 @@ use Rattle.avr_cli.specs.declared.settings.Settings.{Settings}
 use Rattle.avr_cli.specs.declared.update.Format.TheVariants.{Ihex, Immediate}
 use Rattle.avr_cli.specs.declared.update.Op.TheVariants as op
 use Rattle.avr_cli.specs.declared.update.Update.{Update}
-use Rattle.ghosts.specs.Failures.{HasStood}
+use Rattle.ghosts.specs.Failures.{NoFailureCounted}
 use Rattle.avr_desk.specs.Record.{DeskState, Record, after_err, showing, Bytes}
 use Rattle.avr_desk.specs.declared.record.Opening.{Opening}
 use Rattle.avr_desk.specs.declared.record.Opening.TheVariants.{Found}
 use Rattle.avr_desk.specs.Lines.{memory_line, not_opened_line}
-use Rattle.avr_desk.specs.Said.{OutputEvent, Opens, Line, TellsLine, TellsFailure, after_all}
+use Rattle.avr_desk.specs.OutputEvents.{OutputEvent, Opens, PrintsLine, ReportsLineAs, ReportsFailureAs, after_events}
 use Rattle.avr_part.specs.BuiltIn.{m328p}
 use Rattle.avr_part.specs.declared.part.Mem.TheVariants.{Eeprom, Flash}
 use Rattle.avr_records.specs.declared.kind.Ending.{Ending}
 use Rattle.avr_laws.proofs.Limits.{LARGEST_IMAGE_FILE, LARGEST_PART_FILE}
 use Rattle.avr_plan.specs.Lines.{no_part_line}
 use Rattle.avr_plan.specs.Plan.{Plan}
-use Rattle.avr_plan.specs.Planning.{planned, file_image_stage, judged_image}
-use Rattle.avr_plan.specs.Taking.{AtUpdate, op_takes_memory}
-use Rattle.avr_desk.specs.Playing.{AtStart, Goes}
-use Rattle.avr_desk.specs.Stage.{Stage, Made, Refused, verdict_stage, file_stage, ◌>>=◌}
+use Rattle.avr_plan.specs.Planning.{planned, file_image_stage, checked_image}
+use Rattle.avr_plan.specs.AllocationPoints.{AtAllocatingUpdate, op_allocates}
+use Rattle.avr_desk.specs.Playing.{OnlyAtStart, RunsStage}
+use Rattle.avr_desk.specs.Stage.{Stage, Produced, Refused, result_stage, file_stage, ◌>>=◌}
 use Rattle.avr_plan.specs.declared.planned.Task.{Task}
 use Rattle.avr_plan.specs.declared.planned.Task.TheVariants.{Write}
 use Rattle.avr_desk.proofs.Stages.Breaks.{Begins, begins_then, begins_file, unopened, opened_is_told, TellsOne, refused_once}
@@ -59,19 +59,19 @@ wanted = record {
 -- it begins by opening that file
 
 abbrev task : Stage Task
-task = file_image_stage no_switches file Ihex 32768 >>= λ image. verdict_stage (Ok (Write Flash image))
+task = file_image_stage no_switches file Ihex 32768 >>= λ image. result_stage (Ok (Write Flash image))
 
 abbrev tasks : Stage (List Task)
-tasks = task >>= λ first. verdict_stage (Ok (first ∷ []))
+tasks = task >>= λ first. result_stage (Ok (first ∷ []))
 
 begins : Begins file (planned wanted)
 begins =
-    begins_then file tasks (λ all. verdict_stage (Ok (record { part = m328p; tasks = all; switches = no_switches })))
-    (begins_then file task (λ first. verdict_stage (Ok (first ∷ []))) (search (rules, begins_then, begins_file)))
+    begins_then file tasks (λ all. result_stage (Ok (record { part = m328p; tasks = all; switches = no_switches })))
+    (begins_then file task (λ first. result_stage (Ok (first ∷ []))) (search (rules, begins_then, begins_file)))
 
 -- a line and a text that differ at this place
 differs : (place : ℕ) (line told : Bytes) (old new : DeskState)
-    → ((back : Bytes) → get_or (told ++ back) place 0 ≡ get_or line place 0 → ⊥) → TellsLine line told old new → ⊥
+    → ((back : Bytes) → get_or (told ++ back) place 0 ≡ get_or line place 0 → ⊥) → ReportsLineAs line told old new → ⊥
 differs place line told old new apart (inl whole) =
     apart [] (ap (λ (bytes : Bytes). get_or bytes place 0) (append-nil told ∙ whole.0))
 differs place line told old new apart (inr part) = search rules
@@ -90,13 +90,13 @@ mixed = record wanted { updates = of_values ∷ of_file ∷ [] }
 begins_mixed : (passed : List Opening) (said : List OutputEvent) (done : List Update) (due : Update)
     (more : List Update)
     (made : Plan)
-    → of_values ∷ of_file ∷ [] ≡ done ++ due ∷ more → op_takes_memory due due.op ≡ true
-    → planned (record mixed { updates = done }) passed ≡ record { says = said; answer = Made made; left = [] }
+    → of_values ∷ of_file ∷ [] ≡ done ++ due ∷ more → op_allocates due due.op ≡ true
+    → planned (record mixed { updates = done }) passed ≡ record { emits = said; stage_outcome = Produced made; openings_left = [] }
     → (passed ≡ []) × (said ≡ [])
 begins_mixed passed said [] due more made is takes planned_so = search rules
 begins_mixed passed said (x ∷ done) due more made is takes planned_so = search (rules, only_due)
 
-takes_first : (passed : List Opening) (said : List OutputEvent) → AtUpdate mixed passed said → (passed ≡ [])
+takes_first : (passed : List Opening) (said : List OutputEvent) → AtAllocatingUpdate mixed passed said → (passed ≡ [])
     × (said ≡ [])
 takes_first passed said at =
     begins_mixed passed said at.done at.due at.more at.plan at.updates_are at.takes at.is_planned
@@ -105,22 +105,22 @@ takes_first passed said at =
 abbrev parted : Settings
 parted = record wanted { parts = Some other; updates = of_values ∷ [] }
 
-takes_behind_parts : (passed : List Opening) → AtUpdate parted passed [] → ⊥
+takes_behind_parts : (passed : List Opening) → AtAllocatingUpdate parted passed [] → ⊥
 takes_behind_parts passed at = search rules
 
 module _ (r : Record) (k l m n status : ℕ) where
   -- the messages grew by this, and the status is that of a refusal
   abbrev Ends : Bytes → Type 0
-  Ends told = Goes (AtUpdate wanted) (planned wanted) (showing r k m) (showing (after_err told r) l n) (Err status)
+  Ends told = RunsStage (AtAllocatingUpdate wanted) (planned wanted) (showing r k m) (showing (after_err told r) l n) (Err status)
 
   abbrev Told : Bytes → Type 0
-  Told told = TellsFailure (not_opened_line file) told (showing r k m) (showing (after_err told r) l n)
+  Told told = ReportsFailureAs (not_opened_line file) told (showing r k m) (showing (after_err told r) l n)
 
   told_by : (told : Bytes) → Ends told → Told told
-  told_by told ends = of_file_alone (unopened (AtUpdate wanted) file told (planned wanted) begins r k l m n status ends)
+  told_by told ends = of_file_alone (unopened (AtAllocatingUpdate wanted) file told (planned wanted) begins r k l m n status ends)
     where
-      of_file_alone : Told told ⊎ (TellsLine memory_line told (showing r k m) (showing (after_err told r) l n)
-          × ((passed : List Opening) × AtUpdate wanted passed []))
+      of_file_alone : Told told ⊎ (ReportsLineAs memory_line told (showing r k m) (showing (after_err told r) l n)
+          × ((passed : List Opening) × AtAllocatingUpdate wanted passed []))
           → Told told
       of_file_alone (inl failure) = failure
       of_file_alone (inr memory) = absurd (search (rules, only_due))
@@ -141,24 +141,24 @@ module _ (r : Record) (k l m n status : ℕ) where
   half_a_line one few ends = search (rules, told_by)
 
   -- no message, if the desk has not failed
-  told_silence : Goes (AtUpdate wanted) (planned wanted) (showing r k m) (showing r l n) (Err status) → Told []
+  told_silence : RunsStage (AtAllocatingUpdate wanted) (planned wanted) (showing r k m) (showing r l n) (Err status) → Told []
   told_silence ends = search (rules, told_by)
 
-  silence : HasStood k l → Goes (AtUpdate wanted) (planned wanted) (showing r k m) (showing r l n) (Err status) → ⊥
+  silence : NoFailureCounted k l → RunsStage (AtAllocatingUpdate wanted) (planned wanted) (showing r k m) (showing r l n) (Err status) → ⊥
   silence sound ends = search (rules, told_silence)
 
-  silence_behind_a_file : HasStood m n → Goes (AtUpdate wanted) (planned wanted) (showing r k m) (showing r l n)
+  silence_behind_a_file : NoFailureCounted m n → RunsStage (AtAllocatingUpdate wanted) (planned wanted) (showing r k m) (showing r l n)
       (Err status) → ⊥
   silence_behind_a_file sound ends = search (rules, told_silence)
 
-  half_behind_a_file : HasStood m n → Ends half → ⊥
+  half_behind_a_file : NoFailureCounted m n → Ends half → ⊥
   half_behind_a_file sound ends = search (rules, told_by)
 
   -- the line of a file that was opened, read to its end and good
-  opened_well : (bytes : Bytes) (good : List (Option ℕ) × Ending) → judged_image file Ihex 32768 bytes ≡ Ok good
-      → Goes (AtStart false) (file_stage file 4194304 (judged_image file Ihex 32768)) (showing r k m)
-      (showing (after_all (Opens (Found (record { name = file; bytes = bytes; ended = true }))
-      ∷ Line (not_opened_line file) ∷ []) r) l n) (Err status)
+  opened_well : (bytes : Bytes) (good : List (Option ℕ) × Ending) → checked_image file Ihex 32768 bytes ≡ Ok good
+      → RunsStage (OnlyAtStart false) (file_stage file 4194304 (checked_image file Ihex 32768)) (showing r k m)
+      (showing (after_events (Opens (Found (record { name = file; bytes = bytes; ended = true }))
+      ∷ PrintsLine (not_opened_line file) ∷ []) r) l n) (Err status)
       → ⊥
   opened_well bytes good given ends =
       differs 15 memory_line (not_opened_line file) (showing r k m) (showing r l n)
@@ -175,14 +175,14 @@ abbrev refusal : Bytes
 refusal = no_part_line (codes "t99")
 
 lacks : (openings : List Opening) → planned lacking openings
-    ≡ record { says = []; answer = Refused refusal; left = openings }
+    ≡ record { emits = []; stage_outcome = Refused refusal; openings_left = openings }
 lacks openings = refl
 
 module _ (r : Record) (k l m n status : ℕ) where
   -- a failed allocation, after the line of the refusal
-  refused_twice : TellsOne refusal (refusal ++ memory_line) (planned lacking) lacks (AtUpdate lacking) r k l m n → ⊥
+  refused_twice : TellsOne refusal (refusal ++ memory_line) (planned lacking) lacks (AtAllocatingUpdate lacking) r k l m n → ⊥
   refused_twice x0 = search rules
 
-  two_faults : Goes (AtUpdate lacking) (planned lacking) (showing r k m)
+  two_faults : RunsStage (AtAllocatingUpdate lacking) (planned lacking) (showing r k m)
       (showing (after_err (refusal ++ memory_line) r) l n) (Err status) → ⊥
   two_faults ends = refused_twice (search (rules, refused_once))

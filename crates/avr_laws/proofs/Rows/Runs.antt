@@ -9,7 +9,7 @@ use Rattle.avr_cli.specs.declared.update.Op.TheVariants as op
 use Rattle.avr_desk.specs.Named.{newest}
 use Rattle.avr_desk.specs.Record.{Bytes}
 use Rattle.avr_desk.specs.declared.record.Writing.{Writing}
-use Rattle.avr_desk.specs.Stage.{Made}
+use Rattle.avr_desk.specs.Stage.{Produced}
 use Rattle.avr_desk.specs.declared.record.Opening.{Opening}
 use Rattle.avr_desk.specs.declared.record.Opening.TheVariants.{Found}
 use Rattle.avr_part.specs.BuiltIn.{m328p, part_of_id}
@@ -19,8 +19,8 @@ use Rattle.avr_part.specs.Sound.{IsSoundChip}
 use Rattle.avr_part.specs.State.{ChipState as Chip, fresh_state}
 use Rattle.avr_part.specs.declared.part.Mem.TheVariants.{Flash, Lfuse}
 use Rattle.avr_laws.proofs.Plans.Fitted.{plan_fitted}
-use Rattle.avr_laws.specs.AskedPlan.{Files, HasImage, Holding, IsAsked}
-use Rattle.avr_plan.specs.ImageFile.{Given}
+use Rattle.avr_laws.specs.AskedPlan.{Files, HasImage, FileHolds, IsAsked}
+use Rattle.avr_plan.specs.ImageFile.{ImageOrBadFile}
 use Rattle.avr_plan.specs.Plan.{Plan}
 use Rattle.avr_plan.specs.Planning.{planned}
 use Rattle.avr_plan.specs.declared.planned.Task.{Task}
@@ -30,15 +30,15 @@ use Rattle.avr_session.specs.Runs.{Devices}
 use Rattle.stk_emu.specs.Device.{device, after_frames}
 use Rattle.stk_emu.specs.Effect.{Memories, Image, effects, memories_of}
 use Rattle.stk_emu.specs.Programmer.{Programmer, fresh_programmer}
-use Rattle.stk_emu.specs.Turn.{Became, Kept, Obeyed, Anew}
+use Rattle.stk_emu.specs.Exchange.{Execution, NotExecuted, Executed, ThenRestarted}
 use Rattle.stk_frame.specs.Commands.{body}
 use Rattle.stk_frame.specs.Cut.{frames}
 use Rattle.stk_frame.specs.Frame.{frame}
 use Rattle.stk_frame.specs.HostCommands.{program_page}
 use Rattle.stk_host.specs.Places.{load_flash}
 use Rattle.stk_host.specs.Transcript.{heard, sent}
-use Rattle.avr_laws.specs.Again.{chip_of}
-use Rattle.avr_laws.specs.AnyTape.{CameThrough, Got, after_bytes, getting, let_through}
+use Rattle.avr_laws.specs.Again.{chip_filled_with}
+use Rattle.avr_laws.specs.AnyTape.{ReceivedSentFrames, FramesByRestart, after_received_bytes, adding_received, received_frames}
 use Rattle.avr_tool.specs.Items.{items, asked_items}
 use Rattle.avr_laws.specs.Kept.{NoneForged, named_files, saved_files}
 use Rattle.avr_tool.specs.Written.{IsWritten}
@@ -64,7 +64,7 @@ abbrev plan : Plan
 plan = flash_plan (Some 1 ∷ Some 2 ∷ None ∷ None ∷ [])
 
 abbrev old : Memories
-old = chip_of small 0
+old = chip_filled_with small 0
 
 -- the memories with these bytes of flash
 abbrev left : List ℕ → Memories
@@ -76,14 +76,14 @@ the_images = refl
 
 -- So a run with status 0 leaves them, if its link forges no frame.
 pub only_the_images : (s : Settings) (before now : Devices) (r : IsRun s before now 0)
-    → (planned s r.openings).answer ≡ Made plan → before.link.transcript ≡ []
-    → (p : Programmer) (got : List ℕ) (later : List (List ℕ)) (becames : List Became) → IsSoundChip p.chip
+    → (planned s r.openings).stage_outcome ≡ Produced plan → before.link.transcript ≡ []
+    → (p : Programmer) (got : List ℕ) (later : List (List ℕ)) (executions : List Execution) → IsSoundChip p.chip
     → p.chip.part ≡ small → memories_of p.chip ≡ old
-    → CameThrough got later (frames (sent now.link.transcript)) becames
-    → NoneForged device (frames (sent now.link.transcript)) (heard now.link.transcript) p becames []
-    → memories_of (after_bytes device got later p).chip ≡ left (1 ∷ 2 ∷ 255 ∷ 255 ∷ [])
-only_the_images s before now r is silent p got later becames sound part held came none =
-    (kept s plan before now r is silent p got later becames sound part came none).done.memories
+    → ReceivedSentFrames got later (frames (sent now.link.transcript)) executions
+    → NoneForged device (frames (sent now.link.transcript)) (heard now.link.transcript) p executions []
+    → memories_of (after_received_bytes device got later p).chip ≡ left (1 ∷ 2 ∷ 255 ∷ 255 ∷ [])
+only_the_images s before now r is silent p got later executions sound part held came none =
+    (kept s plan before now r is silent p got later executions sound part came none).done.memories
     ∙ ap (effects small (items plan)) held
 
 abbrev Holds : List ℕ → Type 0
@@ -91,7 +91,7 @@ Holds flash = IsWritten small (asked_items plan) old (left flash)
 
 -- 1. A plan for another size: no settings and files give this plan for four bytes of flash,
 pub another_size : (s : Settings) (openings : List Opening)
-    → (planned s openings).answer ≡ Made (flash_plan (Some 1 ∷ Some 2 ∷ [])) → ⊥
+    → (planned s openings).stage_outcome ≡ Produced (flash_plan (Some 1 ∷ Some 2 ∷ [])) → ⊥
 another_size s openings is = search (rules, plan_fitted s openings _ is)
 
 -- and no chip of two bytes is of its part.
@@ -119,25 +119,25 @@ whole_page = refl
 abbrev sign_on : List ℕ
 sign_on = frame 1 (0x01 ∷ [])
 
-no_more : (became : Became) (piece : List ℕ) (g : Got) → length (getting became piece g).0 ≤ suc (length g.0)
-no_more Kept piece g = omega arith
-no_more Obeyed piece g = omega arith
-no_more (Anew became) piece g = let one = no_more became piece ([], g.0 ∷ g.1) in omega (arith, one)
+no_more : (execution : Execution) (piece : List ℕ) (g : FramesByRestart) → length (adding_received execution piece g).0 ≤ suc (length g.0)
+no_more NotExecuted piece g = omega arith
+no_more Executed piece g = omega arith
+no_more (ThenRestarted execution) piece g = let one = no_more execution piece ([], g.0 ∷ g.1) in omega (arith, one)
 
-none_sent : (becames : List Became) → length (let_through becames []).0 ≡ 0
+none_sent : (executions : List Execution) → length (received_frames executions []).0 ≡ 0
 none_sent [] = refl
-none_sent (became ∷ more) = refl
+none_sent (execution ∷ more) = refl
 
-once : (becames : List Became) → length (let_through becames (sign_on ∷ [])).0 ≤ 1
+once : (executions : List Execution) → length (received_frames executions (sign_on ∷ [])).0 ≤ 1
 once [] = omega arith
-once (became ∷ more) =
-    let one = no_more became sign_on (let_through more []) in
+once (execution ∷ more) =
+    let one = no_more execution sign_on (received_frames more []) in
     let none = none_sent more in omega (arith, one, none)
 
-pub twice : (becames : List Became) → CameThrough (sign_on ++ sign_on) [] (sign_on ∷ []) becames → ⊥
-twice becames came =
-    let few = once becames in
-    let two : length (let_through becames (sign_on ∷ [])).0 ≡ 2 = ap (λ (g : Got). length g.0) came.good in
+pub twice : (executions : List Execution) → ReceivedSentFrames (sign_on ++ sign_on) [] (sign_on ∷ []) executions → ⊥
+twice executions came =
+    let few = once executions in
+    let two : length (received_frames executions (sign_on ∷ [])).0 ≡ 2 = ap (λ (g : FramesByRestart). length g.0) came.good in
     omega (arith, few, two)
 
 -- 6. Status 0 with a wrong byte, or with a byte missing.
@@ -173,7 +173,7 @@ fuse_plan byte = record { part = m328p; tasks = tasks byte; switches = switches 
 
 -- 2. An image of another update: the plan has the byte of the named file,
 pub the_file_named : (planned (settings false)
-    (Found (record { name = codes "low"; bytes = 0xE2 ∷ []; ended = true }) ∷ [])).answer ≡ Made (fuse_plan 0xE2)
+    (Found (record { name = codes "low"; bytes = 0xE2 ∷ []; ended = true }) ∷ [])).stage_outcome ≡ Produced (fuse_plan 0xE2)
 the_file_named = refl
 
 abbrev first_byte : List Task → ℕ
@@ -181,16 +181,16 @@ first_byte (Write mem (Some byte ∷ image) ∷ more) = byte
 first_byte more = 0
 
 -- not that of another one,
-pub another_file : IsAsked (settings false) (Holding files) (fuse_plan 0x62) → ⊥
+pub another_file : IsAsked (settings false) (FileHolds files) (fuse_plan 0x62) → ⊥
 another_file asked = search rules
 
 -- whether it has a byte at address 0
-abbrev begins : Given → ℕ
+abbrev begins : ImageOrBadFile → ℕ
 begins (Ok (Some byte ∷ image, ending)) = 1
 begins given = 0
 
 -- and not at another address.
-pub another_address : HasImage (Holding files) (codes "low") Raw 2 (None ∷ Some 0xE2 ∷ []) → ⊥
+pub another_address : HasImage (FileHolds files) (codes "low") Raw 2 (None ∷ Some 0xE2 ∷ []) → ⊥
 another_address has = search rules
 
 -- 7. The promise over files is an equation too: these bytes are in the chip file, and no others.

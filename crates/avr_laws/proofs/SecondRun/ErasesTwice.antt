@@ -13,23 +13,23 @@ use Rattle.stk_host.specs.Places.{each_from}
 use Rattle.stk_host.specs.WriteSteps.{byte_steps, write_steps}
 use Rattle.stk_emu.specs.Effect.{Image, Memories, Item, Erase, Write, erase_keeps_eeprom, effect, effects}
 use Rattle.stk_emu.specs.Settled.{FitsPart}
-use Rattle.stk_emu.specs.PageWrites.{page_writes_of, all_steps, AllFitItems}
-use Rattle.avr_tool.proofs.PageWrites.Items.{items_do, effect_sizes}
-use Rattle.avr_tool.proofs.PageWrites.Pages.{page_writes_on}
-use Rattle.avr_laws.specs.Again.{is_keeping, AreKeeping}
+use Rattle.stk_emu.specs.WriteOperations.{write_operations_of, steps_of_items, ItemsFit}
+use Rattle.avr_tool.proofs.WriteOperations.Items.{items_do, effect_sizes}
+use Rattle.avr_tool.proofs.WriteOperations.Pages.{write_operations_append}
+use Rattle.avr_laws.specs.Again.{byte_keeps_eeprom, ItemsKeepEeprom}
 use Rattle.avr_tool.specs.Items.{items, has_erase}
-use Rattle.avr_tool.specs.Outcome.{page_writes}
+use Rattle.avr_tool.specs.Outcome.{write_operations}
 use Rattle.avr_laws.proofs.SecondRun.NetWrites.{first_again, first_writes_again}
 use Rattle.avr_tool.proofs.Each.{Each, each_on}
 use Rattle.avr_tool.proofs.Plans.Fits.{work, work_fits}
 use Rattle.avr_laws.proofs.Plans.Items.{items_fit}
 use Rattle.avr_tool.proofs.Plans.Items.{writes, erase_if, tasks_write, items_are}
-use Rattle.avr_tool.proofs.AnyLine.FirstSteps.{effects_sizes}
+use Rattle.avr_tool.proofs.OverFaultyLink.FirstSteps.{effects_sizes}
 
 -- a write, and if this is wanted one that keeps EEPROM
 abbrev Mild : Part → Type 0 → Item → Type 0
 Mild part want Erase = ⊥
-Mild part want (Write Hfuse image) = want → is_keeping part (byte_at image 0) ≡ true
+Mild part want (Write Hfuse image) = want → byte_keeps_eeprom part (byte_at image 0) ≡ true
 Mild part want (Write mem image) = ⊤
 
 abbrev AllMild : Part → Type 0 → List Item → Type 0
@@ -46,7 +46,7 @@ mild_writes part want [] f = refl
 mild_writes part want (Erase ∷ xs) f = absurd f.0
 mild_writes part want (Write mem image ∷ xs) f = mild_writes part want xs f.1
 
-all_mild : (part : Part) (want : Type 0) (xs : List Item) → has_erase xs ≡ false → (want → AreKeeping part xs)
+all_mild : (part : Part) (want : Type 0) (xs : List Item) → has_erase xs ≡ false → (want → ItemsKeepEeprom part xs)
     → AllMild part want xs
 all_mild part want [] f k = tt
 all_mild part want (Erase ∷ xs) f k = absurd (true≢false f)
@@ -76,10 +76,10 @@ module _ (part : Part) where
 
   module _ (want : Type 0) where
     abbrev MildSteps : List (List Command) → Type 0
-    MildSteps steps = AllMild part want (page_writes_of steps)
+    MildSteps steps = AllMild part want (write_operations_of steps)
 
     steps_join : (xs ys : List (List Command)) → MildSteps xs → MildSteps ys → MildSteps (xs ++ ys)
-    steps_join xs ys f g = search (rules, page_writes_on, each_on)
+    steps_join xs ys f g = search (rules, write_operations_append, each_on)
 
     each_mild : (steps_at : ℕ → List (List Command)) (place count : ℕ) → ((i : ℕ) → MildSteps (steps_at i))
         → MildSteps (each_from steps_at place count)
@@ -96,59 +96,59 @@ module _ (part : Part) where
     write_mild : (mem : Mem) (image : Image) → Mild part want (Write mem image) → MildSteps (write_steps part mem image)
     write_mild mem image f = search (rules, each_mild, either_mild, byte_mild)
 
-    page_writes_mild : (xs : List Item) → AllMild part want xs → MildSteps (all_steps part xs)
-    page_writes_mild [] f = tt
-    page_writes_mild (Erase ∷ xs) f = absurd f.0
-    page_writes_mild (Write mem image ∷ xs) f = search (rules, steps_join, write_mild, page_writes_mild xs f.1)
+    write_operations_mild : (xs : List Item) → AllMild part want xs → MildSteps (steps_of_items part xs)
+    write_operations_mild [] f = tt
+    write_operations_mild (Erase ∷ xs) f = absurd f.0
+    write_operations_mild (Write mem image ∷ xs) f = search (rules, steps_join, write_mild, write_operations_mild xs f.1)
 
 -- ---- the items of a plan
 
-some_page_writes_again : (part : Part) (sound : IsPart part) (xs : List Item) (k : ℕ) (m : Memories)
-    → AllFitItems part xs
+some_write_operations_again : (part : Part) (sound : IsPart part) (xs : List Item) (k : ℕ) (m : Memories)
+    → ItemsFit part xs
     → FitsPart part m → has_erase xs ≡ false
-    → (erase_keeps_eeprom part m ≡ true → AreKeeping part xs)
-    → effects part (Erase ∷ xs) (effects part (take k (page_writes_of (all_steps part (Erase ∷ xs)))) m)
+    → (erase_keeps_eeprom part m ≡ true → ItemsKeepEeprom part xs)
+    → effects part (Erase ∷ xs) (effects part (take k (write_operations_of (steps_of_items part (Erase ∷ xs)))) m)
     ≡ effects part (Erase ∷ xs) m
-some_page_writes_again part sound xs k m fits f writes kept =
-    let ys = page_writes_of (all_steps part xs) in
+some_write_operations_again part sound xs k m fits f writes kept =
+    let ys = write_operations_of (steps_of_items part xs) in
     let mild : AllMild part (erase_keeps_eeprom part m ≡ true) ys =
-    search (rules, page_writes_mild, all_mild, writes) in
+    search (rules, write_operations_mild, all_mild, writes) in
     let some = effects part (take k (Erase ∷ ys)) m in
     let same : (x : Memories) → FitsPart part x → effects part (Erase ∷ ys) x ≡ effects part (Erase ∷ xs) x =
     λ x g. items_do part sound xs (effect part Erase x) fits (effect_sizes part sound Erase x g) in
     sym (same some (effects_sizes part sound (take k (Erase ∷ ys)) m f))
     ∙ (search (rules, first_again, mild_writes, first_keep))
 
-some_writes_again : (part : Part) (sound : IsPart part) (xs : List Item) (k : ℕ) (m : Memories) → AllFitItems part xs
+some_writes_again : (part : Part) (sound : IsPart part) (xs : List Item) (k : ℕ) (m : Memories) → ItemsFit part xs
     → FitsPart part m → has_erase xs ≡ false
-    → effects part xs (effects part (take k (page_writes_of (all_steps part xs))) m) ≡ effects part xs m
+    → effects part xs (effects part (take k (write_operations_of (steps_of_items part xs))) m) ≡ effects part xs m
 some_writes_again part sound xs k m fits f writes =
-    let ys = page_writes_of (all_steps part xs) in
-    let mild : AllMild part ⊥ ys = page_writes_mild part ⊥ xs (all_mild part ⊥ xs writes (λ w. absurd w)) in
+    let ys = write_operations_of (steps_of_items part xs) in
+    let mild : AllMild part ⊥ ys = write_operations_mild part ⊥ xs (all_mild part ⊥ xs writes (λ w. absurd w)) in
     let some = effects part (take k ys) m in
     sym (items_do part sound xs some fits (effects_sizes part sound (take k ys) m f))
     ∙ (first_writes_again part k ys m (mild_writes part ⊥ ys mild) ∙ items_do part sound xs m fits f)
 
 items_again : (part : Part) (sound : IsPart part) (due : Bool) (xs : List Item) (k : ℕ) (m : Memories)
-    → AllFitItems part (erase_if due ++ xs) → FitsPart part m → has_erase xs ≡ false
-    → (due ≡ true → erase_keeps_eeprom part m ≡ true → AreKeeping part (erase_if due ++ xs))
-    → effects part (erase_if due ++ xs) (effects part (take k (page_writes_of (all_steps part (erase_if due ++ xs)))) m)
+    → ItemsFit part (erase_if due ++ xs) → FitsPart part m → has_erase xs ≡ false
+    → (due ≡ true → erase_keeps_eeprom part m ≡ true → ItemsKeepEeprom part (erase_if due ++ xs))
+    → effects part (erase_if due ++ xs) (effects part (take k (write_operations_of (steps_of_items part (erase_if due ++ xs)))) m)
     ≡ effects part (erase_if due ++ xs) m
 items_again part sound due xs k m fits f writes kept =
-    grind (arith, common_steps, some_page_writes_again, some_writes_again)
+    grind (arith, common_steps, some_write_operations_again, some_writes_again)
 
 pub plan_again : (plan : Plan) (k : ℕ) (m : Memories) → IsPart plan.part → All (IsFitted plan.part) plan.tasks
     → FitsPart plan.part m
-    → (has_erase (items plan) ≡ true → erase_keeps_eeprom plan.part m ≡ true → AreKeeping plan.part (items plan))
-    → effects plan.part (items plan) (effects plan.part (take k (page_writes plan)) m)
+    → (has_erase (items plan) ≡ true → erase_keeps_eeprom plan.part m ≡ true → ItemsKeepEeprom plan.part (items plan))
+    → effects plan.part (items plan) (effects plan.part (take k (write_operations plan)) m)
     ≡ effects plan.part (items plan) m
 plan_again plan k m sound fitted f kept =
     let part = plan.part in
     let due = has_erase (items plan) in
     let are = items_are plan in
-    subst (λ all. effects part all (effects part (take k (page_writes_of (all_steps part all))) m) ≡ effects part all m)
+    subst (λ all. effects part all (effects part (take k (write_operations_of (steps_of_items part all))) m) ≡ effects part all m)
     (sym are)
     (items_again part sound due (writes plan) k m
-    (subst (AllFitItems part) are (items_fit part (work plan) (work_fits plan fitted))) f
+    (subst (ItemsFit part) are (items_fit part (work plan) (work_fits plan fitted))) f
     (tasks_write plan.switches plan.tasks)
-    (λ erases keeps. subst (AreKeeping part) are (kept erases keeps)))
+    (λ erases keeps. subst (ItemsKeepEeprom part) are (kept erases keeps)))

@@ -13,9 +13,9 @@ use Rattle.avr_session.specs.Actions.{Action}
 use Rattle.stk_emu.specs.Effect.{Image, Memories, Erase, with_image, are_locked, write_effect, effect, effects, memory_in}
 use Rattle.stk_emu.specs.Given.{HoldsImage}
 use Rattle.stk_emu.specs.Settled.{FitsPart}
-use Rattle.avr_tool.proofs.PageWrites.EachMemory.{keeps_zeros, laid, spares, write_is}
-use Rattle.avr_laws.specs.Again.{chip_of, AgreesAnyway}
-use Rattle.avr_tool.specs.Agrees.{Agrees, ActionAgrees, ActionsAgree}
+use Rattle.avr_tool.proofs.WriteOperations.EachMemory.{keeps_zeros, laid, leaves_memory, write_is}
+use Rattle.avr_laws.specs.Again.{chip_filled_with, AgreesOnTwoChips}
+use Rattle.avr_tool.specs.ComparisonsAgree.{ComparisonsAgree, ComparisonAgrees, EachComparisonAgrees}
 use Rattle.avr_tool.specs.Items.{action_items, actions_items, items, has_erase}
 use Rattle.avr_tool.proofs.Plans.Items.{tasks_write}
 use Rattle.avr_laws.proofs.Plans.Items.{plan_agrees}
@@ -69,9 +69,9 @@ module _ (part : Part) where
   write_between other image z o m t = λ mem.
       let zeros = keeps_zeros mem in
       let left : Memories → List ℕ = λ x.
-      if spares other mem (are_locked z) then memory_in part mem x else laid zeros image (memory_in part mem x) in
+      if leaves_memory other mem (are_locked z) then memory_in part mem x else laid zeros image (memory_in part mem x) in
       let is : (x : Memories) → x.lock ∷ [] ≡ z.lock ∷ [] → left x ≡ memory_in part mem (write_effect other image x) =
-      search (rules, spares, laid, write_is) in
+      search (rules, leaves_memory, laid, write_is) in
       let each : Alike zeros (left z) (left o) (left m) =
       (search (rules, thirds_laid)) in
       subst (λ xs. Alike zeros xs (memory_in part mem (write_effect other image o))
@@ -88,8 +88,8 @@ module _ (part : Part) where
 
   -- ---- comparisons
 
-  action_between : (action : Action) (z o m : Memories) → Between z o m → ActionAgrees part action z
-      → ActionAgrees part action o → ActionAgrees part action m
+  action_between : (action : Action) (z o m : Memories) → Between z o m → ComparisonAgrees part action z
+      → ComparisonAgrees part action o → ComparisonAgrees part action m
   action_between action z o m t hz ho = search (rules, alike_holds)
 
   no_more : (action : Action) (more : List Action) → has_erase (actions_items (action ∷ more)) ≡ false
@@ -98,7 +98,7 @@ module _ (part : Part) where
 
   actions_between : (actions : List Action) (z o m : Memories) → has_erase (actions_items actions) ≡ false
       → Between z o m
-      → ActionsAgree part actions z → ActionsAgree part actions o → ActionsAgree part actions m
+      → EachComparisonAgrees part actions z → EachComparisonAgrees part actions o → EachComparisonAgrees part actions m
   actions_between [] z o m none t hz ho = tt
   actions_between (action ∷ actions) z o m none t hz ho =
       let next = items_between action actions z o m none t in
@@ -118,10 +118,10 @@ module _ (part : Part) where
   kept_size keeps xs n e = search (rules, length-replicate)
 
   erased_between : (m : Memories) → FitsPart part m → (mem : Mem)
-      → Alike (keeps_zeros mem) (memory_in part mem (effect part Erase (chip_of part 0)))
-      (memory_in part mem (effect part Erase (chip_of part 255))) (memory_in part mem (effect part Erase m))
+      → Alike (keeps_zeros mem) (memory_in part mem (effect part Erase (chip_filled_with part 0)))
+      (memory_in part mem (effect part Erase (chip_filled_with part 255))) (memory_in part mem (effect part Erase m))
   erased_between m f mem = search (rules, length-replicate, bit_at-zero, kept_ones, any_third, kept_size)
 
 pub agrees_anyway : (plan : Plan) (m : Memories) → FitsPart plan.part m → has_erase (items plan) ≡ true
-    → AgreesAnyway plan → Agrees plan m
+    → AgreesOnTwoChips plan → ComparisonsAgree plan m
 agrees_anyway plan m f erases both = search (rules, plan_agrees, actions_between, tasks_write, erased_between)

@@ -7,14 +7,14 @@ use Rattle.std.proofs.lemmas.Nat.{and_assoc}
 use Rattle.std.proofs.lemmas.Nat.Bits.{bit_at_and}
 use Rattle.std.specs.Prelude.{⊤, ◌==◌, if◌then◌else◌, replicate, take, drop}
 use Rattle.std.specs.Int.{bit_at}
-use Rattle.avr_image.specs.Image.{either}
+use Rattle.avr_image.specs.Image.{byte_or_else}
 use Rattle.avr_part.specs.Memory.{blank}
 use Rattle.avr_part.specs.Part.{Part}
 use Rattle.avr_part.specs.declared.part.Mem.{Mem}
 use Rattle.avr_part.specs.declared.part.Mem.TheVariants.{Flash, Eeprom, Lfuse, Hfuse, Efuse, Lock}
 use Rattle.stk_emu.specs.Effect.{Image, Memories, Item, Erase, Write, with_image, and_in, and_with, are_locked, erase_keeps_eeprom, write_effect, effect, effects, memory_in}
 use Rattle.stk_emu.proofs.Memories.LaidImages.{length-laid, laid_twice, and_in_twice, length-and_in}
-use Rattle.avr_tool.proofs.PageWrites.EachMemory.{keeps_zeros, laid, is_barred, spares, write_is}
+use Rattle.avr_tool.proofs.WriteOperations.EachMemory.{keeps_zeros, laid, is_barred, leaves_memory, write_is}
 use Rattle.avr_tool.specs.Items.{has_erase}
 
 -- memories are equal if each of them is
@@ -40,7 +40,7 @@ both (Some a) (Some b) = Some (bit_and a b)
 abbrev joined : Bool → Image → Image → Image
 joined zeros [] b = b
 joined zeros (x ∷ a) [] = x ∷ a
-joined zeros (x ∷ a) (y ∷ b) = (if zeros then both x y else either y x) ∷ joined zeros a b
+joined zeros (x ∷ a) (y ∷ b) = (if zeros then both x y else byte_or_else y x) ∷ joined zeros a b
 
 laid_nothing : (zeros : Bool) (xs : List ℕ) → laid zeros [] xs ≡ xs
 laid_nothing true [] = refl
@@ -84,7 +84,7 @@ module _ (part : Part) where
     net (Erase ∷ items) m = []
     net (Write other image ∷ items) m =
         let more = net items (write_effect other image m) in
-        if spares other mem (are_locked m) then more else joined (keeps_zeros mem) image more
+        if leaves_memory other mem (are_locked m) then more else joined (keeps_zeros mem) image more
 
     net_is : (items : List Item) (m : Memories) → has_erase items ≡ false
         → memory_in part mem (effects part items m) ≡ laid (keeps_zeros mem) (net items m) (memory_in part mem m)
@@ -94,7 +94,7 @@ module _ (part : Part) where
         let after = write_effect other image m in
         net_is items after w
         ∙ (ap (laid (keeps_zeros mem) (net items after)) (write_is part other mem image m)
-        ∙ unless (spares other mem (are_locked m)) (net items after) (memory_in part mem m))
+        ∙ unless (leaves_memory other mem (are_locked m)) (net items after) (memory_in part mem m))
       where
         unless : (b : Bool) (more : Image) (xs : List ℕ)
             → laid (keeps_zeros mem) more (if b then xs else laid (keeps_zeros mem) image xs)

@@ -6,7 +6,7 @@ use Rattle.avr_part.specs.declared.part.Mem.TheVariants.{Flash, Eeprom, Lfuse, H
 use Rattle.avr_plan.specs.Plan.{Plan}
 use Rattle.avr_plan.specs.declared.planned.Task.{Task}
 use Rattle.avr_plan.specs.declared.planned.Task.TheVariants.{Write, Verify}
-use Rattle.avr_laws.specs.Again.{chip_of}
+use Rattle.avr_laws.specs.Again.{chip_filled_with}
 use Rattle.avr_tool.specs.ExpectedRun.{expected_run}
 
 -- four bytes of flash and two of EEPROM
@@ -37,8 +37,8 @@ abbrev plan_of : List Task → Plan
 plan_of tasks = record { part = tiny; tasks = tasks; switches = erasing }
 
 abbrev statuses : List Task → List ℕ
-statuses tasks = (expected_run (plan_of tasks) (chip_of tiny 0)).status
-    ∷ (expected_run (plan_of tasks) (chip_of tiny 255)).status
+statuses tasks = (expected_run (plan_of tasks) (chip_filled_with tiny 0)).status
+    ∷ (expected_run (plan_of tasks) (chip_filled_with tiny 255)).status
     ∷ []
 
 -- flash, EEPROM, fuses and the lock last; a gap of flash is FF
@@ -87,11 +87,11 @@ unerased = record {
       record erasing { erase = false; keep_flash = true };
 }
 
-zeros_agree : (expected_run unerased (chip_of tiny 0)).status ≡ 0
+zeros_agree : (expected_run unerased (chip_filled_with tiny 0)).status ≡ 0
 zeros_agree = refl
 
-ones_agree : (expected_run unerased (chip_of tiny 255)).status ≡ 0
+ones_agree : (expected_run unerased (chip_filled_with tiny 255)).status ≡ 0
 ones_agree = refl
 
-locked_differs : (expected_run unerased (record (chip_of tiny 255) { lock = 0xFE })).status ≡ 1
+locked_differs : (expected_run unerased (record (chip_filled_with tiny 255) { lock = 0xFE })).status ≡ 1
 locked_differs = refl

@@ -7,7 +7,7 @@ use Rattle.stk_frame.specs.Cut.{rest, piece_size, IsPiece}
 use Rattle.stk_frame.proofs.Cuts.{rest_none}
 use Rattle.stk_frame.proofs.Laws.{rest_first}
 use Rattle.stk_host.specs.declared.link.Item.TheVariants.{Byte, Silence, End}
-use Rattle.stk_host.specs.Tape.{Tape, on_tape, bytes_of}
+use Rattle.stk_host.specs.Tape.{Tape, on_tape, bytes_on_tape}
 use Rattle.stk_host.proofs.Tapes.Answers.{on_tape_append}
 use Rattle.avr_tool.specs.Serving.{HasNoEnd}
 use Rattle.avr_laws.proofs.TwoProcesses.Slots.{Slot, Came, Quiet, slots_tape, came, IsStub}
@@ -25,7 +25,7 @@ AreShort (piece ∷ pieces) = IsShort piece × AreShort pieces
 -- after these bytes, a timeout comes only between whole pieces
 abbrev pub SilentBetween : List ℕ → Tape → Type 0
 SilentBetween prefix tape = (before after : Tape) → tape ≡ before ++ Silence ∷ after
-    → rest (prefix ++ bytes_of before) ≡ []
+    → rest (prefix ++ bytes_on_tape before) ≡ []
 
 pub record InSlots (prefix : List ℕ) (tape : Tape) (pieces : List (List ℕ)) (unheard : List ℕ) : Type 0 where
   pub slots : List Slot
@@ -59,7 +59,7 @@ one_more prefix b tape = search (rules, on_tape_append, append_assoc)
 
 pub parted : (prefix : List ℕ) (tape : Tape) (pieces : List (List ℕ)) (unheard : List ℕ)
     → length prefix < piece_size prefix → AreShort pieces → HasNoEnd tape → SilentBetween prefix tape
-    → prefix ++ (bytes_of tape ++ unheard) ≡ concat pieces → InSlots prefix tape pieces unheard
+    → prefix ++ (bytes_on_tape tape ++ unheard) ≡ concat pieces → InSlots prefix tape pieces unheard
 parted prefix [] pieces unheard part short endless silent e = record {
   slots = [];
   last = prefix;
@@ -88,7 +88,7 @@ parted (b ∷ prefix) (Silence ∷ tape) pieces unheard part short endless silen
 parted prefix (Byte b ∷ tape) [] unheard part short endless silent e = search (rules, length-append)
 parted prefix (Byte b ∷ tape) (piece ∷ pieces) unheard part short endless silent e =
     let now : List ℕ = prefix ++ b ∷ [] in
-    let left : List ℕ = bytes_of tape ++ unheard in
+    let left : List ℕ = bytes_on_tape tape ++ unheard in
     let whole = short.0.whole in
     let split : now ++ left ≡ piece ++ concat pieces = append_assoc prefix (b ∷ []) left ∙ e in
     let size : length now ≡ suc (length prefix) = omega (arith, length-append prefix (b ∷ [])) in
@@ -97,7 +97,7 @@ parted prefix (Byte b ∷ tape) (piece ∷ pieces) unheard part short endless si
       | inl lt ↦
           let inner = parted now tape (piece ∷ pieces) unheard (search rules)
           short endless
-          (λ before after at. ap rest (append_assoc prefix (b ∷ []) (bytes_of before))
+          (λ before after at. ap rest (append_assoc prefix (b ∷ []) (bytes_on_tape before))
           ∙ silent (Byte b ∷ before) after (ap (λ t. Byte b ∷ t) at)) split in
           record {
             slots = inner.slots;
@@ -113,9 +113,9 @@ parted prefix (Byte b ∷ tape) (piece ∷ pieces) unheard part short endless si
           begins now left piece (concat pieces) ge split
           ∙ (search (rules, drop_all, append-nil)) in
           let rest_is : left ≡ concat pieces = search (rules, append_cancel_left) in
-          let between : SilentBetween [] tape = λ before after at. sym (rest_first piece (bytes_of before) whole)
-          ∙ (ap (λ z. rest (z ++ bytes_of before)) (sym is)
-          ∙ (ap rest (append_assoc prefix (b ∷ []) (bytes_of before))
+          let between : SilentBetween [] tape = λ before after at. sym (rest_first piece (bytes_on_tape before) whole)
+          ∙ (ap (λ z. rest (z ++ bytes_on_tape before)) (sym is)
+          ∙ (ap rest (append_assoc prefix (b ∷ []) (bytes_on_tape before))
           ∙ silent (Byte b ∷ before) after (ap (λ t. Byte b ∷ t) at))) in
           let inner = parted [] tape pieces unheard (omega arith) short.1 endless between rest_is in
           record {

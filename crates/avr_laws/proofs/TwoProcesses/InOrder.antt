@@ -6,23 +6,23 @@ use Rattle.stk_frame.specs.Frame.{frame}
 use Rattle.stk_frame.specs.Cut.{body_of}
 use Rattle.stk_frame.proofs.Laws.{frame_is_good, body_of_frame}
 use Rattle.stk_host.specs.Tape.{Tape, Reading, Answered, Silent, answer}
-use Rattle.stk_host.specs.Dialog.{Dialog, Done, Say, Ask, played, by_answer, next, frames_in}
-use Rattle.stk_emu.specs.Along.{AsksBodies}
-use Rattle.avr_laws.specs.AnyTape.{after_pieces}
-use Rattle.avr_tool.specs.Honest.{first_became, other_becames, on_answer, AreHonest}
+use Rattle.stk_host.specs.Dialog.{Dialog, Done, Emit, Ask, played, continue_with_reading, next, frames_in}
+use Rattle.stk_emu.specs.DialogOverExchanges.{SendsValidBodies}
+use Rattle.avr_laws.specs.AnyTape.{after_sent_frames}
+use Rattle.avr_tool.specs.Authentic.{first_execution, later_executions, on_reading, RepliesAreAuthentic}
 use Rattle.avr_tool.proofs.Lines.Plays.{cons_none, head_is}
-use Rattle.stk_emu.specs.Device.{Device, answer_frame, after_frame, after_frames, answers}
-use Rattle.stk_emu.specs.Lawful.{IsBody}
-use Rattle.stk_emu.specs.Turn.{Obeyed, after_became, IsHonest}
-use Rattle.stk_emu.proofs.Answers.BodySizes.{AnswersBodies}
+use Rattle.stk_emu.specs.Device.{Device, reply_frame, after_frame, after_frames, answers}
+use Rattle.stk_emu.specs.Lawful.{IsFrameBody}
+use Rattle.stk_emu.specs.Exchange.{Executed, after_execution, IsAuthentic}
+use Rattle.stk_emu.proofs.Answers.BodySizes.{RepliesFitFrames}
 use Rattle.stk_emu.proofs.Wires.Arrivals.{none_skipped}
-use Rattle.avr_laws.specs.TwoProcesses.{obeyed}
+use Rattle.avr_laws.specs.TwoProcesses.{all_executed}
 use Rattle.avr_laws.proofs.TwoProcesses.Slots.{Slot, slots_tape, came, IsStub, AreOld, IsOwn, all_older, old_and_own, Finds, FindsNone, Waits, Reads, reads}
 
 -- From here on at most this many questions of a dialog get no reply in a row, and never more than eight.
 abbrev pub MissesFew : {E R : Type 0} → ℕ → Dialog E R → Type 0
 MissesFew k (Done r) = Unit {0}
-MissesFew k (Say e dialog) = MissesFew k dialog
+MissesFew k (Emit e dialog) = MissesFew k dialog
 MissesFew zero (Ask bytes go_on) = ⊥
 MissesFew (suc k) (Ask bytes go_on) = ((body : List ℕ) → MissesFew 8 (go_on (Answered body)))
     × MissesFew k (go_on Silent)
@@ -40,7 +40,7 @@ one_less (suc h) = h
 -- the replies to frames, one by one
 abbrev pub answer_list : {P : Type 0} → Device P → List (List ℕ) → P → List (List ℕ)
 answer_list m [] p = []
-answer_list m (piece ∷ pieces) p = answer_frame m piece p ∷ answer_list m pieces (after_frame m piece p)
+answer_list m (piece ∷ pieces) p = reply_frame m piece p ∷ answer_list m pieces (after_frame m piece p)
 
 -- The tape carries the replies to the first `h` frames of the dialog's run over it, in their order, after some old
 -- ones. The last of these replies may be missing.
@@ -62,10 +62,10 @@ pub record ComesOwn {E R P : Type 0} (m : Device P) (bytes : List ℕ) (go_on : 
     (tape : Tape) (p : P) (h : ℕ)
     (more : List (List ℕ)) : Type 0 where
   pub left : Tape
-  pub became : first_became (obeyed h) ≡ Obeyed
+  pub execution : first_execution (all_executed h) ≡ Executed
   pub is : answer n tape ≡ Some (Answered (m.answer bytes p), left)
   pub brings : Brings m (go_on (Answered (m.answer bytes p))) (next n) left
-      (after_became (first_became (obeyed h)) (m.after bytes p) p m.reset) (one_less h) 8 more
+      (after_execution (first_execution (all_executed h)) (m.after bytes p) p m.reset) (one_less h) 8 more
 
 pub record ComesNone {E R P : Type 0} (m : Device P) (bytes : List ℕ) (go_on : Reading → Dialog E R) (n : ℕ)
     (tape : Tape) (p : P) (h count : ℕ)
@@ -73,7 +73,7 @@ pub record ComesNone {E R P : Type 0} (m : Device P) (bytes : List ℕ) (go_on :
   pub left : Tape
   pub is : answer n tape ≡ Some (Silent, left)
   pub brings : Brings m (go_on Silent) (next n) left
-      (after_became (first_became (obeyed h)) (m.after bytes p) p m.reset) (one_less h) count more
+      (after_execution (first_execution (all_executed h)) (m.after bytes p) p m.reset) (one_less h) count more
 
 pub record StillWaits (n : ℕ) (tape : Tape) (h : ℕ) (more : List (List ℕ)) : Type 0 where
   pub is : answer n tape ≡ None
@@ -88,18 +88,18 @@ no_middle : {A : Type 0} (xs : List A) (x : A) (ys : List A) → [] ≡ xs ++ x 
 no_middle [] x ys e = cc
 no_middle (y ∷ xs) x ys e = cc
 
-module _ {P : Type 0} (m : Device P) (sound : AnswersBodies m) where
-  pub answer_is : (n : ℕ) (bytes : List ℕ) (p : P) → IsBody bytes
-      → answer_frame m (frame n bytes) p ≡ frame n (m.answer bytes p)
+module _ {P : Type 0} (m : Device P) (sound : RepliesFitFrames m) where
+  pub answer_is : (n : ℕ) (bytes : List ℕ) (p : P) → IsFrameBody bytes
+      → reply_frame m (frame n bytes) p ≡ frame n (m.answer bytes p)
   answer_is n bytes p b = search (rules, frame_is_good, body_of_frame)
 
-  pub after_is : (n : ℕ) (bytes : List ℕ) (p : P) → IsBody bytes → after_frame m (frame n bytes) p ≡ m.after bytes p
+  pub after_is : (n : ℕ) (bytes : List ℕ) (p : P) → IsFrameBody bytes → after_frame m (frame n bytes) p ≡ m.after bytes p
   after_is n bytes p b = search (rules, frame_is_good, body_of_frame)
 
-  module _ {E R : Type 0} (bytes : List ℕ) (go_on : Reading → Dialog E R) (n : ℕ) (p : P) (body : IsBody bytes) where
+  module _ {E R : Type 0} (bytes : List ℕ) (go_on : Reading → Dialog E R) (n : ℕ) (p : P) (body : IsFrameBody bytes) where
     -- the frames after the first, by what is read
     abbrev frames_by : Option (Reading × Tape) → List (List ℕ)
-    frames_by o = frames_in (by_answer (λ reading. played (go_on reading) (next n)) o).events
+    frames_by o = frames_in (continue_with_reading (λ reading. played (go_on reading) (next n)) o).events
 
     -- the replies that are due, by how many frames were received
     abbrev due : ℕ → Option (Reading × Tape) → List (List ℕ)
@@ -126,7 +126,7 @@ module _ {P : Type 0} (m : Device P) (sound : AnswersBodies m) where
         search (rules, after_is) in
         record {
           left = left;
-          became = refl;
+          execution = refl;
           is = is;
           brings = record {
             slots = f.slots;
@@ -169,7 +169,7 @@ module _ {P : Type 0} (m : Device P) (sound : AnswersBodies m) where
         let few = f.few in
         let left : Tape = slots_tape f.slots last in
         let is : answer n tape ≡ Some (Silent, left) = ap (answer n) (sym same) ∙ f.is in
-        let own : List ℕ = answer_frame m (frame n bytes) p in
+        let own : List ℕ = reply_frame m (frame n bytes) p in
         record {
           left = left;
           is = is;
@@ -210,77 +210,77 @@ module _ {P : Type 0} (m : Device P) (sound : AnswersBodies m) where
 
   -- ---- the whole run
 
-  abbrev Honest : {E R : Type 0} → Dialog E R → ℕ → Type 0
-  Honest d n = (tape : Tape) (p : P) (h left : ℕ) (more : List (List ℕ)) → Brings m d n tape p h left more
-      → MissesFew left d → AsksBodies d → AreHonest m d n tape p (obeyed h)
+  abbrev Authentic : {E R : Type 0} → Dialog E R → ℕ → Type 0
+  Authentic d n = (tape : Tape) (p : P) (h left : ℕ) (more : List (List ℕ)) → Brings m d n tape p h left more
+      → MissesFew left d → SendsValidBodies d → RepliesAreAuthentic m d n tape p (all_executed h)
 
   abbrev Reading_is : {E R : Type 0} → List ℕ → (Reading → Dialog E R) → ℕ → P → ℕ → Reading → Tape → Type 0
   Reading_is bytes go_on n p h reading left =
-      IsHonest m bytes p (first_became (obeyed h)) reading
-      × AreHonest m (go_on reading) (next n) left (after_became (first_became (obeyed h)) (m.after bytes p) p m.reset)
-      (other_becames (obeyed h))
+      IsAuthentic m bytes p (first_execution (all_executed h)) reading
+      × RepliesAreAuthentic m (go_on reading) (next n) left (after_execution (first_execution (all_executed h)) (m.after bytes p) p m.reset)
+      (later_executions (all_executed h))
 
-  honest_by : {E R : Type 0} (bytes : List ℕ) (go_on : Reading → Dialog E R) (n : ℕ) (tape : Tape) (p : P) (h count : ℕ)
-      (more : List (List ℕ)) → ((reading : Reading) → Honest (go_on reading) (next n))
+  authentic_by : {E R : Type 0} (bytes : List ℕ) (go_on : Reading → Dialog E R) (n : ℕ) (tape : Tape) (p : P) (h count : ℕ)
+      (more : List (List ℕ)) → ((reading : Reading) → Authentic (go_on reading) (next n))
       → Comes m bytes go_on n tape p h count more
-      → MissesFew (suc count) (Ask bytes go_on) → AsksBodies (Ask bytes go_on)
-      → on_answer (Reading_is bytes go_on n p h) (answer n tape)
-  honest_by bytes go_on n tape p h count more each (inl c) few asks =
-      subst (on_answer (Reading_is bytes go_on n p h)) (sym c.is) (
-        inl (c.became, refl),
-        subst (AreHonest m (go_on (Answered (m.answer bytes p))) (next n) c.left
-            (after_became (first_became (obeyed h)) (m.after bytes p) p m.reset)) (sym (search rules))
+      → MissesFew (suc count) (Ask bytes go_on) → SendsValidBodies (Ask bytes go_on)
+      → on_reading (Reading_is bytes go_on n p h) (answer n tape)
+  authentic_by bytes go_on n tape p h count more each (inl c) few asks =
+      subst (on_reading (Reading_is bytes go_on n p h)) (sym c.is) (
+        inl (c.execution, refl),
+        subst (RepliesAreAuthentic m (go_on (Answered (m.answer bytes p))) (next n) c.left
+            (after_execution (first_execution (all_executed h)) (m.after bytes p) p m.reset)) (sym (search rules))
             (each (Answered (m.answer bytes p)) c.left
-            (after_became (first_became (obeyed h)) (m.after bytes p) p m.reset) (one_less h) 8 more c.brings
+            (after_execution (first_execution (all_executed h)) (m.after bytes p) p m.reset) (one_less h) 8 more c.brings
             (few.0 (m.answer bytes p)) (asks.1 (Answered (m.answer bytes p)))),
       )
-  honest_by bytes go_on n tape p h count more each (inr (inl c)) few asks =
-      subst (on_answer (Reading_is bytes go_on n p h)) (sym c.is) (
+  authentic_by bytes go_on n tape p h count more each (inr (inl c)) few asks =
+      subst (on_reading (Reading_is bytes go_on n p h)) (sym c.is) (
         tt,
-        subst (AreHonest m (go_on Silent) (next n) c.left
-            (after_became (first_became (obeyed h)) (m.after bytes p) p m.reset)) (sym (search rules))
-            (each Silent c.left (after_became (first_became (obeyed h)) (m.after bytes p) p m.reset) (one_less h) count
+        subst (RepliesAreAuthentic m (go_on Silent) (next n) c.left
+            (after_execution (first_execution (all_executed h)) (m.after bytes p) p m.reset)) (sym (search rules))
+            (each Silent c.left (after_execution (first_execution (all_executed h)) (m.after bytes p) p m.reset) (one_less h) count
             more c.brings few.1 (asks.1 Silent)),
       )
-  honest_by bytes go_on n tape p h count more each (inr (inr c)) few asks = search rules
+  authentic_by bytes go_on n tape p h count more each (inr (inr c)) few asks = search rules
 
   -- THE JOINT
-  pub in_order_honest : {E R : Type 0} (d : Dialog E R) (n : ℕ) → Honest d n
-  in_order_honest (Done r) n tape p h left more b few asks = tt
-  in_order_honest (Say e d) n tape p h left more b few asks = in_order_honest d n tape p h left more
+  pub in_order_authentic : {E R : Type 0} (d : Dialog E R) (n : ℕ) → Authentic d n
+  in_order_authentic (Done r) n tape p h left more b few asks = tt
+  in_order_authentic (Emit e d) n tape p h left more b few asks = in_order_authentic d n tape p h left more
       (search rules) few asks
-  in_order_honest (Ask bytes go_on) n tape p h zero more b few asks = absurd few
-  in_order_honest (Ask bytes go_on) n tape p h (suc count) more b few asks =
-      honest_by bytes go_on n tape p h count more (λ reading. in_order_honest (go_on reading) (next n))
+  in_order_authentic (Ask bytes go_on) n tape p h zero more b few asks = absurd few
+  in_order_authentic (Ask bytes go_on) n tape p h (suc count) more b few asks =
+      authentic_by bytes go_on n tape p h count more (λ reading. in_order_authentic (go_on reading) (next n))
       (asked bytes go_on n p asks.0 h count tape more b) few asks
 
   -- ---- if all came
 
   abbrev Ends : {E R : Type 0} → Dialog E R → ℕ → Type 0
-  Ends d n = (tape : Tape) (p : P) (h left : ℕ) → Brings m d n tape p h left [] → MissesFew left d → AsksBodies d
+  Ends d n = (tape : Tape) (p : P) (h left : ℕ) → Brings m d n tape p h left [] → MissesFew left d → SendsValidBodies d
       → length (frames_in (played d n tape).events) ≤ h → (played d n tape).outcome ≡ None → ⊥
 
   ends_by : {E R : Type 0} (bytes : List ℕ) (go_on : Reading → Dialog E R) (n : ℕ) (tape : Tape) (p : P) (h count : ℕ)
       → ((reading : Reading) → Ends (go_on reading) (next n)) → Comes m bytes go_on n tape p h count []
-      → MissesFew (suc count) (Ask bytes go_on) → AsksBodies (Ask bytes go_on)
-      → suc (length (frames_in (by_answer (λ reading. played (go_on reading) (next n)) (answer n tape)).events)) ≤ h
-      → (by_answer (λ reading. played (go_on reading) (next n)) (answer n tape)).outcome ≡ None → ⊥
+      → MissesFew (suc count) (Ask bytes go_on) → SendsValidBodies (Ask bytes go_on)
+      → suc (length (frames_in (continue_with_reading (λ reading. played (go_on reading) (next n)) (answer n tape)).events)) ≤ h
+      → (continue_with_reading (λ reading. played (go_on reading) (next n)) (answer n tape)).outcome ≡ None → ⊥
   ends_by bytes go_on n tape p h count each (inl c) few asks all none =
-      each (Answered (m.answer bytes p)) c.left (after_became (first_became (obeyed h)) (m.after bytes p) p m.reset)
+      each (Answered (m.answer bytes p)) c.left (after_execution (first_execution (all_executed h)) (m.after bytes p) p m.reset)
       (one_less h) 8 c.brings (few.0 (m.answer bytes p)) (asks.1 (Answered (m.answer bytes p)))
       (search rules)
-      (ap (λ o. (by_answer (λ reading. played (go_on reading) (next n)) o).outcome) (sym c.is) ∙ none)
+      (ap (λ o. (continue_with_reading (λ reading. played (go_on reading) (next n)) o).outcome) (sym c.is) ∙ none)
   ends_by bytes go_on n tape p h count each (inr (inl c)) few asks all none =
-      each Silent c.left (after_became (first_became (obeyed h)) (m.after bytes p) p m.reset) (one_less h) count
+      each Silent c.left (after_execution (first_execution (all_executed h)) (m.after bytes p) p m.reset) (one_less h) count
       c.brings few.1 (asks.1 Silent)
       (search rules)
-      (ap (λ o. (by_answer (λ reading. played (go_on reading) (next n)) o).outcome) (sym c.is) ∙ none)
+      (ap (λ o. (continue_with_reading (λ reading. played (go_on reading) (next n)) o).outcome) (sym c.is) ∙ none)
   ends_by bytes go_on n tape p h count each (inr (inr c)) few asks all none = search rules
 
   -- IT DOESN'T WAIT
   pub in_order_ends : {E R : Type 0} (d : Dialog E R) (n : ℕ) → Ends d n
   in_order_ends (Done r) n tape p h left b few asks all none = search rules
-  in_order_ends (Say e d) n tape p h left b few asks all none = in_order_ends d n tape p h left
+  in_order_ends (Emit e d) n tape p h left b few asks all none = in_order_ends d n tape p h left
       (search rules) few asks all none
   in_order_ends (Ask bytes go_on) n tape p h zero b few asks all none = absurd few
   in_order_ends (Ask bytes go_on) n tape p h (suc count) b few asks all none =
@@ -291,10 +291,10 @@ module _ {P : Type 0} (m : Device P) (sound : AnswersBodies m) where
 
   pub answers_joined : (frames : List (List ℕ)) (p : P) → answers m frames p ≡ concat (answer_list m frames p)
   answers_joined [] p = refl
-  answers_joined (f ∷ frames) p = ap (λ x. answer_frame m f p ++ x) (answers_joined frames (after_frame m f p))
+  answers_joined (f ∷ frames) p = ap (λ x. reply_frame m f p ++ x) (answers_joined frames (after_frame m f p))
 
   pub after_first : (h : ℕ) (sent : List (List ℕ)) (p : P)
-      → after_frames m (first_of h sent) p ≡ after_pieces m sent (obeyed h) p
+      → after_frames m (first_of h sent) p ≡ after_sent_frames m sent (all_executed h) p
   after_first zero [] p = refl
   after_first zero (f ∷ sent) p = after_first zero sent p
   after_first (suc h) [] p = refl

@@ -9,23 +9,23 @@ use Rattle.stk_frame.specs.Cut.{cut, rest, frames, is_frame}
 use Rattle.stk_frame.proofs.Cuts.{cut_append}
 use Rattle.stk_frame.proofs.Laws.{frame_is_piece, length_frame}
 use Rattle.stk_host.specs.Dialog.{Dialog, Event, played, frames_in, bytes_sent}
-use Rattle.stk_host.specs.Play.{IsPrefixOf}
+use Rattle.stk_host.specs.Play.{IsBytePrefixOf}
 use Rattle.stk_host.specs.Transcript.{Transcript, sent, heard}
-use Rattle.stk_host.specs.Tape.{Tape, bytes_of}
-use Rattle.stk_emu.specs.Along.{AsksBodies}
-use Rattle.avr_laws.specs.AnyTape.{after_pieces}
-use Rattle.avr_tool.specs.Honest.{AreHonest}
-use Rattle.stk_emu.specs.Device.{device, answer_body, answer_frame, after_frame}
-use Rattle.stk_emu.specs.Emulator.{Machine}
-use Rattle.stk_emu.specs.Lawful.{IsBody}
+use Rattle.stk_host.specs.Tape.{Tape, bytes_on_tape}
+use Rattle.stk_emu.specs.DialogOverExchanges.{SendsValidBodies}
+use Rattle.avr_laws.specs.AnyTape.{after_sent_frames}
+use Rattle.avr_tool.specs.Authentic.{RepliesAreAuthentic}
+use Rattle.stk_emu.specs.Device.{device, reply_body, reply_frame, after_frame}
+use Rattle.stk_emu.specs.Emulator.{EmulatorState}
+use Rattle.stk_emu.specs.Lawful.{IsFrameBody}
 use Rattle.stk_emu.specs.Programmer.{Programmer}
 use Rattle.stk_emu.proofs.Answers.Texts.{answers_more}
-use Rattle.stk_emu.proofs.Answers.BodySizes.{answers_bodies, obey_body}
+use Rattle.stk_emu.proofs.Answers.BodySizes.{replies_fit_frames, reply_fits_frame}
 use Rattle.avr_tool.proofs.Lines.InTurn.{sends_whole, frames_prefix}
-use Rattle.avr_tool.specs.Serving.{HasNoEnd, AnswersAll, BreaksOff, ServingLeaves}
+use Rattle.avr_tool.specs.Serving.{HasNoEnd, RepliesToAll, LastReplyFailed, ServingLeaves}
 use Rattle.avr_tool.specs.declared.answering.Served.{Served}
-use Rattle.avr_laws.specs.TwoProcesses.{IsJoined, IsPrompt, StallsBetweenAnswers, HasServed, obeyed}
-use Rattle.avr_laws.proofs.TwoProcesses.InOrder.{MissesFew, first_of, answer_list, Brings, in_order_honest, in_order_ends, answers_joined, after_first}
+use Rattle.avr_laws.specs.TwoProcesses.{IsJoined, HasNoTimeout, TimesOutBetweenReplies, HasServed, all_executed}
+use Rattle.avr_laws.proofs.TwoProcesses.InOrder.{MissesFew, first_of, answer_list, Brings, in_order_authentic, in_order_ends, answers_joined, after_first}
 use Rattle.avr_laws.proofs.TwoProcesses.NeverSilent.{Straight, goes_straight}
 use Rattle.avr_laws.proofs.TwoProcesses.AnswerParts.{IsShort, AreShort, InSlots, parted}
 
@@ -34,10 +34,10 @@ first_prefix [] ys = refl
 first_prefix (x ∷ xs) ys = ap (λ zs. x ∷ zs) (first_prefix xs ys)
 
 -- each reply is a frame
-body_answered : (piece : List ℕ) (p : Programmer) → IsBody (answer_body device piece p)
-body_answered piece p = grind (arith, common_steps, obey_body)
+body_answered : (piece : List ℕ) (p : Programmer) → IsFrameBody (reply_body device piece p)
+body_answered piece p = grind (arith, common_steps, reply_fits_frame)
 
-answer_short : (piece : List ℕ) (p : Programmer) → IsShort (answer_frame device piece p)
+answer_short : (piece : List ℕ) (p : Programmer) → IsShort (reply_frame device piece p)
 answer_short piece p =
     let b = body_answered piece p in search (rules, frame_is_piece, length_frame)
 
@@ -47,15 +47,15 @@ answers_short (piece ∷ pieces) p = (answer_short piece p, answers_short pieces
 
 -- ---- the server's end
 
-pub all_served : (p : Programmer) (transcript : Transcript) (left : Machine)
-    → AnswersAll p [] (bytes_of (heard transcript)) (sent transcript) left → HasServed p transcript left.programmer
-all_served p transcript left all = search (rules, append-nil (bytes_of (heard transcript)))
+pub all_served : (p : Programmer) (transcript : Transcript) (left : EmulatorState)
+    → RepliesToAll p [] (bytes_on_tape (heard transcript)) (sent transcript) left → HasServed p transcript left.programmer
+all_served p transcript left all = search (rules, append-nil (bytes_on_tape (heard transcript)))
 
-broken_served : (p : Programmer) (transcript : Transcript) (left : Machine)
-    → BreaksOff p [] (bytes_of (heard transcript)) transcript left → HasServed p transcript left.programmer
+broken_served : (p : Programmer) (transcript : Transcript) (left : EmulatorState)
+    → LastReplyFailed p [] (bytes_on_tape (heard transcript)) transcript left → HasServed p transcript left.programmer
 broken_served p transcript left b = search (rules, append_assoc, answers_more)
 
-pub has_served : (served : Served) (p : Programmer) (transcript : Transcript) (left : Machine)
+pub has_served : (served : Served) (p : Programmer) (transcript : Transcript) (left : EmulatorState)
     → ServingLeaves served p [] transcript left
     → HasServed p transcript left.programmer
 has_served served p transcript left l = search (rules, all_served, broken_served)
@@ -65,7 +65,7 @@ has_served served p transcript left l = search (rules, all_served, broken_served
 -- the server obeyed the frames that it took, and this is its state after them
 pub meet_sent : (p left : Programmer) (host server : Transcript) (serves : HasServed p server left)
     → IsJoined host server
-    → after_pieces device (frames (sent host)) (obeyed (length (frames serves.used))) p ≡ left
+    → after_sent_frames device (frames (sent host)) (all_executed (length (frames serves.used))) p ≡ left
 meet_sent p left host server serves joined =
     let arrived = length (frames serves.used) in
     let more = serves.unused ++ joined.up.0 in
@@ -73,11 +73,11 @@ meet_sent p left host server serves joined =
     search (rules, append_assoc) in
     let others = filter is_frame (cut (rest serves.used ++ more)) in
     let first : first_of arrived (frames (sent host)) ≡ frames serves.used =
-    search (rules, cut_append, filter-append, first_prefix) in search (rules, after_first, answers_bodies)
+    search (rules, cut_append, filter-append, first_prefix) in search (rules, after_first, replies_fit_frames)
 
-module _ {E R : Type 0} (d : Dialog E R) (asks : AsksBodies d) (p left : Programmer) (host server : Transcript)
+module _ {E R : Type 0} (d : Dialog E R) (asks : SendsValidBodies d) (p left : Programmer) (host server : Transcript)
     (serves : HasServed p server left) (joined : IsJoined host server)
-    (plays : IsPrefixOf (sent host) (bytes_sent (played d 1 (heard host)).events)) where
+    (plays : IsBytePrefixOf (sent host) (bytes_sent (played d 1 (heard host)).events)) where
   abbrev events : List (Event E)
   events = (played d 1 (heard host)).events
 
@@ -95,16 +95,16 @@ module _ {E R : Type 0} (d : Dialog E R) (asks : AsksBodies d) (p left : Program
   arrived_are = ap (first_of arrived) some_frames.1 ∙ first_prefix (frames serves.used) some_frames.0
 
   -- so this is the server's state
-  pub meet_leaves : after_pieces device (frames_in events) (obeyed arrived) p ≡ left
-  meet_leaves = search (rules, after_first, answers_bodies, arrived_are)
+  pub meet_leaves : after_sent_frames device (frames_in events) (all_executed arrived) p ≡ left
+  meet_leaves = search (rules, after_first, replies_fit_frames, arrived_are)
 
   -- if it stalls between replies alone
-  module _ (few : MissesFew 8 d) (endless : HasNoEnd (heard host)) (stalls : StallsBetweenAnswers (heard host)) where
+  module _ (few : MissesFew 8 d) (endless : HasNoEnd (heard host)) (stalls : TimesOutBetweenReplies (heard host)) where
     abbrev unheard : List ℕ
     unheard = joined.down.0 ++ serves.unsent
 
-    heard_are : bytes_of (heard host) ++ unheard ≡ concat given
-    heard_are = search (rules, append_assoc, answers_joined, answers_bodies)
+    heard_are : bytes_on_tape (heard host) ++ unheard ≡ concat given
+    heard_are = search (rules, append_assoc, answers_joined, replies_fit_frames)
 
     slots : InSlots [] (heard host) given unheard
     slots = search (rules, parted, answers_short, heard_are)
@@ -113,17 +113,17 @@ module _ {E R : Type 0} (d : Dialog E R) (asks : AsksBodies d) (p left : Program
     brings = search (rules, arrived_are)
 
     -- what the host reads is authentic, by what arrived
-    pub meet_honest : AreHonest device d 1 (heard host) p (obeyed arrived)
-    meet_honest = in_order_honest device answers_bodies d 1 (heard host) p arrived 8 slots.more brings few asks
+    pub meet_authentic : RepliesAreAuthentic device d 1 (heard host) p (all_executed arrived)
+    meet_authentic = in_order_authentic device replies_fit_frames d 1 (heard host) p arrived 8 slots.more brings few asks
 
     -- if all was received, the host doesn't wait
     pub meet_ends : unheard ≡ [] → length (frames_in events) ≤ arrived → (played d 1 (heard host)).outcome ≡ None → ⊥
     meet_ends none all waits =
-        in_order_ends device answers_bodies d 1 (heard host) p arrived 8
+        in_order_ends device replies_fit_frames d 1 (heard host) p arrived 8
         (subst (λ more. Brings device d 1 (heard host) p arrived 8 more) (slots.complete none) brings) few asks all
         waits
 
     -- on a link without timeouts all goes straight
-    pub meet_straight : IsPrompt (heard host) → (r : R) (seq : ℕ) (unread : Tape)
+    pub meet_straight : HasNoTimeout (heard host) → (r : R) (seq : ℕ) (unread : Tape)
         → (played d 1 (heard host)).outcome ≡ Some (r, seq, unread) → Straight device d 1 (heard host) p arrived r
-    meet_straight prompt r seq unread e = search (rules, goes_straight, answers_bodies, brings)
+    meet_straight prompt r seq unread e = search (rules, goes_straight, replies_fit_frames, brings)

@@ -1,7 +1,7 @@
 -- At most eight of a session's questions in a row get no reply: four attempts of a step, and four to leave.
 use Rattle.std.proofs.Common.{◌≡◌, ℕ, zero, suc, ◌+◌, ◌≤◌, List, [], ◌∷◌, ◌++◌, refl, arith, Bool, Ok, Err, Result, rules}
 use Rattle.avr_cli.specs.declared.settings.Switches.{Switches}
-use Rattle.avr_desk.specs.Said.{OutputEvent}
+use Rattle.avr_desk.specs.OutputEvents.{OutputEvent}
 use Rattle.avr_part.specs.Part.{Part}
 use Rattle.avr_plan.specs.Plan.{Plan}
 use Rattle.stk_frame.specs.HostCommands.{leave}
@@ -10,25 +10,25 @@ use Rattle.stk_host.specs.declared.fault.HostFault.{HostFault}
 use Rattle.stk_host.specs.declared.fault.StepFault.{StepFault}
 use Rattle.stk_host.specs.declared.fault.StepFault.TheVariants.{NoAnswer}
 use Rattle.stk_host.specs.Tape.{Answered, Silent}
-use Rattle.stk_host.specs.Dialog.{Dialog, Done, Say, Ask, ◌>>=◌, lifted}
-use Rattle.stk_host.specs.Steps.{exchange, Reply, Data, Again, Stop, attempt, StepOutcome, end_or_again, tries, step, if_done, play}
-use Rattle.stk_host.specs.Operations.{handshake, opening, without_bytes, closing, judged_by, operation}
-use Rattle.avr_session.specs.Standing.{Standing, Fine, Faulty, Over}
+use Rattle.stk_host.specs.Dialog.{Dialog, Done, Emit, Ask, ◌>>=◌, lifted}
+use Rattle.stk_host.specs.Steps.{exchange, Reply, Data, Again, Stop, attempt, StepOutcome, retry_or_end, attempts_or_fault, step, unless_step_fault, play}
+use Rattle.stk_host.specs.Operations.{handshake, opening, without_bytes, closing, checked_by, operation}
+use Rattle.avr_session.specs.Standing.{Standing, NoFault, Faulty, Over}
 use Rattle.avr_session.specs.Actions.{Action, actions}
-use Rattle.avr_session.specs.Session.{says, standing, reported, unless_fault, action_dialog, actions_dialog, ending, playing, status_of, session}
+use Rattle.avr_session.specs.Session.{says, standing, reported, unless_fault, action_dialog, actions_dialog, ending, session_dialog, status_of, session}
 use Rattle.avr_laws.proofs.TwoProcesses.InOrder.{MissesFew}
 
 -- how many more may get no reply now, and how many at the end
 abbrev Misses : {E R : Type 0} → (ℕ → R → Type 0) → ℕ → Dialog E R → Type 0
 Misses Post k (Done r) = Post k r
-Misses Post k (Say e dialog) = Misses Post k dialog
+Misses Post k (Emit e dialog) = Misses Post k dialog
 Misses Post zero (Ask bytes go_on) = ⊥
 Misses Post (suc k) (Ask bytes go_on) = ((body : List ℕ) → Misses Post 8 (go_on (Answered body)))
     × Misses Post k (go_on Silent)
 
 few_of : {E R : Type 0} (Post : ℕ → R → Type 0) (k : ℕ) (d : Dialog E R) → Misses Post k d → MissesFew k d
 few_of Post k (Done r) f = tt
-few_of Post k (Say e d) f = few_of Post k d f
+few_of Post k (Emit e d) f = few_of Post k d f
 few_of Post zero (Ask bytes go_on) f = f
 few_of Post (suc k) (Ask bytes go_on) f =
     (λ body. few_of Post 8 (go_on (Answered body)) (f.0 body), few_of Post k (go_on Silent) f.1)
@@ -40,7 +40,7 @@ GoesOn {E} {A} Post After go_on = (j : ℕ) (a : A) → Post j a → Misses Afte
 bind : {E A B : Type 0} (Post : ℕ → A → Type 0) (After : ℕ → B → Type 0) (k : ℕ) (d : Dialog E A)
     (go_on : A → Dialog E B) → Misses Post k d → GoesOn Post After go_on → Misses After k (d >>= go_on)
 bind Post After k (Done a) go_on f g = g k a f
-bind Post After k (Say e d) go_on f g = bind Post After k d go_on f g
+bind Post After k (Emit e d) go_on f g = bind Post After k d go_on f g
 bind Post After zero (Ask bytes answered) go_on f g = absurd f
 bind Post After (suc k) (Ask bytes answered) go_on f g = (
   λ body. bind Post After 8 (answered (Answered body)) go_on (f.0 body) g,
@@ -50,7 +50,7 @@ bind Post After (suc k) (Ask bytes answered) go_on f g = (
 weaker : {E R : Type 0} (Post After : ℕ → R → Type 0) (k : ℕ) (d : Dialog E R)
     → ((j : ℕ) (r : R) → Post j r → After j r) → Misses Post k d → Misses After k d
 weaker Post After k (Done r) w f = w k r f
-weaker Post After k (Say e d) w f = weaker Post After k d w f
+weaker Post After k (Emit e d) w f = weaker Post After k d w f
 weaker Post After zero (Ask bytes go_on) w f = f
 weaker Post After (suc k) (Ask bytes go_on) w f =
     (λ body. weaker Post After 8 (go_on (Answered body)) w (f.0 body), weaker Post After k (go_on Silent) w f.1)
@@ -58,7 +58,7 @@ weaker Post After (suc k) (Ask bytes go_on) w f =
 lifts : {R : Type 0} (E : Type 0) (Post : ℕ → R → Type 0) (k : ℕ) (d : Dialog ⊥ R) → Misses Post k d
     → Misses {E = E} Post k (lifted d)
 lifts E Post k (Done r) f = f
-lifts E Post k (Say e d) f = absurd e
+lifts E Post k (Emit e d) f = absurd e
 lifts E Post zero (Ask bytes go_on) f = f
 lifts E Post (suc k) (Ask bytes go_on) f =
     (λ body. lifts E Post 8 (go_on (Answered body)) (f.0 body), lifts E Post k (go_on Silent) f.1)
@@ -73,16 +73,16 @@ AfterAttempt j k (Data bytes) = k ≡ 8
 AfterAttempt j k (Again fault) = Between j k
 AfterAttempt j k (Stop fault) = k ≡ 8
 
-turn_few : (command : Command) (commands : List Command) (before : List ℕ) (j : ℕ) → j ≤ 7
+exchange_takes_few : (command : Command) (commands : List Command) (before : List ℕ) (j : ℕ) → j ≤ 7
     → ((bytes : List ℕ) → Misses (AfterAttempt 7) 8 (attempt commands bytes))
     → Misses (AfterAttempt j) (suc j) (attempt (command ∷ commands) before)
 unfolding attempt exchange
-turn_few command commands before j le f = search (rules, weaker)
+exchange_takes_few command commands before j le f = search (rules, weaker)
 
 attempt_few : (commands : List Command) (before : List ℕ) → Misses (AfterAttempt 7) 8 (attempt commands before)
 unfolding attempt
 attempt_few [] before = refl
-attempt_few (command ∷ commands) before = turn_few command commands before 7 (omega arith) (attempt_few commands)
+attempt_few (command ∷ commands) before = exchange_takes_few command commands before 7 (omega arith) (attempt_few commands)
 
 abbrev AfterStep : ℕ → ℕ → StepOutcome → Type 0
 AfterStep r k (Ok bytes) = k ≡ 8
@@ -90,28 +90,28 @@ AfterStep r k (Err fault) = Between r k
 
 by_settled : (more : ℕ) (again : StepFault → Dialog ⊥ StepOutcome) (r k : ℕ) → r + suc more ≤ suc k → suc k ≤ 8
     → ((fault : StepFault) (j : ℕ) → r + more ≤ j → j ≤ 8 → Misses (AfterStep r) j (again fault))
-    → (j : ℕ) (reply : Reply) → AfterAttempt k j reply → Misses (AfterStep r) j (end_or_again again reply)
+    → (j : ℕ) (reply : Reply) → AfterAttempt k j reply → Misses (AfterStep r) j (retry_or_end again reply)
 by_settled more again r k le most each j x8 f = search rules
 
 tries_few : (more : ℕ) (command : Command) (commands : List Command) (fault : StepFault) (r k : ℕ) → r + more ≤ k
-    → k ≤ 8 → Misses (AfterStep r) k (tries more (command ∷ commands) fault)
-unfolding tries
+    → k ≤ 8 → Misses (AfterStep r) k (attempts_or_fault more (command ∷ commands) fault)
+unfolding attempts_or_fault
 tries_few zero command commands fault r k le most = (omega (arith, le), most)
 tries_few (suc more) command commands fault r zero le most = absurd (omega (arith, le))
 tries_few (suc more) command commands fault r (suc k) le most =
     bind (AfterAttempt k) (AfterStep r) (suc k) (attempt (command ∷ commands) [])
-    (end_or_again (tries more (command ∷ commands)))
-    (turn_few command commands [] k (omega (arith, most)) (attempt_few commands))
-    (by_settled more (tries more (command ∷ commands)) r k le most
+    (retry_or_end (attempts_or_fault more (command ∷ commands)))
+    (exchange_takes_few command commands [] k (omega (arith, most)) (attempt_few commands))
+    (by_settled more (attempts_or_fault more (command ∷ commands)) r k le most
     (λ again j some few. tries_few more command commands again r j some few))
 
 step_few : (commands : List Command) → Misses (AfterStep 4) 8 (step commands)
-unfolding attempt tries
+unfolding attempt attempts_or_fault
 step_few [] = refl
 step_few (command ∷ commands) = tries_few 4 command commands NoAnswer 4 8 (omega arith) (omega arith)
 
 then_few : (go_on : List ℕ → Dialog ⊥ StepOutcome) (d : Dialog ⊥ StepOutcome) → Misses (AfterStep 4) 8 d
-    → ((bytes : List ℕ) → Misses (AfterStep 4) 8 (go_on bytes)) → Misses (AfterStep 4) 8 (d >>= if_done go_on)
+    → ((bytes : List ℕ) → Misses (AfterStep 4) 8 (go_on bytes)) → Misses (AfterStep 4) 8 (d >>= unless_step_fault go_on)
 then_few go_on d f g = search (rules, bind)
 
 play_few : (steps : List (List Command)) (before : List ℕ) → Misses (AfterStep 4) 8 (play steps before)
@@ -133,9 +133,9 @@ operation_few : {A : Type 0} (steps : List (List Command)) (judge_by : List ℕ 
     → Misses AfterCall 8 (operation steps judge_by)
 unfolding operation
 operation_few steps judge_by = bind (AfterStep 4) AfterCall 8 (play steps [])
-    (λ outcome. Done (judged_by judge_by outcome)) (play_few steps []) after
+    (λ outcome. Done (checked_by judge_by outcome)) (play_few steps []) after
   where
-    after : (j : ℕ) (o : StepOutcome) → AfterStep 4 j o → AfterCall j (judged_by judge_by o)
+    after : (j : ℕ) (o : StepOutcome) → AfterStep 4 j o → AfterCall j (checked_by judge_by o)
     after j (Ok bytes) e = all_left j (judge_by bytes) e
     after j (Err fault) e = e
 
@@ -159,7 +159,7 @@ closing_few k b =
 -- ---- the actions of a session
 
 abbrev AfterAction : ℕ → Standing → Type 0
-AfterAction k Fine = k ≡ 8
+AfterAction k NoFault = k ≡ 8
 AfterAction k Faulty = Between 4 k
 AfterAction k Over = Between 4 k
 
@@ -200,7 +200,7 @@ module _ (part : Part) (s : Switches) where
       (unless_few (actions_dialog part s actions) (actions_few actions))
 
   ending_few : (j : ℕ) (at : Standing) → AfterAction j at → Misses Any j (ending part s at)
-  ending_few j Fine e = search (rules, any_reported, closing_few)
+  ending_few j NoFault e = search (rules, any_reported, closing_few)
   ending_few j Faulty b = bind Any Any j (reported closing (λ _. [])) (λ closed. Done Over)
       (any_reported j closing (λ _. []) (closing_few j b)) (λ i closed post. tt)
   ending_few j Over b = tt
@@ -208,7 +208,7 @@ module _ (part : Part) (s : Switches) where
 pub session_few : (plan : Plan) → MissesFew 8 (session plan)
 unfolding session
 session_few plan =
-    few_of Any 8 (playing plan >>= λ at. Done (status_of at))
-    (bind Any Any 8 (playing plan) (λ at. Done (status_of at))
+    few_of Any 8 (session_dialog plan >>= λ at. Done (status_of at))
+    (bind Any Any 8 (session_dialog plan) (λ at. Done (status_of at))
     (bind AfterAction Any 8 (actions_dialog plan.part plan.switches (actions plan)) (ending plan.part plan.switches)
     (actions_few plan.part plan.switches (actions plan)) (ending_few plan.part plan.switches)) (λ j at post. tt))

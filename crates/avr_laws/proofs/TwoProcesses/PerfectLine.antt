@@ -2,44 +2,44 @@
 use Rattle.std.proofs.lemmas.Grind.{common_steps}
 use Rattle.std.proofs.Common.{◌≡◌, ◌∙◌, ap, subst, sym, refl, arith, ℕ, ◌≤◌, length, List, [], ◌∷◌, ◌++◌, append_assoc, Some, None, inl, rules}
 use Rattle.avr_desk.specs.Record.{Bytes, DeskState, nothing_kept, showing, with_replaced}
-use Rattle.avr_desk.specs.Said.{after_all}
+use Rattle.avr_desk.specs.OutputEvents.{after_events}
 use Rattle.avr_part.specs.ChipFile.{chip_file}
 use Rattle.avr_part.specs.State as chips
 use Rattle.avr_plan.specs.Plan.{Plan}
-use Rattle.avr_session.specs.Runs.{Ran, devices, start}
+use Rattle.avr_session.specs.Runs.{RanWhole, devices, start}
 use Rattle.avr_session.specs.Session.{session}
 use Rattle.stk_frame.specs.Frame.{frame}
 use Rattle.stk_frame.specs.Cut.{cut, frames, rest}
 use Rattle.stk_frame.proofs.Cuts.{cut_append, rest_append}
 use Rattle.stk_frame.proofs.FedReaders.{cut_whole, rest_whole}
 use Rattle.stk_frame.proofs.Laws.{body_of_frame, frame_is_good, frame_is_piece, length_frame}
-use Rattle.stk_host.specs.Dialog.{Dialog, Done, Say, Ask, Event, Frame, Said, behind, bytes_sent, next, played, outputs}
-use Rattle.stk_host.specs.Play.{IsPrefixOf, TurnsFrom}
+use Rattle.stk_host.specs.Dialog.{Dialog, Done, Emit, Ask, Event, Frame, Emitted, prepend_events, bytes_sent, next, played, outputs}
+use Rattle.stk_host.specs.Play.{IsBytePrefixOf, InTurnFrom}
 use Rattle.stk_host.specs.Transcript.{LinkState, Transcript, Sent, Taken, Got, NoneTaken, heard, sent}
-use Rattle.stk_host.specs.Tape.{Tape, Answered, Reading, answer, bytes_of, first_answer, limit, on_tape}
+use Rattle.stk_host.specs.Tape.{Tape, Answered, Reading, answer, bytes_on_tape, first_answer, reply_byte_limit, on_tape}
 use Rattle.stk_host.specs.declared.link.Item.TheVariants.{End}
 use Rattle.stk_host.proofs.Transcripts.InDialogs.{bytes_append}
 use Rattle.stk_host.proofs.Tapes.Answers.{answer_found, answer_waits, bytes_of_append, bytes_of_on_tape}
 use Rattle.stk_emu.proofs.Answers.Texts.{after_more, answers_more}
-use Rattle.stk_emu.proofs.Answers.BodySizes.{answers_bodies}
-use Rattle.stk_emu.specs.Along.{AsksBodies}
+use Rattle.stk_emu.proofs.Answers.BodySizes.{replies_fit_frames}
+use Rattle.stk_emu.specs.DialogOverExchanges.{SendsValidBodies}
 use Rattle.stk_emu.specs.Device.{after_frames, device}
-use Rattle.stk_emu.specs.Emulator.{Machine, IsFed, emulate}
-use Rattle.stk_emu.specs.Lawful.{IsBody}
+use Rattle.stk_emu.specs.Emulator.{EmulatorState, WasFedText, emulate}
+use Rattle.stk_emu.specs.Lawful.{IsFrameBody}
 use Rattle.stk_emu.specs.Programmer.{Programmer, fresh_programmer}
-use Rattle.avr_tool.specs.Serving.{AnswersAll, AnswersInTurn, HasNoEnd, reads}
+use Rattle.avr_tool.specs.Serving.{RepliesToAll, RepliesInTurn, HasNoEnd, reads}
 use Rattle.avr_tool.specs.ServedRun.{ServesChip, fresh_machine}
 use Rattle.avr_tool.specs.declared.answering.Served.TheVariants.{Ended}
-use Rattle.avr_laws.specs.TwoProcesses.{EndCall, HostSays, HostBreaks, HostHears, ServerSays, ServerBreaks, ServerHears, HasRun, IsOrdered, IsPrompt, of_host, of_server}
+use Rattle.avr_laws.specs.TwoProcesses.{EndCall, HostSends, HostSendFails, HostReceives, ServerSends, ServerSendFails, ServerReceives, HasPromptRun, IsOrdered, HasNoTimeout, host_transcript, server_transcript}
 
 -- each frame is received and replied to at once, and at last the server receives the end of the link
 abbrev asking : List ℕ → List ℕ → List EndCall → List EndCall
-asking question reply later = HostSays question ∷ ServerHears (on_tape question) ∷ ServerSays reply
-    ∷ HostHears (on_tape reply) ∷ later
+asking question reply later = HostSends question ∷ ServerReceives (on_tape question) ∷ ServerSends reply
+    ∷ HostReceives (on_tape reply) ∷ later
 
 abbrev pub calls_of : {E R : Type 0} → Dialog E R → ℕ → Programmer → List EndCall
-calls_of (Done r) n p = ServerHears (End ∷ []) ∷ []
-calls_of (Say e d) n p = calls_of d n p
+calls_of (Done r) n p = ServerReceives (End ∷ []) ∷ []
+calls_of (Emit e d) n p = calls_of d n p
 calls_of (Ask bytes go_on) n p =
     asking (frame n bytes) (frame n (device.answer bytes p))
     (calls_of (go_on (Answered (device.answer bytes p))) (next n) (device.after bytes p))
@@ -48,24 +48,24 @@ calls_of (Ask bytes go_on) n p =
 
 -- at each moment what an end has received is a prefix of what the other has sent
 abbrev Joined : List ℕ → List ℕ → List ℕ → List ℕ → Type 0
-Joined said_up heard_up said_down heard_down = IsPrefixOf heard_up said_up × IsPrefixOf heard_down said_down
+Joined said_up heard_up said_down heard_down = IsBytePrefixOf heard_up said_up × IsBytePrefixOf heard_down said_down
 
 abbrev JoinedFrom : List ℕ → List ℕ → List ℕ → List ℕ → List EndCall → Type 0
 JoinedFrom said_up heard_up said_down heard_down [] = Joined said_up heard_up said_down heard_down
-JoinedFrom said_up heard_up said_down heard_down (HostSays bytes ∷ calls) =
+JoinedFrom said_up heard_up said_down heard_down (HostSends bytes ∷ calls) =
     Joined said_up heard_up said_down heard_down × JoinedFrom (said_up ++ bytes) heard_up said_down heard_down calls
-JoinedFrom said_up heard_up said_down heard_down (HostBreaks bytes ∷ calls) =
+JoinedFrom said_up heard_up said_down heard_down (HostSendFails bytes ∷ calls) =
     Joined said_up heard_up said_down heard_down × JoinedFrom (said_up ++ bytes) heard_up said_down heard_down calls
-JoinedFrom said_up heard_up said_down heard_down (HostHears items ∷ calls) =
+JoinedFrom said_up heard_up said_down heard_down (HostReceives items ∷ calls) =
     Joined said_up heard_up said_down heard_down
-    × JoinedFrom said_up heard_up said_down (heard_down ++ bytes_of items) calls
-JoinedFrom said_up heard_up said_down heard_down (ServerSays bytes ∷ calls) =
+    × JoinedFrom said_up heard_up said_down (heard_down ++ bytes_on_tape items) calls
+JoinedFrom said_up heard_up said_down heard_down (ServerSends bytes ∷ calls) =
     Joined said_up heard_up said_down heard_down × JoinedFrom said_up heard_up (said_down ++ bytes) heard_down calls
-JoinedFrom said_up heard_up said_down heard_down (ServerBreaks bytes ∷ calls) =
+JoinedFrom said_up heard_up said_down heard_down (ServerSendFails bytes ∷ calls) =
     Joined said_up heard_up said_down heard_down × JoinedFrom said_up heard_up (said_down ++ bytes) heard_down calls
-JoinedFrom said_up heard_up said_down heard_down (ServerHears items ∷ calls) =
+JoinedFrom said_up heard_up said_down heard_down (ServerReceives items ∷ calls) =
     Joined said_up heard_up said_down heard_down
-    × JoinedFrom said_up (heard_up ++ bytes_of items) said_down heard_down calls
+    × JoinedFrom said_up (heard_up ++ bytes_on_tape items) said_down heard_down calls
 
 joined_now : (a b c d : List ℕ) (calls : List EndCall) → JoinedFrom a b c d calls → Joined a b c d
 joined_now a b c d [] j = j
@@ -73,23 +73,23 @@ joined_now a b c d calls j = search rules
 
 -- after some first calls
 joined_behind : (a b c d : List ℕ) (first later : List EndCall) → JoinedFrom a b c d (first ++ later)
-    → Joined (a ++ sent (of_host first)) (b ++ bytes_of (heard (of_server first))) (c ++ sent (of_server first))
-    (d ++ bytes_of (heard (of_host first)))
+    → Joined (a ++ sent (host_transcript first)) (b ++ bytes_on_tape (heard (server_transcript first))) (c ++ sent (server_transcript first))
+    (d ++ bytes_on_tape (heard (host_transcript first)))
 joined_behind a b c d [] later j = search (rules, joined_now)
-joined_behind a b c d (HostSays bytes ∷ first) later j =
+joined_behind a b c d (HostSends bytes ∷ first) later j =
     search (rules, append_assoc, joined_behind (a ++ bytes) b c d first later j.1)
-joined_behind a b c d (HostBreaks bytes ∷ first) later j =
+joined_behind a b c d (HostSendFails bytes ∷ first) later j =
     search (rules, append_assoc, joined_behind (a ++ bytes) b c d first later j.1)
-joined_behind a b c d (HostHears items ∷ first) later j =
-    search (rules, append_assoc, bytes_of_append, joined_behind a b c (d ++ bytes_of items) first later j.1)
-joined_behind a b c d (ServerSays bytes ∷ first) later j =
+joined_behind a b c d (HostReceives items ∷ first) later j =
+    search (rules, append_assoc, bytes_of_append, joined_behind a b c (d ++ bytes_on_tape items) first later j.1)
+joined_behind a b c d (ServerSends bytes ∷ first) later j =
     search (rules, append_assoc, joined_behind a b (c ++ bytes) d first later j.1)
-joined_behind a b c d (ServerBreaks bytes ∷ first) later j =
+joined_behind a b c d (ServerSendFails bytes ∷ first) later j =
     search (rules, append_assoc, joined_behind a b (c ++ bytes) d first later j.1)
-joined_behind a b c d (ServerHears items ∷ first) later j =
-    search (rules, append_assoc, bytes_of_append, joined_behind a (b ++ bytes_of items) c d first later j.1)
+joined_behind a b c d (ServerReceives items ∷ first) later j =
+    search (rules, append_assoc, bytes_of_append, joined_behind a (b ++ bytes_on_tape items) c d first later j.1)
 
-more : (a bytes : List ℕ) → IsPrefixOf a (a ++ bytes)
+more : (a bytes : List ℕ) → IsBytePrefixOf a (a ++ bytes)
 more a bytes = (bytes, refl)
 
 asking_joined : (a c question reply : List ℕ) (later : List EndCall)
@@ -100,7 +100,7 @@ asking_joined a c question reply later j = search (rules, bytes_of_on_tape)
 calls_joined : {E R : Type 0} (d : Dialog E R) (n : ℕ) (p : Programmer) (a c : List ℕ)
     → JoinedFrom a a c c (calls_of d n p)
 calls_joined (Done r) n p a c = search rules
-calls_joined (Say e d) n p a c = calls_joined d n p a c
+calls_joined (Emit e d) n p a c = calls_joined d n p a c
 calls_joined (Ask bytes go_on) n p a c =
     search (
       rules,
@@ -110,7 +110,7 @@ calls_joined (Ask bytes go_on) n p a c =
     )
 
 -- bytes alone are received
-bytes_prompt : (bytes : List ℕ) (tape : Tape) → IsPrompt tape → IsPrompt (on_tape bytes ++ tape)
+bytes_prompt : (bytes : List ℕ) (tape : Tape) → HasNoTimeout tape → HasNoTimeout (on_tape bytes ++ tape)
 bytes_prompt [] tape prompt = prompt
 bytes_prompt (b ∷ bytes) tape prompt = bytes_prompt bytes tape prompt
 
@@ -119,16 +119,16 @@ bytes_endless [] tape endless = endless
 bytes_endless (b ∷ bytes) tape endless = bytes_endless bytes tape endless
 
 pub calls_prompt : {E R : Type 0} (d : Dialog E R) (n : ℕ) (p : Programmer)
-    → IsPrompt (heard (of_host (calls_of d n p)))
+    → HasNoTimeout (heard (host_transcript (calls_of d n p)))
 calls_prompt (Done r) n p = tt
-calls_prompt (Say e d) n p = calls_prompt d n p
+calls_prompt (Emit e d) n p = calls_prompt d n p
 calls_prompt (Ask bytes go_on) n p =
     bytes_prompt (frame n (device.answer bytes p)) _
     (calls_prompt (go_on (Answered (device.answer bytes p))) (next n) (device.after bytes p))
 
-calls_endless : {E R : Type 0} (d : Dialog E R) (n : ℕ) (p : Programmer) → HasNoEnd (heard (of_host (calls_of d n p)))
+calls_endless : {E R : Type 0} (d : Dialog E R) (n : ℕ) (p : Programmer) → HasNoEnd (heard (host_transcript (calls_of d n p)))
 calls_endless (Done r) n p = tt
-calls_endless (Say e d) n p = calls_endless d n p
+calls_endless (Emit e d) n p = calls_endless d n p
 calls_endless (Ask bytes go_on) n p =
     bytes_endless (frame n (device.answer bytes p)) _
     (calls_endless (go_on (Answered (device.answer bytes p))) (next n) (device.after bytes p))
@@ -143,20 +143,20 @@ calls_ordered d n p = record {
 
 -- ---- the host
 
-own_answer : (n : ℕ) (bytes : List ℕ) (later : Tape) → IsBody bytes
+own_answer : (n : ℕ) (bytes : List ℕ) (later : Tape) → IsFrameBody bytes
     → answer n (on_tape (frame n bytes) ++ later) ≡ Some (Answered bytes, later)
 own_answer n bytes later b =
     let found : first_answer n (cut (frame n bytes)) ≡ Some (bytes, length (frame n bytes)) =
     ap (first_answer n) (cut_whole (frame n bytes) (frame_is_piece n bytes b.some b.few))
     ∙ (search (rules, frame_is_good, body_of_frame)) in
-    let few : length (frame n bytes) ≤ limit = let f = b.few in rw (length_frame n bytes) (omega (arith, f)) in
+    let few : length (frame n bytes) ≤ reply_byte_limit = let f = b.few in rw (length_frame n bytes) (omega (arith, f)) in
     answer_found n (frame n bytes) later bytes found few
 
 -- a question with this reply
 asked : {E R : Type 0} (bytes : List ℕ) (go_on : Reading → Dialog E R) (n : ℕ) (reply : List ℕ) (later : Tape)
-    → IsBody reply
+    → IsFrameBody reply
     → played (Ask bytes go_on) n (on_tape (frame n reply) ++ later)
-    ≡ behind (Frame (frame n bytes) ∷ []) (played (go_on (Answered reply)) (next n) later)
+    ≡ prepend_events (Frame (frame n bytes) ∷ []) (played (go_on (Answered reply)) (next n) later)
 asked bytes go_on n reply later b = search (rules, own_answer)
 
 -- the run of the dialog, whatever follows on the link
@@ -169,16 +169,16 @@ pub record IsWhole {E R : Type 0} (d : Dialog E R) (n : ℕ) (transcript : Trans
   pub all_sent : bytes_sent events ≡ sent transcript
   pub none_taken : NoneTaken transcript
 
-pub host_plays : {E R : Type 0} (d : Dialog E R) (n : ℕ) (p : Programmer) → AsksBodies d
-    → IsWhole d n (of_host (calls_of d n p))
+pub host_plays : {E R : Type 0} (d : Dialog E R) (n : ℕ) (p : Programmer) → SendsValidBodies d
+    → IsWhole d n (host_transcript (calls_of d n p))
 host_plays (Done r) n p asks = record { events = []; result = r; at = n; plays = λ later. refl; all_sent = refl; none_taken = tt }
-host_plays (Say e d) n p asks =
+host_plays (Emit e d) n p asks =
     let inner = host_plays d n p asks in
     record {
-      events = Said e ∷ inner.events;
+      events = Emitted e ∷ inner.events;
       result = inner.result;
       at = inner.at;
-      plays = λ later. ap (behind (Said e ∷ [])) (inner.plays later);
+      plays = λ later. ap (prepend_events (Emitted e ∷ [])) (inner.plays later);
       all_sent = inner.all_sent;
       none_taken = inner.none_taken;
     }
@@ -191,37 +191,37 @@ host_plays (Ask bytes go_on) n p asks =
       events = Frame (frame n bytes) ∷ inner.events;
       result = inner.result;
       at = inner.at;
-      plays = search (rules, append_assoc, asked, answers_bodies);
+      plays = search (rules, append_assoc, asked, replies_fit_frames);
       all_sent = ap (λ bs. frame n bytes ++ bs) inner.all_sent;
       none_taken = inner.none_taken;
     }
 
 -- a dialog in turn, as one that continues it
 module _ {E R : Type 0} (d e : Dialog E R) (n k : ℕ) (prefix : Tape) (events : List (Event E))
-    (goes : (tape : Tape) → played d n (prefix ++ tape) ≡ behind events (played e k tape)) where
-  turns_behind : (transcript : Transcript) (tape : Tape) (bytes : List ℕ) → TurnsFrom e k tape bytes transcript
-      → TurnsFrom d n (prefix ++ tape) (bytes_sent events ++ bytes) transcript
-  turns_behind [] tape bytes turns = tt
-  turns_behind (Sent more ∷ transcript) tape bytes turns =
-      search (rules, append_assoc, turns_behind transcript tape (bytes ++ more) turns)
-  turns_behind (Taken more ∷ transcript) tape bytes turns = turns
-  turns_behind (Got items ∷ transcript) tape bytes turns =
-      search (rules, bytes_append, append_assoc, turns_behind transcript (tape ++ items) bytes turns.1)
+    (goes : (tape : Tape) → played d n (prefix ++ tape) ≡ prepend_events events (played e k tape)) where
+  in_turn_after : (transcript : Transcript) (tape : Tape) (bytes : List ℕ) → InTurnFrom e k tape bytes transcript
+      → InTurnFrom d n (prefix ++ tape) (bytes_sent events ++ bytes) transcript
+  in_turn_after [] tape bytes exchanges = tt
+  in_turn_after (Sent more ∷ transcript) tape bytes exchanges =
+      search (rules, append_assoc, in_turn_after transcript tape (bytes ++ more) exchanges)
+  in_turn_after (Taken more ∷ transcript) tape bytes exchanges = exchanges
+  in_turn_after (Got items ∷ transcript) tape bytes exchanges =
+      search (rules, bytes_append, append_assoc, in_turn_after transcript (tape ++ items) bytes exchanges.1)
 
-pub host_in_turn : {E R : Type 0} (d : Dialog E R) (n : ℕ) (p : Programmer) → AsksBodies d
-    → TurnsFrom d n [] [] (of_host (calls_of d n p))
+pub host_in_turn : {E R : Type 0} (d : Dialog E R) (n : ℕ) (p : Programmer) → SendsValidBodies d
+    → InTurnFrom d n [] [] (host_transcript (calls_of d n p))
 host_in_turn (Done r) n p asks = tt
-host_in_turn (Say e d) n p asks =
-    turns_behind (Say e d) d n n [] (Said e ∷ []) (λ tape. refl) (of_host (calls_of d n p)) [] []
+host_in_turn (Emit e d) n p asks =
+    in_turn_after (Emit e d) d n n [] (Emitted e ∷ []) (λ tape. refl) (host_transcript (calls_of d n p)) [] []
     (host_in_turn d n p asks)
 host_in_turn (Ask bytes go_on) n p asks =
     let reply = device.answer bytes p in
     let d = go_on (Answered reply) in
-    let transcript = of_host (calls_of d (next n) (device.after bytes p)) in
+    let transcript = host_transcript (calls_of d (next n) (device.after bytes p)) in
     let waits : answer n [] ≡ None = answer_waits n [] refl (omega arith) in
-    let later : TurnsFrom (Ask bytes go_on) n (on_tape (frame n reply) ++ []) ((frame n bytes ++ []) ++ []) transcript =
-    turns_behind (Ask bytes go_on) d n (next n) (on_tape (frame n reply)) (Frame (frame n bytes) ∷ [])
-    (λ tape. asked bytes go_on n reply tape (answers_bodies bytes p asks.0)) transcript [] []
+    let later : InTurnFrom (Ask bytes go_on) n (on_tape (frame n reply) ++ []) ((frame n bytes ++ []) ++ []) transcript =
+    in_turn_after (Ask bytes go_on) d n (next n) (on_tape (frame n reply)) (Frame (frame n bytes) ∷ [])
+    (λ tape. asked bytes go_on n reply tape (replies_fit_frames bytes p asks.0)) transcript [] []
     (host_in_turn (go_on (Answered (device.answer bytes p))) (next n) (device.after bytes p)
     (asks.1 (Answered (device.answer bytes p)))) in search rules
 
@@ -233,7 +233,7 @@ record HasObeyed (p : Programmer) (text : List ℕ) (now : Programmer) : Type 0 
   stands : now ≡ after_frames device (frames text) p
 
 -- one more frame
-module _ (p : Programmer) (text : List ℕ) (n : ℕ) (bytes : List ℕ) (body : IsBody bytes) (now : Programmer)
+module _ (p : Programmer) (text : List ℕ) (n : ℕ) (bytes : List ℕ) (body : IsFrameBody bytes) (now : Programmer)
     (was : HasObeyed p text now) where
   abbrev question : List ℕ
   question = frame n bytes
@@ -256,21 +256,21 @@ module _ (p : Programmer) (text : List ℕ) (n : ℕ) (bytes : List ℕ) (body :
 -- what is left of the programmer
 abbrev pub left_of : {E R : Type 0} → Dialog E R → ℕ → Programmer → Programmer
 left_of (Done r) n p = p
-left_of (Say e d) n p = left_of d n p
+left_of (Emit e d) n p = left_of d n p
 left_of (Ask bytes go_on) n p = left_of (go_on (Answered (device.answer bytes p))) (next n) (device.after bytes p)
 
 -- After any text of whole frames that it replied to, it replies to all that it receives.
 record ServesOn (p : Programmer) (text : List ℕ) (transcript : Transcript) (left : Programmer) : Type 0 where
-  in_turn : AnswersInTurn p text (emulate p text) transcript
+  in_turn : RepliesInTurn p text (emulate p text) transcript
   none_taken : NoneTaken transcript
-  fed : HasObeyed p (text ++ bytes_of (heard transcript)) left
-  answered : emulate p (text ++ bytes_of (heard transcript)) ≡ emulate p text ++ sent transcript
+  fed : HasObeyed p (text ++ bytes_on_tape (heard transcript)) left
+  answered : emulate p (text ++ bytes_on_tape (heard transcript)) ≡ emulate p text ++ sent transcript
 
-serves_on : {E R : Type 0} (d : Dialog E R) (n : ℕ) (now p : Programmer) (text : List ℕ) → AsksBodies d
+serves_on : {E R : Type 0} (d : Dialog E R) (n : ℕ) (now p : Programmer) (text : List ℕ) → SendsValidBodies d
     → HasObeyed p text now
-    → ServesOn p text (of_server (calls_of d n now)) (left_of d n now)
+    → ServesOn p text (server_transcript (calls_of d n now)) (left_of d n now)
 serves_on (Done r) n now p text asks was = search rules
-serves_on (Say e d) n now p text asks was = serves_on d n now p text asks was
+serves_on (Emit e d) n now p text asks was = serves_on d n now p text asks was
 serves_on (Ask bytes go_on) n now p text asks was =
     let question = frame n bytes in
     let reply = device.answer bytes now in
@@ -284,9 +284,9 @@ serves_on (Ask bytes go_on) n now p text asks was =
 
 -- the end of the link is received last
 ends : {E R : Type 0} (d : Dialog E R) (n : ℕ) (p : Programmer)
-    → (before : Tape) × HasNoEnd before × (heard (of_server (calls_of d n p)) ≡ before ++ End ∷ [])
+    → (before : Tape) × HasNoEnd before × (heard (server_transcript (calls_of d n p)) ≡ before ++ End ∷ [])
 ends (Done r) n p = ([], tt, refl)
-ends (Say e d) n p = ends d n p
+ends (Emit e d) n p = ends d n p
 ends (Ask bytes go_on) n p =
     let later = ends (go_on (Answered (device.answer bytes p))) (next n) (device.after bytes p) in (
       on_tape (frame n bytes) ++ later.0,
@@ -296,17 +296,17 @@ ends (Ask bytes go_on) n p =
 
 -- ---- both
 
-module _ (plan : Plan) (s : chips.ChipState) (file : Bytes) (asks : AsksBodies (session plan)) where
+module _ (plan : Plan) (s : chips.ChipState) (file : Bytes) (asks : SendsValidBodies (session plan)) where
   abbrev calls : List EndCall
   calls = calls_of (session plan) 1 (fresh_programmer s)
 
   abbrev host : Transcript
-  host = of_host calls
+  host = host_transcript calls
 
   abbrev server : Transcript
-  server = of_server calls
+  server = server_transcript calls
 
-  abbrev left : Machine
+  abbrev left : EmulatorState
   left = record { held = []; programmer = left_of (session plan) 1 (fresh_programmer s) }
 
   abbrev silent : LinkState
@@ -319,25 +319,25 @@ module _ (plan : Plan) (s : chips.ChipState) (file : Bytes) (asks : AsksBodies (
   whole = host_plays (session plan) 1 (fresh_programmer s) asks
 
   abbrev said_desk : DeskState
-  said_desk = showing (after_all (outputs whole.events) nothing_kept) 0 0
+  said_desk = showing (after_events (outputs whole.events) nothing_kept) 0 0
 
   abbrev saved_desk : DeskState
   saved_desk = showing (with_replaced file (chip_file left.programmer.chip) nothing_kept) 0 0
 
-  runs : Ran (session plan) start (devices silent empty_desk)
+  runs : RanWhole (session plan) start (devices silent empty_desk)
       (devices (record { transcript = host; failures = 0 }) said_desk)
       whole.result (record { next = whole.at; unread = [] })
   runs = search (rules, host_in_turn)
 
-  on : (p : Programmer) (text : List ℕ) → IsFed p text (fresh_machine s) → ServesOn p text server left.programmer
+  on : (p : Programmer) (text : List ℕ) → WasFedText p text (fresh_machine s) → ServesOn p text server left.programmer
   on p text was = search (rules, serves_on)
 
-  answers_all : (p : Programmer) (text : List ℕ) → IsFed p text (fresh_machine s)
-      → AnswersAll p text (bytes_of (heard server)) (sent server) left
+  answers_all : (p : Programmer) (text : List ℕ) → WasFedText p text (fresh_machine s)
+      → RepliesToAll p text (bytes_on_tape (heard server)) (sent server) left
   answers_all p text was = search (rules, on p text was)
 
-  fed_nothing : IsFed (fresh_programmer s) [] (fresh_machine s)
-  fed_nothing = record { stands = refl; obeyed = refl }
+  fed_nothing : WasFedText (fresh_programmer s) [] (fresh_machine s)
+  fed_nothing = record { stands = refl; executed = refl }
 
   serves : ServesChip s file (reads server) (devices silent empty_desk)
       (devices (record { transcript = server; failures = 0 }) saved_desk) 0
@@ -346,7 +346,7 @@ module _ (plan : Plan) (s : chips.ChipState) (file : Bytes) (asks : AsksBodies (
       record {
         served = Ended;
         left = left;
-        told_desk = empty_desk;
+        reported_desk = empty_desk;
         serves = record {
           during = server;
           grows = refl;
@@ -364,5 +364,5 @@ module _ (plan : Plan) (s : chips.ChipState) (file : Bytes) (asks : AsksBodies (
         follows = (omega arith, omega arith);
       }
 
-  pub has_run : HasRun plan s file
+  pub has_run : HasPromptRun plan s file
   has_run = search (rules, calls_ordered, calls_prompt, runs, serves)

@@ -5,10 +5,10 @@ use Rattle.stk_frame.specs.Frame.{frame}
 use Rattle.stk_frame.specs.Cut.{cut}
 use Rattle.stk_frame.proofs.Laws.{length_frame}
 use Rattle.stk_host.specs.declared.link.Item.TheVariants.{Silence}
-use Rattle.stk_host.specs.Tape.{Tape, Answered, Silent, answer, on_tape, first_answer, further}
+use Rattle.stk_host.specs.Tape.{Tape, Answered, Silent, answer, on_tape, first_answer, past_skipped}
 use Rattle.stk_host.specs.Dialog.{next}
 use Rattle.stk_host.proofs.Tapes.Answers.{answer_found, answer_silent, answer_waits, on_tape_append}
-use Rattle.stk_emu.specs.Lawful.{IsBody}
+use Rattle.stk_emu.specs.Lawful.{IsFrameBody}
 use Rattle.stk_emu.proofs.Wires.Arrivals.{found_frame, Skipped, frame_skipped, both_skipped}
 use Rattle.avr_tool.proofs.Lines.Plays.{head_is, tail_is}
 
@@ -37,7 +37,7 @@ pub record IsStub (last : List ℕ) : Type 0 where
 pub record IsOld (n c : ℕ) (piece : List ℕ) : Type 0 where
   pub seq : ℕ
   pub bytes : List ℕ
-  pub carried : IsBody bytes
+  pub carried : IsFrameBody bytes
   pub is : piece ≡ frame seq bytes
   pub back : ℕ
   pub some : 1 ≤ back
@@ -51,7 +51,7 @@ AreOld n c (piece ∷ pieces) = IsOld n c piece × AreOld n c pieces
 -- the reply to that very frame
 pub record IsOwn (n : ℕ) (piece : List ℕ) : Type 0 where
   pub bytes : List ℕ
-  pub carried : IsBody bytes
+  pub carried : IsFrameBody bytes
   pub is : piece ≡ frame n bytes
 
 one_older : (n c : ℕ) (piece : List ℕ) → IsOld n c piece → IsOld (next n) (suc c) piece
@@ -117,7 +117,7 @@ old_length n c piece o = let few = o.carried.few in rw (o.is, length_frame o.seq
 
 module _ (n c : ℕ) (most : c ≤ 255) (last : List ℕ) (stub : IsStub last) (more : List (List ℕ)) where
   stub_none : (prefix : List ℕ) → Skipped n prefix → first_answer n (cut (prefix ++ last)) ≡ None
-  stub_none prefix passed = passed.first last ∙ ap (λ ps. further (length prefix) (first_answer n ps)) stub.none
+  stub_none prefix passed = passed.first last ∙ ap (λ ps. past_skipped (length prefix) (first_answer n ps)) stub.none
 
   prefix_none : (prefix : List ℕ) → Skipped n prefix → first_answer n (cut prefix) ≡ None
   prefix_none prefix passed = ap (λ bs. first_answer n (cut bs)) (sym (append-nil prefix)) ∙ passed.first []

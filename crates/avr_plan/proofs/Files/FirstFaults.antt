@@ -4,7 +4,7 @@ use Rattle.std.proofs.lemmas.List.{append-nil, map-append}
 use Rattle.avr_records.proofs.Readers.LaterLines.{parts-some}
 use Rattle.avr_records.proofs.Readers.Fed.{goes-on, closed-prefix}
 use Rattle.avr_records.proofs.Readers.WholeFiles.{among-stands}
-use Rattle.avr_records.specs.Closed.{all_but_last, closed_fault}
+use Rattle.avr_records.specs.Closed.{all_but_last, ended_lines_fault}
 use Rattle.avr_records.specs.Lines.{lines, is_line_end}
 use Rattle.avr_records.specs.Reading.{image_in_text}
 use Rattle.avr_records.specs.declared.kind.Kind.{Kind}
@@ -39,15 +39,15 @@ lengthened kind text more =
     }
 
 -- a fault of a line that has ended stays the first one when more bytes come
-pub closed_fault-more : (kind : Kind) (text more : List ℕ) (size : ℕ) (fault : RecordFault)
-    → closed_fault kind text size ≡ Some fault
-    → closed_fault kind (text ++ more) size ≡ Some fault
-closed_fault-more kind text more size fault is =
+pub ended_lines_fault-more : (kind : Kind) (text more : List ℕ) (size : ℕ) (fault : RecordFault)
+    → ended_lines_fault kind text size ≡ Some fault
+    → ended_lines_fault kind (text ++ more) size ≡ Some fault
+ended_lines_fault-more kind text more size fault is =
     let l = lengthened kind text more in search (rules, closed-prefix, map-append, among-stands)
 
 -- and it is the fault of the whole file
-pub closed_fault-whole : (kind : Kind) (text more : List ℕ) (size : ℕ) (fault : RecordFault)
-    → closed_fault kind text size ≡ Some fault
+pub ended_lines_fault-whole : (kind : Kind) (text more : List ℕ) (size : ℕ) (fault : RecordFault)
+    → ended_lines_fault kind text size ≡ Some fault
     → image_in_text kind (text ++ more) size ≡ Err fault
-closed_fault-whole kind text more size fault is =
+ended_lines_fault-whole kind text more size fault is =
     let l = lengthened kind text more in search (rules, map-append, among-stands)

@@ -6,13 +6,13 @@ use Rattle.std.proofs.lemmas.List.{take-take, take-append-le}
 use Rattle.avr_desk.proofs.FileUses.Pieces.{read_next, read_piece}
 use Rattle.avr_cli.specs.declared.update.Format.{Format}
 use Rattle.avr_desk.specs.Files.{after_reading}
-use Rattle.avr_desk.specs.Record.{DeskState, Passes, after_open, after_read, Bytes}
+use Rattle.avr_desk.specs.Record.{DeskState, ChangesRecord, after_open, after_read, Bytes}
 use Rattle.avr_desk.specs.declared.files.FileFault.TheVariants.{NotRead}
-use Rattle.avr_records.specs.Detect.{kind_of_file}
+use Rattle.avr_records.specs.Detect.{format_of_file}
 use Rattle.avr_records.specs.declared.kind.Found.{Found}
-use Rattle.avr_plan.specs.ImageFile.{Given, whole_file, long_file, kind_of}
-use Rattle.avr_plan.specs.ImageReading.{Going, ImageOrFault, ReadsRest, RestIsRead, ReadsImage, ImageIsRead, IsGiven}
-use Rattle.avr_plan.specs.Intake.{Takes}
+use Rattle.avr_plan.specs.ImageFile.{ImageOrBadFile, image_of_file, fault_of_long_file, kind_of}
+use Rattle.avr_plan.specs.ImageReading.{FedSoFar, ImageOrFault, ReadsRest, RestIsRead, ReadsImage, ImageIsRead, IsImageResult}
+use Rattle.avr_plan.specs.Intake.{WasFed}
 use Rattle.avr_plan.specs.declared.intake.BadFile.{BadFile}
 use Rattle.avr_plan.specs.declared.image_file.ReadFault.TheVariants.{File, Image}
 use Rattle.avr_plan.specs.declared.intake.Intake.{Intake}
@@ -21,11 +21,11 @@ use Rattle.avr_plan.specs.declared.intake.Intake.{Intake}
 
 -- one pass of the loop of `read_rest`: a read gave n more bytes
 module _ (old now new : DeskState) (first last : Intake) (room left n : ℕ) (buf : Bytes)
-    (going : Going old now first last room left) (then : Passes (after_read buf (Ok n)) now new) where
+    (going : FedSoFar old now first last room left) (then : ChangesRecord (after_read buf (Ok n)) now new) where
   pub going_on : (next : Intake) (rest : ℕ) → (n ≡ 0 → ⊥) → length (take n buf) + rest ≡ left
-      → ((found : Found) (size : ℕ) (text : Bytes) → Takes found size last text
-      → Takes found size next (text ++ take n buf))
-      → Going old new first next room rest
+      → ((found : Found) (size : ℕ) (text : Bytes) → WasFed found size last text
+      → WasFed found size next (text ++ take n buf))
+      → FedSoFar old new first next room rest
   going_on next rest some count feeds = record {
     bytes = going.bytes ++ take n buf;
     kept = read_piece old.kept now.kept new.kept going.bytes buf n going.kept then some;
@@ -33,19 +33,19 @@ module _ (old now new : DeskState) (first last : Intake) (room left n : ℕ) (bu
     count = omega (arith, going.count, length-append going.bytes (take n buf));
   }
 
-  module _ (limit : ℕ) (found : Found) (size : ℕ) (before : Bytes) (takes : Takes found size first before)
+  module _ (limit : ℕ) (found : Found) (size : ℕ) (before : Bytes) (takes : WasFed found size first before)
       (count : length before + room ≡ limit) where
     -- the end was seen
     pub rest_ends : (result : ImageOrFault) → n ≡ 0 → 0 < length buf
-        → ((found : Found) (size : ℕ) (text : Bytes) → Takes found size last text
-        → IsGiven (whole_file found text size) result)
+        → ((found : Found) (size : ℕ) (text : Bytes) → WasFed found size last text
+        → IsImageResult (image_of_file found text size) result)
         → RestIsRead limit found size before old new result
     rest_ends result zero some gives = search (rules, length-append, read_next)
 
     -- more bytes came than the limit allows
     pub rest_long : (bad : BadFile) → left < n → n ≤ length buf → length buf ≤ 4096
-        → ((found : Found) (size : ℕ) (text : Bytes) → Takes found size last text
-        → bad ≡ long_file found (text ++ take left buf) size)
+        → ((found : Found) (size : ℕ) (text : Bytes) → WasFed found size last text
+        → bad ≡ fault_of_long_file found (text ++ take left buf) size)
         → ReadsRest limit found size before old new (Err bad)
     rest_long bad more within' most gives =
         let bytes = going.bytes ++ take n buf in
@@ -68,7 +68,7 @@ module _ (old now new : DeskState) (first last : Intake) (room left n : ℕ) (bu
 
 -- ---- a whole file
 
-detected-prefix : (prefix more : Bytes) → length prefix ≡ 1024 → kind_of_file (prefix ++ more) ≡ kind_of_file prefix
+detected-prefix : (prefix more : Bytes) → length prefix ≡ 1024 → format_of_file (prefix ++ more) ≡ format_of_file prefix
 detected-prefix prefix more len = search (rules, take-append-le, more, len)
 
 pub kind-prefix : (format : Format) (prefix more : Bytes) → length prefix ≡ 1024
@@ -77,7 +77,7 @@ kind-prefix format prefix more len = search (rules, detected-prefix)
 
 -- the prefix, then the rest
 open_rest : (limit : ℕ) (format : Format) (size : ℕ) (name prefix : Bytes) (old mid now new : DeskState)
-    (given : Given) → Passes (after_open name (Ok tt)) old mid → Passes (after_reading prefix false) mid now
+    (given : ImageOrBadFile) → ChangesRecord (after_open name (Ok tt)) old mid → ChangesRecord (after_reading prefix false) mid now
     → length prefix ≡ 1024 → ReadsRest limit (kind_of format prefix) size prefix now new given
     → ReadsImage limit format size name old new given
 open_rest limit format size name prefix old mid now new given opened first len rest = record {
@@ -90,7 +90,7 @@ open_rest limit format size name prefix old mid now new given opened first len r
 }
 
 pub image_is_rest : (limit : ℕ) (format : Format) (size : ℕ) (name prefix : Bytes) (old mid now new : DeskState)
-    (result : ImageOrFault) → Passes (after_open name (Ok tt)) old mid → Passes (after_reading prefix false) mid now
+    (result : ImageOrFault) → ChangesRecord (after_open name (Ok tt)) old mid → ChangesRecord (after_reading prefix false) mid now
     → length prefix ≡ 1024 → RestIsRead limit (kind_of format prefix) size prefix now new result
     → ImageIsRead limit format size name old new result
 image_is_rest limit format size name prefix old mid now new (Ok good) opened first len rest = search (rules, open_rest)

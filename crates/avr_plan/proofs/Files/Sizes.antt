@@ -8,7 +8,7 @@ use Rattle.avr_image.specs.Raw as raw_file
 use Rattle.avr_desk.specs.Record.{Bytes}
 use Rattle.avr_records.specs.declared.kind.Ending.{Ending}
 use Rattle.avr_records.specs.declared.kind.Found.{Found}
-use Rattle.avr_plan.specs.ImageFile.{whole_file, image_within, kind_of, of_raw}
+use Rattle.avr_plan.specs.ImageFile.{image_of_file, image_within, kind_of, of_raw}
 
 abbrev Image : Type 0
 Image = List (Option ℕ)
@@ -16,7 +16,7 @@ Image = List (Option ℕ)
 raw-size : (bytes : Bytes) (size : ℕ) (p : Image × Ending) → of_raw (raw_file.raw bytes size) ≡ Ok p → length p.0 ≡ size
 raw-size bytes size p is = search (rules, from_zero_is_a_span, laid_size, length-replicate)
 
-whole-size : (found : Found) (bytes : Bytes) (size : ℕ) (p : Image × Ending) → whole_file found bytes size ≡ Ok p
+whole-size : (found : Found) (bytes : Bytes) (size : ℕ) (p : Image × Ending) → image_of_file found bytes size ≡ Ok p
     → length p.0 ≡ size
 whole-size found bytes size p is = search (rules, laid_size, length-replicate, raw-size)
 
@@ -26,7 +26,7 @@ pub image-size : (limit : ℕ) (format : Format) (bytes : Bytes) (size : ℕ) (i
 image-size limit format bytes size image last is =
     elim (cases_Bool (nat_le (length bytes) limit)) [
       | inl t ↦
-          let whole : whole_file (kind_of format bytes) bytes size ≡ Ok (image, last) = sym (rw t at is) in
+          let whole : image_of_file (kind_of format bytes) bytes size ≡ Ok (image, last) = sym (rw t at is) in
           whole-size (kind_of format bytes) bytes size (image, last) whole
       | inr f ↦ cc (rw f at is)
     ]

@@ -2,21 +2,21 @@
 use Rattle.std.proofs.Common.{◌≡◌, sym, ap, ℕ, false, List, Option, Ok, Err, rules}
 use Rattle.avr_cli.specs.declared.settings.Switches.{Switches}
 use Rattle.avr_cli.specs.declared.update.Format.{Format}
-use Rattle.avr_desk.specs.Fault.{Follows, HasSameCounts}
+use Rattle.avr_desk.specs.Fault.{CountsNeverFall, HasSameCounts}
 use Rattle.avr_desk.specs.Lines.{memory_line}
 use Rattle.avr_desk.specs.declared.files.FileFault.TheVariants as file_fault
 use Rattle.avr_desk.specs.Record.{DeskState, Bytes}
-use Rattle.avr_desk.specs.Said.{Tells}
+use Rattle.avr_desk.specs.OutputEvents.{ReportsLine}
 use Rattle.avr_records.specs.declared.kind.Ending.{Ending}
 use Rattle.avr_desk.proofs.Lines.Told.{follows_same}
-use Rattle.avr_desk.proofs.Stages.Files.{goes_whole, went_whole, goes_file_fault, taken_never}
-use Rattle.avr_desk.proofs.Stages.Played.{goes_on, goes_no_further, goes_unsettled, went_went, went_settled}
+use Rattle.avr_desk.proofs.Stages.Files.{goes_whole, went_whole, goes_file_fault, never_allocates}
+use Rattle.avr_desk.proofs.Stages.Played.{runs_then, runs_first_only, goes_unsettled, completed_then, went_settled}
 use Rattle.avr_plan.specs.declared.image_file.TheConstants.{LARGEST_IMAGE_FILE}
-use Rattle.avr_plan.specs.ImageReading.{ReadsImage, ImageIsRead, IsCountedRead}
+use Rattle.avr_plan.specs.ImageReading.{ReadsImage, ImageIsRead, CountsReadFault}
 use Rattle.avr_plan.specs.Lines.{bad_file_line, image_line}
-use Rattle.avr_plan.specs.Planning.{file_image_stage, judged_image, image_or_line, warning_says}
-use Rattle.avr_desk.specs.Playing.{AtStart, Goes, Went}
-use Rattle.avr_desk.specs.Stage.{Stage, Made, ◌>>=◌, verdict_stage, output_stage, file_stage}
+use Rattle.avr_plan.specs.Planning.{file_image_stage, checked_image, image_or_line, warning_events}
+use Rattle.avr_desk.specs.Playing.{OnlyAtStart, RunsStage, StageCompleted}
+use Rattle.avr_desk.specs.Stage.{Stage, Produced, ◌>>=◌, result_stage, output_stage, file_stage}
 use Rattle.avr_plan.specs.declared.intake.BadFile.{BadFile}
 use Rattle.avr_plan.specs.declared.image_file.ReadFault.{ReadFault}
 use Rattle.avr_plan.specs.declared.image_file.ReadFault.TheVariants as fault_of
@@ -26,74 +26,74 @@ Image = List (Option ℕ)
 
 -- what follows the file
 abbrev behind_file : Switches → Bytes → Image × Ending → Stage Image
-behind_file switches file given = output_stage (warning_says switches file given.1) >>= λ ok. verdict_stage (Ok given.0)
+behind_file switches file given = output_stage (warning_events switches file given.1) >>= λ ok. result_stage (Ok given.0)
 
 went_file : (file : Bytes) (format : Format) (size : ℕ) (old mid : DeskState) (image : Image) (ending : Ending)
     → ReadsImage LARGEST_IMAGE_FILE format size file old mid (Ok (image, ending)) → HasSameCounts old mid
-    → Went (file_stage file LARGEST_IMAGE_FILE (judged_image file format size)) old mid (Made (image, ending))
+    → StageCompleted (file_stage file LARGEST_IMAGE_FILE (checked_image file format size)) old mid (Produced (image, ending))
 went_file file format size old mid image ending reads same =
-    let judge = judged_image file format size in
+    let judge = checked_image file format size in
     let given : judge reads.bytes ≡ Ok (image, ending) = ap (image_or_line file) (sym reads.gives) in
-    went_whole (AtStart false) file LARGEST_IMAGE_FILE judge reads.bytes reads.ended old mid (image, ending) reads.kept
+    went_whole (OnlyAtStart false) file LARGEST_IMAGE_FILE judge reads.bytes reads.ended old mid (image, ending) reads.kept
     reads.whole same (went_settled (judge reads.bytes) (image, ending) mid given)
 
 module _ (switches : Switches) (file : Bytes) (format : Format) (size : ℕ) where
   -- a file that is an image, and its warning
   pub went_image : (old mid new : DeskState) (image : Image) (ending : Ending)
       → ReadsImage LARGEST_IMAGE_FILE format size file old mid (Ok (image, ending)) → HasSameCounts old mid
-      → Went (output_stage (warning_says switches file ending)) mid new (Made tt)
-      → Went (file_image_stage switches file format size) old new (Made image)
+      → StageCompleted (output_stage (warning_events switches file ending)) mid new (Produced tt)
+      → StageCompleted (file_image_stage switches file format size) old new (Produced image)
   went_image old mid new image ending reads same warns =
-      went_went (file_stage file LARGEST_IMAGE_FILE (judged_image file format size)) (behind_file switches file) old mid
-      new (image, ending) (Made image)
+      completed_then (file_stage file LARGEST_IMAGE_FILE (checked_image file format size)) (behind_file switches file) old mid
+      new (image, ending) (Produced image)
       (went_file file format size old mid image ending reads same)
       (search rules)
 
   -- its warning could not be printed
   pub goes_unwarned : (old mid new : DeskState) (image : Image) (ending : Ending) (status : ℕ)
       → ReadsImage LARGEST_IMAGE_FILE format size file old mid (Ok (image, ending)) → HasSameCounts old mid
-      → Goes (AtStart false) (output_stage (warning_says switches file ending)) mid new (Err status)
-      → Goes (AtStart false) (file_image_stage switches file format size) old new (Err status)
+      → RunsStage (OnlyAtStart false) (output_stage (warning_events switches file ending)) mid new (Err status)
+      → RunsStage (OnlyAtStart false) (file_image_stage switches file format size) old new (Err status)
   goes_unwarned old mid new image ending status reads same warns =
-      goes_on (AtStart false) (AtStart false) (file_stage file LARGEST_IMAGE_FILE (judged_image file format size))
+      runs_then (OnlyAtStart false) (OnlyAtStart false) (file_stage file LARGEST_IMAGE_FILE (checked_image file format size))
       (behind_file switches file) old mid new
       (image, ending) (Err status) (went_file file format size old mid image ending reads same)
-      (λ passed said never. absurd (taken_never passed said never))
-      (search (rules, goes_no_further))
+      (λ passed said never. absurd (never_allocates passed said never))
+      (search (rules, runs_first_only))
 
   -- a file that is no image
   goes_bad : (old mid new : DeskState) (bad : BadFile) (status : ℕ)
       → ReadsImage LARGEST_IMAGE_FILE format size file old mid (Err bad) → HasSameCounts old mid → status ≡ 1
-      → Tells mid new (bad_file_line file bad)
-      → Goes (AtStart false) (file_image_stage switches file format size) old new (Err status)
+      → ReportsLine mid new (bad_file_line file bad)
+      → RunsStage (OnlyAtStart false) (file_image_stage switches file format size) old new (Err status)
   goes_bad old mid new bad status reads same one told =
-      let judge = judged_image file format size in
+      let judge = checked_image file format size in
       let given : judge reads.bytes ≡ Err (bad_file_line file bad) = ap (image_or_line file) (sym reads.gives) in
-      search (rules, goes_no_further, goes_whole, goes_unsettled)
+      search (rules, runs_first_only, goes_whole, goes_unsettled)
 
   -- a file that was not read
   goes_unread : (old new : DeskState) (status : ℕ)
-      → Goes (AtStart false) (file_stage file LARGEST_IMAGE_FILE (judged_image file format size)) old new (Err status)
-      → Goes (AtStart false) (file_image_stage switches file format size) old new (Err status)
-  goes_unread old new status goes = search (rules, goes_no_further)
+      → RunsStage (OnlyAtStart false) (file_stage file LARGEST_IMAGE_FILE (checked_image file format size)) old new (Err status)
+      → RunsStage (OnlyAtStart false) (file_image_stage switches file format size) old new (Err status)
+  goes_unread old new status goes = search (rules, runs_first_only)
 
   -- an image, but no room for its task
   pub goes_without_room : (old mid new : DeskState) (image : Image) (ending : Ending) (status : ℕ)
       → ReadsImage LARGEST_IMAGE_FILE format size file old mid (Ok (image, ending)) → HasSameCounts old mid
-      → status ≡ 1 → Tells mid new memory_line
-      → Goes (AtStart false) (file_image_stage switches file format size) old new (Err status)
+      → status ≡ 1 → ReportsLine mid new memory_line
+      → RunsStage (OnlyAtStart false) (file_image_stage switches file format size) old new (Err status)
   goes_without_room old mid new image ending status reads same one told =
       goes_unread old new status
-      (goes_file_fault (AtStart false) file LARGEST_IMAGE_FILE (judged_image file format size) file_fault.Memory old mid
+      (goes_file_fault (OnlyAtStart false) file LARGEST_IMAGE_FILE (checked_image file format size) file_fault.Memory old mid
       new status (reads.bytes, reads.ended, reads.kept) (follows_same old mid same) same one told)
 
   -- the file gave no image
   pub goes_without_image : (old mid new : DeskState) (fault : ReadFault) (status : ℕ)
-      → ImageIsRead LARGEST_IMAGE_FILE format size file old mid (Err fault) → Follows old mid
-      → IsCountedRead old mid fault
+      → ImageIsRead LARGEST_IMAGE_FILE format size file old mid (Err fault) → CountsNeverFall old mid
+      → CountsReadFault old mid fault
       → status ≡ 1
-      → Tells mid new (image_line file fault)
-      → Goes (AtStart false) (file_image_stage switches file format size) old new (Err status)
+      → ReportsLine mid new (image_line file fault)
+      → RunsStage (OnlyAtStart false) (file_image_stage switches file format size) old new (Err status)
   goes_without_image old mid new (fault_of.File fault) status reads rose counted one told =
       search (rules, goes_unread, goes_file_fault)
   goes_without_image old mid new (fault_of.Image bad) status reads rose counted one told = search (rules, goes_bad)

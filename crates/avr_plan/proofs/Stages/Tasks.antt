@@ -6,17 +6,17 @@ use Rattle.avr_cli.specs.declared.update.Format.TheVariants.{Immediate}
 use Rattle.avr_cli.specs.declared.update.Op.TheVariants as op
 use Rattle.avr_cli.specs.declared.update.Update.{Update}
 use Rattle.avr_desk.specs.Record.{DeskState, Bytes}
-use Rattle.avr_desk.specs.Said.{OutputEvent, Tells}
+use Rattle.avr_desk.specs.OutputEvents.{OutputEvent, ReportsLine}
 use Rattle.avr_desk.specs.declared.record.Opening.{Opening}
 use Rattle.avr_part.specs.Mem.{is_writable}
 use Rattle.avr_part.specs.Part.{Part}
 use Rattle.avr_part.specs.declared.part.Mem.{Mem}
-use Rattle.avr_desk.proofs.Stages.Played.{goes_refused, goes_on, goes_no_further, goes_within}
+use Rattle.avr_desk.proofs.Stages.Played.{runs_to_refusal, runs_then, runs_first_only, goes_within}
 use Rattle.avr_plan.specs.Lines.{read_only_line}
 use Rattle.avr_plan.specs.Planning.{file_image_stage, image_stage, update_image, write_stage, task_stage, tasks_stage}
-use Rattle.avr_desk.specs.Playing.{AtStart, Goes, Went}
-use Rattle.avr_plan.specs.Taking.{AtTask, has_values, op_takes_memory}
-use Rattle.avr_desk.specs.Stage.{Stage, Made, ◌>>=◌, verdict_stage}
+use Rattle.avr_desk.specs.Playing.{OnlyAtStart, RunsStage, StageCompleted}
+use Rattle.avr_plan.specs.AllocationPoints.{AtAllocatingTask, has_immediate_values, op_allocates}
+use Rattle.avr_desk.specs.Stage.{Stage, Produced, ◌>>=◌, result_stage}
 use Rattle.avr_plan.specs.declared.planned.Task.{Task}
 use Rattle.avr_plan.specs.declared.planned.Task.TheVariants.{Write}
 
@@ -28,40 +28,40 @@ file_stage-is switches memory size file format other = search rules
 
 module _ (switches : Switches) (memory : Mem) (size size' : ℕ) (file file' : Bytes) (format : Format)
     (old new : DeskState) (result : Result (List (Option ℕ)) ℕ) (sizes : size ≡ size') (files : file ≡ file') where
-  goes_of_same : (takes : Bool) → has_values format ≡ takes
-      → Goes (AtStart takes) (image_stage switches memory size file format) old new result
-      → Goes (AtStart (has_values format)) (image_stage switches memory size' file' format) old new result
+  goes_of_same : (takes : Bool) → has_immediate_values format ≡ takes
+      → RunsStage (OnlyAtStart takes) (image_stage switches memory size file format) old new result
+      → RunsStage (OnlyAtStart (has_immediate_values format)) (image_stage switches memory size' file' format) old new result
   goes_of_same takes values goes = search rules
 
   pub goes_of_file : (format ≡ Immediate → ⊥)
-      → Goes (AtStart false) (file_image_stage switches file format size) old new result
-      → Goes (AtStart (has_values format)) (image_stage switches memory size' file' format) old new result
+      → RunsStage (OnlyAtStart false) (file_image_stage switches file format size) old new result
+      → RunsStage (OnlyAtStart (has_immediate_values format)) (image_stage switches memory size' file' format) old new result
   goes_of_file other goes = goes_of_same false (search rules) (search (rules, file_stage-is))
 
 abbrev writes : Switches → Part → Update → Stage Task
-writes switches part u = update_image switches part u >>= λ image. verdict_stage (Ok (Write u.memory image))
+writes switches part u = update_image switches part u >>= λ image. result_stage (Ok (Write u.memory image))
 
 pub goes_writable : (switches : Switches) (part : Part) (u : Update) (old new : DeskState) (result : Result Task ℕ)
     → true ≡ is_writable u.memory
-    → Goes (AtStart (has_values u.format)) (writes switches part u) old new result
-    → Goes (AtStart (op_takes_memory u op.Write)) (write_stage switches part u) old new result
+    → RunsStage (OnlyAtStart (has_immediate_values u.format)) (writes switches part u) old new result
+    → RunsStage (OnlyAtStart (op_allocates u op.Write)) (write_stage switches part u) old new result
 goes_writable switches part u old new result is goes = search rules
 
 pub goes_read_only : (switches : Switches) (part : Part) (u : Update) (old new : DeskState) (status : ℕ)
     → false ≡ is_writable u.memory
-    → status ≡ 1 → Tells old new (read_only_line u.memory)
-    → Goes (AtStart (op_takes_memory u op.Write)) (write_stage switches part u) old new (Err status)
+    → status ≡ 1 → ReportsLine old new (read_only_line u.memory)
+    → RunsStage (OnlyAtStart (op_allocates u op.Write)) (write_stage switches part u) old new (Err status)
 goes_read_only switches part u old new status is one told =
-    subst (λ b. Goes (AtStart (if b then has_values u.format else false))
-    (if b then writes switches part u else verdict_stage (Err (read_only_line u.memory))) old new (Err status)) is
-    (goes_refused (AtStart false) old new (read_only_line u.memory) status one told)
+    subst (λ b. RunsStage (OnlyAtStart (if b then has_immediate_values u.format else false))
+    (if b then writes switches part u else result_stage (Err (read_only_line u.memory))) old new (Err status)) is
+    (runs_to_refusal (OnlyAtStart false) old new (read_only_line u.memory) status one told)
 
 -- ---- one task after another
 
 module _ (switches : Switches) (part : Part) (tasks : List Task) (u : Update) (updates : List Update) where
   -- the update is due
-  at_first : (passed : List Opening) (said : List OutputEvent) → AtStart (op_takes_memory u u.op) passed said
-      → AtTask switches part tasks (u ∷ updates) passed said
+  at_first : (passed : List Opening) (said : List OutputEvent) → OnlyAtStart (op_allocates u u.op) passed said
+      → AtAllocatingTask switches part tasks (u ∷ updates) passed said
   at_first passed said takes = record {
     done = [];
     due = u;
@@ -73,10 +73,10 @@ module _ (switches : Switches) (part : Part) (tasks : List Task) (u : Update) (u
   }
 
   -- or a later update, whose task it is
-  at_later : (old mid : DeskState) (task : Task) (went : Went (task_stage switches part u) old mid (Made task))
+  at_later : (old mid : DeskState) (task : Task) (went : StageCompleted (task_stage switches part u) old mid (Produced task))
       (passed : List Opening) (said : List OutputEvent)
-      → AtTask switches part (tasks ++ task ∷ []) updates passed said
-      → AtTask switches part tasks (u ∷ updates) (went.passed ++ passed) (went.says ++ said)
+      → AtAllocatingTask switches part (tasks ++ task ∷ []) updates passed said
+      → AtAllocatingTask switches part tasks (u ∷ updates) (went.passed ++ passed) (went.emits ++ said)
   at_later old mid task went passed said later = record {
     done = u ∷ later.done;
     due = later.due;
@@ -90,21 +90,21 @@ module _ (switches : Switches) (part : Part) (tasks : List Task) (u : Update) (u
 
 module _ (switches : Switches) (part : Part) (tasks : List Task) (updates : List Update) (i : ℕ) (u : Update) where
   pub goes_with_next : (old mid new : DeskState) (task : Task) (result : Result (List Task) ℕ)
-      → drop i updates ≡ u ∷ drop (i + 1) updates → Went (task_stage switches part u) old mid (Made task)
-      → Goes (AtTask switches part (tasks ++ task ∷ []) (drop (i + 1) updates))
+      → drop i updates ≡ u ∷ drop (i + 1) updates → StageCompleted (task_stage switches part u) old mid (Produced task)
+      → RunsStage (AtAllocatingTask switches part (tasks ++ task ∷ []) (drop (i + 1) updates))
       (tasks_stage switches part (tasks ++ task ∷ []) (drop (i + 1) updates)) mid new result
-      → Goes (AtTask switches part tasks (drop i updates)) (tasks_stage switches part tasks (drop i updates)) old new
+      → RunsStage (AtAllocatingTask switches part tasks (drop i updates)) (tasks_stage switches part tasks (drop i updates)) old new
       result
-  goes_with_next old mid new task result is went goes = search (rules, goes_on, at_later, result, is, went, goes)
+  goes_with_next old mid new task result is went goes = search (rules, runs_then, at_later, result, is, went, goes)
 
   pub goes_without_next : (old new : DeskState) (status : ℕ) → drop i updates ≡ u ∷ drop (i + 1) updates
-      → Goes (AtStart (op_takes_memory u u.op)) (task_stage switches part u) old new (Err status)
-      → Goes (AtTask switches part tasks (drop i updates)) (tasks_stage switches part tasks (drop i updates)) old new
+      → RunsStage (OnlyAtStart (op_allocates u u.op)) (task_stage switches part u) old new (Err status)
+      → RunsStage (AtAllocatingTask switches part tasks (drop i updates)) (tasks_stage switches part tasks (drop i updates)) old new
       (Err status)
   goes_without_next old new status is goes =
-      subst (λ (us : List Update). Goes (AtTask switches part tasks us) (tasks_stage switches part tasks us) old new
+      subst (λ (us : List Update). RunsStage (AtAllocatingTask switches part tasks us) (tasks_stage switches part tasks us) old new
       (Err status)) (sym is)
-      (search (rules, goes_within, at_first, goes_no_further))
+      (search (rules, goes_within, at_first, runs_first_only))
 
 pub all_one : (P : Task → Type 0) (task : Task) → P task → All P (task ∷ [])
 all_one P task p x3 d l = search rules

@@ -3,9 +3,9 @@ use Rattle.std.proofs.Common.{rules}
 use Rattle.avr_cli.specs.declared.update.Update.{Update}
 use Rattle.avr_desk.specs.Fault.{HasSameCounts}
 use Rattle.avr_desk.specs.Record.{DeskState}
-use Rattle.avr_plan.specs.PlanFaults.{TellsTaskFault}
+use Rattle.avr_plan.specs.PlanFaults.{ReportsTaskFault}
 use Rattle.avr_plan.specs.declared.plan_fault.TaskFault.{TaskFault}
 
 pub fault_since : (u : Update) (fault : TaskFault) (a b c : DeskState) → HasSameCounts a b
-    → TellsTaskFault u b c fault → TellsTaskFault u a c fault
+    → ReportsTaskFault u b c fault → ReportsTaskFault u a c fault
 fault_since u fault a b c same told = search rules

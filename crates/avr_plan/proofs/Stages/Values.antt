@@ -3,45 +3,45 @@ use Rattle.std.proofs.Common.{◌≡◌, sym, ap, ℕ, true, List, Option, Ok, E
 use Rattle.avr_cli.specs.declared.settings.Switches.{Switches}
 use Rattle.avr_cli.specs.declared.update.Format.TheVariants.{Immediate}
 use Rattle.avr_desk.specs.Record.{DeskState, Bytes}
-use Rattle.avr_image.specs.Fault.{OrMemory}
-use Rattle.avr_image.specs.Values.{values}
+use Rattle.avr_image.specs.Fault.{OrOutOfMemory}
+use Rattle.avr_image.specs.Values.{image_of_values}
 use Rattle.avr_image.specs.declared.fault.ImageFault.{ImageFault}
 use Rattle.avr_desk.specs.Lines.{memory_line}
-use Rattle.avr_desk.specs.Said.{Tells}
+use Rattle.avr_desk.specs.OutputEvents.{ReportsLine}
 use Rattle.avr_part.specs.declared.part.Mem.{Mem}
-use Rattle.avr_desk.proofs.Stages.Played.{went_settled, goes_unsettled, goes_without_memory}
+use Rattle.avr_desk.proofs.Stages.Played.{went_settled, goes_unsettled, runs_without_memory}
 use Rattle.avr_plan.specs.Lines.{values_line}
 use Rattle.avr_plan.specs.Planning.{image_stage, values_or_line}
-use Rattle.avr_desk.specs.Playing.{AtStart, Goes, Went}
-use Rattle.avr_desk.specs.Stage.{Made}
+use Rattle.avr_desk.specs.Playing.{OnlyAtStart, RunsStage, StageCompleted}
+use Rattle.avr_desk.specs.Stage.{Produced}
 
 abbrev Image : Type 0
 Image = List (Option ℕ)
 
-pub given_values : (text : Bytes) (size : ℕ) (image : Image) → OrMemory (Ok image) (values text size)
-    → Ok image ≡ values text size
+pub given_values : (text : Bytes) (size : ℕ) (image : Image) → OrOutOfMemory (Ok image) (image_of_values text size)
+    → Ok image ≡ image_of_values text size
 given_values text size image x3 = search rules
 
 pub went_values : (switches : Switches) (memory : Mem) (size : ℕ) (text : Bytes) (d : DeskState) (image : Image)
-    → OrMemory (Ok image) (values text size)
-    → Went (image_stage switches memory size text Immediate) d d (Made image)
+    → OrOutOfMemory (Ok image) (image_of_values text size)
+    → StageCompleted (image_stage switches memory size text Immediate) d d (Produced image)
 went_values switches memory size text d image gives =
-    went_settled (values_or_line memory (values text size)) image d
+    went_settled (values_or_line memory (image_of_values text size)) image d
     (ap (values_or_line memory) (sym (given_values text size image gives)))
 
 pub goes_bad_values : (switches : Switches) (memory : Mem) (size : ℕ) (text : Bytes) (old new : DeskState) (status : ℕ)
     (fault : ImageFault)
-    → OrMemory (Err fault) (values text size) → status ≡ 1 → Tells old new (values_line memory fault)
-    → Goes (AtStart true) (image_stage switches memory size text Immediate) old new (Err status)
+    → OrOutOfMemory (Err fault) (image_of_values text size) → status ≡ 1 → ReportsLine old new (values_line memory fault)
+    → RunsStage (OnlyAtStart true) (image_stage switches memory size text Immediate) old new (Err status)
 goes_bad_values switches memory size text old new status fault (inl is) one told =
-    goes_unsettled (AtStart true) (values_or_line memory (values text size)) (values_line memory fault) old new status
+    goes_unsettled (OnlyAtStart true) (values_or_line memory (image_of_values text size)) (values_line memory fault) old new status
     (ap (values_or_line memory) (sym is)) one told
 goes_bad_values switches memory size text old new status fault (inr refused) one told =
-    search (rules, goes_without_memory)
+    search (rules, runs_without_memory)
 
 -- or there was no room for its task
 pub goes_without_room : (switches : Switches) (memory : Mem) (size : ℕ) (text : Bytes) (old new : DeskState)
     (status : ℕ)
-    → status ≡ 1 → Tells old new memory_line
-    → Goes (AtStart true) (image_stage switches memory size text Immediate) old new (Err status)
-goes_without_room switches memory size text old new status one told = search (rules, goes_without_memory)
+    → status ≡ 1 → ReportsLine old new memory_line
+    → RunsStage (OnlyAtStart true) (image_stage switches memory size text Immediate) old new (Err status)
+goes_without_room switches memory size text old new status one told = search (rules, runs_without_memory)

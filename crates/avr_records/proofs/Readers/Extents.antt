@@ -4,24 +4,24 @@ use Rattle.std.proofs.lemmas.Bool.Decides.{nat_tests}
 use Rattle.std.proofs.Common.{arith, ◌≡◌, ◌∙◌, sym, ap, refl, ℕ, ◌+◌, List, [], ◌∷◌, ◌++◌, length, map, true, false, Ok, Err, rules}
 use Rattle.std.proofs.lemmas.List.{append-nil, append_assoc, map-append, nil_from_length}
 use Rattle.avr_records.specs.Lines.{lines}
-use Rattle.avr_records.specs.Needed.{largest, needed_by, needed_in_text}
+use Rattle.avr_records.specs.Needed.{largest_memory, needed_by, size_needed_in_text}
 use Rattle.avr_records.specs.Progress.{IsExtentOf}
-use Rattle.avr_records.specs.Reading.{Said, up_to_end, said_by_line}
+use Rattle.avr_records.specs.Reading.{LineResult, up_to_end, line_result}
 use Rattle.avr_records.specs.Steps.{next_extent}
 use Rattle.avr_records.specs.declared.extent.Extent.{Extent}
 use Rattle.avr_records.specs.declared.kind.Kind.{Kind}
 use Rattle.avr_records.specs.declared.fault.RecordFault.{RecordFault}
-use Rattle.avr_records.proofs.Readers.Fed.{line-first, says-nothing, said-prefix}
+use Rattle.avr_records.proofs.Readers.Fed.{line-first, result-nothing, results-prefix}
 use Rattle.avr_records.proofs.Readers.Held.{counts-next, counts-more, counts-bad}
 
 -- `left` are the text's remaining lines, and the extent is that of the lines before.
 pub record Walked (kind : Kind) (e : Extent) (text : List ℕ) (left : List (List ℕ)) : Type 0 where
   pub prefix : List (List ℕ)
   pub cut : lines text ≡ prefix ++ left
-  pub extent : IsExtentOf largest e (up_to_end (map (said_by_line kind) prefix))
+  pub extent : IsExtentOf largest_memory e (up_to_end (map (line_result kind) prefix))
 
 said-all : (kind : Kind) (prefix left : List (List ℕ)) (text : List ℕ) → lines text ≡ prefix ++ left
-    → map (said_by_line kind) (lines text) ≡ map (said_by_line kind) prefix ++ map (said_by_line kind) left
+    → map (line_result kind) (lines text) ≡ map (line_result kind) prefix ++ map (line_result kind) left
 said-all kind prefix left text cut = grind (arith, nat_tests, map-append)
 
 -- the lines that are left once one more has ended
@@ -30,38 +30,38 @@ pub left-lines : (left line more : List ℕ) → lines line ≡ line ∷ [] → 
 left-lines left line more one end = ap lines end ∙ line-first line more one
 
 pub walk-next : (kind : Kind) (e new : Extent) (text line : List ℕ) (left more : List (List ℕ)) → left ≡ line ∷ more
-    → e.ended ≡ false → Walked kind e text left → next_extent largest e (said_by_line kind line) ≡ Ok new
+    → e.ended ≡ false → Walked kind e text left → next_extent largest_memory e (line_result kind line) ≡ Ok new
     → Walked kind new text more
 walk-next kind e new text line left more is on w step = record {
   prefix = w.prefix ++ line ∷ [];
   cut = w.cut ∙ ap (λ (ls : List (List ℕ)). w.prefix ++ ls) is ∙ sym (append_assoc w.prefix (line ∷ []) more);
-  extent = search (rules, said-prefix, counts-next);
+  extent = search (rules, results-prefix, counts-next);
 }
 
-needed-is : (e : Extent) (said : List Said) → IsExtentOf largest e (up_to_end said) → Ok e.end ≡ needed_by said
+needed-is : (e : Extent) (said : List LineResult) → IsExtentOf largest_memory e (up_to_end said) → Ok e.end ≡ needed_by said
 needed-is e said m = rw (m.no_fault, ← m.end) refl
 
 -- nothing after an end record counts
 pub walk-ended : (kind : Kind) (e : Extent) (text : List ℕ) (left : List (List ℕ)) → e.ended ≡ true
-    → Walked kind e text left → Ok e.end ≡ needed_in_text kind text
+    → Walked kind e text left → Ok e.end ≡ size_needed_in_text kind text
 walk-ended kind e text left done w =
-    needed-is e _ (counts-more largest e (map (said_by_line kind) w.prefix) (map (said_by_line kind) left) done
+    needed-is e _ (counts-more largest_memory e (map (line_result kind) w.prefix) (map (line_result kind) left) done
     w.extent)
     ∙ ap needed_by (sym (said-all kind w.prefix left text w.cut))
 
-pub walk-last : (kind : Kind) (e : Extent) (text : List ℕ) → Walked kind e text [] → Ok e.end ≡ needed_in_text kind text
+pub walk-last : (kind : Kind) (e : Extent) (text : List ℕ) → Walked kind e text [] → Ok e.end ≡ size_needed_in_text kind text
 walk-last kind e text w = grind (arith, nat_tests, append-nil)
 
 pub walk-fault : (kind : Kind) (e : Extent) (text line : List ℕ) (left more : List (List ℕ)) (fault : RecordFault)
     → left ≡ line ∷ more → e.ended ≡ false → Walked kind e text left
-    → next_extent largest e (said_by_line kind line) ≡ Err fault → Err fault ≡ needed_in_text kind text
+    → next_extent largest_memory e (line_result kind line) ≡ Err fault → Err fault ≡ size_needed_in_text kind text
 walk-fault kind e text line left more fault is on w step = grind (arith, common_steps, counts-bad)
 
 -- an empty last line changes nothing
 pub walk-empty : (kind : Kind) (e : Extent) (text left : List ℕ) → e.ended ≡ false → Walked kind e text (lines left)
-    → length left ≡ 0 → Ok e.end ≡ needed_in_text kind text
+    → length left ≡ 0 → Ok e.end ≡ size_needed_in_text kind text
 walk-empty kind e text left on w zero-long =
     let none = nil_from_length left zero-long in
     let one : lines left ≡ [] ∷ [] = rw none refl in
     walk-last kind (record e { lines = e.lines + 1 }) text
-    (walk-next kind e _ text [] (lines left) [] one on w (rw (says-nothing kind, on) refl))
+    (walk-next kind e _ text [] (lines left) [] one on w (rw (result-nothing kind, on) refl))

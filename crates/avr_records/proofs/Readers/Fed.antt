@@ -8,11 +8,11 @@ use Rattle.std.proofs.lemmas.List.{append-nil, append_assoc, length-replicate, l
 use Rattle.avr_image.specs.Image.{empty}
 use Rattle.avr_records.proofs.Readers.Held.{holds-more, holds-next, holds-bad, together-holds}
 use Rattle.avr_records.proofs.Readers.LaterLines.{parts-some, pasted-last, slice_split-append}
-use Rattle.avr_records.specs.Closed.{all_but_last, fault_among, closed_fault, ok_unless}
+use Rattle.avr_records.specs.Closed.{all_but_last, first_fault_among, ended_lines_fault, unit_unless_fault}
 use Rattle.avr_records.specs.Lines.{lines, is_line_end}
 use Rattle.avr_records.specs.Progress.{image_size}
 use Rattle.avr_records.specs.Reader.{kept, ReadsLines}
-use Rattle.avr_records.specs.Reading.{said_by_line, together, image_in_text}
+use Rattle.avr_records.specs.Reading.{line_result, together, image_in_text}
 use Rattle.avr_records.specs.Meaning.{Nothing}
 use Rattle.avr_records.specs.Record.{longest}
 use Rattle.avr_records.specs.Steps.{next_progress, ending_of, no_lines}
@@ -53,24 +53,24 @@ take-again (suc n) (x ∷ xs) ys = ap (λ (zs : List ℕ). x ∷ zs) (take-again
 take-again x y ys = refl
 
 says-too_long : (kind : Kind) (line : List ℕ) → nat_lt longest (length line) ≡ true
-    → said_by_line kind line ≡ Err TooLong
+    → line_result kind line ≡ Err TooLong
 says-too_long x line is = grind (arith, nat_tests)
 
 -- the kept bytes of a line mean what the line means
-pub said-kept : (kind : Kind) (line : List ℕ) → said_by_line kind (kept line) ≡ said_by_line kind line
-said-kept kind line =
+pub result-kept : (kind : Kind) (line : List ℕ) → line_result kind (kept line) ≡ line_result kind line
+result-kept kind line =
     elim (cases_Bool (nat_lt longest (length line))) [
       | inl t ↦
           let len = length-take-le (longest + 1) line (grind (arith, nat_tests)) in
           says-too_long kind (kept line) (grind (arith, nat_tests)) ∙ sym (says-too_long kind line t)
-      | inr f ↦ ap (said_by_line kind) (take_all (longest + 1) line (grind (arith, nat_tests, f)))
+      | inr f ↦ ap (line_result kind) (take_all (longest + 1) line (grind (arith, nat_tests, f)))
     ]
 
 -- the kept bytes, continued, mean what the line continued means
 said-on : (kind : Kind) (part last rest : List ℕ) → part ≡ kept last
-    → said_by_line kind (part ++ rest) ≡ said_by_line kind (last ++ rest)
+    → line_result kind (part ++ rest) ≡ line_result kind (last ++ rest)
 said-on kind part last rest is =
-    search (rules, said-kept kind (part ++ rest), take-again (longest + 1) last rest, said-kept kind (last ++ rest))
+    search (rules, result-kept kind (part ++ rest), take-again (longest + 1) last rest, result-kept kind (last ++ rest))
 
 -- ---- a reader
 
@@ -107,13 +107,13 @@ ends : (text rest more : List ℕ) (prefix : List (List ℕ)) (last : List ℕ) 
     → lines (text ++ (rest ++ 10 ∷ more)) ≡ prefix ++ (last ++ rest) ∷ lines more
 ends text rest more prefix last one cut = grind (arith, nat_tests, goes-on, line-first)
 
-pub said-prefix : (kind : Kind) (prefix : List (List ℕ)) (line : List ℕ)
-    → map (said_by_line kind) (prefix ++ line ∷ []) ≡ map (said_by_line kind) prefix ++ said_by_line kind line ∷ []
-said-prefix kind prefix line = map-append (said_by_line kind) prefix (line ∷ [])
+pub results-prefix : (kind : Kind) (prefix : List (List ℕ)) (line : List ℕ)
+    → map (line_result kind) (prefix ++ line ∷ []) ≡ map (line_result kind) prefix ++ line_result kind line ∷ []
+results-prefix kind prefix line = map-append (line_result kind) prefix (line ∷ [])
 
 -- the last line changes the state as its kept bytes do, with the bytes that end it
 line-step : (kind : Kind) (p : Progress) (part text rest : List ℕ) (r : ReadsLines kind p part text)
-    → next_progress p (said_by_line kind (r.last ++ rest)) ≡ next_progress p (said_by_line kind (part ++ rest))
+    → next_progress p (line_result kind (r.last ++ rest)) ≡ next_progress p (line_result kind (part ++ rest))
 line-step kind p part text rest r = elim (cases_Bool p.extent.ended) [
   | inl done ↦ rw done refl
   | inr on ↦ ap (next_progress p) (sym (said-on kind part r.last rest (r.keeps on)))
@@ -121,73 +121,73 @@ line-step kind p part text rest r = elim (cases_Bool p.extent.ended) [
 
 -- a good line has ended
 ends-good : (kind : Kind) (p new : Progress) (part next text rest : List ℕ) → lines rest ≡ rest ∷ []
-    → next_progress p (said_by_line kind (part ++ rest)) ≡ Ok new → next ≡ [] → ReadsLines kind p part text
+    → next_progress p (line_result kind (part ++ rest)) ≡ Ok new → next ≡ [] → ReadsLines kind p part text
     → ReadsLines kind new next (text ++ (rest ++ 10 ∷ []))
 ends-good kind p new part next text rest one is clear r = record {
   prefix = r.prefix ++ (r.last ++ rest) ∷ [];
   last = [];
   cut = ends text rest [] r.prefix r.last one r.cut ∙ sym (append_assoc r.prefix ((r.last ++ rest) ∷ []) ([] ∷ []));
-  holds = search (rules, said-prefix, holds-next, line-step);
+  holds = search (rules, results-prefix, holds-next, line-step);
   keeps = λ _. clear;
 }
 
 -- a line with a fault has ended: it is the fault of the ended lines, whatever follows
 ends-bad : (kind : Kind) (p : Progress) (part text rest more : List ℕ) (fault : RecordFault) → lines rest ≡ rest ∷ []
-    → next_progress p (said_by_line kind (part ++ rest)) ≡ Err fault → ReadsLines kind p part text
-    → closed_fault kind (text ++ (rest ++ 10 ∷ more)) (image_size p) ≡ Some fault
+    → next_progress p (line_result kind (part ++ rest)) ≡ Err fault → ReadsLines kind p part text
+    → ended_lines_fault kind (text ++ (rest ++ 10 ∷ more)) (image_size p) ≡ Some fault
 ends-bad kind p part text rest more fault one is r =
     let next = parts-some is_line_end more in
     let behind : List (List ℕ) = all_but_last (next.0 ∷ next.1) in
     let cut = ends text rest more r.prefix r.last one r.cut
     ∙ ap (λ (zs : List (List ℕ)). r.prefix ++ (r.last ++ rest) ∷ zs) next.2 in
     let closed = ap all_but_last cut ∙ closed-prefix r.prefix (r.last ++ rest) (next.0 ∷ next.1) in
-    ap (fault_among (image_size p)) (ap (map (said_by_line kind)) closed
-    ∙ map-append (said_by_line kind) r.prefix ((r.last ++ rest) ∷ behind))
-    ∙ holds-bad p _ (map (said_by_line kind) behind) (said_by_line kind (r.last ++ rest)) fault r.holds
+    ap (first_fault_among (image_size p)) (ap (map (line_result kind)) closed
+    ∙ map-append (line_result kind) r.prefix ((r.last ++ rest) ∷ behind))
+    ∙ holds-bad p _ (map (line_result kind) behind) (line_result kind (r.last ++ rest)) fault r.holds
     (line-step kind p part text rest r ∙ is)
 
 -- no line that has ended has a fault
 pub reads-sound : (kind : Kind) (p : Progress) (part text : List ℕ) → ReadsLines kind p part text
-    → closed_fault kind text (image_size p) ≡ None
+    → ended_lines_fault kind text (image_size p) ≡ None
 reads-sound kind p part text r = grind (arith, nat_tests, closed-prefix, append-nil)
 
-pub no_answer : (kind : Kind) (p : Progress) (size : ℕ) (part text : List ℕ) → image_size p ≡ size
+pub no_fault_so_far : (kind : Kind) (p : Progress) (size : ℕ) (part text : List ℕ) → image_size p ≡ size
     → ReadsLines kind p part text
-    → Ok tt ≡ ok_unless (closed_fault kind text size)
-no_answer kind p size part text same r = search (rules, reads-sound kind p part text r)
+    → Ok tt ≡ unit_unless_fault (ended_lines_fault kind text size)
+no_fault_so_far kind p size part text same r = search (rules, reads-sound kind p part text r)
 
 -- ---- the whole text
 
 whole-said : (kind : Kind) (text : List ℕ) (prefix : List (List ℕ)) (last : List ℕ) → lines text ≡ prefix ++ last ∷ []
-    → map (said_by_line kind) (lines text) ≡ map (said_by_line kind) prefix ++ said_by_line kind last ∷ []
-whole-said kind text prefix last cut = ap (map (said_by_line kind)) cut ∙ said-prefix kind prefix last
+    → map (line_result kind) (lines text) ≡ map (line_result kind) prefix ++ line_result kind last ∷ []
+whole-said kind text prefix last cut = ap (map (line_result kind)) cut ∙ results-prefix kind prefix last
 
 whole-next : (kind : Kind) (p new : Progress) (part text : List ℕ) (r : ReadsLines kind p part text)
-    → image_size new ≡ image_size p → next_progress p (said_by_line kind r.last) ≡ Ok new
+    → image_size new ≡ image_size p → next_progress p (line_result kind r.last) ≡ Ok new
     → image_in_text kind text (image_size p) ≡ Ok (new.image, ending_of new.extent)
 whole-next kind p new part text r same is = grind (arith, common_steps, together-holds, holds-next)
 
 -- a text with a good last line reads as the state after that line
 pub whole-good : (kind : Kind) (p new : Progress) (part text : List ℕ) → image_size new ≡ image_size p
-    → next_progress p (said_by_line kind (part ++ [])) ≡ Ok new → ReadsLines kind p part text
+    → next_progress p (line_result kind (part ++ [])) ≡ Ok new → ReadsLines kind p part text
     → image_in_text kind text (image_size p) ≡ Ok (new.image, ending_of new.extent)
 whole-good kind p new part text same is r =
     whole-next kind p new part text r same (rw (append-nil r.last) at (line-step kind p part text [] r) ∙ is)
 
 -- a text whose last line has a fault has that fault
 pub whole-bad : (kind : Kind) (p : Progress) (part text : List ℕ) (fault : RecordFault)
-    → next_progress p (said_by_line kind (part ++ [])) ≡ Err fault → ReadsLines kind p part text
+    → next_progress p (line_result kind (part ++ [])) ≡ Err fault → ReadsLines kind p part text
     → image_in_text kind text (image_size p) ≡ Err fault
 whole-bad kind p part text fault is r =
     ap (together (image_size p)) (whole-said kind text r.prefix r.last r.cut)
-    ∙ rw (holds-bad p _ [] (said_by_line kind r.last) fault r.holds
+    ∙ rw (holds-bad p _ [] (line_result kind r.last) fault r.holds
     (rw (append-nil r.last) at (line-step kind p part text [] r) ∙ is)) refl
 
 kept-nothing : (line : List ℕ) → [] ≡ kept line → line ≡ []
 kept-nothing line is = search rules
 
-pub says-nothing : (kind : Kind) → said_by_line kind [] ≡ Ok Nothing
-says-nothing x = grind (arith, nat_tests)
+pub result-nothing : (kind : Kind) → line_result kind [] ≡ Ok Nothing
+result-nothing x = grind (arith, nat_tests)
 
 -- a text with an empty last line reads as the state before it
 pub whole-empty : (kind : Kind) (p : Progress) (part text : List ℕ) → part ≡ [] → ReadsLines kind p part text
@@ -195,8 +195,8 @@ pub whole-empty : (kind : Kind) (p : Progress) (part text : List ℕ) → part �
 whole-empty kind p part text empty r = elim (cases_Bool p.extent.ended) [
   | inl done ↦ whole-next kind p p part text r refl (rw done refl)
   | inr on ↦
-      let says : said_by_line kind r.last ≡ Ok Nothing =
-      rw (kept-nothing r.last (sym empty ∙ r.keeps on)) (says-nothing kind) in
+      let says : line_result kind r.last ≡ Ok Nothing =
+      rw (kept-nothing r.last (sym empty ∙ r.keeps on)) (result-nothing kind) in
       whole-next kind p (record p { extent = record p.extent { lines = p.extent.lines + 1 } }) part text r refl
       (rw (says, on) refl)
 ]
@@ -223,17 +223,17 @@ pub record Carries (kind : Kind) (old now : LineState) (piece left : List ℕ) :
 
 pub carries-next : (kind : Kind) (old now new : LineState) (piece left line more : List ℕ)
     → Carries kind old now piece left → lines line ≡ line ∷ [] → left ≡ line ++ 10 ∷ more
-    → next_progress now.progress (said_by_line kind (now.part ++ line)) ≡ Ok new.progress → new.part ≡ []
+    → next_progress now.progress (line_result kind (now.part ++ line)) ≡ Ok new.progress → new.part ≡ []
     → Carries kind old new piece more
 carries-next kind old now new piece left line more carries one end is clear =
     grind (arith, nat_tests, rearranged, append_assoc, ends-good)
 
 pub carries-fault : (kind : Kind) (old now : LineState) (piece left line more : List ℕ) (fault : RecordFault)
     → Carries kind old now piece left → lines line ≡ line ∷ [] → left ≡ line ++ 10 ∷ more
-    → next_progress now.progress (said_by_line kind (now.part ++ line)) ≡ Err fault
+    → next_progress now.progress (line_result kind (now.part ++ line)) ≡ Err fault
     → image_size now.progress ≡ image_size old.progress
     → (text : List ℕ) → ReadsLines kind old.progress old.part text
-    → closed_fault kind (text ++ piece) (image_size old.progress) ≡ Some fault
+    → ended_lines_fault kind (text ++ piece) (image_size old.progress) ≡ Some fault
 carries-fault kind old now piece left line more fault carries one end is same text r =
     let parts : text ++ piece ≡ (text ++ carries.used) ++ (line ++ 10 ∷ more) =
     search (rules, append_assoc) in search (rules, ends-bad)

@@ -4,7 +4,7 @@ use Rattle.std.proofs.lemmas.Bool.Decides.{nat_tests}
 use Rattle.std.proofs.lemmas.List.Sums.{prefix_len-le-length}
 use Rattle.std.specs.List.{list_all, prefix_len}
 use Rattle.avr_records.proofs.Readers.Fed.{line-first}
-use Rattle.avr_records.specs.Detect.{kind_of_line}
+use Rattle.avr_records.specs.Detect.{format_of_line}
 use Rattle.avr_records.specs.Lines.{lines, is_blank}
 use Rattle.avr_records.specs.declared.kind.Found.{Found}
 
@@ -19,12 +19,12 @@ all_of_prefix p (suc n) [] len = absurd (omega (arith, len))
 all_of_prefix p (suc n) (x ∷ xs) len = grind (arith, nat_tests, all_of_prefix p n xs (omega (arith, len)))
 
 abbrev pub first_of : List ℕ → Found
-first_of text = kind_of_line (find (λ line. not (list_all is_blank line)) (lines text))
+first_of text = format_of_line (find (λ line. not (list_all is_blank line)) (lines text))
 
 pub blank-first : (text line more : List ℕ) → lines line ≡ line ∷ [] → text ≡ line ++ 10 ∷ more
     → list_all is_blank line ≡ true → first_of text ≡ first_of more
 blank-first text line more one cut blank = rw (cut, line-first line more one, blank) refl
 
 pub shown-first : (text line more : List ℕ) → lines line ≡ line ∷ [] → text ≡ line ++ 10 ∷ more
-    → list_all is_blank line ≡ false → first_of text ≡ kind_of_line (Some line)
+    → list_all is_blank line ≡ false → first_of text ≡ format_of_line (Some line)
 shown-first text line more one cut blank = rw (cut, line-first line more one, blank) refl

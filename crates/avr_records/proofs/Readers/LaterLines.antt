@@ -5,48 +5,48 @@ use Rattle.std.proofs.lemmas.Bool.{cases_Bool}
 use Rattle.std.proofs.lemmas.List.{append-nil, append_assoc}
 use Rattle.std.proofs.lemmas.List.Splits.{slice_split-cons_yes, slice_split-cons_no}
 use Rattle.std.specs.List.{list_any, slice_split, onto_first}
-use Rattle.avr_records.specs.Reading.{Said, is_end, up_to_end, in_place, first_fault, fault_in, or_later}
+use Rattle.avr_records.specs.Reading.{LineResult, is_end_record, up_to_end, with_lines_before, first_fault, fault_of_line, or_later}
 use Rattle.avr_records.specs.declared.fault.LineFault.{LineFault}
 use Rattle.avr_records.specs.declared.fault.RecordFault.{RecordFault}
 
-pub in_place-append : (before xs ys : List Said)
-    → in_place before (xs ++ ys) ≡ in_place before xs ++ in_place (before ++ xs) ys
-in_place-append before [] ys = ap (λ (b : List Said). in_place b ys) (sym (append-nil before))
-in_place-append before (x ∷ xs) ys = grind (arith, nat_tests, in_place-append (before ++ x ∷ []) xs ys, append_assoc)
+pub with_lines_before-append : (before xs ys : List LineResult)
+    → with_lines_before before (xs ++ ys) ≡ with_lines_before before xs ++ with_lines_before (before ++ xs) ys
+with_lines_before-append before [] ys = ap (λ (b : List LineResult). with_lines_before b ys) (sym (append-nil before))
+with_lines_before-append before (x ∷ xs) ys = grind (arith, nat_tests, with_lines_before-append (before ++ x ∷ []) xs ys, append_assoc)
 
 pub or_later-none : (n : ℕ) (fault : Option LineFault) (later : Option RecordFault) → or_later n fault later ≡ None
     → (fault ≡ None) × (later ≡ None)
 or_later-none n fault later e = search rules
 
-pub first_fault-append : (size : ℕ) (ps qs : List (List Said × Said)) → first_fault size ps ≡ None
+pub first_fault-append : (size : ℕ) (ps qs : List (List LineResult × LineResult)) → first_fault size ps ≡ None
     → first_fault size (ps ++ qs) ≡ first_fault size qs
 first_fault-append size [] qs none = refl
 first_fault-append size (p ∷ ps) qs none =
-    let parts = or_later-none (length p.0 + 1) (fault_in size p) (first_fault size ps) none in
+    let parts = or_later-none (length p.0 + 1) (fault_of_line size p) (first_fault size ps) none in
     rw parts.0 (first_fault-append size ps qs parts.1)
 
-pub up_to_end-open : (xs ys : List Said) → list_any is_end (up_to_end xs) ≡ false
+pub up_to_end-open : (xs ys : List LineResult) → list_any is_end_record (up_to_end xs) ≡ false
     → up_to_end (xs ++ ys) ≡ up_to_end xs ++ up_to_end ys
 up_to_end-open [] ys none = refl
 up_to_end-open (x ∷ xs) ys none =
-    elim (cases_Bool (is_end x)) [
+    elim (cases_Bool (is_end_record x)) [
       | inl t ↦ absurd (grind arith)
       | inr f ↦
-          let more : list_any is_end (up_to_end xs) ≡ false = rw (f, f) at none in
-          rw f (ap (λ (zs : List Said). x ∷ zs) (up_to_end-open xs ys more))
+          let more : list_any is_end_record (up_to_end xs) ≡ false = rw (f, f) at none in
+          rw f (ap (λ (zs : List LineResult). x ∷ zs) (up_to_end-open xs ys more))
     ]
 
-pub up_to_end-done : (xs ys : List Said) → list_any is_end (up_to_end xs) ≡ true → up_to_end (xs ++ ys) ≡ up_to_end xs
+pub up_to_end-done : (xs ys : List LineResult) → list_any is_end_record (up_to_end xs) ≡ true → up_to_end (xs ++ ys) ≡ up_to_end xs
 up_to_end-done [] ys some = absurd (grind arith)
 up_to_end-done (x ∷ xs) ys some =
-    elim (cases_Bool (is_end x)) [
+    elim (cases_Bool (is_end_record x)) [
       | inl t ↦ rw t refl
       | inr f ↦
-          let more : list_any is_end (up_to_end xs) ≡ true = rw (f, f) at some in
-          rw f (ap (λ (zs : List Said). x ∷ zs) (up_to_end-done xs ys more))
+          let more : list_any is_end_record (up_to_end xs) ≡ true = rw (f, f) at some in
+          rw f (ap (λ (zs : List LineResult). x ∷ zs) (up_to_end-done xs ys more))
     ]
 
-pub up_to_end-any : (xs : List Said) → list_any is_end (up_to_end xs) ≡ list_any is_end xs
+pub up_to_end-any : (xs : List LineResult) → list_any is_end_record (up_to_end xs) ≡ list_any is_end_record xs
 up_to_end-any [] = refl
 up_to_end-any (x ∷ xs) = grind (arith, nat_tests, up_to_end-any xs)
 

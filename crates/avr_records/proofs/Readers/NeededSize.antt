@@ -3,22 +3,22 @@ use Rattle.std.proofs.Common.{◌≡◌, refl, arith, ℕ, ◌+◌, ◌<◌, ◌
 use Rattle.std.proofs.lemmas.Bool.{cases_Bool}
 use Rattle.std.proofs.lemmas.Bool.Decides.{nat_tests}
 use Rattle.avr_records.specs.Lines.{lines}
-use Rattle.avr_records.specs.Needed.{largest, end_past, end_of, size_or_fault, needed_in_text}
-use Rattle.avr_records.specs.Reading.{Said, up_to_end, in_place, all_placed, first_fault, fault_in, fault_under, placed_bytes, placed_under, beyond, said_by_line, file_ending, image_or_fault, image_in_text}
+use Rattle.avr_records.specs.Needed.{largest_memory, end_after, end_of_bytes, size_or_fault, size_needed_in_text}
+use Rattle.avr_records.specs.Reading.{LineResult, up_to_end, with_lines_before, bytes_of_lines, first_fault, fault_of_line, fault_under_base, bytes_of_line, bytes_under_base, first_outside, line_result, file_ending, image_or_fault, image_in_text}
 use Rattle.avr_image.specs.Image.{image_of_pairs}
 use Rattle.avr_records.specs.declared.kind.Kind.{Kind}
 use Rattle.avr_records.specs.declared.kind.Ending.{Ending}
 use Rattle.avr_records.specs.declared.kind.AddressBase.{AddressBase}
 use Rattle.avr_records.specs.declared.fault.RecordFault.{RecordFault}
 use Rattle.avr_records.proofs.Readers.LaterLines.{or_later-none}
-use Rattle.avr_records.proofs.Texts.Places.{beyond-append, beyond-parts}
+use Rattle.avr_records.proofs.Texts.Places.{first_outside-append, first_outside-parts}
 
-inside : (size end : ℕ) (places : List (ℕ × ℕ)) → end_past end places ≤ size
-    → (end ≤ size) × (beyond size places ≡ None)
+inside : (size end : ℕ) (places : List (ℕ × ℕ)) → end_after end places ≤ size
+    → (end ≤ size) × (first_outside size places ≡ None)
 inside size end [] l = (l, refl)
 inside size end (p ∷ ps) l = grind (arith, nat_tests, inside size (max end (p.0 + 1)) ps l)
 
-reaches : (size end : ℕ) (places : List (ℕ × ℕ)) → end ≤ size → beyond size places ≡ None → end_past end places ≤ size
+reaches : (size end : ℕ) (places : List (ℕ × ℕ)) → end ≤ size → first_outside size places ≡ None → end_after end places ≤ size
 reaches size end [] l none = l
 reaches size end (p ∷ ps) l none =
     elim (cases_Bool (nat_lt p.0 size)) [
@@ -29,24 +29,24 @@ reaches size end (p ∷ ps) l none =
     ]
 
 -- a line without a fault in one memory has none in each memory that has its addresses
-good : (size other : ℕ) (base : AddressBase) (count : ℕ) (line : Said) → fault_under size base count line ≡ None
-    → beyond other (placed_under base line) ≡ None → fault_under other base count line ≡ None
+good : (size other : ℕ) (base : AddressBase) (count : ℕ) (line : LineResult) → fault_under_base size base count line ≡ None
+    → first_outside other (bytes_under_base base line) ≡ None → fault_under_base other base count line ≡ None
 good size other base count line none lies' = search rules
 
-all-good : (size other : ℕ) (taken : List (List Said × Said)) → first_fault size taken ≡ None
-    → beyond other (flat_map placed_bytes taken) ≡ None → first_fault other taken ≡ None
+all-good : (size other : ℕ) (taken : List (List LineResult × LineResult)) → first_fault size taken ≡ None
+    → first_outside other (flat_map bytes_of_line taken) ≡ None → first_fault other taken ≡ None
 all-good size other [] none lies' = refl
 all-good size other (p ∷ ps) none lies' =
-    let parts = or_later-none (length p.0 + 1) (fault_in size p) (first_fault size ps) none in
-    let both = beyond-parts other (placed_bytes p) (flat_map placed_bytes ps) lies' in
+    let parts = or_later-none (length p.0 + 1) (fault_of_line size p) (first_fault size ps) none in
+    let both = first_outside-parts other (bytes_of_line p) (flat_map bytes_of_line ps) lies' in
     search (rules, all-good size other ps parts.1 both.1)
 
-all-lie : (size : ℕ) (taken : List (List Said × Said)) → first_fault size taken ≡ None
-    → beyond size (flat_map placed_bytes taken) ≡ None
+all-lie : (size : ℕ) (taken : List (List LineResult × LineResult)) → first_fault size taken ≡ None
+    → first_outside size (flat_map bytes_of_line taken) ≡ None
 all-lie size [] none = refl
 all-lie size (p ∷ ps) none =
-    let parts = or_later-none (length p.0 + 1) (fault_in size p) (first_fault size ps) none in
-    search (rules, beyond-append, all-lie size ps parts.1)
+    let parts = or_later-none (length p.0 + 1) (fault_of_line size p) (first_fault size ps) none in
+    search (rules, first_outside-append, all-lie size ps parts.1)
 
 sized : (fault : Option RecordFault) (size needed : ℕ) → size_or_fault fault size ≡ Ok needed
     → (fault ≡ None) × (size ≡ needed)
@@ -56,24 +56,24 @@ read-well : (fault : Option RecordFault) (good read : List (Option ℕ) × Endin
     → fault ≡ None
 read-well fault good read is = search rules
 
-abbrev taken_of : Kind → List ℕ → List Said
-taken_of kind text = up_to_end (map (said_by_line kind) (lines text))
+abbrev taken_of : Kind → List ℕ → List LineResult
+taken_of kind text = up_to_end (map (line_result kind) (lines text))
 
-pub enough : (kind : Kind) (text : List ℕ) (needed size : ℕ) → needed_in_text kind text ≡ Ok needed → needed ≤ size
+pub enough : (kind : Kind) (text : List ℕ) (needed size : ℕ) → size_needed_in_text kind text ≡ Ok needed → needed ≤ size
     → (read : List (Option ℕ) × Ending) × (image_in_text kind text size ≡ Ok read)
 enough kind text needed size is l =
-    let taken : List Said = taken_of kind text in
-    let parts = sized (first_fault largest (in_place [] taken)) (end_of (all_placed taken)) needed is in
-    let inside' = (inside size 0 (all_placed taken) (rw parts.1 l)).1 in
-    let none = all-good largest size (in_place [] taken) parts.0 inside' in
-    ((image_of_pairs size (all_placed taken), file_ending (map (said_by_line kind) (lines text))), rw none refl)
+    let taken : List LineResult = taken_of kind text in
+    let parts = sized (first_fault largest_memory (with_lines_before [] taken)) (end_of_bytes (bytes_of_lines taken)) needed is in
+    let inside' = (inside size 0 (bytes_of_lines taken) (rw parts.1 l)).1 in
+    let none = all-good largest_memory size (with_lines_before [] taken) parts.0 inside' in
+    ((image_of_pairs size (bytes_of_lines taken), file_ending (map (line_result kind) (lines text))), rw none refl)
 
-pub least : (kind : Kind) (text : List ℕ) (size : ℕ) (read : List (Option ℕ) × Ending) → size ≤ largest
+pub least : (kind : Kind) (text : List ℕ) (size : ℕ) (read : List (Option ℕ) × Ending) → size ≤ largest_memory
     → image_in_text kind text size ≡ Ok read
-    → (needed : ℕ) × (needed_in_text kind text ≡ Ok needed) × (needed ≤ size)
+    → (needed : ℕ) × (size_needed_in_text kind text ≡ Ok needed) × (needed ≤ size)
 least kind text size read l is =
-    let taken : List Said = taken_of kind text in
-    let none = read-well (first_fault size (in_place [] taken)) _ read is in
-    let reach = reaches size 0 (all_placed taken) (omega arith) (all-lie size (in_place [] taken) none) in
-    let inside' = (inside largest 0 (all_placed taken) (omega (arith, l, reach))).1 in
-    (end_of (all_placed taken), rw (all-good size largest (in_place [] taken) none inside') refl, reach)
+    let taken : List LineResult = taken_of kind text in
+    let none = read-well (first_fault size (with_lines_before [] taken)) _ read is in
+    let reach = reaches size 0 (bytes_of_lines taken) (omega arith) (all-lie size (with_lines_before [] taken) none) in
+    let inside' = (inside largest_memory 0 (bytes_of_lines taken) (omega (arith, l, reach))).1 in
+    (end_of_bytes (bytes_of_lines taken), rw (all-good size largest_memory (with_lines_before [] taken) none inside') refl, reach)

@@ -6,13 +6,13 @@ use Rattle.std.proofs.lemmas.List.{length-take-le, length-drop, take-append-drop
 use Rattle.std.proofs.lemmas.List.Sums.{fold-append}
 use Rattle.std.specs.List.{enumerate_from}
 use Rattle.std.specs.Prelude.{OnOk, if◌then◌else◌}
-use Rattle.avr_image.specs.Image.{fits, laid_over}
+use Rattle.avr_image.specs.Image.{fits, with_bytes_at}
 use Rattle.avr_image.specs.declared.fault.ImageFault.{ImageFault}
 use Rattle.avr_image.specs.declared.fault.ImageFault.TheVariants.{OutOfRange}
-use Rattle.avr_records.specs.Reading.{address, places, beyond}
+use Rattle.avr_records.specs.Reading.{address, places, first_outside}
 use Rattle.avr_records.specs.Judging.{FitsKind}
-use Rattle.avr_records.specs.Laying.{Extends, Near}
-use Rattle.avr_records.specs.Needed.{end_past}
+use Rattle.avr_records.specs.Laying.{IsEndOrOutOfRange, StartsInRange}
+use Rattle.avr_records.specs.Needed.{end_after}
 use Rattle.avr_records.specs.Steps.{HasBase}
 use Rattle.avr_records.specs.declared.kind.AddressBase.{AddressBase}
 use Rattle.avr_records.specs.declared.kind.AddressBase.TheVariants.{Linear, Segment}
@@ -75,53 +75,53 @@ places-wrapped-at paragraph offset n bytes full fits' short =
 
 -- ---- the first address out of range
 
-pub beyond-append : (size : ℕ) (xs ys : List (ℕ × ℕ)) → beyond size xs ≡ None → beyond size (xs ++ ys) ≡ beyond size ys
-beyond-append size [] ys none = refl
-beyond-append size (x ∷ xs) ys none =
+pub first_outside-append : (size : ℕ) (xs ys : List (ℕ × ℕ)) → first_outside size xs ≡ None → first_outside size (xs ++ ys) ≡ first_outside size ys
+first_outside-append size [] ys none = refl
+first_outside-append size (x ∷ xs) ys none =
     elim (cases_Bool (nat_lt x.0 size)) [
-      | inl t ↦ rw t (beyond-append size xs ys (rw t at none))
+      | inl t ↦ rw t (first_outside-append size xs ys (rw t at none))
       | inr f ↦ cc (rw f at none)
     ]
 
-pub beyond-first : (size : ℕ) (xs ys : List (ℕ × ℕ)) (addr : ℕ) → beyond size xs ≡ Some addr
-    → beyond size (xs ++ ys) ≡ Some addr
-beyond-first size [] ys addr found = cc found
-beyond-first size (x ∷ xs) ys addr found =
+pub first_outside-first : (size : ℕ) (xs ys : List (ℕ × ℕ)) (addr : ℕ) → first_outside size xs ≡ Some addr
+    → first_outside size (xs ++ ys) ≡ Some addr
+first_outside-first size [] ys addr found = cc found
+first_outside-first size (x ∷ xs) ys addr found =
     elim (cases_Bool (nat_lt x.0 size)) [
-      | inl t ↦ rw t (beyond-first size xs ys addr (rw t at found))
+      | inl t ↦ rw t (first_outside-first size xs ys addr (rw t at found))
       | inr f ↦ rw f (rw f at found)
     ]
 
-pub beyond-parts : (size : ℕ) (xs ys : List (ℕ × ℕ)) → beyond size (xs ++ ys) ≡ None
-    → (beyond size xs ≡ None) × (beyond size ys ≡ None)
-beyond-parts size [] ys none = (refl, none)
-beyond-parts size (x ∷ xs) ys none =
+pub first_outside-parts : (size : ℕ) (xs ys : List (ℕ × ℕ)) → first_outside size (xs ++ ys) ≡ None
+    → (first_outside size xs ≡ None) × (first_outside size ys ≡ None)
+first_outside-parts size [] ys none = (refl, none)
+first_outside-parts size (x ∷ xs) ys none =
     elim (cases_Bool (nat_lt x.0 size)) [
-      | inl t ↦ let more : beyond size (xs ++ ys) ≡ None = rw t at none in rw t (beyond-parts size xs ys more)
+      | inl t ↦ let more : first_outside size (xs ++ ys) ≡ None = rw t at none in rw t (first_outside-parts size xs ys more)
       | inr f ↦ cc (rw f at none)
     ]
 
 -- a span inside the memory has no address out of range
-beyond-span : (size addr : ℕ) (bytes : List ℕ) → fits addr bytes size ≡ true
-    → beyond size (enumerate_from addr bytes) ≡ None
-beyond-span size addr [] inside = refl
-beyond-span size addr (b ∷ []) inside = grind (arith, nat_tests)
-beyond-span size addr (b ∷ c ∷ bs) inside =
+first_outside-span : (size addr : ℕ) (bytes : List ℕ) → fits addr bytes size ≡ true
+    → first_outside size (enumerate_from addr bytes) ≡ None
+first_outside-span size addr [] inside = refl
+first_outside-span size addr (b ∷ []) inside = grind (arith, nat_tests)
+first_outside-span size addr (b ∷ c ∷ bs) inside =
     let here : nat_lt addr size ≡ true = grind (arith, nat_tests) in
     let rest : fits (addr + 1) (c ∷ bs) size ≡ true = grind (arith, nat_tests) in
-    rw here (beyond-span size (addr + 1) (c ∷ bs) rest)
+    rw here (first_outside-span size (addr + 1) (c ∷ bs) rest)
 
 -- a span that isn't inside is out of range at its first address, or at the size
-beyond-span-end : (size addr : ℕ) (bytes : List ℕ) → fits addr bytes size ≡ false
-    → beyond size (enumerate_from addr bytes) ≡ Some (max addr size)
-beyond-span-end size addr [] outside = cc outside
-beyond-span-end size addr (b ∷ []) outside = grind (arith, nat_tests)
-beyond-span-end size addr (b ∷ c ∷ bs) outside =
+first_outside-span-end : (size addr : ℕ) (bytes : List ℕ) → fits addr bytes size ≡ false
+    → first_outside size (enumerate_from addr bytes) ≡ Some (max addr size)
+first_outside-span-end size addr [] outside = cc outside
+first_outside-span-end size addr (b ∷ []) outside = grind (arith, nat_tests)
+first_outside-span-end size addr (b ∷ c ∷ bs) outside =
     let rest : fits (addr + 1) (c ∷ bs) size ≡ false = grind (arith, nat_tests) in
-    search (rules, nat_tests, beyond-span-end size (addr + 1) (c ∷ bs) rest)
+    search (rules, nat_tests, first_outside-span-end size (addr + 1) (c ∷ bs) rest)
 
 end-past-span : (end addr : ℕ) (bytes : List ℕ) → 0 < length bytes
-    → max end (addr + length bytes) ≡ end_past end (enumerate_from addr bytes)
+    → max end (addr + length bytes) ≡ end_after end (enumerate_from addr bytes)
 end-past-span end addr [] some = absurd (omega (arith, some))
 end-past-span end addr (b ∷ []) some = refl
 end-past-span end addr (b ∷ c ∷ bs) some =
@@ -130,32 +130,32 @@ end-past-span end addr (b ∷ c ∷ bs) some =
 -- ---- how far spans reach
 
 pub extends-inside : (limit end addr : ℕ) (bytes : List ℕ) → 0 < length bytes → addr + length bytes ≤ limit
-    → Extends limit end (enumerate_from addr bytes) (Ok (max end (addr + length bytes)))
-extends-inside limit end addr bytes some l = search (rules, beyond-span, nat_tests, end-past-span)
+    → IsEndOrOutOfRange limit end (enumerate_from addr bytes) (Ok (max end (addr + length bytes)))
+extends-inside limit end addr bytes some l = search (rules, first_outside-span, nat_tests, end-past-span)
 
 pub extends-outside : (limit end addr : ℕ) (bytes : List ℕ) → 0 < length bytes → limit < addr + length bytes
-    → Extends limit end (enumerate_from addr bytes) (Err (max addr limit))
-extends-outside limit end addr bytes some l = search (rules, beyond-span-end, nat_tests)
+    → IsEndOrOutOfRange limit end (enumerate_from addr bytes) (Err (max addr limit))
+extends-outside limit end addr bytes some l = search (rules, first_outside-span-end, nat_tests)
 
 -- one span, then another
-pub extends-both : (limit end mid : ℕ) (xs ys : List (ℕ × ℕ)) (result : Result ℕ ℕ) → Extends limit end xs (Ok mid)
-    → Extends limit mid ys result → Extends limit end (xs ++ ys) result
-extends-both limit end mid xs ys result first second = search (rules, beyond-append, fold-append)
+pub extends-both : (limit end mid : ℕ) (xs ys : List (ℕ × ℕ)) (result : Result ℕ ℕ) → IsEndOrOutOfRange limit end xs (Ok mid)
+    → IsEndOrOutOfRange limit mid ys result → IsEndOrOutOfRange limit end (xs ++ ys) result
+extends-both limit end mid xs ys result first second = search (rules, first_outside-append, fold-append)
 
 -- ---- bytes put into the image
 
 -- bytes without an address out of range are put into the image
 pub lays-span : (old new : List (Option ℕ)) (addr : ℕ) (bytes : List ℕ) (result : Result ℕ ImageFault)
-    → beyond (length old) (enumerate_from addr bytes) ≡ None
+    → first_outside (length old) (enumerate_from addr bytes) ≡ None
     → result ≡ (if fits addr bytes (length old) then Ok (addr + length bytes)
     else Err (OutOfRange (max addr (length old))))
-    → OnOk result (new ≡ laid_over old (enumerate_from addr bytes)) → new ≡ laid_over old (enumerate_from addr bytes)
-lays-span old new addr bytes result none is laid = grind (arith, nat_tests, beyond-span-end)
+    → OnOk result (new ≡ with_bytes_at old (enumerate_from addr bytes)) → new ≡ with_bytes_at old (enumerate_from addr bytes)
+lays-span old new addr bytes result none is laid = grind (arith, nat_tests, first_outside-span-end)
 
 -- ---- addresses in range
 
 -- an offset of Intel HEX has 16 bits, and S-records set no base
 pub near : (kind : Kind) (base : AddressBase) (offset : ℕ) (bytes : _) → FitsKind kind (Data offset bytes)
     → HasBase kind base
-    → Near base offset
+    → StartsInRange base offset
 near kind base offset bytes fits' has = search rules

@@ -12,17 +12,17 @@ use Rattle.hex.proofs.HexLemmas.{length-encode_with}
 use Rattle.avr_records.specs.Lines.{lines}
 use Rattle.avr_records.specs.Meaning.{Data, Rebase, End, Nothing}
 use Rattle.avr_records.specs.Ihex.{ihex_from_fields, typed_ihex}
-use Rattle.avr_records.specs.Reading.{Said, said_by_line, record_meaning}
-use Rattle.avr_records.specs.Text.{two, with_sum_checksum, ihex_row_size, upper_record, ihex_rows}
+use Rattle.avr_records.specs.Reading.{LineResult, line_result, record_meaning}
+use Rattle.avr_records.specs.Text.{two_bytes, with_sum_checksum, ihex_row_size, upper_record, ihex_rows}
 use Rattle.avr_records.specs.declared.kind.Kind.TheVariants.{Ihex}
 use Rattle.avr_records.specs.declared.kind.AddressBase.TheVariants.{Linear}
 use Rattle.avr_records.proofs.Rows.Cuts.{IsBytes-nil, IsBytes-cons, IsBytes-append, IsRow, Every}
-use Rattle.avr_records.proofs.Writers.Lines.{is_plain, plain-digits, encode-digits, bytes_of-encode, says-plain, lines-plain, lines-written}
+use Rattle.avr_records.proofs.Writers.Lines.{is_plain, plain-digits, encode-digits, bytes_of-encode, result-plain, lines-plain, lines-written}
 use Rattle.avr_records.proofs.Writers.Reread.{AllGoOn, then_end, threaded, places-linear}
 
 -- the bytes between the colon and the checksum
 abbrev unsummed : ℕ → ℕ → List ℕ → List ℕ
-unsummed type offset bytes = length bytes ∷ two offset ++ type ∷ bytes
+unsummed type offset bytes = length bytes ∷ two_bytes offset ++ type ∷ bytes
 
 -- the line of a record, without its end
 abbrev line_of : ℕ → ℕ → List ℕ → List ℕ
@@ -41,31 +41,31 @@ fields-summed : (type offset : ℕ) (bytes : List ℕ) → offset < 65536
 fields-summed type offset bytes below = grind (arith, common_steps, nat_tests)
 
 says-line : (type offset : ℕ) (bytes : List ℕ) → type < 256 → offset < 65536 → length bytes ≤ 32 → IsBytes bytes
-    → said_by_line Ihex (line_of type offset bytes) ≡ record_meaning Ihex (typed_ihex type offset bytes)
+    → line_result Ihex (line_of type offset bytes) ≡ record_meaning Ihex (typed_ihex type offset bytes)
 says-line type offset bytes known below short all =
     let prefix : List ℕ = unsummed type offset bytes in
     let check : ℕ = (256 - sum prefix % 256) % 256 in
     let width : length (line_of type offset bytes) ≤ 600 =
     omega (arith, length-encode_with upper_digits (with_sum_checksum prefix), length-append bytes (check ∷ [])) in
-    search (rules, says-plain, plain-line, bytes_of-encode, IsBytes-summed, fields-summed)
+    search (rules, result-plain, plain-line, bytes_of-encode, IsBytes-summed, fields-summed)
 
 typed-upper : (upper : ℕ) → upper < 65536
-    → record_meaning Ihex (typed_ihex 4 0 (two upper)) ≡ Ok (Rebase (Linear upper))
+    → record_meaning Ihex (typed_ihex 4 0 (two_bytes upper)) ≡ Ok (Rebase (Linear upper))
 typed-upper upper below = ap (λ (n : ℕ). Ok (Rebase (Linear n))) (omega arith)
 
 -- what the record before a row means, if the upper 16 bits change there
-abbrev upper_said : ℕ → ℕ → List Said
+abbrev upper_said : ℕ → ℕ → List LineResult
 upper_said old new = if new == old then [] else Ok (Rebase (Linear new)) ∷ []
 
 -- what the lines of the rows mean while these upper 16 bits are in force
-abbrev pub rows_said : ℕ → List (ℕ × List ℕ) → List Said
-rows_said upper [] = []
-rows_said upper (row ∷ rows) = upper_said upper (row.0 / 65536) ++ Ok (Data (row.0 % 65536) row.1)
-    ∷ rows_said (row.0 / 65536) rows
+abbrev pub row_results : ℕ → List (ℕ × List ℕ) → List LineResult
+row_results upper [] = []
+row_results upper (row ∷ rows) = upper_said upper (row.0 / 65536) ++ Ok (Data (row.0 % 65536) row.1)
+    ∷ row_results (row.0 / 65536) rows
 
 upper-lines : (old new : ℕ) (rest : List ℕ) → new < 65536
-    → map (said_by_line Ihex) (lines (upper_record old new ++ rest))
-    ≡ upper_said old new ++ map (said_by_line Ihex) (lines rest)
+    → map (line_result Ihex) (lines (upper_record old new ++ rest))
+    ≡ upper_said old new ++ map (line_result Ihex) (lines rest)
 upper-lines old new rest below =
     elim (cases_eq new old) [
       | inl same ↦ let test : (new == old) ≡ true = grind (arith, nat_tests) in rw test refl
@@ -73,27 +73,27 @@ upper-lines old new rest below =
           let test : (new == old) ≡ false = grind (arith, nat_tests) in
           let bytes = IsBytes-cons (new / 256 % 256) ((new % 256) ∷ []) (omega arith)
           (IsBytes-cons (new % 256) [] (omega arith) IsBytes-nil) in
-          let plain = plain-line 4 0 (two new) (omega arith) (omega arith) bytes in
-          let said : said_by_line Ihex (line_of 4 0 (two new)) ≡ Ok (Rebase (Linear new)) =
-          says-line 4 0 (two new) (omega arith) (omega arith) (omega arith) bytes ∙ typed-upper new below in
+          let plain = plain-line 4 0 (two_bytes new) (omega arith) (omega arith) bytes in
+          let said : line_result Ihex (line_of 4 0 (two_bytes new)) ≡ Ok (Rebase (Linear new)) =
+          says-line 4 0 (two_bytes new) (omega arith) (omega arith) (omega arith) bytes ∙ typed-upper new below in
           search (rules, lines-written)
     ]
 
 -- the lines of the text mean the rows and the end
-pub lines-said : (upper end : ℕ) (rows : List (ℕ × List ℕ)) → end ≤ 2 ^ 32 → Every (IsRow ihex_row_size end) rows
-    → map (said_by_line Ihex) (lines (ihex_rows upper rows)) ≡ rows_said upper rows ++ Ok End ∷ Ok Nothing ∷ []
-lines-said upper end [] fits all = search (rules, plain-line, lines-plain, says-line)
-lines-said upper end (row ∷ rows) fits all =
+pub lines-results : (upper end : ℕ) (rows : List (ℕ × List ℕ)) → end ≤ 2 ^ 32 → Every (IsRow ihex_row_size end) rows
+    → map (line_result Ihex) (lines (ihex_rows upper rows)) ≡ row_results upper rows ++ Ok End ∷ Ok Nothing ∷ []
+lines-results upper end [] fits all = search (rules, plain-line, lines-plain, says-line)
+lines-results upper end (row ∷ rows) fits all =
     let high : ℕ = row.0 / 65536 in
-    search (rules, plain-line, says-line, append_assoc, upper-lines, lines-written, lines-said high end rows fits all.1)
+    search (rules, plain-line, says-line, append_assoc, upper-lines, lines-written, lines-results high end rows fits all.1)
 
-pub rows-go_on : (upper : ℕ) (cut : List (ℕ × List ℕ)) → AllGoOn (rows_said upper cut)
+pub rows-go_on : (upper : ℕ) (cut : List (ℕ × List ℕ)) → AllGoOn (row_results upper cut)
 rows-go_on upper [] = tt
 rows-go_on upper (row ∷ more) =
     let high : ℕ = row.0 / 65536 in search (rules, rows-go_on high more)
 
 pub rows-threaded : (upper : ℕ) (rows : List (ℕ × List ℕ))
-    → threaded (Linear upper) (then_end (rows_said upper rows)) ≡ flat_map places_of rows
+    → threaded (Linear upper) (then_end (row_results upper rows)) ≡ flat_map places_of rows
 rows-threaded upper [] = refl
 rows-threaded upper (row ∷ rows) =
     let high : ℕ = row.0 / 65536 in search (rules, nat_tests, places-linear, rows-threaded high rows)

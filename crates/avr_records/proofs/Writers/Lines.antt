@@ -11,8 +11,8 @@ use Rattle.hex.proofs.HexLemmas.{decode_of-encode_upper, decode_of-ok}
 use Rattle.avr_records.specs.Lines.{lines, is_line_end, is_blank, trimmed_line}
 use Rattle.avr_records.specs.Text.{IsLine}
 use Rattle.avr_records.specs.Record.{bytes_of_digits, longest, unless_long}
-use Rattle.avr_records.specs.Line.{bare_record}
-use Rattle.avr_records.specs.Reading.{said_by_line, bare_says, record_meaning}
+use Rattle.avr_records.specs.Line.{trimmed_line_record}
+use Rattle.avr_records.specs.Reading.{line_result, trimmed_line_result, record_meaning}
 use Rattle.avr_records.specs.declared.kind.Kind.{Kind}
 use Rattle.avr_records.specs.declared.fault.LineFault.TheVariants.{TooLong}
 
@@ -43,18 +43,18 @@ trimmed-plain : (line : List ℕ) → list_all is_plain line ≡ true → trimme
 trimmed-plain line plain =
     let all = AllPass-from_list_all is_plain line plain in search (rules, suffix_len_is, take_all)
 
-says-bare : (kind : Kind) (line : List ℕ) → said_by_line kind line ≡ unless_long (bare_says kind) line
+says-bare : (kind : Kind) (line : List ℕ) → line_result kind line ≡ unless_long (trimmed_line_result kind) line
 says-bare x line = grind (arith, nat_tests)
 
 -- a line that isn't too long means what its record means
-pub says-plain : (kind : Kind) (c : ℕ) (cs : List ℕ) → list_all is_plain (c ∷ cs) ≡ true
-    → length (c ∷ cs) ≤ 600 → said_by_line kind (c ∷ cs) ≡ record_meaning kind (bare_record kind (c ∷ cs))
-says-plain kind c cs plain short =
-    let bare : said_by_line kind (c ∷ cs) ≡ unless_long (bare_says kind) (c ∷ cs) = says-bare kind (c ∷ cs) in
+pub result-plain : (kind : Kind) (c : ℕ) (cs : List ℕ) → list_all is_plain (c ∷ cs) ≡ true
+    → length (c ∷ cs) ≤ 600 → line_result kind (c ∷ cs) ≡ record_meaning kind (trimmed_line_record kind (c ∷ cs))
+result-plain kind c cs plain short =
+    let bare : line_result kind (c ∷ cs) ≡ unless_long (trimmed_line_result kind) (c ∷ cs) = says-bare kind (c ∷ cs) in
     let test : nat_lt longest (length (c ∷ cs)) ≡ false = grind (arith, nat_tests) in
     bare
-    ∙ ap (λ (long : Bool). if long then Err TooLong else bare_says kind (trimmed_line (c ∷ cs))) test
-    ∙ ap (bare_says kind) (trimmed-plain (c ∷ cs) plain)
+    ∙ ap (λ (long : Bool). if long then Err TooLong else trimmed_line_result kind (trimmed_line (c ∷ cs))) test
+    ∙ ap (trimmed_line_result kind) (trimmed-plain (c ∷ cs) plain)
 
 -- a written line is the first of the lines
 pub lines-plain : (line rest : List ℕ) → list_all is_plain line ≡ true → lines (line ++ 10 ∷ rest) ≡ line ∷ lines rest

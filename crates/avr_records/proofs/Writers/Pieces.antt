@@ -6,7 +6,7 @@ use Rattle.std.proofs.lemmas.List.{append_assoc, get_or-map, get_or_past, take_m
 use Rattle.std.specs.Char.{to_ascii_uppercase}
 use Rattle.std.specs.Prelude.{slice_index}
 use Rattle.hex.specs.Hex.{encode_with, encode_lower, encode_upper, lower_digits, upper_digits}
-use Rattle.avr_records.specs.Text.{rows, rows_behind, width_of, low_bytes, two, ihex_record}
+use Rattle.avr_records.specs.Text.{rows, rows_behind, width_of, low_bytes, two_bytes, ihex_record}
 use Rattle.avr_records.specs.Sparse.{file_rows, new_upper, row_size}
 use Rattle.avr_records.specs.declared.address_size.AddressSize.{AddressSize}
 use Rattle.avr_records.specs.declared.kind.Kind.{Kind}
@@ -72,5 +72,5 @@ wide_row x addr = grind (arith, nat_tests)
 pub rows-upper : (kind : Kind) (upper new addr : ℕ) (size : AddressSize) (row : List ℕ) (more : List (ℕ × List ℕ))
     → new_upper kind upper addr ≡ Some new
     → file_rows kind upper size ((addr, row) ∷ more)
-    ≡ ihex_record 4 0 (two new) ++ file_rows kind new size ((addr, row) ∷ more)
+    ≡ ihex_record 4 0 (two_bytes new) ++ file_rows kind new size ((addr, row) ∷ more)
 rows-upper kind upper new addr size row more is = search (rules, nat_tests, append_assoc)

@@ -7,39 +7,39 @@ use Rattle.std.proofs.lemmas.Bool.{cases_Bool}
 use Rattle.std.proofs.lemmas.List.Sums.{fold-append}
 use Rattle.avr_image.specs.Image.{image_of_pairs}
 use Rattle.avr_records.specs.Meaning.{Nothing, Data, Rebase, Counted, End}
-use Rattle.avr_records.specs.Reading.{Said, is_end, up_to_end, in_place, next_base, base_after, address, places, placed_bytes, beyond, first_fault, file_ending, together}
+use Rattle.avr_records.specs.Reading.{LineResult, is_end_record, up_to_end, with_lines_before, next_base, base_after, address, places, bytes_of_line, first_outside, first_fault, file_ending, together}
 use Rattle.avr_records.specs.declared.kind.AddressBase.{AddressBase}
 use Rattle.avr_records.specs.declared.kind.AddressBase.TheVariants.{Linear}
 use Rattle.avr_records.specs.declared.kind.Ending.TheVariants.{Ended, NoEnd}
 
-beyond-parts : (size : ℕ) (xs ys : List (ℕ × ℕ)) → beyond size (xs ++ ys) ≡ None
-    → (beyond size xs ≡ None) × (beyond size ys ≡ None)
-beyond-parts size [] ys none = (refl, none)
-beyond-parts size (p ∷ xs) ys none =
+first_outside-parts : (size : ℕ) (xs ys : List (ℕ × ℕ)) → first_outside size (xs ++ ys) ≡ None
+    → (first_outside size xs ≡ None) × (first_outside size ys ≡ None)
+first_outside-parts size [] ys none = (refl, none)
+first_outside-parts size (p ∷ xs) ys none =
     elim (cases_Bool (nat_lt p.0 size)) [
-      | inl t ↦ let more : beyond size (xs ++ ys) ≡ None = rw t at none in rw t (beyond-parts size xs ys more)
+      | inl t ↦ let more : first_outside size (xs ++ ys) ≡ None = rw t at none in rw t (first_outside-parts size xs ys more)
       | inr f ↦ let no : Some p.0 ≡ None = rw f at none in absurd (cc no)
     ]
 
 -- ---- lines, one after another
 
 -- the bytes of a line with their addresses, while this base is in force
-abbrev pub under : AddressBase → Said → List (ℕ × ℕ)
+abbrev pub under : AddressBase → LineResult → List (ℕ × ℕ)
 under base (Ok (Data offset bytes)) = places base offset bytes
 under base said = []
 
 -- the bytes of lines with their addresses, from a base on
-abbrev pub threaded : AddressBase → List Said → List (ℕ × ℕ)
+abbrev pub threaded : AddressBase → List LineResult → List (ℕ × ℕ)
 threaded base [] = []
 threaded base (said ∷ more) = under base said ++ threaded (next_base base said) more
 
-placed-threaded : (before said : List Said)
-    → flat_map placed_bytes (in_place before said) ≡ threaded (base_after before) said
+placed-threaded : (before said : List LineResult)
+    → flat_map bytes_of_line (with_lines_before before said) ≡ threaded (base_after before) said
 placed-threaded before [] = refl
 placed-threaded before (s ∷ more) = grind (arith, nat_tests, placed-threaded (before ++ s ∷ []) more, fold-append)
 
 -- the line is no fault, no count and no end record
-abbrev pub GoesOn : Said → Type 0
+abbrev pub GoesOn : LineResult → Type 0
 GoesOn (Err fault) = ⊥
 GoesOn (Ok (Counted n)) = ⊥
 GoesOn (Ok End) = ⊥
@@ -47,41 +47,41 @@ GoesOn (Ok Nothing) = Unit {0}
 GoesOn (Ok (Data offset bytes)) = Unit {0}
 GoesOn (Ok (Rebase base)) = Unit {0}
 
-abbrev pub AllGoOn : List Said → Type 0
+abbrev pub AllGoOn : List LineResult → Type 0
 AllGoOn [] = Unit {0}
 AllGoOn (s ∷ more) = GoesOn s × AllGoOn more
 
-abbrev pub then_end : List Said → List Said
+abbrev pub then_end : List LineResult → List LineResult
 then_end prefix = prefix ++ Ok End ∷ []
 
-pub stops : (prefix more : List Said) → AllGoOn prefix → up_to_end (prefix ++ Ok End ∷ more) ≡ then_end prefix
+pub stops : (prefix more : List LineResult) → AllGoOn prefix → up_to_end (prefix ++ Ok End ∷ more) ≡ then_end prefix
 stops [] more on = refl
-stops (Ok Nothing ∷ prefix) more on = ap (λ (zs : List Said). Ok Nothing ∷ zs) (stops prefix more on.1)
+stops (Ok Nothing ∷ prefix) more on = ap (λ (zs : List LineResult). Ok Nothing ∷ zs) (stops prefix more on.1)
 stops (Ok (Data offset bytes) ∷ prefix) more on = grind (arith, nat_tests, stops prefix more on.1)
-stops (Ok (Rebase base) ∷ prefix) more on = ap (λ (zs : List Said). Ok (Rebase base) ∷ zs) (stops prefix more on.1)
+stops (Ok (Rebase base) ∷ prefix) more on = ap (λ (zs : List LineResult). Ok (Rebase base) ∷ zs) (stops prefix more on.1)
 stops x more on = absurd on.0
 
-has_end : (prefix more : List Said) → list_any is_end (prefix ++ Ok End ∷ more) ≡ true
+has_end : (prefix more : List LineResult) → list_any is_end_record (prefix ++ Ok End ∷ more) ≡ true
 has_end [] more = refl
 has_end (s ∷ prefix) more = grind (arith, nat_tests, has_end prefix more)
 
-pub ended : (prefix more : List Said) → file_ending (prefix ++ Ok End ∷ more) ≡ Ended
+pub ended : (prefix more : List LineResult) → file_ending (prefix ++ Ok End ∷ more) ≡ Ended
 ended prefix more = ap (λ (b : Bool). if b then Ended else NoEnd) (has_end prefix more)
 
-pub first_fault-none : (size : ℕ) (before prefix : List Said) → AllGoOn prefix
-    → beyond size (flat_map placed_bytes (in_place before (then_end prefix))) ≡ None
-    → first_fault size (in_place before (then_end prefix)) ≡ None
+pub first_fault-none : (size : ℕ) (before prefix : List LineResult) → AllGoOn prefix
+    → first_outside size (flat_map bytes_of_line (with_lines_before before (then_end prefix))) ≡ None
+    → first_fault size (with_lines_before before (then_end prefix)) ≡ None
 first_fault-none size before [] on inside = refl
 first_fault-none size before (s ∷ prefix) on inside =
-    let parts = beyond-parts size (placed_bytes (before, s))
-    (flat_map placed_bytes (in_place (before ++ s ∷ []) (then_end prefix))) inside in
+    let parts = first_outside-parts size (bytes_of_line (before, s))
+    (flat_map bytes_of_line (with_lines_before (before ++ s ∷ []) (then_end prefix))) inside in
     search (rules, first_fault-none size (before ++ s ∷ []) prefix on.1 parts.1)
 
 -- Lines of data and the end record read as the image of their bytes, if all are inside. What comes after the end record
 -- doesn't matter.
-pub together-laid : (size : ℕ) (image : List (Option ℕ)) (places : List (ℕ × ℕ)) (prefix more : List Said)
+pub together-laid : (size : ℕ) (image : List (Option ℕ)) (places : List (ℕ × ℕ)) (prefix more : List LineResult)
     → AllGoOn prefix
-    → threaded (Linear 0) (then_end prefix) ≡ places → beyond size places ≡ None → image_of_pairs size places ≡ image
+    → threaded (Linear 0) (then_end prefix) ≡ places → first_outside size places ≡ None → image_of_pairs size places ≡ image
     → together size (prefix ++ Ok End ∷ more) ≡ Ok (image, Ended)
 together-laid size image places prefix more on follow inside_is laid_is =
     grind (arith, nat_tests, placed-threaded, stops, first_fault-none, ended)

@@ -6,7 +6,7 @@ use Rattle.std.proofs.Math.Seq.{drop-nil, take-nil}
 use Rattle.std.proofs.lemmas.List.{drop_min, length-append, length-map, length-replicate, take_min, take_rest}
 use Rattle.hex.specs.Hex.{IsBytes}
 use Rattle.avr_image.specs.Image.{HoldsBytes, empty, first_from}
-use Rattle.avr_image.specs.Runs.{lead}
+use Rattle.avr_image.specs.Runs.{leading_run}
 use Rattle.avr_records.specs.Sparse.{IsMemory, run_at}
 
 abbrev held : ℕ → List ℕ → List (Option ℕ)
@@ -25,34 +25,34 @@ pub first-in : (base addr : ℕ) (bytes : List ℕ) → addr - base < length byt
 first-in base addr [] some = absurd (omega (arith, some))
 first-in base addr (b ∷ bytes) some = first-held addr base addr (b ∷ bytes) some ∙ ap Some (omega arith)
 
-lead-held : (base addr n : ℕ) (bytes : List ℕ) → addr ≡ base + n
-    → lead (drop addr (held base bytes)) ≡ drop n bytes
-lead-held zero zero zero [] is = refl
-lead-held zero zero zero (b ∷ bytes) is = ap (λ (more : List ℕ). b ∷ more) (lead-held zero zero zero bytes is)
-lead-held zero (suc addr) (suc n) [] is = refl
-lead-held zero (suc addr) (suc n) (b ∷ bytes) is = lead-held zero addr n bytes (omega (arith, is))
-lead-held (suc base) (suc addr) n bytes is = lead-held base addr n bytes (omega (arith, is))
-lead-held x y z bytes is = absurd (omega (arith, is))
+leading_run-held : (base addr n : ℕ) (bytes : List ℕ) → addr ≡ base + n
+    → leading_run (drop addr (held base bytes)) ≡ drop n bytes
+leading_run-held zero zero zero [] is = refl
+leading_run-held zero zero zero (b ∷ bytes) is = ap (λ (more : List ℕ). b ∷ more) (leading_run-held zero zero zero bytes is)
+leading_run-held zero (suc addr) (suc n) [] is = refl
+leading_run-held zero (suc addr) (suc n) (b ∷ bytes) is = leading_run-held zero addr n bytes (omega (arith, is))
+leading_run-held (suc base) (suc addr) n bytes is = leading_run-held base addr n bytes (omega (arith, is))
+leading_run-held x y z bytes is = absurd (omega (arith, is))
 
-lead-in : (base addr n : ℕ) (bytes : List ℕ) → addr ≡ base + n → lead (drop addr (run_at base bytes)) ≡ drop n bytes
-lead-in base addr n [] is = ap lead (drop-nil addr) ∙ sym (drop-nil n)
-lead-in base addr n (b ∷ bytes) is = lead-held base addr n (b ∷ bytes) is
+leading_run-in : (base addr n : ℕ) (bytes : List ℕ) → addr ≡ base + n → leading_run (drop addr (run_at base bytes)) ≡ drop n bytes
+leading_run-in base addr n [] is = ap leading_run (drop-nil addr) ∙ sym (drop-nil n)
+leading_run-in base addr n (b ∷ bytes) is = leading_run-held base addr n (b ∷ bytes) is
 
-gap-held : (base addr : ℕ) (bytes : List ℕ) → addr < base → lead (drop addr (held base bytes)) ≡ []
+gap-held : (base addr : ℕ) (bytes : List ℕ) → addr < base → leading_run (drop addr (held base bytes)) ≡ []
 gap-held zero addr bytes before = absurd (omega (arith, before))
 gap-held (suc base) zero bytes before = refl
 gap-held (suc base) (suc addr) bytes before = gap-held base addr bytes (omega (arith, before))
 
-pub gap-in : (base addr most : ℕ) (bytes : List ℕ) → addr < base → take most (lead (drop addr (run_at base bytes))) ≡ []
-gap-in base addr most [] before = ap (λ (xs : List (Option ℕ)). take most (lead xs)) (drop-nil addr) ∙ take-nil most
+pub gap-in : (base addr most : ℕ) (bytes : List ℕ) → addr < base → take most (leading_run (drop addr (run_at base bytes))) ≡ []
+gap-in base addr most [] before = ap (λ (xs : List (Option ℕ)). take most (leading_run xs)) (drop-nil addr) ∙ take-nil most
 gap-in base addr most (b ∷ bytes) before = ap (take most) (gap-held base addr (b ∷ bytes) before) ∙ take-nil most
 
 -- the row that `row_at` returns: the next bytes, as many as fit
 pub row-in : (base addr most past few : ℕ) (bytes : List ℕ) → base ≤ addr → past ≡ min (addr - base) (length bytes)
     → few ≡ min most (length (take (length bytes - past) (drop past bytes)))
-    → take few (take (length bytes - past) (drop past bytes)) ≡ take most (lead (drop addr (run_at base bytes)))
+    → take few (take (length bytes - past) (drop past bytes)) ≡ take most (leading_run (drop addr (run_at base bytes)))
 row-in base addr most past few bytes after past_is few_is =
-    grind (arith, nat_tests, drop_min, take_min, take_rest, lead-in)
+    grind (arith, nat_tests, drop_min, take_min, take_rest, leading_run-in)
 
 bytes-held : (base : ℕ) (bytes : List ℕ) → IsBytes bytes → HoldsBytes (held base bytes)
 bytes-held zero (b ∷ bytes) all zero byte is = let same : b ≡ byte = cc is in omega (arith, same, all 0)

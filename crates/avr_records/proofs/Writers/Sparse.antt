@@ -9,7 +9,7 @@ use Rattle.avr_image.proofs.Lemmas.{runs_are_whole, runs_inside}
 use Rattle.hex.specs.Hex.{IsBytes}
 use Rattle.avr_image.specs.Image.{HoldsBytes, empty, image_of_pairs}
 use Rattle.avr_records.specs.Meaning.{Nothing}
-use Rattle.avr_records.specs.Reading.{beyond, image_in_text, together}
+use Rattle.avr_records.specs.Reading.{first_outside, image_in_text, together}
 use Rattle.avr_records.specs.Text.{address_size}
 use Rattle.avr_records.specs.Sparse.{row_size, rows_of, last_held, image_text, ReadsBack}
 use Rattle.avr_records.specs.declared.kind.Ending.TheVariants.{Ended}
@@ -23,22 +23,22 @@ use Rattle.avr_records.proofs.Writers.Srec as srec
 
 -- ---- the bytes of an image at their addresses
 
-beyond-run : (size addr : ℕ) (bytes : List ℕ) (more : List (ℕ × ℕ)) → addr + length bytes ≤ size
-    → beyond size more ≡ None → beyond size (enumerate_from addr bytes ++ more) ≡ None
-beyond-run size addr [] more room none = none
-beyond-run size addr (b ∷ bytes) more room none =
-    grind (arith, nat_tests, beyond-run size (addr + 1) bytes more (omega (arith, room)) none)
+first_outside-run : (size addr : ℕ) (bytes : List ℕ) (more : List (ℕ × ℕ)) → addr + length bytes ≤ size
+    → first_outside size more ≡ None → first_outside size (enumerate_from addr bytes ++ more) ≡ None
+first_outside-run size addr [] more room none = none
+first_outside-run size addr (b ∷ bytes) more room none =
+    grind (arith, nat_tests, first_outside-run size (addr + 1) bytes more (omega (arith, room)) none)
 
-beyond-cut : (size : ℕ) (cut : List (ℕ × List ℕ)) → All (λ run. run.0 + length run.1 ≤ size) cut
-    → beyond size (flat_map places_of cut) ≡ None
-beyond-cut size [] inside = refl
-beyond-cut size (run ∷ cut) inside =
-    beyond-run size run.0 run.1 (flat_map places_of cut) (inside 0 run (omega arith))
-    (beyond-cut size cut (λ k d l. inside (suc k) d (omega (arith, l))))
+first_outside-cut : (size : ℕ) (cut : List (ℕ × List ℕ)) → All (λ run. run.0 + length run.1 ≤ size) cut
+    → first_outside size (flat_map places_of cut) ≡ None
+first_outside-cut size [] inside = refl
+first_outside-cut size (run ∷ cut) inside =
+    first_outside-run size run.0 run.1 (flat_map places_of cut) (inside 0 run (omega arith))
+    (first_outside-cut size cut (λ k d l. inside (suc k) d (omega (arith, l))))
 
-beyond-image : (image : List (Option ℕ)) (more : ℕ)
-    → beyond (length image + more) (flat_map places_of (runs 0 image)) ≡ None
-beyond-image image more = grind (arith, nat_tests, beyond-cut, runs_inside)
+first_outside-image : (image : List (Option ℕ)) (more : ℕ)
+    → first_outside (length image + more) (flat_map places_of (runs 0 image)) ≡ None
+first_outside-image image more = grind (arith, nat_tests, first_outside-cut, runs_inside)
 
 -- the rows have the same bytes as the runs
 pub rows_of-hold : (size : ℕ → ℕ) (cut : List (ℕ × List ℕ)) → ((a : ℕ) → 0 < size a)
@@ -126,21 +126,21 @@ reads-back Ihex image more fits bytes =
     let size : ℕ = length image + more in
     let cut : List (ℕ × List ℕ) = rows_of (row_size Ihex) (runs 0 image) in
     ap (together size)
-    (hex.lines-said 0 (last_held 0 0 image + 1) cut (omega (arith, last-below image fits)) (rows-are Ihex image bytes))
-    ∙ together-laid size (image ++ empty more) (flat_map places_of (runs 0 image)) (hex.rows_said 0 cut)
+    (hex.lines-results 0 (last_held 0 0 image + 1) cut (omega (arith, last-below image fits)) (rows-are Ihex image bytes))
+    ∙ together-laid size (image ++ empty more) (flat_map places_of (runs 0 image)) (hex.row_results 0 cut)
     (Ok Nothing ∷ []) (hex.rows-go_on 0 cut)
     (hex.rows-threaded 0 cut ∙ rows_of-hold (row_size Ihex) (runs 0 image) (wide_row Ihex))
-    (beyond-image image more) (laid-padded image more)
+    (first_outside-image image more) (laid-padded image more)
 reads-back Srec image more fits bytes =
     let size : ℕ = length image + more in
     let cut : List (ℕ × List ℕ) = rows_of (row_size Srec) (runs 0 image) in
     let last : ℕ = last_held 0 0 image in
-    ap (together size) (srec.lines-said (address_size last) (last + 1) cut
+    ap (together size) (srec.lines-results (address_size last) (last + 1) cut
     (omega (arith, srec.wide_enough last (last-below image fits))) (rows-are Srec image bytes))
     ∙ together-laid size (image ++ empty more) (flat_map places_of (runs 0 image)) (map srec.said_of cut)
     (Ok Nothing ∷ []) (srec.rows-go_on cut)
     (srec.rows-threaded cut ∙ rows_of-hold (row_size Srec) (runs 0 image) (wide_row Srec))
-    (beyond-image image more) (laid-padded image more)
+    (first_outside-image image more) (laid-padded image more)
 
 -- the same into a memory of the same size
 pub reads-back-same : (kind : Kind) (image : List (Option ℕ)) → length image ≤ 2 ^ 32 → HoldsBytes image

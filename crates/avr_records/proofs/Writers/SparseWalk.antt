@@ -5,8 +5,8 @@ use Rattle.std.proofs.Common.{◌≡◌, ◌∙◌, sym, ap, ap₂, refl, arith,
 use Rattle.std.specs.List.{position_from, slice_range}
 use Rattle.std.proofs.lemmas.List.{drop-drop, length-append, length-drop, length-take, take_min}
 use Rattle.avr_image.specs.Image.{first_from, run_end, filled_bytes}
-use Rattle.avr_records.specs.Text.{rows, ihex_record, two}
-use Rattle.avr_image.specs.Runs.{runs, lead}
+use Rattle.avr_records.specs.Text.{rows, ihex_record, two_bytes}
+use Rattle.avr_image.specs.Runs.{runs, leading_run}
 use Rattle.avr_image.proofs.Lemmas.{next_held, filled_is, filled_part, runs_none, runs_next, runs_first, lead_some, lead_is_run, lead_is_filled, lead_within}
 use Rattle.avr_records.specs.Sparse.{file_rows, last_held, new_upper, row_size, row_text, rows_of}
 use Rattle.avr_records.specs.Writing.{text_from}
@@ -17,59 +17,59 @@ use Rattle.avr_records.proofs.Writers.Pieces.{rows-next, rows-upper, wide_row}
 -- ---- the first run, and what is after it
 
 abbrev after : List (Option ℕ) → List (Option ℕ)
-after image = drop (length (lead image)) image
+after image = drop (length (leading_run image)) image
 
-lead-drop : (n : ℕ) (image : List (Option ℕ)) → n ≤ length (lead image) → lead (drop n image) ≡ drop n (lead image)
-lead-drop zero image l = refl
-lead-drop (suc n) (Some b ∷ image) l = lead-drop n image (omega (arith, l))
-lead-drop (suc n) x l = absurd (omega (arith, l))
+leading_run-drop : (n : ℕ) (image : List (Option ℕ)) → n ≤ length (leading_run image) → leading_run (drop n image) ≡ drop n (leading_run image)
+leading_run-drop zero image l = refl
+leading_run-drop (suc n) (Some b ∷ image) l = leading_run-drop n image (omega (arith, l))
+leading_run-drop (suc n) x l = absurd (omega (arith, l))
 
-after-drop : (n : ℕ) (image : List (Option ℕ)) → n ≤ length (lead image) → after (drop n image) ≡ after image
+after-drop : (n : ℕ) (image : List (Option ℕ)) → n ≤ length (leading_run image) → after (drop n image) ≡ after image
 after-drop zero image l = refl
 after-drop (suc n) (Some b ∷ image) l = after-drop n image (omega (arith, l))
 after-drop (suc n) x l = absurd (omega (arith, l))
 
-pub rows-lead : (size : ℕ → ℕ) (addr : ℕ) (image : List (Option ℕ))
-    → rows_of size (runs addr image) ≡ rows size addr (lead image)
-    ++ rows_of size (runs (addr + length (lead image)) (after image))
-rows-lead size addr image = grind (arith, common_steps, runs_first)
+pub rows-leading_run : (size : ℕ → ℕ) (addr : ℕ) (image : List (Option ℕ))
+    → rows_of size (runs addr image) ≡ rows size addr (leading_run image)
+    ++ rows_of size (runs (addr + length (leading_run image)) (after image))
+rows-leading_run size addr image = grind (arith, common_steps, runs_first)
 
 -- the first row is the first bytes of the first run
-pub rows-step : (size : ℕ → ℕ) (addr n : ℕ) (image : List (Option ℕ)) → 0 < length (lead image) → 0 < size addr
-    → n ≡ min (size addr) (length (lead image))
-    → rows_of size (runs addr image) ≡ (addr, take n (lead image)) ∷ rows_of size (runs (addr + n) (drop n image))
+pub rows-step : (size : ℕ → ℕ) (addr n : ℕ) (image : List (Option ℕ)) → 0 < length (leading_run image) → 0 < size addr
+    → n ≡ min (size addr) (length (leading_run image))
+    → rows_of size (runs addr image) ≡ (addr, take n (leading_run image)) ∷ rows_of size (runs (addr + n) (drop n image))
 rows-step size addr n image some wide is =
-    grind (arith, nat_tests, length-drop, rows-lead, lead-drop, after-drop, rows-next)
+    grind (arith, nat_tests, length-drop, rows-leading_run, leading_run-drop, after-drop, rows-next)
 
 -- ---- as the walk finds them
 
 -- the run that a walk finds, up to the length of a row
 pub run-is : (size place most : ℕ) (image : List (Option ℕ)) → most ≡ min size (length image - place)
-    → run_end image place (place + most) ≡ place + min size (length (lead (drop place image)))
+    → run_end image place (place + most) ≡ place + min size (length (leading_run (drop place image)))
 run-is size place most image is = grind (arith, nat_tests, lead_within, length-drop, lead_is_run)
 
 -- a row is inside the image, whatever its length
 pub record IsPart (place most end : ℕ) (bytes : List ℕ) (image : List (Option ℕ)) : Type 0 where
   pub within : end ≤ length bytes
-  pub part : slice_range bytes place end ≡ take most (lead (drop place image))
+  pub part : slice_range bytes place end ≡ take most (leading_run (drop place image))
 
 pub row-part : (place most end : ℕ) (bytes : List ℕ) (image : List (Option ℕ)) → place < length image
-    → end ≡ place + min most (length (lead (drop place image))) → bytes ≡ filled_bytes image 0 (length image)
+    → end ≡ place + min most (length (leading_run (drop place image))) → bytes ≡ filled_bytes image 0 (length image)
     → IsPart place most end bytes image
 row-part place most end bytes image inside is whole =
     grind (arith, nat_tests, lead_within, length-drop, filled_is, filled_part, lead_is_filled, take_min)
 
-row-long : (size place : ℕ) (row : List ℕ) (image : List (Option ℕ)) → row ≡ take size (lead (drop place image))
-    → length row ≡ min size (length (lead (drop place image)))
-row-long size place row image is = ap length is ∙ length-take size (lead (drop place image))
+row-long : (size place : ℕ) (row : List ℕ) (image : List (Option ℕ)) → row ≡ take size (leading_run (drop place image))
+    → length row ≡ min size (length (leading_run (drop place image)))
+row-long size place row image is = ap length is ∙ length-take size (leading_run (drop place image))
 
 -- the next row: the bytes from the next address that holds one
 rows-walk : (size : ℕ → ℕ) (addr place : ℕ) (row : List ℕ) (image : List (Option ℕ))
-    → first_from image addr ≡ Some place → 0 < size place → row ≡ take (size place) (lead (drop place image))
+    → first_from image addr ≡ Some place → 0 < size place → row ≡ take (size place) (leading_run (drop place image))
     → rows_of size (runs addr (drop addr image))
     ≡ (place, row) ∷ rows_of size (runs (place + length row) (drop (place + length row) image))
 rows-walk size addr place row image found wide is =
-    let run : List ℕ = lead (drop place image) in
+    let run : List ℕ = leading_run (drop place image) in
     let n : ℕ = length row in
     let long = row-long (size place) place row image is in
     let same : take n run ≡ row = ap (λ (k : ℕ). take k run) long ∙ take_min (size place) run ∙ sym is in
@@ -86,15 +86,15 @@ text-end kind upper size addr image none = grind (arith, nat_tests, runs_none)
 
 pub text-upper : (kind : Kind) (upper new : ℕ) (size : AddressSize) (addr place : ℕ) (image : List (Option ℕ))
     → first_from image addr ≡ Some place → new_upper kind upper place ≡ Some new
-    → text_from kind upper size addr image ≡ ihex_record 4 0 (two new) ++ text_from kind new size addr image
+    → text_from kind upper size addr image ≡ ihex_record 4 0 (two_bytes new) ++ text_from kind new size addr image
 text-upper kind upper new size addr place image found is =
-    let row : List ℕ = take (row_size kind place) (lead (drop place image)) in
+    let row : List ℕ = take (row_size kind place) (leading_run (drop place image)) in
     let cut = rows-walk (row_size kind) addr place row image found (wide_row kind place) refl in
     search (rules, rows-upper)
 
 pub text-row : (kind : Kind) (upper : ℕ) (size : AddressSize) (addr place : ℕ) (row : List ℕ)
     (image : List (Option ℕ)) → first_from image addr ≡ Some place → new_upper kind upper place ≡ None
-    → row ≡ take (row_size kind place) (lead (drop place image))
+    → row ≡ take (row_size kind place) (leading_run (drop place image))
     → text_from kind upper size addr image
     ≡ row_text kind size place row ++ text_from kind upper size (place + length row) image
 text-row kind upper size addr place row image found same is = grind (arith, nat_tests, rows-walk)
@@ -123,7 +123,7 @@ last-next last addr place (None ∷ image) is =
     last-next last (addr + 1) place image is ∙ ap (λ (n : ℕ). last_held last place (drop n (None ∷ image))) one
 last-next last addr place (Some b ∷ image) is = grind (arith, nat_tests)
 
-last-prefix : (last addr n : ℕ) (image : List (Option ℕ)) → n < length (lead image)
+last-prefix : (last addr n : ℕ) (image : List (Option ℕ)) → n < length (leading_run image)
     → last_held last addr image ≡ last_held (addr + n) (addr + suc n) (drop (suc n) image)
 last-prefix last addr zero (Some b ∷ image) some = grind (arith, nat_tests)
 last-prefix last addr (suc n) (Some b ∷ image) some =
@@ -141,7 +141,7 @@ pub record Walked (last addr end : ℕ) (image : List (Option ℕ)) : Type 0 whe
   pub inside : end ≤ length image
 
 pub last-walk : (last addr place end : ℕ) (row : List ℕ) (image : List (Option ℕ)) → first_from image addr ≡ Some place
-    → row ≡ take 32 (lead (drop place image)) → end ≡ place + length row → Walked last addr end image
+    → row ≡ take 32 (leading_run (drop place image)) → end ≡ place + length row → Walked last addr end image
 last-walk last addr place end row image found is ends =
     let next = next_held image addr place found in
     let there : drop (place - addr) (drop addr image) ≡ drop place image =
@@ -151,7 +151,7 @@ last-walk last addr place end row image found is ends =
     let left = length-drop place image in
     let long = row-long 32 place row image is in
     let n : ℕ = length row - 1 in
-    let within : n < length (lead (drop place image)) = omega (arith, long, some) in
+    let within : n < length (leading_run (drop place image)) = omega (arith, long, some) in
     let last_is : place + n ≡ end - 1 = omega (arith, long, some, ends) in
     let behind : place + suc n ≡ end = omega (arith, long, some, ends) in
     record {

@@ -16,7 +16,7 @@ use Rattle.avr_records.specs.Lines.{lines}
 use Rattle.avr_records.specs.Meaning.{Data, End, Nothing}
 use Rattle.avr_records.specs.Record.{RecordFields, number, bytes_of_digits, ◌and_then◌}
 use Rattle.avr_records.specs.Srec.{srec_from_fields, typed_srec, record_with_address}
-use Rattle.avr_records.specs.Reading.{Said, said_by_line, record_meaning}
+use Rattle.avr_records.specs.Reading.{LineResult, line_result, record_meaning}
 use Rattle.avr_records.specs.Text.{width_of, low_bytes, with_count_and_checksum, srec_rows, address_size}
 use Rattle.avr_records.specs.declared.address_size.AddressSize.{AddressSize}
 use Rattle.avr_records.specs.declared.kind.Kind.TheVariants.{Srec}
@@ -25,7 +25,7 @@ use Rattle.avr_records.specs.declared.fault.LineFault.{LineFault}
 use Rattle.avr_records.specs.declared.fault.LineFault.TheVariants.{Mark}
 use Rattle.avr_records.proofs.Writers.Pieces.{few_bytes, length_low_bytes}
 use Rattle.avr_records.proofs.Rows.Cuts.{IsBytes-nil, IsBytes-append, IsRow, Every}
-use Rattle.avr_records.proofs.Writers.Lines.{is_plain, plain-digits, encode-digits, bytes_of-encode, says-plain, lines-plain, lines-written}
+use Rattle.avr_records.proofs.Writers.Lines.{is_plain, plain-digits, encode-digits, bytes_of-encode, result-plain, lines-plain, lines-written}
 use Rattle.avr_records.proofs.Writers.Reread.{AllGoOn, then_end, threaded, places-linear}
 
 IsBytes-low_bytes : (size n : ℕ) → IsBytes (low_bytes size n)
@@ -54,12 +54,12 @@ fields-counted : (type : ℕ) (body : List ℕ)
 fields-counted type body = grind (arith, common_steps, nat_tests)
 
 says-line : (type : ℕ) (body : List ℕ) → type ≤ 9 → length body ≤ 36 → IsBytes body
-    → said_by_line Srec (line_of type body) ≡ record_meaning Srec (typed_srec (48 + type) body)
+    → line_result Srec (line_of type body) ≡ record_meaning Srec (typed_srec (48 + type) body)
 says-line type body digit short all =
     let width : length (line_of type body) ≤ 600 =
     search (rules, length-encode_with, length-append) in
     let mark : is_ascii_digit (48 + type) ≡ true = grind (arith, nat_tests) in
-    says-plain Srec 83 ((48 + type) ∷ encode_upper (with_count_and_checksum body))
+    result-plain Srec 83 ((48 + type) ∷ encode_upper (with_count_and_checksum body))
     (plain-line type body digit short all) width
     ∙ ap (λ (good : Bool). record_meaning Srec
     (if good then bytes_of_digits (encode_upper (with_count_and_checksum body)) and_then srec_from_fields
@@ -85,21 +85,21 @@ meant-data : (size : AddressSize) (addr : ℕ) (row : List ℕ)
 meant-data x addr row = grind (arith, nat_tests)
 
 -- what the line of a row means
-abbrev pub said_of : ℕ × List ℕ → Said
+abbrev pub said_of : ℕ × List ℕ → LineResult
 said_of row = Ok (Data row.0 row.1)
 
 -- the lines of the text mean the rows and the end
-pub lines-said : (size : AddressSize) (end : ℕ) (rows : List (ℕ × List ℕ)) → end ≤ 256 ^ width_of size
+pub lines-results : (size : AddressSize) (end : ℕ) (rows : List (ℕ × List ℕ)) → end ≤ 256 ^ width_of size
     → Every (IsRow (λ _. 32) end) rows
-    → map (said_by_line Srec) (lines (srec_rows size rows)) ≡ map said_of rows ++ Ok End ∷ Ok Nothing ∷ []
-lines-said size end [] fits all =
+    → map (line_result Srec) (lines (srec_rows size rows)) ≡ map said_of rows ++ Ok End ∷ Ok Nothing ∷ []
+lines-results size end [] fits all =
     let few = few_bytes size in
     let body : List ℕ = low_bytes (width_of size) 0 in
     let len = length_low_bytes (width_of size) 0 in
     let bytes = IsBytes-low_bytes (width_of size) 0 in
     let plain = plain-line (11 - width_of size) body (omega (arith, few.0)) (omega (arith, len, few.1)) bytes in
     search (rules, lines-plain, says-line)
-lines-said size end ((addr, row) ∷ rows) fits all =
+lines-results size end ((addr, row) ∷ rows) fits all =
     let few = few_bytes size in
     let is = all.0 in
     let type : ℕ = width_of size - 1 in
@@ -112,10 +112,10 @@ lines-said size end ((addr, row) ∷ rows) fits all =
     let low : addr < 256 ^ width_of size = omega (arith, fits, is.some, is.below) in
     let digit : type ≤ 9 = omega (arith, few.1) in
     let plain = plain-line type body digit short bytes in
-    let said : said_by_line Srec (line_of type body) ≡ said_of (addr, row) =
+    let said : line_result Srec (line_of type body) ≡ said_of (addr, row) =
     says-line type body digit short bytes
     ∙ ap (record_meaning Srec) (typed-data size body ∙ addressed-low type (width_of size) addr row low)
-    ∙ meant-data size addr row in search (rules, lines-written, lines-said size end rows fits all.1)
+    ∙ meant-data size addr row in search (rules, lines-written, lines-results size end rows fits all.1)
 
 pub rows-go_on : (rows : List (ℕ × List ℕ)) → AllGoOn (map said_of rows)
 rows-go_on [] = tt

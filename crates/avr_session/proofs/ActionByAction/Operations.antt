@@ -8,19 +8,19 @@ use Rattle.stk_host.specs.declared.fault.HostFault.TheVariants.{SendFailed, Memo
 use Rattle.stk_host.specs.Operations.{operation}
 use Rattle.stk_host.specs.Transcript.{LinkState}
 use Rattle.stk_host.specs.Dialog.{Dialog, Done, played}
-use Rattle.stk_host.specs.Play.{Progress, PlaysOver, FailsOver}
+use Rattle.stk_host.specs.Play.{Progress, RunsOverLink, BreaksOverLink}
 use Rattle.stk_host.proofs.Dialogs.Lifted.{outputs_raised}
-use Rattle.avr_desk.specs.Said.{OutputEvent, Line, Tells}
-use Rattle.avr_session.specs.Concluding.{after_outcome, conclusion, stands}
+use Rattle.avr_desk.specs.OutputEvents.{OutputEvent, PrintsLine, ReportsLine}
+use Rattle.avr_session.specs.Concluding.{after_outcome, conclusion, standing_after}
 use Rattle.avr_session.specs.Lines.{fault_line}
-use Rattle.avr_session.specs.Session.{says, standing, reported, opening_says}
-use Rattle.avr_session.specs.Taking.{AtOnce}
-use Rattle.avr_session.specs.Runs.{Cause, OfMemory, devices, Terms, cause_line, HasCome}
+use Rattle.avr_session.specs.Session.{says, standing, reported, opening_output}
+use Rattle.avr_session.specs.AllocationPoints.{AtStartOnly}
+use Rattle.avr_session.specs.Runs.{Cause, AllocationFailed, devices, Terms, cause_line, CauseOccurred}
 use Rattle.avr_session.specs.Performing.{Runs}
-use Rattle.avr_session.specs.Reporting.{PrintStops, SaysOrStops, Reports}
+use Rattle.avr_session.specs.Reporting.{PrintStops, OutputsOrStops, Reports}
 use Rattle.avr_desk.proofs.Lines.Told.{same_here}
 use Rattle.avr_session.proofs.ActionByAction.Reports.{told_some}
-use Rattle.avr_session.proofs.Runs.Calls.{came_lifted, came_said, came_on, ran_from, broke_quietly, broke_output, broke_operation, broke_lacking, broken_cause, StopsReport, ToldBy}
+use Rattle.avr_session.proofs.Runs.Calls.{came_lifted, came_said, came_on, ran_from, broke_quietly, broke_output, broke_operation, broke_lacking, broken_cause, StopsReport, ReportedBy}
 
 -- Why an operation stops a run: the link failed during it, or allocation failed.
 pub data Stop : Type 0 where
@@ -34,7 +34,7 @@ fault_at Unheard = RecvFailed
 fault_at Lacks = Memory
 
 abbrev pub cause_at : Stop → Cause
-cause_at Lacks = OfMemory
+cause_at Lacks = AllocationFailed
 cause_at stop = broken_cause (fault_at stop)
 
 abbrev pub StopsAs : {A : Type 0} → Result A HostFault → Stop → Type 0
@@ -43,13 +43,13 @@ StopsAs outcome stop = outcome ≡ Err (fault_at stop)
 -- the link broke the dialog off; or allocation, if it is needed, failed before anything was sent or received
 abbrev pub StopsOver : {R : Type 0} → Bool → Dialog ⊥ R → Progress → LinkState → LinkState → Stop → Type 0
 StopsOver takes dialog m o p Lacks = (takes ≡ true) × (p ≡ o)
-StopsOver takes dialog m o p stop = FailsOver (fault_at stop) dialog m o p
+StopsOver takes dialog m o p stop = BreaksOverLink (fault_at stop) dialog m o p
 
 -- How a call ended: it ran to an outcome that stops nothing, or it stopped.
 abbrev pub Ended : {A : Type 0} → Bool → Dialog ⊥ (Result A HostFault) → Progress → LinkState → LinkState
     → Result A HostFault → Progress → Type 0
 Ended takes dialog m o p outcome n =
-    (PlaysOver dialog m o p outcome n × (stands (after_outcome outcome) ≡ Ok (standing outcome)))
+    (RunsOverLink dialog m o p outcome n × (standing_after (after_outcome outcome) ≡ Ok (standing outcome)))
     ⊎ ((stop : Stop) × StopsAs outcome stop × StopsOver takes dialog m o p stop)
 
 line_at : (part : Part) (stop : Stop) → fault_line part (fault_at stop) ≡ cause_line (cause_at stop)
@@ -57,19 +57,19 @@ unfolding cause_line fault_line
 line_at part stop = search rules
 
 -- a stop is reported, if the line of such a fault is the whole output for it
-pub told_of : {A : Type 0} (part : Part) (tells : Result A HostFault → List OutputEvent)
-    → ((stop : Stop) → tells (Err (fault_at stop)) ≡ Line (fault_line part (fault_at stop)) ∷ []) → {d e : DeskState}
+pub cause_is_reported : {A : Type 0} (part : Part) (tells : Result A HostFault → List OutputEvent)
+    → ((stop : Stop) → tells (Err (fault_at stop)) ≡ PrintsLine (fault_line part (fault_at stop)) ∷ []) → {d e : DeskState}
     {outcome : Result A HostFault} {said : Result (Unit {0}) DeskFault} → Reports PrintStops d e (tells outcome) said
-    → (stop : Stop) → StopsAs outcome stop → Tells d e (cause_line (cause_at stop))
-told_of part tells line {d = d} {e = e} {said = said} reports stop is = search (rules, line_at, told_some)
+    → (stop : Stop) → StopsAs outcome stop → ReportsLine d e (cause_line (cause_at stop))
+cause_is_reported part tells line {d = d} {e = e} {said = said} reports stop is = search (rules, line_at, told_some)
 
 pub opening_line : (quiet : ℕ) (part : Part) (stop : Stop)
-    → opening_says quiet part (Err (fault_at stop)) ≡ Line (fault_line part (fault_at stop)) ∷ []
+    → opening_output quiet part (Err (fault_at stop)) ≡ PrintsLine (fault_line part (fault_at stop)) ∷ []
 opening_line quiet part stop = search rules
 
 -- what stops a run is counted, or is a failed allocation
 pub stop_come : {R : Type 0} (takes : Bool) (dialog : Dialog ⊥ R) (m : Progress) (o p : LinkState) (d : DeskState)
-    (stop : Stop) → StopsOver takes dialog m o p stop → HasCome takes (devices o d) (devices p d) (cause_at stop)
+    (stop : Stop) → StopsOver takes dialog m o p stop → CauseOccurred takes (devices o d) (devices p d) (cause_at stop)
 stop_come takes dialog m o p d stop over = search (rules, same_here)
 
 -- An operation and its report are an action of a session.
@@ -78,11 +78,11 @@ pub operation_runs : {A : Type 0} (operation : Dialog ⊥ (Result A HostFault))
     (outcome : Result A HostFault) (said : Result (Unit {0}) DeskFault) (terms : Terms)
     (By : DeskState → DeskState → Cause → List ℕ → Type 0) → StopsReport terms p d e (outcome_says outcome) By
     → Ended terms.takes operation m o p outcome n → length n.unread ≤ 281
-    → SaysOrStops By d e (outcome_says outcome) said
+    → OutputsOrStops By d e (outcome_says outcome) said
     → ((stop : Stop) → StopsAs outcome stop → StopsOver terms.takes operation m o p stop
-    → ToldBy terms (cause_at stop) (devices o d) (devices p e))
-    → Runs (reported operation outcome_says) m (devices o d) (devices p e) terms (AtOnce terms.takes)
-    (stands (conclusion outcome said)) n
+    → ReportedBy terms (cause_at stop) (devices o d) (devices p e))
+    → Runs (reported operation outcome_says) m (devices o d) (devices p e) terms (AtStartOnly terms.takes)
+    (standing_after (conclusion outcome said)) n
 unfolding came_lifted
 operation_runs operation outcome_says m n {p = p} {d = d} outcome (Ok done) terms By why (inl played) few reports
     told =

@@ -2,30 +2,30 @@
 use Rattle.std.proofs.lemmas.Grind.{common_steps}
 use Rattle.std.proofs.Common.{◌≡◌, ◌≤◌, ℕ, arith, List, [], ◌∷◌, ◌++◌, Result, Ok, Err, refl, sym, inl, IfErr, nat_lt, false, rules}
 use Rattle.std.proofs.lemmas.Bool.Decides.{nat_tests}
-use Rattle.avr_desk.specs.Record.{DeskState, Passes, after_err}
-use Rattle.avr_desk.specs.Fault.{Counts, Follows, HasFailedAt, HasFailedToSay, HasSameCounts}
+use Rattle.avr_desk.specs.Record.{DeskState, ChangesRecord, after_err}
+use Rattle.avr_desk.specs.Fault.{CountsFailure, CountsNeverFall, HasFailedAt, HasFailedToReport, HasSameCounts}
 use Rattle.avr_desk.specs.declared.desk.Desk.{Ghosts}
 use Rattle.avr_desk.specs.declared.desk.DeskFault.{DeskFault}
 use Rattle.avr_desk.specs.declared.desk.DeskFault.TheVariants.{Failed}
 use Rattle.avr_desk.specs.declared.stream.Stream.TheVariants.{File, Messages}
 use Rattle.stk_host.specs.Dialog.{outputs}
-use Rattle.avr_desk.specs.Said.{OutputEvent, Line, IsPrefixOf, IsPrinted, Tells, after_all}
+use Rattle.avr_desk.specs.OutputEvents.{OutputEvent, PrintsLine, IsPrefixOf, IsPrinted, ReportsLine, after_events}
 use Rattle.avr_desk.proofs.Stages.Outputs.{kept_append}
-use Rattle.avr_desk.proofs.Lines.Told.{follows_on, same_on, unsaid_since}
-use Rattle.avr_session.specs.Runs.{cause_line, Cause, OfFile, OfPrinting, FileTrouble}
-use Rattle.avr_session.specs.Reporting.{SaysPrefix, SaidSome, SaysOrStops, Reports, Outputs, PrintStops, Prints, FileStops, DeskStops}
+use Rattle.avr_desk.proofs.Lines.Told.{follows_on, same_on, message_failures_since}
+use Rattle.avr_session.specs.Runs.{cause_line, Cause, FileFailed, PrintingFailed, FileTrouble}
+use Rattle.avr_session.specs.Reporting.{OutputsPrefix, OutputsPrefixAndReports, OutputsOrStops, Reports, Outputs, PrintStops, Prints, FileStops, DeskStops}
 use Rattle.avr_session.specs.Saving.{SaveStops}
 use Rattle.avr_session.proofs.Runs.Stops.{outputs_by, line_part, prefix_behind, prefix_of}
 
 -- nothing more is printed after printing failed
-said_until : (old new : DeskState) (outputs : List OutputEvent) → SaysPrefix OfPrinting old new outputs
-    → HasFailedToSay old new → SaidSome PrintStops old new outputs
+said_until : (old new : DeskState) (outputs : List OutputEvent) → OutputsPrefix PrintingFailed old new outputs
+    → HasFailedToReport old new → OutputsPrefixAndReports PrintStops old new outputs
 said_until old new outputs prefix failed = search rules
 
 -- a line that was printed, or not
 pub reports_line : (old new : DeskState) (bytes : List ℕ) (printed : Result (Unit {0}) DeskFault)
-    → IsPrinted old new bytes printed → Counts Messages old new printed → IfErr printed (λ e. e ≡ Failed)
-    → Reports PrintStops old new (Line bytes ∷ []) printed
+    → IsPrinted old new bytes printed → CountsFailure Messages old new printed → IfErr printed (λ e. e ≡ Failed)
+    → Reports PrintStops old new (PrintsLine bytes ∷ []) printed
 reports_line old new bytes printed is counts only = search (rules, said_until, line_part)
 
 -- a cause that stops the line after a report stops both
@@ -33,8 +33,8 @@ said_then : (By : DeskState → DeskState → Cause → List ℕ
     → Type 0) (old mid new : DeskState) (first more : List OutputEvent)
     (result : Result (Unit {0}) DeskFault)
     → ((cause : Cause) (told : List ℕ) → PrintStops mid new cause told → By old new cause told)
-    → Passes (after_all first) old mid × HasSameCounts old mid → SaysOrStops PrintStops mid new more result
-    → SaysOrStops By old new (first ++ more) result
+    → ChangesRecord (after_events first) old mid × HasSameCounts old mid → OutputsOrStops PrintStops mid new more result
+    → OutputsOrStops By old new (first ++ more) result
 said_then By old mid new first more (Ok done) why was then = search (rules, kept_append, same_on)
 said_then By old mid new first more (Err _) why was then = search (rules, prefix_behind)
 
@@ -51,7 +51,7 @@ module _ {D : Type 0} (desk : Ghosts D) (first more : List OutputEvent) where
       → Outputs desk (SaveStops file) first old mid (Ok done) → Prints desk more mid new result
       → Outputs desk DeskStops (first ++ more) old new result
   saves_then {old = old} {mid = mid} {new = new} file result was then = record {
-    reports = search (rules, said_then, unsaid_since, follows_on);
+    reports = search (rules, said_then, message_failures_since, follows_on);
     stays = λ start of. then.stays start (was.stays start of);
   }
 
@@ -70,44 +70,44 @@ module _ {D : Type 0} (desk : Ghosts D) (first more : List OutputEvent) where
 
 -- a prefix of one line was printed
 
-one_only : (l x : List ℕ) (whole more : List OutputEvent) → Line l ∷ [] ≡ whole ++ (Line x ∷ more) → (whole ≡ [])
+one_only : (l x : List ℕ) (whole more : List OutputEvent) → PrintsLine l ∷ [] ≡ whole ++ (PrintsLine x ∷ more) → (whole ≡ [])
     × (x ≡ l)
-one_only l x [] more is = let e : Line l ≡ Line x = cc in let same : l ≡ x = cc in (refl, sym same)
-one_only l x (s ∷ []) more is = let e : [] ≡ Line x ∷ more = cc in absurd (cc)
-one_only l x (s ∷ t ∷ whole) more is = let e : [] ≡ t ∷ (whole ++ (Line x ∷ more)) = cc in absurd (cc)
+one_only l x [] more is = let e : PrintsLine l ≡ PrintsLine x = cc in let same : l ≡ x = cc in (refl, sym same)
+one_only l x (s ∷ []) more is = let e : [] ≡ PrintsLine x ∷ more = cc in absurd (cc)
+one_only l x (s ∷ t ∷ whole) more is = let e : [] ≡ t ∷ (whole ++ (PrintsLine x ∷ more)) = cc in absurd (cc)
 
-one_line : {d e : DeskState} (l : List ℕ) → SaysPrefix OfPrinting d e (Line l ∷ [])
-    → (prefix : List ℕ) × IsPrefixOf prefix l × Passes (after_err prefix) d e
+one_line : {d e : DeskState} (l : List ℕ) → OutputsPrefix PrintingFailed d e (PrintsLine l ∷ [])
+    → (prefix : List ℕ) × IsPrefixOf prefix l × ChangesRecord (after_err prefix) d e
 one_line {d = d} {e = e} l prefix =
     let p = prefix.place in
-    let begun : prefix.begun ≡ Line p.done ∷ [] = outputs_by prefix.begun _ p.part in
-    let later : prefix.later ≡ Line p.bytes ∷ outputs p.more = outputs_by prefix.later _ p.due in
+    let begun : prefix.begun ≡ PrintsLine p.done ∷ [] = outputs_by prefix.begun _ p.part in
+    let later : prefix.later ≡ PrintsLine p.bytes ∷ outputs p.more = outputs_by prefix.later _ p.due in
     search (rules, one_only)
 
-told_line : (cause : Cause) (told l : List ℕ) (old new between : DeskState) → Follows old new
-    → SaysPrefix cause old between (Line l ∷ []) → PrintStops old new cause told → Passes (after_err told) between new
-    → Tells old new l
-told_line OfPrinting told l old new between follows prefix stops kept = search (rules, one_line l prefix)
+told_line : (cause : Cause) (told l : List ℕ) (old new between : DeskState) → CountsNeverFall old new
+    → OutputsPrefix cause old between (PrintsLine l ∷ []) → PrintStops old new cause told → ChangesRecord (after_err told) between new
+    → ReportsLine old new l
+told_line PrintingFailed told l old new between follows prefix stops kept = search (rules, one_line l prefix)
 told_line cause told l old new between follows prefix stops kept = absurd stops
 
-some_told : (old new : DeskState) (l : List ℕ) (result : Result (Unit {0}) DeskFault) → Follows old new
-    → SaysOrStops PrintStops old new (Line l ∷ []) result → Tells old new l
+some_told : (old new : DeskState) (l : List ℕ) (result : Result (Unit {0}) DeskFault) → CountsNeverFall old new
+    → OutputsOrStops PrintStops old new (PrintsLine l ∷ []) result → ReportsLine old new l
 some_told old new l (Ok done) follows said =
     record { told = l; tells = inl (refl, said.1); kept = said.0; follows = follows }
 some_told old new l (Err _) follows some = search (rules, told_line)
 
 -- the part of a reported line that was printed
 pub told_some : (old new : DeskState) (l : List ℕ) (result : Result (Unit {0}) DeskFault)
-    → Reports PrintStops old new (Line l ∷ []) result → Tells old new l
+    → Reports PrintStops old new (PrintsLine l ∷ []) result → ReportsLine old new l
 told_some old new l result reports = some_told old new l result reports.follows reports.says
 
 -- a file's fault is reported after the output so far
 pub file_stops : (By : DeskState → DeskState → Cause → List ℕ → Type 0) (old mid new : DeskState)
     (outputs : List OutputEvent)
-    (file : List ℕ) (trouble : FileTrouble) → SaysPrefix (OfFile file trouble) old mid outputs
-    → HasFailedAt File old mid → Follows old mid
-    → ((told : List ℕ) → FileStops old new file trouble told → By old new (OfFile file trouble) told)
-    → Tells mid new (cause_line (OfFile file trouble)) → SaidSome By old new outputs
+    (file : List ℕ) (trouble : FileTrouble) → OutputsPrefix (FileFailed file trouble) old mid outputs
+    → HasFailedAt File old mid → CountsNeverFall old mid
+    → ((told : List ℕ) → FileStops old new file trouble told → By old new (FileFailed file trouble) told)
+    → ReportsLine mid new (cause_line (FileFailed file trouble)) → OutputsPrefixAndReports By old new outputs
 file_stops By old mid new outputs file trouble prefix failed first why some = search rules
 
 pub not_lt : (a b : ℕ) → b ≤ a → nat_lt a b ≡ false

@@ -4,7 +4,7 @@ use Rattle.std.proofs.Math.Bool.{or-false}
 use Rattle.std.specs.List.{list_any}
 use Rattle.std.proofs.lemmas.Grind.{common_steps}
 use Rattle.std.proofs.lemmas.List.Folds.{list_any-append}
-use Rattle.avr_desk.specs.Fault.{Follows}
+use Rattle.avr_desk.specs.Fault.{CountsNeverFall}
 use Rattle.avr_desk.specs.Record.{DeskState}
 use Rattle.avr_desk.specs.declared.desk.DeskFault.{DeskFault}
 use Rattle.avr_cli.specs.declared.settings.Switches.{Switches}
@@ -17,47 +17,47 @@ use Rattle.stk_host.specs.Transcript.{LinkState, heard}
 use Rattle.stk_host.specs.Tape.{Tape, on_tape}
 use Rattle.stk_host.proofs.Transcripts.InDialogs.{followed, played_bind}
 use Rattle.stk_host.proofs.Transcripts.Laws.{heard_append}
-use Rattle.stk_host.specs.Calls.{Calls, given_or_fault}
+use Rattle.stk_host.specs.Calls.{Calls, value_or_fault}
 use Rattle.stk_host.specs.Dialog.{Dialog, Done, ◌>>=◌, played, outputs}
-use Rattle.avr_desk.specs.Said.{OutputEvent, Line, Tells}
+use Rattle.avr_desk.specs.OutputEvents.{OutputEvent, PrintsLine, ReportsLine}
 use Rattle.avr_plan.specs.Plan.{Plan}
 use Rattle.avr_plan.specs.declared.planned.Task.{Task}
-use Rattle.avr_session.specs.Standing.{Standing, Fine, Over}
+use Rattle.avr_session.specs.Standing.{Standing, NoFault, Over}
 use Rattle.avr_session.specs.declared.ending.End.{End}
 use Rattle.avr_session.specs.declared.ending.End.TheVariants as ends
-use Rattle.avr_session.specs.Actions.{Action, action_takes_memory, actions, takes_memory}
-use Rattle.avr_session.specs.Concluding.{HostServes, conclusion, stands}
+use Rattle.avr_session.specs.Actions.{Action, action_allocates, actions, plan_allocates}
+use Rattle.avr_session.specs.Concluding.{HostIsUsable, conclusion, standing_after}
 use Rattle.avr_session.specs.Lines.{fault_line}
-use Rattle.avr_session.specs.Outcomes.{EndsTold}
-use Rattle.avr_session.specs.Session.{says, standing, reported, unless_fault, fault_or, action_dialog, actions_dialog, ending, session, status_of}
-use Rattle.avr_session.specs.Runs.{Cause, OfPrinting, cause_line, tells_fault, Devices, devices, start, Terms, untold, TellsCause, StopsBehind, Lacking, Ran}
+use Rattle.avr_session.specs.Outcomes.{EndsWithFaultLine}
+use Rattle.avr_session.specs.Session.{says, standing, reported, unless_fault, fault_line_or, action_dialog, actions_dialog, ending, session, status_of}
+use Rattle.avr_session.specs.Runs.{Cause, PrintingFailed, cause_line, reports_fault, Devices, devices, start, Terms, before_fault, ReportsCause, StopsAfterOutput, MayAllocate, RanWhole}
 use Rattle.avr_session.specs.Reporting.{DeskStops, PrintStops, ReadStops, Reports}
 use Rattle.avr_session.specs.Run.{StopsSession}
-use Rattle.avr_session.specs.Stopping.{IsPlayed}
-use Rattle.avr_session.specs.Taking.{AtOnce, AtTaking}
-use Rattle.avr_session.specs.Performing.{is_told, PerformsBehind, Performs, PlanDoes, EndsSession, PlaysSession, Runs}
+use Rattle.avr_session.specs.Stopping.{RanToStatus}
+use Rattle.avr_session.specs.AllocationPoints.{AtStartOnly, AtAllocation}
+use Rattle.avr_session.specs.Performing.{has_fault, PerformsOnTerms, Performs, DoesPlanActions, EndsSession, PlaysSession, Runs}
 use Rattle.avr_desk.proofs.Stages.Outputs.{kept_none}
 use Rattle.avr_desk.proofs.Lines.Told.{follows_here, same_here}
-use Rattle.avr_session.proofs.Runs.Calls.{none_failed_here, came_here, came_said, came_part, ran_from, ran_on, stops_in, broke_on, broke_part, broke_output, LacksLater, StopsReport, ToldBy}
-use Rattle.avr_session.proofs.ActionByAction.FaultsTold.{Foretells, foretold, prefix_tells_none, actions_foretells}
+use Rattle.avr_session.proofs.Runs.Calls.{none_failed_here, came_here, came_said, came_part, ran_from, ran_on, stops_in, broke_on, broke_part, broke_output, LacksLater, StopsReport, ReportedBy}
+use Rattle.avr_session.proofs.ActionByAction.FaultsReported.{Foretells, foretold, prefix_tells_none, actions_foretells}
 use Rattle.avr_session.proofs.ActionByAction.Actions.{actions_dialog-one, actions_dialog-append}
-use Rattle.avr_session.proofs.ActionByAction.Operations.{Stop, fault_at, cause_at, StopsAs, StopsOver, operation_runs, stop_come, told_of}
+use Rattle.avr_session.proofs.ActionByAction.Operations.{Stop, fault_at, cause_at, StopsAs, StopsOver, operation_runs, stop_come, cause_is_reported}
 
 -- a desk that failed in printing stops the run, whatever was reported
-printing_tells : (flag : Bool) (told : List ℕ) (d : DeskState) → told ≡ [] → TellsCause flag OfPrinting told d d
+printing_tells : (flag : Bool) (told : List ℕ) (d : DeskState) → told ≡ [] → ReportsCause flag PrintingFailed told d d
 unfolding cause_line
 printing_tells flag told d none = search (rules, same_here)
 
-pub print_stops_run : (terms : Terms) (o : LinkState) (d e : DeskState) → Follows d e
+pub print_stops_run : (terms : Terms) (o : LinkState) (d e : DeskState) → CountsNeverFall d e
     → (said : List OutputEvent) (cause : Cause) (told : List ℕ) → PrintStops d e cause told
-    → StopsBehind terms (devices o d) (devices o e) said cause told
-print_stops_run terms o d e le said OfPrinting told stops = search (rules, printing_tells, follows_here)
+    → StopsAfterOutput terms (devices o d) (devices o e) said cause told
+print_stops_run terms o d e le said PrintingFailed told stops = search (rules, printing_tells, follows_here)
 print_stops_run terms o d e le said cause told stops = absurd stops
 
 -- so does a desk that failed at a file, if no fault was reported
-desk_stops_run : (takes : Bool) (o : LinkState) (d e : DeskState) → Follows d e → (said : List OutputEvent)
-    → tells_fault said ≡ false → (cause : Cause) (told : List ℕ) → DeskStops d e cause told
-    → StopsBehind (untold takes) (devices o d) (devices o e) said cause told
+desk_stops_run : (takes : Bool) (o : LinkState) (d e : DeskState) → CountsNeverFall d e → (said : List OutputEvent)
+    → reports_fault said ≡ false → (cause : Cause) (told : List ℕ) → DeskStops d e cause told
+    → StopsAfterOutput (before_fault takes) (devices o d) (devices o e) said cause told
 desk_stops_run takes o d e le said none cause told stops = search (rules, print_stops_run)
 
 -- the cause that stops a report, after a prefix of its output
@@ -68,8 +68,8 @@ pub print_stops_report : (terms : Terms) (o : LinkState) {d e : DeskState} {outp
 print_stops_report terms o {d = d} {e = e} reports mid cause prefix told stops = search (rules, print_stops_run)
 
 told_by : {R : Type 0} (takes : Bool) (dialog : Dialog ⊥ R) (m : Progress) (o p : LinkState) {d e : DeskState}
-    (stop : Stop) → StopsOver takes dialog m o p stop → Tells d e (cause_line (cause_at stop))
-    → ToldBy (untold takes) (cause_at stop) (devices o d) (devices p e)
+    (stop : Stop) → StopsOver takes dialog m o p stop → ReportsLine d e (cause_line (cause_at stop))
+    → ReportedBy (before_fault takes) (cause_at stop) (devices o d) (devices p e)
 told_by takes dialog m o p {d = d} stop over some = search (rules, stop_come)
 
 -- a call of an equal operation
@@ -84,56 +84,56 @@ module _ {A : Type 0} (operation : Dialog ⊥ (Result A HostFault)) (outcome_say
     {By : DeskState → DeskState → Cause → List ℕ → Type 0} (reports : Reports By d e (outcome_says outcome) told) where
   action_performs : (terms : Terms) → StopsReport terms p d e (outcome_says outcome) By
       → ((stop : Stop) → StopsAs outcome stop → StopsOver terms.takes operation old.progress o p stop
-      → ToldBy terms (cause_at stop) (devices o d) (devices p e)) → old.broken ≡ None
+      → ReportedBy terms (cause_at stop) (devices o d) (devices p e)) → old.broken ≡ None
       → Calls terms.takes operation old new o p outcome → result ≡ conclusion outcome told
-      → PerformsBehind terms (AtOnce terms.takes) (reported operation outcome_says) old new (devices o d) (devices p e)
-      (stands result)
+      → PerformsOnTerms terms (AtStartOnly terms.takes) (reported operation outcome_says) old new (devices o d) (devices p e)
+      (standing_after result)
   action_performs terms why tells sound calls is = search (rules, operation_runs)
 
-  pub operation_performs : (takes : Bool) → StopsReport (untold takes) p d e (outcome_says outcome) By
-      → ((stop : Stop) → StopsAs outcome stop → Tells d e (cause_line (cause_at stop)))
+  pub operation_performs : (takes : Bool) → StopsReport (before_fault takes) p d e (outcome_says outcome) By
+      → ((stop : Stop) → StopsAs outcome stop → ReportsLine d e (cause_line (cause_at stop)))
       → old.broken ≡ None → Calls takes operation old new o p outcome → result ≡ conclusion outcome told
-      → Performs takes (reported operation outcome_says) old new (devices o d) (devices p e) (stands result)
+      → Performs takes (reported operation outcome_says) old new (devices o d) (devices p e) (standing_after result)
   operation_performs takes why some sound calls = search (rules, action_performs, told_by)
 
 left_out_runs : (takes : Bool) (outputs : List OutputEvent) (m : Progress) (o : LinkState) (d e : DeskState)
     (told : Result (Unit {0}) DeskFault) → Reports PrintStops d e outputs told
-    → Runs (says outputs (Done Fine)) m (devices o d) (devices o e) (untold takes) (AtOnce takes)
-    (stands (conclusion {A = Unit {0}} (Ok tt) told)) m
-left_out_runs takes outputs m o d e (Ok done) reports = ran_from (came_said outputs (Done Fine) m o reports.says)
+    → Runs (says outputs (Done NoFault)) m (devices o d) (devices o e) (before_fault takes) (AtStartOnly takes)
+    (standing_after (conclusion {A = Unit {0}} (Ok tt) told)) m
+left_out_runs takes outputs m o d e (Ok done) reports = ran_from (came_said outputs (Done NoFault) m o reports.says)
 left_out_runs takes outputs m o d e (Err _) reports = search (rules, broke_output, print_stops_report)
 
 pub left_out_performs : (takes : Bool) (outputs : List OutputEvent) {host : HostState} {o : LinkState} {d e : DeskState}
     {told : Result (Unit {0}) DeskFault} (result : Result (Unit {0}) End) → host.broken ≡ None
     → Reports PrintStops d e outputs told → result ≡ conclusion {A = Unit {0}} (Ok tt) told
-    → Performs takes (says outputs (Done Fine)) host host (devices o d) (devices o e) (stands result)
+    → Performs takes (says outputs (Done NoFault)) host host (devices o d) (devices o e) (standing_after result)
 left_out_performs takes outputs {host = host} {o = o} {d = d} {e = e} result sound reports is =
     search (rules, left_out_runs)
 
 -- the output in place of an action reports no fault
 pub ends_untold : (part : Part) (view : DeskState) (told : Result (Unit {0}) DeskFault) {result : Result (Unit {0}) End}
-    → result ≡ conclusion {A = Unit {0}} (Ok tt) told → EndsTold part view result
+    → result ≡ conclusion {A = Unit {0}} (Ok tt) told → EndsWithFaultLine part view result
 ends_untold part view (Ok done) is = rw is tt
 ends_untold part view (Err _) is = rw is tt
 
-pub nothing_performs : {terms : Terms} {L : Lacking} (standing : Standing) (host : HostState) (o : Devices)
-    → HostServes (Ok standing) host.broken → PerformsBehind terms L (Done standing) host host o o (Ok standing)
+pub nothing_performs : {terms : Terms} {L : MayAllocate} (standing : Standing) (host : HostState) (o : Devices)
+    → HostIsUsable (Ok standing) host.broken → PerformsOnTerms terms L (Done standing) host host o o (Ok standing)
 nothing_performs standing host o serves = search (rules, ran_from, came_here, follows_here)
 
 -- after an action that was done a session goes on as its state chooses
-module _ {first : Dialog OutputEvent Standing} {K : Lacking} {x y : HostState} {o p : Devices} (takes : Bool)
-    (standing : Standing) (done : PerformsBehind (untold takes) K first x y o p (Ok standing)) where
-  after_done : {terms : Terms} {L M : Lacking} {more whole : Dialog OutputEvent Standing} {z : HostState} {q : Devices}
-      {result : Result Standing (Unit {0})} → PerformsBehind terms M more y z p q result
-      → Runs whole x.progress o q (untold takes) L result z.progress
-      → PerformsBehind (untold takes) L whole x z o q result
+module _ {first : Dialog OutputEvent Standing} {K : MayAllocate} {x y : HostState} {o p : Devices} (takes : Bool)
+    (standing : Standing) (done : PerformsOnTerms (before_fault takes) K first x y o p (Ok standing)) where
+  after_done : {terms : Terms} {L M : MayAllocate} {more whole : Dialog OutputEvent Standing} {z : HostState} {q : Devices}
+      {result : Result Standing (Unit {0})} → PerformsOnTerms terms M more y z p q result
+      → Runs whole x.progress o q (before_fault takes) L result z.progress
+      → PerformsOnTerms (before_fault takes) L whole x z o q result
   after_done {q = q} rest runs = search rules
 
-  pub performs_on : {L M : Lacking} (more_takes : Bool) (go_on : Standing → Dialog OutputEvent Standing) {z : HostState}
+  pub performs_on : {L M : MayAllocate} (more_takes : Bool) (go_on : Standing → Dialog OutputEvent Standing) {z : HostState}
       {q : Devices} (result : Result Standing (Unit {0})) → (more_takes ≡ true → takes ≡ true) → Foretells first
       → LacksLater L x.progress done.runs.during done.runs.events M y.progress
-      → PerformsBehind (record { takes = more_takes; was_told = is_told standing }) M (go_on standing) y z p q result
-      → PerformsBehind (untold takes) L (first >>= go_on) x z o q result
+      → PerformsOnTerms (record { takes = more_takes; has_reported = has_fault standing }) M (go_on standing) y z p q result
+      → PerformsOnTerms (before_fault takes) L (first >>= go_on) x z o q result
   unfolding came_part
   performs_on more_takes go_on (Ok then) both foretells lack rest =
       after_done rest (ran_on (came_part go_on done.runs) rest.runs)
@@ -141,10 +141,10 @@ module _ {first : Dialog OutputEvent Standing} {K : Lacking} {x y : HostState} {
       after_done rest (broke_on (came_part go_on done.runs) (search (rules, stops_in, foretold)) lack rest.runs)
 
 -- the same run of the host and its devices, as another action
-abbrev performs_as : {terms all : Terms} {L M : Lacking} {first whole : Dialog OutputEvent Standing} {x y : HostState}
-    {o p : Devices} {one other : Result Standing (Unit {0})} → PerformsBehind terms L first x y o p one
-    → Runs whole x.progress o p all M other y.progress → HostServes other y.broken
-    → PerformsBehind all M whole x y o p other
+abbrev performs_as : {terms all : Terms} {L M : MayAllocate} {first whole : Dialog OutputEvent Standing} {x y : HostState}
+    {o p : Devices} {one other : Result Standing (Unit {0})} → PerformsOnTerms terms L first x y o p one
+    → Runs whole x.progress o p all M other y.progress → HostIsUsable other y.broken
+    → PerformsOnTerms all M whole x y o p other
 performs_as done runs serves =
     record { runs = runs; serves = serves; part = done.part; link = done.link; desk = done.desk }
 
@@ -152,11 +152,11 @@ performs_as done runs serves =
 
 module _ (takes more_takes : Bool) where
   -- an action at which a session ends
-  performs_last : {first : Dialog OutputEvent Standing} {L M : Lacking} (more : Dialog OutputEvent Standing)
+  performs_last : {first : Dialog OutputEvent Standing} {L M : MayAllocate} (more : Dialog OutputEvent Standing)
       {x y : HostState}
       {o p : Devices} (end : End) → LacksLater L x.progress [] [] M x.progress
-      → PerformsBehind (untold takes) M first x y o p (stands (Err end))
-      → PerformsBehind (untold (takes || more_takes)) L (first >>= unless_fault more) x y o p (stands (Err end))
+      → PerformsOnTerms (before_fault takes) M first x y o p (standing_after (Err end))
+      → PerformsOnTerms (before_fault (takes || more_takes)) L (first >>= unless_fault more) x y o p (standing_after (Err end))
   performs_last more {o = o} {p = p} ends.Stopped lack done = search (rules, broke_part, none_failed_here)
   performs_last more end lack done =
       performs_as done (ran_from (came_part (unless_fault more) done.runs)) done.serves
@@ -164,7 +164,7 @@ module _ (takes more_takes : Bool) where
 -- ---- actions that allocate
 
 taking_one : (part : Part) (s : Switches) (action : Action) (m : Progress)
-    → LacksLater (AtTaking part s (action ∷ [])) m [] [] (AtOnce (action_takes_memory action)) m
+    → LacksLater (AtAllocation part s (action ∷ [])) m [] [] (AtStartOnly (action_allocates action)) m
 taking_one part s action m during shown at = record {
   done = [];
   due = action;
@@ -177,12 +177,12 @@ taking_one part s action m during shown at = record {
 }
 
 taking_prefix : (part : Part) (s : Switches) (xs ys : List Action) (m : Progress)
-    → LacksLater (AtTaking part s (xs ++ ys)) m [] [] (AtTaking part s xs) m
+    → LacksLater (AtAllocation part s (xs ++ ys)) m [] [] (AtAllocation part s xs) m
 taking_prefix part s xs ys m during shown at = search (rules, append_assoc)
 
 taking_then : (part : Part) (s : Switches) (xs ys : List Action) {m n : Progress} {o p : Devices}
-    (ran : Ran (actions_dialog part s xs) m o p Fine n)
-    → LacksLater (AtTaking part s (xs ++ ys)) m ran.during ran.events (AtTaking part s ys) n
+    (ran : RanWhole (actions_dialog part s xs) m o p NoFault n)
+    → LacksLater (AtAllocation part s (xs ++ ys)) m ran.during ran.events (AtAllocation part s ys) n
 taking_then part s xs ys {m = m} {n = n} ran during shown at =
     let tape : Tape = on_tape m.unread ++ heard (ran.during ++ during) in
     let first = ap (λ (t : Tape). played (actions_dialog part s xs) m.next (on_tape m.unread ++ t))
@@ -201,30 +201,30 @@ taking_then part s xs ys {m = m} {n = n} ran during shown at =
 -- ---- the actions of a plan
 
 pub does_nothing : (plan : Plan) (host : HostState) (o : Devices) → host.broken ≡ None
-    → PlanDoes plan [] host host o o (Ok Fine)
-does_nothing plan host o sound = nothing_performs Fine host o sound
+    → DoesPlanActions plan [] host host o o (Ok NoFault)
+does_nothing plan host o sound = nothing_performs NoFault host o sound
 
 -- the same action, by the other places that may allocate
-performs_lacking : {terms : Terms} {L M : Lacking} {dialog : Dialog OutputEvent Standing} {x y : HostState}
+performs_lacking : {terms : Terms} {L M : MayAllocate} {dialog : Dialog OutputEvent Standing} {x y : HostState}
     {o p : Devices}
     → LacksLater L x.progress [] [] M x.progress → (result : Result Standing (Unit {0}))
-    → PerformsBehind terms M dialog x y o p result
-    → PerformsBehind terms L dialog x y o p result
+    → PerformsOnTerms terms M dialog x y o p result
+    → PerformsOnTerms terms L dialog x y o p result
 unfolding came_here
 performs_lacking lack (Ok standing) done = performs_as done done.runs done.serves
 performs_lacking {dialog = dialog} {x = x} {o = o} lack (Err stopped) done = performs_as done
     (broke_on (came_here dialog x.progress o) (λ said cause told stops. stops) lack done.runs) done.serves
 
 pub does_one : (plan : Plan) (action : Action) {x y : HostState} {o p : Devices} {result : Result Standing (Unit {0})}
-    → Performs (action_takes_memory action) (action_dialog plan.part plan.switches action) x y o p result
-    → PlanDoes plan (action ∷ []) x y o p result
+    → Performs (action_allocates action) (action_dialog plan.part plan.switches action) x y o p result
+    → DoesPlanActions plan (action ∷ []) x y o p result
 does_one plan action {x = x} {y = y} {o = o} {p = p} {result = result} done =
     search (rules, or-false, actions_dialog-one, performs_lacking, taking_one)
 
 -- the same actions, in another form
 pub does_same : (plan : Plan) (xs ys : List Action) {x y : HostState} {o p : Devices}
     {result : Result Standing (Unit {0})}
-    → xs ≡ ys → PlanDoes plan xs x y o p result → PlanDoes plan ys x y o p result
+    → xs ≡ ys → DoesPlanActions plan xs x y o p result → DoesPlanActions plan ys x y o p result
 does_same plan xs ys {x = x} {y = y} {o = o} {p = p} {result = result} same done = search rules
 
 -- one that is an operation of the host, and the print about its outcome
@@ -232,63 +232,63 @@ pub does_printed : (plan : Plan) (action : Action) {A : Type 0} {a b : Dialog �
     (outcome_says : Result A HostFault → List OutputEvent) {x y : HostState} {o p : LinkState} {d e : DeskState}
     {outcome : Result A HostFault} {told : Result (Unit {0}) DeskFault} {result : Result (Unit {0}) End}
     → action_dialog plan.part plan.switches action ≡ reported b outcome_says
-    → ((stop : Stop) → outcome_says (Err (fault_at stop)) ≡ Line (fault_line plan.part (fault_at stop)) ∷ [])
-    → x.broken ≡ None → a ≡ b → Calls (action_takes_memory action) a x y o p outcome
+    → ((stop : Stop) → outcome_says (Err (fault_at stop)) ≡ PrintsLine (fault_line plan.part (fault_at stop)) ∷ [])
+    → x.broken ≡ None → a ≡ b → Calls (action_allocates action) a x y o p outcome
     → Reports PrintStops d e (outcome_says outcome) told → result ≡ conclusion outcome told
-    → PlanDoes plan (action ∷ []) x y (devices o d) (devices p e) (stands result)
+    → DoesPlanActions plan (action ∷ []) x y (devices o d) (devices p e) (standing_after result)
 does_printed plan action {b = b} outcome_says dialog line sound same calls reports is =
-    does_one plan action (rw dialog (operation_performs b outcome_says reports (action_takes_memory action)
-    (print_stops_report _ _ reports) (told_of plan.part outcome_says line reports) sound (calls_of same calls) is))
+    does_one plan action (rw dialog (operation_performs b outcome_says reports (action_allocates action)
+    (print_stops_report _ _ reports) (cause_is_reported plan.part outcome_says line reports) sound (calls_of same calls) is))
 
 module _ (plan : Plan) (xs ys : List Action) where
   does_both : {x y : HostState} {o p : Devices} {result : Result Standing (Unit {0})}
-      → PerformsBehind (untold (list_any action_takes_memory xs || list_any action_takes_memory ys))
-      (AtTaking plan.part plan.switches (xs ++ ys))
+      → PerformsOnTerms (before_fault (list_any action_allocates xs || list_any action_allocates ys))
+      (AtAllocation plan.part plan.switches (xs ++ ys))
       (actions_dialog plan.part plan.switches xs
       >>= unless_fault (actions_dialog plan.part plan.switches ys)) x y o p result
-      → PlanDoes plan (xs ++ ys) x y o p result
+      → DoesPlanActions plan (xs ++ ys) x y o p result
   does_both {x = x} {y = y} {o = o} {p = p} {result = result} done =
       search (rules, list_any-append, actions_dialog-append)
 
   pub does_then : {x y z : HostState} {o p q : Devices} (result : Result Standing (Unit {0}))
-      → PlanDoes plan xs x y o p (Ok Fine) → PlanDoes plan ys y z p q result → PlanDoes plan (xs ++ ys) x z o q result
+      → DoesPlanActions plan xs x y o p (Ok NoFault) → DoesPlanActions plan ys y z p q result → DoesPlanActions plan (xs ++ ys) x z o q result
   does_then result done rest =
-      does_both (performs_on {K = AtTaking plan.part plan.switches xs}
-      (list_any action_takes_memory xs || list_any action_takes_memory ys) Fine
+      does_both (performs_on {K = AtAllocation plan.part plan.switches xs}
+      (list_any action_allocates xs || list_any action_allocates ys) NoFault
       (performs_as done done.runs done.serves)
-      (list_any action_takes_memory ys) (unless_fault (actions_dialog plan.part plan.switches ys)) result
+      (list_any action_allocates ys) (unless_fault (actions_dialog plan.part plan.switches ys)) result
       (search rules)
       (actions_foretells plan.part plan.switches xs) (taking_then plan.part plan.switches xs ys done.runs) rest)
 
   -- the others are skipped
-  pub does_last : {x y : HostState} {o p : Devices} (end : End) → PlanDoes plan xs x y o p (stands (Err end))
-      → PlanDoes plan (xs ++ ys) x y o p (stands (Err end))
+  pub does_last : {x y : HostState} {o p : Devices} (end : End) → DoesPlanActions plan xs x y o p (standing_after (Err end))
+      → DoesPlanActions plan (xs ++ ys) x y o p (standing_after (Err end))
   does_last {x = x} end done = search (rules, does_both, performs_last, taking_prefix)
 
 -- a read, whose data are in a vector
 
 pub given_concluded : {A : Type 0} (a : A) (outcome : Result (Unit {0}) HostFault)
-    (told : Result (Unit {0}) DeskFault) → conclusion (given_or_fault a outcome) told ≡ conclusion outcome told
+    (told : Result (Unit {0}) DeskFault) → conclusion (value_or_fault a outcome) told ≡ conclusion outcome told
 given_concluded a outcome told = search rules
 
 -- why a run stops depends on the fault alone
 pub given_told : {A : Type 0} (a : A) (good : A → List OutputEvent) {d e : DeskState} (part : Part)
     (outcome : Result (Unit {0}) HostFault) {told : Result (Unit {0}) DeskFault}
-    → Reports (ReadStops outcome) d e (fault_or part good (given_or_fault a outcome)) told
-    → (stop : Stop) → StopsAs (given_or_fault a outcome) stop → Tells d e (cause_line (cause_at stop))
+    → Reports (ReadStops outcome) d e (fault_line_or part good (value_or_fault a outcome)) told
+    → (stop : Stop) → StopsAs (value_or_fault a outcome) stop → ReportsLine d e (cause_line (cause_at stop))
 given_told a good part (Ok ok) reports stop is = absurd (cc)
-given_told a good part (Err fault) reports stop is = told_of part (fault_or part good) (λ stop. refl) reports stop is
+given_told a good part (Err fault) reports stop is = cause_is_reported part (fault_line_or part good) (λ stop. refl) reports stop is
 
 -- only if bytes were read is there something to save, and they are reported without a fault
-pub read_stops_report : (part : Part) (good : List ℕ → List OutputEvent) (items : List ℕ) → tells_fault (good items)
+pub read_stops_report : (part : Part) (good : List ℕ → List OutputEvent) (items : List ℕ) → reports_fault (good items)
     ≡ false
     → (outcome : Result (Unit {0}) HostFault) (takes : Bool) (o : LinkState) {d e : DeskState}
     {told : Result (Unit {0}) DeskFault}
-    → Reports (ReadStops outcome) d e (fault_or part good (given_or_fault items outcome)) told
-    → StopsReport (untold takes) o d e (fault_or part good (given_or_fault items outcome)) (ReadStops outcome)
+    → Reports (ReadStops outcome) d e (fault_line_or part good (value_or_fault items outcome)) told
+    → StopsReport (before_fault takes) o d e (fault_line_or part good (value_or_fault items outcome)) (ReadStops outcome)
 read_stops_report part good items none (Ok done) takes o {d = d} {e = e} reports =
     search (rules, desk_stops_run, prefix_tells_none)
-read_stops_report part good items none (Err fault) takes o reports = print_stops_report (untold takes) o reports
+read_stops_report part good items none (Err fault) takes o reports = print_stops_report (before_fault takes) o reports
 
 -- the tasks are the first and those after it
 pub first_task : (tasks : List Task) (task : Task) → 1 ≤ length tasks → task ≡ get_or tasks 0 task
@@ -303,23 +303,23 @@ tasks_behind tasks = grind (arith, common_steps)
 
 -- the end of a session
 
-pub performs_until : {terms : Terms} {L : Lacking} {first : Dialog OutputEvent Standing}
+pub performs_until : {terms : Terms} {L : MayAllocate} {first : Dialog OutputEvent Standing}
     (go_on : Standing → Dialog OutputEvent Standing) {x y : HostState} {o p : Devices} (stopped : Unit {0})
-    → PerformsBehind terms L first x y o p (Err stopped)
-    → PerformsBehind terms L (first >>= go_on) x y o p (Err stopped)
+    → PerformsOnTerms terms L first x y o p (Err stopped)
+    → PerformsOnTerms terms L (first >>= go_on) x y o p (Err stopped)
 performs_until go_on stopped done = search (rules, broke_part)
 
 abbrev told_before : Terms
-told_before = record { takes = false; was_told = true }
+told_before = record { takes = false; has_reported = true }
 
 -- a failed link isn't reported there, and nothing is allocated
 silent_at : {R : Type 0} (dialog : Dialog ⊥ R) (m : Progress) (o p : LinkState) (d : DeskState) (stop : Stop)
-    → StopsOver false dialog m o p stop → TellsCause true (cause_at stop) [] d d
+    → StopsOver false dialog m o p stop → ReportsCause true (cause_at stop) [] d d
 silent_at dialog m o p d stop over = search rules
 
 told_nothing : {A R : Type 0} (dialog : Dialog ⊥ R) (m : Progress) (o p : LinkState) {outcome : Result A HostFault}
     (d : DeskState) (stop : Stop) → StopsAs outcome stop
-    → StopsOver false dialog m o p stop → ToldBy told_before (cause_at stop) (devices o d) (devices p d)
+    → StopsOver false dialog m o p stop → ReportedBy told_before (cause_at stop) (devices o d) (devices p d)
 told_nothing dialog m o p d stop is over =
     search (rules, stop_come false dialog m o p d stop over, silent_at dialog m o p d stop over, follows_here d)
 
@@ -327,33 +327,33 @@ told_nothing dialog m o p d stop is over =
 pub quietly_performs : {old new : HostState} {o p : LinkState} (d : DeskState) {outcome : Result (Unit {0}) HostFault}
     {result : Result (Unit {0}) End} → old.broken ≡ None → Calls false closing old new o p outcome
     → result ≡ conclusion outcome (Ok tt)
-    → PerformsBehind told_before (AtOnce false) (reported closing (λ _. [])) old new (devices o d) (devices p d)
-    (stands result)
+    → PerformsOnTerms told_before (AtStartOnly false) (reported closing (λ _. [])) old new (devices o d) (devices p d)
+    (standing_after result)
 quietly_performs {old = old} {o = o} {p = p} d sound calls is =
     let reports : Reports PrintStops d d [] (Ok tt) =
     record { says = (kept_none d.kept, same_here d); follows = follows_here d } in
     search (rules, action_performs, print_stops_report, told_nothing)
 
 -- after it nothing more goes over the link
-pub quietly_over : {first : Dialog OutputEvent Standing} {L : Lacking} {x y : HostState} {o p : Devices}
+pub quietly_over : {first : Dialog OutputEvent Standing} {L : MayAllocate} {x y : HostState} {o p : Devices}
     (standing : Standing)
-    → PerformsBehind told_before L first x y o p (Ok standing)
-    → PerformsBehind told_before L (first >>= λ _. Done Over) x y o p (Ok Over)
+    → PerformsOnTerms told_before L first x y o p (Ok standing)
+    → PerformsOnTerms told_before L (first >>= λ _. Done Over) x y o p (Ok Over)
 quietly_over {y = y} {p = p} standing done =
     performs_as done (ran_on (came_part (λ _. Done Over) done.runs) (ran_from (came_here (Done Over) y.progress p))) tt
 
 -- a session in this state after its actions ends like this
 pub ends_so : (plan : Plan) (standing : Standing) {x y z : HostState} {o p q : Devices}
-    (result : Result Standing (Unit {0})) → PlanDoes plan (actions plan) x y o p (Ok standing)
+    (result : Result Standing (Unit {0})) → DoesPlanActions plan (actions plan) x y o p (Ok standing)
     → EndsSession plan standing y z p q result → PlaysSession plan x z o q result
 ends_so plan standing result done rest =
-    performs_on (takes_memory plan) standing done false (ending plan.part plan.switches) result (λ e. absurd (cc))
+    performs_on (plan_allocates plan) standing done false (ending plan.part plan.switches) result (λ e. absurd (cc))
     (actions_foretells plan.part plan.switches (actions plan)) (λ during shown never. let e = never.0 in absurd (cc))
     rest
 
 -- a whole session, run to its status, or stopped in this state
 pub session_played : (plan : Plan) {x y : HostState} {o p : Devices} (standing : Standing) → x.progress ≡ start
-    → PlaysSession plan x y o p (Ok standing) → IsPlayed (session plan) o p (status_of standing)
+    → PlaysSession plan x y o p (Ok standing) → RanToStatus (session plan) o p (status_of standing)
 unfolding session
 session_played plan {x = x} {y = y} {o = o} {p = p} standing first done =
     let ran = ran_on (came_part (λ standing. Done (status_of standing)) done.runs)

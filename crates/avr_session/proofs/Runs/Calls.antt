@@ -3,24 +3,24 @@ use Rattle.std.proofs.Common.{◌≡◌, ℕ, ◌≤◌, true, ◌||◌, List, [
 use Rattle.std.proofs.Math.Bool.{or_assoc}
 use Rattle.std.proofs.lemmas.List.Folds.{list_any-append}
 use Rattle.avr_desk.specs.Fault.{HasSameCounts}
-use Rattle.avr_desk.specs.Record.{Record, DeskState, Passes, after_err}
+use Rattle.avr_desk.specs.Record.{Record, DeskState, ChangesRecord, after_err}
 use Rattle.stk_host.specs.declared.fault.HostFault.{HostFault}
 use Rattle.stk_host.specs.declared.fault.HostFault.TheVariants.{SendFailed, RecvFailed}
 use Rattle.stk_host.specs.Tape.{Tape, on_tape}
 use Rattle.stk_host.specs.Transcript.{Transcript, LinkState, NoneTaken, Grows, heard, sent}
-use Rattle.stk_host.specs.Dialog.{Dialog, Done, ◌>>=◌, lifted, Event, Said, Played, played, bytes_sent, outputs}
-use Rattle.stk_host.specs.Play.{Progress, InTurn, played_over, PlaysOver, FailsOver}
+use Rattle.stk_host.specs.Dialog.{Dialog, Done, ◌>>=◌, lifted, Event, Emitted, Played, played, bytes_sent, outputs}
+use Rattle.stk_host.specs.Play.{Progress, InTurn, played_over, RunsOverLink, BreaksOverLink}
 use Rattle.stk_host.specs.Reach.{TranscriptLeads}
 use Rattle.stk_host.proofs.Transcripts.Laws.{grows_none, grows_on}
 use Rattle.stk_host.proofs.Transcripts.InDialogs.{continued, played_bind, leads_here, leads_on, leads_bind, leads_say, leads_from, breaks_on, breaks_bind}
 use Rattle.stk_host.proofs.Dialogs.Lifted.{raised, plays_lifted, by_lifted, outputs_raised}
 use Rattle.stk_host.proofs.Transcripts.Laws.{heard_append}
-use Rattle.avr_desk.specs.Said.{OutputEvent, SaidPart, after_all}
+use Rattle.avr_desk.specs.OutputEvents.{OutputEvent, IsPartOfEvent, after_events}
 use Rattle.avr_desk.proofs.Stages.Outputs.{kept_on, kept_none, after_append}
 use Rattle.avr_desk.proofs.Lines.Told.{follows_on, follows_same, same_here, same_on}
 use Rattle.avr_session.specs.Session.{says}
-use Rattle.avr_session.specs.Runs.{Devices, devices, NoneFailed, Cause, OfSending, OfListening, OfMemory, tells_fault, StopsAt, Listens, Lacking, Terms, StopsBehind, Ran, BrokeOff}
-use Rattle.avr_session.specs.Reporting.{IsOfDesk, SaysPrefix, SaidSome}
+use Rattle.avr_session.specs.Runs.{Devices, devices, NoDeviceFailed, Cause, SendingFailed, ReceivingFailed, AllocationFailed, reports_fault, StopsAt, Listens, MayAllocate, Terms, StopsAfterOutput, RanWhole, BrokeOff}
+use Rattle.avr_session.specs.Reporting.{IsOfDesk, OutputsPrefix, OutputsPrefixAndReports}
 use Rattle.avr_session.proofs.Runs.Stops.{place_behind, outputs_said, map_append}
 
 -- a point of a call: the rest of its dialog, the progress of its conversation, and the devices' states
@@ -39,26 +39,26 @@ pub record Came {R : Type 0} (x y : Point R) : Type 0 where
   pub grows : Grows x.devices.link.transcript during y.devices.link.transcript
   pub leads : TranscriptLeads x.left x.progress_at during events y.left y.progress_at
   pub few : length x.progress_at.unread ≤ 281 → length y.progress_at.unread ≤ 281
-  pub kept : Passes (after_all (outputs events)) x.devices.desk y.devices.desk
-  pub sound : NoneFailed x.devices y.devices
+  pub kept : ChangesRecord (after_events (outputs events)) x.devices.desk y.devices.desk
+  pub sound : NoDeviceFailed x.devices y.devices
 
 -- if no call failed until a moment and none after it, none failed
-pub none_failed_here : (o : Devices) → NoneFailed o o
+pub none_failed_here : (o : Devices) → NoDeviceFailed o o
 none_failed_here o = (refl, same_here o.desk)
 
-pub none_failed_on : (o p q : Devices) → NoneFailed o p → NoneFailed p q → NoneFailed o q
+pub none_failed_on : (o p q : Devices) → NoDeviceFailed o p → NoDeviceFailed p q → NoDeviceFailed o q
 none_failed_on o p q first then = (then.0 ∙ first.0, same_on o.desk p.desk q.desk first.1 then.1)
 
 -- output events among events
 
 pub outputs_append : (x y : List (Event OutputEvent)) → outputs (x ++ y) ≡ outputs x ++ outputs y
 outputs_append [] y = refl
-outputs_append (Said output ∷ x) y = ap (λ ss. output ∷ ss) (outputs_append x y)
+outputs_append (Emitted output ∷ x) y = ap (λ ss. output ∷ ss) (outputs_append x y)
 outputs_append (_ ∷ x) y = outputs_append x y
 
 after_both : (x y : List (Event OutputEvent)) (r : Record)
-    → after_all (outputs (x ++ y)) r ≡ after_all (outputs y) (after_all (outputs x) r)
-after_both x y r = ap (λ ss. after_all ss r) (outputs_append x y) ∙ after_append (outputs x) (outputs y) r
+    → after_events (outputs (x ++ y)) r ≡ after_events (outputs y) (after_events (outputs x) r)
+after_both x y r = ap (λ ss. after_events ss r) (outputs_append x y) ∙ after_append (outputs x) (outputs y) r
 
 -- how far a call has come
 
@@ -92,12 +92,12 @@ came_on {x = x} {y = y} {z = z} f g =
 -- a dialog was run whole: the call has come to its result
 
 pub ran_from : {R : Type 0} {a : Dialog OutputEvent R} {m n : Progress} {o p : Devices} {result : R}
-    → Came (point a m o) (point (Done result) n p) → Ran a m o p result n
+    → Came (point a m o) (point (Done result) n p) → RanWhole a m o p result n
 ran_from f = search rules
 
 -- so a part of a dialog was, by its transcript
 abbrev came_of : {A R : Type 0} {a : Dialog OutputEvent A} {m n : Progress} {o p : Devices} {result : A}
-    {b c : Dialog OutputEvent R} (f : Ran a m o p result n) → TranscriptLeads b m f.during f.events c n
+    {b c : Dialog OutputEvent R} (f : RanWhole a m o p result n) → TranscriptLeads b m f.during f.events c n
     → Came (point b m o) (point c n p)
 came_of f leads = record {
   during = f.during;
@@ -110,7 +110,7 @@ came_of f leads = record {
 }
 
 pub ran_on : {R : Type 0} {x y : Point R} {q : Devices} {result : R} {n : Progress} → Came x y
-    → Ran y.left y.progress_at y.devices q result n → Ran x.left x.progress_at x.devices q result n
+    → RanWhole y.left y.progress_at y.devices q result n → RanWhole x.left x.progress_at x.devices q result n
 ran_on f ran = ran_from (came_on f (came_of ran (leads_from ran.plays)))
 
 -- breaking off
@@ -118,16 +118,16 @@ ran_on f ran = ran_from (came_on f (came_of ran (leads_from ran.plays)))
 -- what stops such a part stops the whole, after these output events
 abbrev pub StopsWhole : Terms → Terms → List OutputEvent → Devices → Devices → Devices → Type 0
 StopsWhole some all before o p q = (said : List OutputEvent) (cause : Cause) (told : List ℕ)
-    → StopsBehind some p q said cause told → StopsBehind all o q (before ++ said) cause told
+    → StopsAfterOutput some p q said cause told → StopsAfterOutput all o q (before ++ said) cause told
 
 -- if a failed allocation may stop the rest of a dialog, it may stop the whole, after this transcript and these events
-abbrev pub LacksLater : Lacking → Progress → Transcript → List (Event OutputEvent) → Lacking → Progress → Type 0
+abbrev pub LacksLater : MayAllocate → Progress → Transcript → List (Event OutputEvent) → MayAllocate → Progress → Type 0
 LacksLater L m transcript events M n = (during : Transcript) (shown : List (Event OutputEvent)) → M n during shown
     → L m (transcript ++ during) (events ++ shown)
 
 -- after other output events, if these report as the terms assume
 pub stops_in : (some all : Terms) (before : List OutputEvent) (o p q : Devices) → (some.takes ≡ true → all.takes ≡ true)
-    → NoneFailed o p → (all.was_told || tells_fault before) ≡ some.was_told
+    → NoDeviceFailed o p → (all.has_reported || reports_fault before) ≡ some.has_reported
     → StopsWhole some all before o p q
 stops_in some all before o p q takes sound same said cause told stops =
     search (rules, or_assoc, list_any-append, follows_on, follows_same)
@@ -154,15 +154,15 @@ placed_behind {cause = cause} first during before none f = record {
 }
 
 placed_more : {cause : Cause} {during : Transcript} {shown events : List (Event OutputEvent)}
-    (more : List (Event OutputEvent)) → (cause ≡ OfListening → more ≡ []) → Placed cause during shown events
+    (more : List (Event OutputEvent)) → (cause ≡ ReceivingFailed → more ≡ []) → Placed cause during shown events
     → Placed cause during shown (events ++ more)
 placed_more {cause = cause} more none f = search (rules, append_assoc)
 
 -- this was reported of a cause, with no output before it
-abbrev pub ToldBy : Terms → Cause → Devices → Devices → Type 0
-ToldBy terms cause o p = (told : List ℕ) × StopsBehind terms o p [] cause told × Passes (after_err told) o.desk p.desk
+abbrev pub ReportedBy : Terms → Cause → Devices → Devices → Type 0
+ReportedBy terms cause o p = (told : List ℕ) × StopsAfterOutput terms o p [] cause told × ChangesRecord (after_err told) o.desk p.desk
 
-module _ {R : Type 0} {dialog : Dialog OutputEvent R} {m : Progress} {o p : Devices} {terms : Terms} {L : Lacking} where
+module _ {R : Type 0} {dialog : Dialog OutputEvent R} {m : Progress} {o p : Devices} {terms : Terms} {L : MayAllocate} where
   placed_of : (f : BrokeOff dialog m o p terms L) → Placed f.cause f.during f.shown (played_over dialog m f.during).events
   placed_of f = search rules
 
@@ -170,9 +170,9 @@ module _ {R : Type 0} {dialog : Dialog OutputEvent R} {m : Progress} {o p : Devi
       → Grows o.link.transcript during p.link.transcript
       → Placed cause during shown (played_over dialog m during).events
       → bytes_sent shown ≡ sent during → InTurn dialog m during
-      → Listens cause (played_over dialog m during).outcome → StopsBehind terms o p (outputs shown) cause told
-      → Passes (λ r. after_err told (after_all (outputs shown) r)) o.desk p.desk
-      → (cause ≡ OfMemory → L m during shown) → BrokeOff dialog m o p terms L
+      → Listens cause (played_over dialog m during).outcome → StopsAfterOutput terms o p (outputs shown) cause told
+      → ChangesRecord (λ r. after_err told (after_events (outputs shown) r)) o.desk p.desk
+      → (cause ≡ AllocationFailed → L m during shown) → BrokeOff dialog m o p terms L
   broke_off during shown cause told grows placed all_sent in_turn listens stops kept lacks = record {
     during = during;
     shown = shown;
@@ -188,16 +188,16 @@ module _ {R : Type 0} {dialog : Dialog OutputEvent R} {m : Progress} {o p : Devi
   }
 
   broke_silent : (during : Transcript) (shown : List (Event OutputEvent)) (cause : Cause) → outputs shown ≡ []
-      → ToldBy terms cause o p → Grows o.link.transcript during p.link.transcript
+      → ReportedBy terms cause o p → Grows o.link.transcript during p.link.transcript
       → Placed cause during shown (played_over dialog m during).events → bytes_sent shown ≡ sent during
       → InTurn dialog m during → Listens cause (played_over dialog m during).outcome
-      → (cause ≡ OfMemory → L m during shown) → BrokeOff dialog m o p terms L
+      → (cause ≡ AllocationFailed → L m during shown) → BrokeOff dialog m o p terms L
   broke_silent during shown cause quiet some grows placed all_sent in_turn listens lacks =
       broke_off during shown cause some.0 grows placed all_sent in_turn listens
-      (subst (λ said. StopsBehind terms o p said cause some.0) (sym quiet) some.1)
-      (subst (λ said. Passes (λ r. after_err some.0 (after_all said r)) o.desk p.desk) (sym quiet) some.2) lacks
+      (subst (λ said. StopsAfterOutput terms o p said cause some.0) (sym quiet) some.1)
+      (subst (λ said. ChangesRecord (λ r. after_err some.0 (after_events said r)) o.desk p.desk) (sym quiet) some.2) lacks
 
-pub broke_on : {R : Type 0} {x y : Point R} {q : Devices} {some all : Terms} {L M : Lacking} (came : Came x y)
+pub broke_on : {R : Type 0} {x y : Point R} {q : Devices} {some all : Terms} {L M : MayAllocate} (came : Came x y)
     → StopsWhole some all (outputs came.events) x.devices y.devices q
     → LacksLater L x.progress_at came.during came.events M y.progress_at
     → BrokeOff y.left y.progress_at y.devices q some M → BrokeOff x.left x.progress_at x.devices q all L
@@ -205,7 +205,7 @@ broke_on {R = R} {x = x} {y = y} {q = q} {all = all} came why lack broke =
     let m = x.progress_at in
     let o = x.devices in
     let p = y.devices in
-    let whole = breaks_on SaidPart came.leads broke.breaks in
+    let whole = breaks_on IsPartOfEvent came.leads broke.breaks in
     let play = ap (λ t. played x.left m.next (on_tape m.unread ++ t)) (heard_append came.during broke.during)
     ∙ came.leads.goes_on (heard broke.during) in
     broke_off (came.during ++ broke.during) (came.events ++ broke.shown) broke.cause broke.told
@@ -218,11 +218,11 @@ broke_on {R = R} {x = x} {y = y} {q = q} {all = all} came why lack broke =
     (search (rules, kept_on, after_both))
     (λ is. lack broke.during broke.shown (broke.lacks is))
 
-abbrev pub Never : Lacking
+abbrev pub Never : MayAllocate
 Never before during shown = ⊥
 
 -- after a part without output, if nothing is allocated since
-pub broke_quietly : {R : Type 0} {x y : Point R} {q : Devices} {terms : Terms} {L : Lacking} (came : Came x y)
+pub broke_quietly : {R : Type 0} {x y : Point R} {q : Devices} {terms : Terms} {L : MayAllocate} (came : Came x y)
     → outputs came.events ≡ [] → BrokeOff y.left y.progress_at y.devices q terms Never
     → BrokeOff x.left x.progress_at x.devices q terms L
 broke_quietly {x = x} {y = y} {q = q} {terms = terms} came quiet broke =
@@ -232,20 +232,20 @@ broke_quietly {x = x} {y = y} {q = q} {terms = terms} came quiet broke =
 -- in an operation of the host; its report follows it
 
 abbrev pub broken_cause : HostFault → Cause
-broken_cause SendFailed = OfSending
-broken_cause fault = OfListening
+broken_cause SendFailed = SendingFailed
+broken_cause fault = ReceivingFailed
 
 broke_raised : {A : Type 0} (by : HostFault) {dialog : Dialog ⊥ A} {m : Progress} {o p : Devices} {terms : Terms}
-    {L : Lacking} → FailsOver by dialog m o.link p.link → ToldBy terms (broken_cause by) o p
+    {L : MayAllocate} → BreaksOverLink by dialog m o.link p.link → ReportedBy terms (broken_cause by) o p
     → BrokeOff (lifted dialog) m o p terms L
 broke_raised SendFailed {dialog = dialog} {m = m} f some =
     let g = by_lifted OutputEvent SendFailed dialog m f.during f.shown f.breaks in
-    broke_silent f.during (raised f.shown) OfSending (outputs_raised f.shown) some f.grows
+    broke_silent f.during (raised f.shown) SendingFailed (outputs_raised f.shown) some f.grows
     (search rules) g.all_sent g.in_turn tt (λ is. absurd (cc))
 broke_raised RecvFailed {dialog = dialog} {m = m} f some =
     let g = by_lifted OutputEvent RecvFailed dialog m f.during f.shown f.breaks in
     let none = sym (append-nil (raised f.shown)) in
-    broke_silent f.during (raised f.shown) OfListening (outputs_raised f.shown) some f.grows (record {
+    broke_silent f.during (raised f.shown) ReceivingFailed (outputs_raised f.shown) some f.grows (record {
       whole = raised f.shown;
       begun = [];
       later = [];
@@ -258,7 +258,7 @@ broke_raised _ f some = absurd f.breaks
 -- what follows a part of a dialog
 module _ {A R : Type 0} (go_on : A → Dialog OutputEvent R) where
   unfoldable pub came_lifted : {dialog : Dialog ⊥ A} {m n : Progress} {o p : LinkState} {result : A} (d : DeskState)
-      → PlaysOver dialog m o p result n → length n.unread ≤ 281
+      → RunsOverLink dialog m o p result n → length n.unread ≤ 281
       → Came (point (lifted dialog >>= go_on) m (devices o d)) (point (go_on result) n (devices p d))
   came_lifted d f few = record {
     during = f.during;
@@ -266,16 +266,16 @@ module _ {A R : Type 0} (go_on : A → Dialog OutputEvent R) where
     grows = f.grows;
     leads = leads_bind go_on (leads_from (plays_lifted f.plays));
     few = λ _. few;
-    kept = subst (λ ss. Passes (after_all ss) d d) (sym (outputs_raised f.events)) (kept_none d.kept);
+    kept = subst (λ ss. ChangesRecord (after_events ss) d d) (sym (outputs_raised f.events)) (kept_none d.kept);
     sound = (f.sound, same_here d);
   }
 
   unfoldable pub came_part : {a : Dialog OutputEvent A} {m n : Progress} {o p : Devices} {result : A}
-      → Ran a m o p result n
+      → RanWhole a m o p result n
       → Came (point (a >>= go_on) m o) (point (go_on result) n p)
   came_part f = came_of f (leads_bind go_on (leads_from f.plays))
 
-  pub broke_part : {a : Dialog OutputEvent A} {m : Progress} {o p : Devices} {some all : Terms} {L M : Lacking}
+  pub broke_part : {a : Dialog OutputEvent A} {m : Progress} {o p : Devices} {some all : Terms} {L M : MayAllocate}
       → StopsWhole some all [] o o p → LacksLater L m [] [] M m → BrokeOff a m o p some M
       → BrokeOff (a >>= go_on) m o p all L
   broke_part {a = a} {m = m} why lack f =
@@ -285,12 +285,12 @@ module _ {A R : Type 0} (go_on : A → Dialog OutputEvent R) where
       broke_off f.during f.shown f.cause f.told f.grows
       (subst (λ (play : Played OutputEvent R). Placed f.cause f.during f.shown play.events) bound (placed_more
       (continued play.outcome next).events (search rules) (placed_of f)))
-      f.breaks.all_sent (breaks_bind SaidPart go_on f.breaks).in_turn
+      f.breaks.all_sent (breaks_bind IsPartOfEvent go_on f.breaks).in_turn
       (search rules) (why (outputs f.shown) f.cause f.told f.stops) f.kept
       (λ is. lack f.during f.shown (f.lacks is))
 
   pub broke_operation : (by : HostFault) {dialog : Dialog ⊥ A} {m : Progress} {o p : Devices} {terms : Terms}
-      {L : Lacking} → FailsOver by dialog m o.link p.link → ToldBy terms (broken_cause by) o p
+      {L : MayAllocate} → BreaksOverLink by dialog m o.link p.link → ReportedBy terms (broken_cause by) o p
       → BrokeOff (lifted dialog >>= go_on) m o p terms L
   broke_operation by {L = L} f some =
       broke_part {M = L} (λ said cause told s. s) (λ during shown lack. lack) (broke_raised by f some)
@@ -298,52 +298,52 @@ module _ {A R : Type 0} (go_on : A → Dialog OutputEvent R) where
 -- output
 
 leads_says : {R : Type 0} (xs : List OutputEvent) (dialog : Dialog OutputEvent R) (m : Progress)
-    → TranscriptLeads (says xs dialog) m [] (map Said xs) dialog m
+    → TranscriptLeads (says xs dialog) m [] (map Emitted xs) dialog m
 leads_says [] dialog m = leads_here dialog m
 leads_says (x ∷ xs) dialog m = leads_on (leads_say x (says xs dialog) m) (leads_says xs dialog m)
 
 says_events : {R : Type 0} (xs : List OutputEvent) (dialog : Dialog OutputEvent R) (seq : ℕ) (u : List ℕ)
     → (played (says xs dialog) seq (on_tape u ++ [])).events
-    ≡ map Said xs ++ (played dialog seq (on_tape u ++ [])).events
+    ≡ map Emitted xs ++ (played dialog seq (on_tape u ++ [])).events
 says_events [] dialog seq u = refl
-says_events (x ∷ xs) dialog seq u = ap (λ es. Said x ∷ es) (says_events xs dialog seq u)
+says_events (x ∷ xs) dialog seq u = ap (λ es. Emitted x ∷ es) (says_events xs dialog seq u)
 
-no_bytes : (xs : List OutputEvent) → bytes_sent (map {B = Event OutputEvent} Said xs) ≡ []
+no_bytes : (xs : List OutputEvent) → bytes_sent (map {B = Event OutputEvent} Emitted xs) ≡ []
 no_bytes [] = refl
 no_bytes (x ∷ xs) = no_bytes xs
 
 -- what stops a report stops it after a prefix of its output
 abbrev pub StopsReport : Terms → LinkState → DeskState → DeskState → List OutputEvent
     → (DeskState → DeskState → Cause → List ℕ → Type 0) → Type 0
-StopsReport terms o d e outputs By = (mid : DeskState) (cause : Cause) (prefix : SaysPrefix cause d mid outputs)
-    (told : List ℕ) → By d e cause told → StopsBehind terms (devices o d) (devices o e) (prefix.whole ++ prefix.begun)
+StopsReport terms o d e outputs By = (mid : DeskState) (cause : Cause) (prefix : OutputsPrefix cause d mid outputs)
+    (told : List ℕ) → By d e cause told → StopsAfterOutput terms (devices o d) (devices o e) (prefix.whole ++ prefix.begun)
     cause told
 
 module _ {R : Type 0} (xs : List OutputEvent) (dialog : Dialog OutputEvent R) (m : Progress) (o : LinkState) where
-  pub came_said : {d e : DeskState} → Passes (after_all xs) d e × HasSameCounts d e
+  pub came_said : {d e : DeskState} → ChangesRecord (after_events xs) d e × HasSameCounts d e
       → Came (point (says xs dialog) m (devices o d)) (point dialog m (devices o e))
   came_said {d = d} {e = e} said = search (rules, grows_none o.transcript, leads_says xs dialog m, outputs_said xs)
 
-  pub broke_output : {By : DeskState → DeskState → Cause → List ℕ → Type 0} {terms : Terms} {L : Lacking}
+  pub broke_output : {By : DeskState → DeskState → Cause → List ℕ → Type 0} {terms : Terms} {L : MayAllocate}
       {d e : DeskState}
-      → StopsReport terms o d e xs By → SaidSome By d e xs
+      → StopsReport terms o d e xs By → OutputsPrefixAndReports By d e xs
       → BrokeOff (says xs dialog) m (devices o d) (devices o e) terms L
   broke_output {terms = terms} {d = d} {e = e} why f =
       let prefix = f.prefix in
       let shown : List OutputEvent = prefix.whole ++ prefix.begun in
-      broke_off [] (map Said shown) f.cause f.told (grows_none o.transcript)
-      (subst (Placed f.cause [] (map Said shown)) (sym (says_events xs dialog m.next m.unread))
+      broke_off [] (map Emitted shown) f.cause f.told (grows_none o.transcript)
+      (subst (Placed f.cause [] (map Emitted shown)) (sym (says_events xs dialog m.next m.unread))
       (placed_more (played_over dialog m []).events (λ listens. absurd (search rules))
       (search (rules, map_append)))) (no_bytes shown) tt (search rules)
-      (subst (λ said. StopsBehind terms (devices o d) (devices o e) said f.cause f.told)
+      (subst (λ said. StopsAfterOutput terms (devices o d) (devices o e) said f.cause f.told)
       (sym (outputs_said shown)) (why f.between f.cause f.prefix f.told f.stops))
       (search (rules, kept_on, outputs_said)) (λ is. absurd (subst IsOfDesk is prefix.by_desk))
 
 -- at once, for a failed allocation
-pub broke_lacking : {R : Type 0} {terms : Terms} {L : Lacking} {o p : Devices} (dialog : Dialog OutputEvent R)
+pub broke_lacking : {R : Type 0} {terms : Terms} {L : MayAllocate} {o p : Devices} (dialog : Dialog OutputEvent R)
     (m : Progress)
-    → p.link ≡ o.link → ToldBy terms OfMemory o p → L m [] [] → BrokeOff dialog m o p terms L
+    → p.link ≡ o.link → ReportedBy terms AllocationFailed o p → L m [] [] → BrokeOff dialog m o p terms L
 broke_lacking {o = o} dialog m same some lack =
-    broke_silent [] [] OfMemory refl some
+    broke_silent [] [] AllocationFailed refl some
     (subst (λ (v : LinkState). Grows o.link.transcript [] v.transcript) (sym same) (grows_none o.link.transcript))
     (search rules) refl tt tt (λ is. lack)

@@ -2,12 +2,12 @@
 use Rattle.std.proofs.Common.{◌≡◌, Result, Ok, Err, rules}
 use Rattle.avr_plan.specs.Plan.{Plan}
 use Rattle.stk_host.specs.State.{HostState}
-use Rattle.avr_session.specs.Standing.{Fine, Faulty, Over}
+use Rattle.avr_session.specs.Standing.{NoFault, Faulty, Over}
 use Rattle.avr_session.specs.declared.ending.End.{End}
 use Rattle.avr_session.specs.declared.ending.End.TheVariants as ends
 use Rattle.avr_session.specs.declared.outcome.Outcome.{Outcome}
-use Rattle.avr_session.specs.Concluding.{stands}
-use Rattle.avr_session.specs.Outcomes.{outcome_status, ComesTo, EndsTold, outcome_of}
+use Rattle.avr_session.specs.Concluding.{standing_after}
+use Rattle.avr_session.specs.Outcomes.{outcome_status, ComesTo, EndsWithFaultLine, outcome_of}
 use Rattle.avr_session.specs.Performing.{PlaysSession}
 use Rattle.avr_session.specs.Run.{RunsSession}
 use Rattle.avr_session.specs.Runs.{Devices, start}
@@ -15,9 +15,9 @@ use Rattle.avr_session.proofs.ActionByAction.Sequences.{session_played, session_
 
 pub session_comes : (plan : Plan) {x y : HostState} {o p : Devices} (result : Result (Unit {0}) End)
     → x.progress ≡ start
-    → PlaysSession plan x y o p (stands result) → EndsTold plan.part p.desk result
+    → PlaysSession plan x y o p (standing_after result) → EndsWithFaultLine plan.part p.desk result
     → ComesTo plan o p (outcome_of result)
-session_comes plan (Ok all) first done last = session_played plan Fine first done
+session_comes plan (Ok all) first done last = session_played plan NoFault first done
 session_comes plan (Err (ends.Faulty fault)) first done last = (session_played plan Faulty first done, last)
 session_comes plan (Err (ends.Over fault)) first done last = (session_played plan Over first done, last)
 session_comes plan (Err ends.Stopped) first done last = session_stopped plan tt first done

@@ -5,31 +5,31 @@ use Rattle.avr_plan.specs.Plan.{Plan}
 use Rattle.stk_host.specs.Play.{Progress}
 use Rattle.stk_host.specs.Transcript.{LinkState}
 use Rattle.stk_host.specs.Dialog.{Dialog}
-use Rattle.avr_desk.specs.Said.{OutputEvent}
-use Rattle.avr_session.specs.Actions.{takes_memory}
-use Rattle.avr_session.specs.Runs.{Devices, devices, untold, Lacking, BrokeOff}
+use Rattle.avr_desk.specs.OutputEvents.{OutputEvent}
+use Rattle.avr_session.specs.Actions.{plan_allocates}
+use Rattle.avr_session.specs.Runs.{Devices, devices, before_fault, MayAllocate, BrokeOff}
 use Rattle.avr_session.specs.Run.{RunsSession}
 use Rattle.avr_session.specs.Session.{session}
-use Rattle.avr_session.specs.Stopping.{keeping, IsSound, LacksMemory, IsPlayed}
+use Rattle.avr_session.specs.Stopping.{keeping, IsSound, EndsOutOfMemory, RanToStatus}
 
 -- sound devices leave only allocation as a cause
 
 -- so a run that broke off reports it
-pub broke_lacks : {R : Type 0} {L : Lacking} (dialog : Dialog OutputEvent R) (m : Progress) (o p : LinkState)
+pub broke_lacks : {R : Type 0} {L : MayAllocate} (dialog : Dialog OutputEvent R) (m : Progress) (o p : LinkState)
     (before after : Record) (a b : ℕ × ℕ) (takes : Bool)
     → IsSound (devices o (keeping before a)) (devices p (keeping after b))
-    → BrokeOff dialog m (devices o (keeping before a)) (devices p (keeping after b)) (untold takes) L
-    → LacksMemory after.messages
+    → BrokeOff dialog m (devices o (keeping before a)) (devices p (keeping after b)) (before_fault takes) L
+    → EndsOutOfMemory after.messages
 broke_lacks dialog m o p before after a b takes sound f = search rules
 
 -- a run is complete if no device failed and, by its messages, no allocation did
 pub sound_run : (plan : Plan) (o p : LinkState) (before after : Record) (a b : ℕ × ℕ) (status : ℕ)
-    → IsSound (devices o (keeping before a)) (devices p (keeping after b)) → (LacksMemory after.messages → ⊥)
+    → IsSound (devices o (keeping before a)) (devices p (keeping after b)) → (EndsOutOfMemory after.messages → ⊥)
     → RunsSession plan (devices o (keeping before a)) (devices p (keeping after b)) status
-    → IsPlayed (session plan) (devices o (keeping before a)) (devices p (keeping after b)) status
+    → RanToStatus (session plan) (devices o (keeping before a)) (devices p (keeping after b)) status
 sound_run plan o p before after a b status sound has_memory k' = search (rules, broke_lacks)
 
 -- if nothing is allocated, the run is complete, whatever the messages are
-pub exact_run : (plan : Plan) (old new : Devices) (status : ℕ) → IsSound old new → takes_memory plan ≡ false
-    → RunsSession plan old new status → IsPlayed (session plan) old new status
+pub exact_run : (plan : Plan) (old new : Devices) (status : ℕ) → IsSound old new → plan_allocates plan ≡ false
+    → RunsSession plan old new status → RanToStatus (session plan) old new status
 exact_run plan old new status sound none g' = search rules

@@ -1,16 +1,16 @@
 -- Where a run stops: what is before it and what follows it changes nothing.
 use Rattle.std.proofs.Common.{ℕ, ◌≡◌, ◌∙◌, List, [], ◌∷◌, ◌++◌, map, refl, sym, ap, subst, append_assoc, take, inl, inr, codes, rules}
 use Rattle.std.proofs.lemmas.List.{take-append-drop}
-use Rattle.avr_desk.specs.Record.{DeskState, Passes, Bytes}
+use Rattle.avr_desk.specs.Record.{DeskState, ChangesRecord, Bytes}
 use Rattle.avr_desk.specs.Stream.{SendsPart}
 use Rattle.avr_desk.specs.declared.stream.Stream.TheVariants.{File, Output, Messages}
-use Rattle.stk_host.specs.Dialog.{Event, Said, outputs}
+use Rattle.stk_host.specs.Dialog.{Event, Emitted, outputs}
 use Rattle.stk_host.specs.Transcript.{Transcript, NoneTaken}
 use Rattle.stk_host.proofs.Transcripts.Laws.{none_append, none_behind}
-use Rattle.avr_desk.specs.Said.{OutputEvent, Line, Creates, Writes, Outs, after_all}
+use Rattle.avr_desk.specs.OutputEvents.{OutputEvent, PrintsLine, CreatesFile, WritesFile, WritesOutput, after_events}
 use Rattle.avr_desk.proofs.Stages.Outputs.{kept_append}
-use Rattle.avr_session.specs.Runs.{Cause, OfSending, OfListening, OfFile, OfPrinting, NotWritten, AtPart, StopsAt}
-use Rattle.avr_session.specs.Reporting.{SaysPrefix}
+use Rattle.avr_session.specs.Runs.{Cause, SendingFailed, ReceivingFailed, FileFailed, PrintingFailed, NotWritten, StopsInOutput, StopsAt}
+use Rattle.avr_session.specs.Reporting.{OutputsPrefix}
 
 -- ---- events
 
@@ -18,91 +18,91 @@ use Rattle.avr_session.specs.Reporting.{SaysPrefix}
 pub place_behind : (cause : Cause) (first during : Transcript) (before whole begun later : List (Event OutputEvent))
     → NoneTaken first → StopsAt cause during whole begun later
     → StopsAt cause (first ++ during) (before ++ whole) begun later
-place_behind OfSending first during before whole begun later none x = search (rules, none_behind)
-place_behind OfListening first during before whole begun later none x = (none_append first during none x.0, x.1, x.2)
-place_behind (OfFile file NotWritten) first during before whole begun later none (inl x) =
-    let again = ap (λ es. before ++ es) x.0.1 ∙ sym (append_assoc before x.0.0 (Said (Creates file) ∷ [])) in
+place_behind SendingFailed first during before whole begun later none x = search (rules, none_behind)
+place_behind ReceivingFailed first during before whole begun later none x = (none_append first during none x.0, x.1, x.2)
+place_behind (FileFailed file NotWritten) first during before whole begun later none (inl x) =
+    let again = ap (λ es. before ++ es) x.0.1 ∙ sym (append_assoc before x.0.0 (Emitted (CreatesFile file) ∷ [])) in
     inl ((before ++ x.0.0, again), x.1)
-place_behind (OfFile file NotWritten) first during before whole begun later none (inr x) = inr x
+place_behind (FileFailed file NotWritten) first during before whole begun later none (inr x) = inr x
 place_behind cause first during before whole begun later none x = x
 
 -- the same for output events, which need no transcript
 
 -- ---- output events
 
-pub outputs_said : (xs : List OutputEvent) → outputs (map Said xs) ≡ xs
+pub outputs_said : (xs : List OutputEvent) → outputs (map Emitted xs) ≡ xs
 outputs_said [] = refl
 outputs_said (x ∷ xs) = ap (λ ss. x ∷ ss) (outputs_said xs)
 
-pub map_append : (x y : List OutputEvent) → map {B = Event OutputEvent} Said (x ++ y) ≡ map Said x ++ map Said y
+pub map_append : (x y : List OutputEvent) → map {B = Event OutputEvent} Emitted (x ++ y) ≡ map Emitted x ++ map Emitted y
 map_append [] y = refl
-map_append (s ∷ x) y = ap (λ es. Said s ∷ es) (map_append x y)
+map_append (s ∷ x) y = ap (λ es. Emitted s ∷ es) (map_append x y)
 
 -- output events, by their events
-pub outputs_by : (xs : List OutputEvent) (events : List (Event OutputEvent)) → map Said xs ≡ events → xs
+pub outputs_by : (xs : List OutputEvent) (events : List (Event OutputEvent)) → map Emitted xs ≡ events → xs
     ≡ outputs events
 outputs_by xs events is = sym (outputs_said xs) ∙ ap outputs is
 
 -- output events that were done, and a prefix of others after them
-pub prefix_behind : {cause : Cause} {d e f : DeskState} (done more : List OutputEvent) → Passes (after_all done) d e
-    → SaysPrefix cause e f more → SaysPrefix cause d f (done ++ more)
+pub prefix_behind : {cause : Cause} {d e f : DeskState} (done more : List OutputEvent) → ChangesRecord (after_events done) d e
+    → OutputsPrefix cause e f more → OutputsPrefix cause d f (done ++ more)
 prefix_behind {cause = cause} {d = d} {e = e} {f = f} done more kept x = record {
   whole = done ++ x.whole;
   begun = x.begun;
   later = x.later;
   outputs_are = ap (λ (ss : List OutputEvent). done ++ ss) x.outputs_are ∙ sym (append_assoc done x.whole x.later);
-  place = subst (λ es. StopsAt cause [] es (map Said x.begun) (map Said x.later)) (sym (map_append done x.whole))
-      (place_behind cause [] [] (map Said done) (map Said x.whole) (map Said x.begun) (map Said x.later) tt x.place);
+  place = subst (λ es. StopsAt cause [] es (map Emitted x.begun) (map Emitted x.later)) (sym (map_append done x.whole))
+      (place_behind cause [] [] (map Emitted done) (map Emitted x.whole) (map Emitted x.begun) (map Emitted x.later) tt x.place);
   by_desk = x.by_desk;
   kept = search (rules, append_assoc, kept_append);
 }
 
 -- a prefix of some output events is a prefix of more
-pub prefix_of : {cause : Cause} {d e : DeskState} (some more : List OutputEvent) → SaysPrefix cause d e some
-    → SaysPrefix cause d e (some ++ more)
+pub prefix_of : {cause : Cause} {d e : DeskState} (some more : List OutputEvent) → OutputsPrefix cause d e some
+    → OutputsPrefix cause d e (some ++ more)
 prefix_of {cause = cause} some more x = search (rules, append_assoc, map_append)
 
 -- an event of which the first n bytes were done; for the three prefixes below: of a line, a file and the output
 part_due : (event : Bytes → OutputEvent) (n : ℕ) (bytes : Bytes)
-    → AtPart event (Said (event (take n bytes)) ∷ []) (Said (event bytes) ∷ [])
+    → StopsInOutput event (Emitted (event (take n bytes)) ∷ []) (Emitted (event bytes) ∷ [])
 part_due event n bytes = search (rules, take-append-drop n bytes)
 
 -- a line of which a prefix was printed
 pub line_part : (old new : DeskState) (bytes : Bytes) → SendsPart Messages old new bytes
-    → SaysPrefix OfPrinting old new (Line bytes ∷ [])
+    → OutputsPrefix PrintingFailed old new (PrintsLine bytes ∷ [])
 line_part old new bytes part = record {
   whole = [];
-  begun = Line (take part.0 bytes) ∷ [];
-  later = Line bytes ∷ [];
+  begun = PrintsLine (take part.0 bytes) ∷ [];
+  later = PrintsLine bytes ∷ [];
   outputs_are = refl;
-  place = part_due Line part.0 bytes;
+  place = part_due PrintsLine part.0 bytes;
   by_desk = tt;
   kept = part.2;
 }
 
 -- a file that was created, and of whose bytes a prefix was written
-pub file_part : (old mid new : DeskState) (file bytes : Bytes) → Passes (after_all (Creates file ∷ [])) old mid
+pub file_part : (old mid new : DeskState) (file bytes : Bytes) → ChangesRecord (after_events (CreatesFile file ∷ [])) old mid
     → SendsPart File mid new bytes
-    → SaysPrefix (OfFile file NotWritten) old new (Creates file ∷ Writes bytes ∷ [])
+    → OutputsPrefix (FileFailed file NotWritten) old new (CreatesFile file ∷ WritesFile bytes ∷ [])
 file_part old mid new file bytes created part = record {
-  whole = Creates file ∷ [];
-  begun = Writes (take part.0 bytes) ∷ [];
-  later = Writes bytes ∷ [];
+  whole = CreatesFile file ∷ [];
+  begun = WritesFile (take part.0 bytes) ∷ [];
+  later = WritesFile bytes ∷ [];
   outputs_are = refl;
-  place = inl (([], refl), part_due Writes part.0 bytes);
+  place = inl (([], refl), part_due WritesFile part.0 bytes);
   by_desk = tt;
-  kept = kept_append (Creates file ∷ []) (Writes (take part.0 bytes) ∷ []) old.kept mid.kept new.kept created part.2;
+  kept = kept_append (CreatesFile file ∷ []) (WritesFile (take part.0 bytes) ∷ []) old.kept mid.kept new.kept created part.2;
 }
 
 -- bytes of the output of which a prefix was written
 pub output_part : (old new : DeskState) (file bytes : Bytes) → file ≡ codes "-" → SendsPart Output old new bytes
-    → SaysPrefix (OfFile file NotWritten) old new (Outs bytes ∷ [])
+    → OutputsPrefix (FileFailed file NotWritten) old new (WritesOutput bytes ∷ [])
 output_part old new file bytes named part = record {
   whole = [];
-  begun = Outs (take part.0 bytes) ∷ [];
-  later = Outs bytes ∷ [];
+  begun = WritesOutput (take part.0 bytes) ∷ [];
+  later = WritesOutput bytes ∷ [];
   outputs_are = refl;
-  place = inr (named, part_due Outs part.0 bytes);
+  place = inr (named, part_due WritesOutput part.0 bytes);
   by_desk = tt;
   kept = part.2;
 }

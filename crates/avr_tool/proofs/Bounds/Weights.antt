@@ -2,7 +2,7 @@
 use Rattle.std.proofs.Common.{◌≡◌, ℕ, ◌+◌, ◌*◌, ◌-◌, ◌≤◌, List, [], ◌∷◌, ◌++◌, map, append_assoc, refl, ap, ◌∙◌, subst, arith, Bool, Ok, Err, Result, rules}
 use Rattle.std.proofs.Math.Nat.{suc-mul}
 use Rattle.avr_cli.specs.declared.settings.Switches.{Switches}
-use Rattle.avr_desk.specs.Said.{OutputEvent}
+use Rattle.avr_desk.specs.OutputEvents.{OutputEvent}
 use Rattle.avr_part.specs.Part.{Part}
 use Rattle.avr_plan.specs.Plan.{Plan}
 use Rattle.stk_frame.specs.Commands.{body}
@@ -12,18 +12,18 @@ use Rattle.stk_frame.specs.declared.command.Command.TheVariants.{SignOn}
 use Rattle.stk_host.specs.declared.fault.HostFault.{HostFault}
 use Rattle.stk_host.specs.declared.fault.StepFault.TheVariants.{NoAnswer}
 use Rattle.stk_host.specs.Tape.{Reading}
-use Rattle.stk_host.proofs.Dialogs.Logic.{World, HoldsFrom, Upholds, NoSays, OnReply, done, say, ask, bind, told, wider, call, attempts}
+use Rattle.stk_host.proofs.Dialogs.Logic.{World, HoldsFrom, Upholds, NoOutput, OnReply, done, emit, ask, bind, told, wider, call, attempts}
 use Rattle.stk_host.specs.Dialog.{Dialog, Done, ◌>>=◌}
-use Rattle.stk_host.specs.Steps.{exchange, Reply, Data, Again, Stop, reading_reply, with_data, attempt, StepOutcome, step, if_done, play}
+use Rattle.stk_host.specs.Steps.{exchange, Reply, Data, Again, Stop, reply_from_reading, with_data, attempt, StepOutcome, step, unless_step_fault, play}
 use Rattle.stk_host.specs.ReadSteps.{signature_steps}
-use Rattle.stk_host.specs.Operations.{handshake, signature_judged, opening, without_bytes, closing, judged_by, operation}
+use Rattle.stk_host.specs.Operations.{handshake, signature_checked, opening, without_bytes, closing, checked_by, operation}
 use Rattle.stk_host.specs.Bound.{opening_steps, closing_steps}
-use Rattle.avr_session.specs.Standing.{Standing, Fine, Faulty, Over}
+use Rattle.avr_session.specs.Standing.{Standing, NoFault, Faulty, Over}
 use Rattle.avr_session.specs.Actions.{Action, OpenSession, actions}
-use Rattle.avr_session.specs.Session.{says, standing, reported, unless_fault, closed_says, action_dialog, actions_dialog, ending, status_of, session}
+use Rattle.avr_session.specs.Session.{says, standing, reported, unless_fault, closing_output, action_dialog, actions_dialog, ending, status_of, session}
 use Rattle.avr_session.specs.PlanSteps.{action_steps, actions_steps, run_steps}
 use Rattle.avr_tool.proofs.Plans.Calls.{call_of, dialog_is}
-use Rattle.avr_tool.specs.AnyLine.{Weight, weighed, bodies_in}
+use Rattle.avr_tool.specs.OverFaultyLink.{Weight, total_weight, bodies_in}
 
 -- what is left of a budget after each question, whatever is read
 abbrev pub budget : Weight → World ℕ Reading
@@ -34,7 +34,7 @@ abbrev pub WeighsAtMost : {E R : Type 0} → Weight → ℕ → Dialog E R → T
 WeighsAtMost w n d = HoldsFrom (budget w) (λ asked left. w asked ≤ left) (λ e left. Unit {0}) (λ r left. Unit {0}) d n
 
 module _ (w : Weight) where
-  pub weighed_append : (xs ys : List (List ℕ)) → weighed w (xs ++ ys) ≡ weighed w xs + weighed w ys
+  pub weighed_append : (xs ys : List (List ℕ)) → total_weight w (xs ++ ys) ≡ total_weight w xs + total_weight w ys
   weighed_append [] ys = omega arith
   weighed_append (x ∷ xs) ys = omega (arith, weighed_append xs ys)
 
@@ -44,17 +44,17 @@ module _ (w : Weight) where
 
   -- the weight of a step's commands, and of all steps'
   abbrev of_step : List Command → ℕ
-  of_step commands = weighed w (map body commands)
+  of_step commands = total_weight w (map body commands)
 
   abbrev total : List (List Command) → ℕ
-  total steps = weighed w (bodies_in steps)
+  total steps = total_weight w (bodies_in steps)
 
   total_on : (xs ys : List (List Command)) → total (xs ++ ys) ≡ total xs + total ys
-  total_on xs ys = ap (weighed w) (bodies_append xs ys) ∙ weighed_append (bodies_in xs) (bodies_in ys)
+  total_on xs ys = ap (total_weight w) (bodies_append xs ys) ∙ weighed_append (bodies_in xs) (bodies_in ys)
 
   -- a dialog of a call, and of a session, that leaves part of a budget
   abbrev Call : {R : Type 0} → (R → ℕ → Type 0) → Dialog ⊥ R → ℕ → Type 0
-  Call After d left = Upholds (budget w) (λ asked left. w asked ≤ left) NoSays After d left
+  Call After d left = Upholds (budget w) (λ asked left. w asked ≤ left) NoOutput After d left
 
   abbrev OneAction : (Standing → ℕ → Type 0) → Dialog OutputEvent Standing → ℕ → Type 0
   OneAction After d left = Upholds (budget w) (λ asked left. w asked ≤ left) (λ e left. Unit {0}) After d left
@@ -79,7 +79,7 @@ module _ (w : Weight) where
   attempt_spends (command ∷ commands) before k left le =
       ask (omega (arith, le))
       (λ reading.
-      by_reply (λ bytes. attempt commands (before ++ bytes)) (reading_reply command reading) (left - w (body command))
+      by_reply (λ bytes. attempt commands (before ++ bytes)) (reply_from_reading command reading) (left - w (body command))
       (λ bytes. attempt_spends commands (before ++ bytes) k (left - w (body command)) (omega (arith, le)))
       (λ other. omega (arith, le)))
 
@@ -100,12 +100,12 @@ module _ (w : Weight) where
 
   then_spends : (commands : List Command) (steps : List (List Command)) (go_on : List ℕ → Dialog ⊥ StepOutcome)
       → ((bytes : List ℕ) → Spends (4 * total steps) (go_on bytes))
-      → Spends (4 * total (commands ∷ steps)) (step commands >>= if_done go_on)
+      → Spends (4 * total (commands ∷ steps)) (step commands >>= unless_step_fault go_on)
   then_spends commands steps go_on each k left le =
       let size = weighed_append (map body commands) (bodies_in steps) in
       bind (step_spends commands (4 * total steps + k) left (omega (arith, le, size))) behind
     where
-      behind : (o : StepOutcome) (t : ℕ) → 4 * total steps + k ≤ t → Call (λ r rest. k ≤ rest) (if_done go_on o) t
+      behind : (o : StepOutcome) (t : ℕ) → 4 * total steps + k ≤ t → Call (λ r rest. k ≤ rest) (unless_step_fault go_on o) t
       behind (Ok bytes) t e = each bytes k t e
       behind (Err fault) t e = done (omega (arith, e))
 
@@ -120,14 +120,14 @@ module _ (w : Weight) where
   operation_spends : {A : Type 0} (steps : List (List Command)) (judge : List ℕ → Result A HostFault)
       → Spends (4 * total steps) (operation steps judge)
   unfolding operation
-  operation_spends steps judge k left le = told (judged_by judge) (play_spends steps [] k left le) (λ o t e. e)
+  operation_spends steps judge k left le = told (checked_by judge) (play_spends steps [] k left le) (λ o t e. e)
 
   opening_spends : (signature : List ℕ) (force : Bool) → Spends (4 * total opening_steps) (opening signature force)
   unfolding opening handshake
   opening_spends signature force k left le =
-      told (signature_judged signature force)
+      told (signature_checked signature force)
       (then_spends (SignOn ∷ []) ((enter ∷ []) ∷ signature_steps)
-      (λ name. step (enter ∷ []) >>= if_done (λ nothing. play signature_steps []))
+      (λ name. step (enter ∷ []) >>= unless_step_fault (λ nothing. play signature_steps []))
       (λ name. search (rules, then_spends, play_spends)) k left le)
       (λ o t e. e)
 
@@ -142,7 +142,7 @@ module _ (w : Weight) where
   says_costs : (outputs : List OutputEvent) (s : Standing) (k left : ℕ) → k ≤ left
       → OneAction (λ r rest. k ≤ rest) (says outputs (Done s)) left
   says_costs [] s k left le = done le
-  says_costs (output ∷ outputs) s k left le = say tt (says_costs outputs s k left le)
+  says_costs (output ∷ outputs) s k left le = emit tt (says_costs outputs s k left le)
 
   reported_costs : {A : Type 0} (n : ℕ) (operation : Dialog ⊥ (Result A HostFault))
       (tells : Result A HostFault → List OutputEvent) → Spends n operation → Costs n (reported operation tells)
@@ -169,12 +169,12 @@ module _ (w : Weight) where
         after : Costs (4 * total (actions_steps part actions)) (actions_dialog part s actions) → (at : Standing) (t : ℕ)
             → 4 * total (actions_steps part actions) + k ≤ t
             → OneAction (λ r rest. k ≤ rest) (unless_fault (actions_dialog part s actions) at) t
-        after more Fine t e = more k t e
+        after more NoFault t e = more k t e
         after more Faulty t e = done (omega (arith, e))
         after more Over t e = done (omega (arith, e))
 
     ending_costs : (at : Standing) → Costs (4 * total closing_steps) (ending part s at)
-    ending_costs Fine = reported_costs (4 * total closing_steps) closing (closed_says s.quiet part) closing_spends
+    ending_costs NoFault = reported_costs (4 * total closing_steps) closing (closing_output s.quiet part) closing_spends
     ending_costs Faulty = λ k left le. told (λ closed. Over)
         (reported_costs (4 * total closing_steps) closing (λ _. []) closing_spends k left le) (λ a t e. e)
     ending_costs Over = λ k left le. done (omega (arith, le))

@@ -4,32 +4,32 @@ use Rattle.std.proofs.lemmas.List.{map-append}
 use Rattle.stk_frame.specs.Cut.{body_of, frames}
 use Rattle.stk_frame.proofs.Laws.{body_of_frame}
 use Rattle.stk_host.specs.Tape.{Tape, Reading, answer}
-use Rattle.stk_host.specs.Dialog.{Dialog, Done, Say, Ask, Played, played, by_answer, next, bytes_sent, frames_in}
-use Rattle.stk_host.specs.Play.{IsPrefixOf}
-use Rattle.stk_emu.specs.Along.{AsksBodies}
+use Rattle.stk_host.specs.Dialog.{Dialog, Done, Emit, Ask, Played, played, continue_with_reading, next, bytes_sent, frames_in}
+use Rattle.stk_host.specs.Play.{IsBytePrefixOf}
+use Rattle.stk_emu.specs.DialogOverExchanges.{SendsValidBodies}
 use Rattle.avr_tool.proofs.Lines.InTurn.{sends_whole, frames_prefix}
-use Rattle.avr_tool.specs.AnyLine.{Weight, weighed}
+use Rattle.avr_tool.specs.OverFaultyLink.{Weight, total_weight}
 use Rattle.avr_tool.proofs.Bounds.Weights.{WeighsAtMost, weighed_append}
 
 module _ (w : Weight) where
   by_reading : {E R : Type 0} (n : ℕ) (go_on : Reading → Tape → Played E R) (got : Option (Reading × Tape))
-      → ((reading : Reading) (left : Tape) → weighed w (map body_of (frames_in (go_on reading left).events)) ≤ n)
-      → weighed w (map body_of (frames_in (by_answer go_on got).events)) ≤ n
+      → ((reading : Reading) (left : Tape) → total_weight w (map body_of (frames_in (go_on reading left).events)) ≤ n)
+      → total_weight w (map body_of (frames_in (continue_with_reading go_on got).events)) ≤ n
   by_reading n go_on got f = search rules
 
   frames_weigh : {E R : Type 0} (n : ℕ) (d : Dialog E R) (seq : ℕ) (tape : Tape) → WeighsAtMost w n d
-      → weighed w (map body_of (frames_in (played d seq tape).events)) ≤ n
+      → total_weight w (map body_of (frames_in (played d seq tape).events)) ≤ n
   frames_weigh n (Done r) seq tape f = omega arith
-  frames_weigh n (Say e d) seq tape f = frames_weigh n d seq tape f.1
+  frames_weigh n (Emit e d) seq tape f = frames_weigh n d seq tape f.1
   frames_weigh n (Ask asked answered) seq tape f =
       let rest = by_reading (n - w asked) (λ reading. played (answered reading) (next seq)) (answer seq tape)
       (λ reading left. frames_weigh (n - w asked) (answered reading) (next seq) left (f.1 reading)) in
       search (rules, body_of_frame)
 
   -- the same of a prefix of the bytes
-  pub prefix_weighs : {E R : Type 0} (n : ℕ) (d : Dialog E R) (seq : ℕ) (tape : Tape) (sent : List ℕ) → AsksBodies d
-      → WeighsAtMost w n d → IsPrefixOf sent (bytes_sent (played d seq tape).events)
-      → weighed w (map body_of (frames sent)) ≤ n
+  pub prefix_weighs : {E R : Type 0} (n : ℕ) (d : Dialog E R) (seq : ℕ) (tape : Tape) (sent : List ℕ) → SendsValidBodies d
+      → WeighsAtMost w n d → IsBytePrefixOf sent (bytes_sent (played d seq tape).events)
+      → total_weight w (map body_of (frames sent)) ≤ n
   prefix_weighs n d seq tape sent asks f prefix =
       let whole = frames_prefix (played d seq tape).events sent prefix.0 (sends_whole d seq tape asks) prefix.1 in
       let all = frames_weigh n d seq tape f in search (rules, map-append, weighed_append)

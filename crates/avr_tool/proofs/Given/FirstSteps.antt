@@ -5,18 +5,18 @@ use Rattle.avr_part.specs.Sound.{IsSoundChip}
 use Rattle.avr_part.specs.Part.{Part, IsPart}
 use Rattle.stk_frame.specs.declared.command.Command.{Command}
 use Rattle.stk_host.specs.Steps.{play}
-use Rattle.stk_emu.specs.Turn.{Turn}
+use Rattle.stk_emu.specs.Exchange.{Exchange}
 use Rattle.stk_emu.specs.Programmer.{Programmer}
 use Rattle.stk_emu.specs.Device.{device}
-use Rattle.stk_emu.specs.Along.{along}
+use Rattle.stk_emu.specs.DialogOverExchanges.{state_after}
 use Rattle.stk_emu.specs.Effect.{Memories, memories_of}
-use Rattle.stk_emu.specs.Settled.{Idle, Settled, FitsPart}
+use Rattle.stk_emu.specs.Settled.{HasMemories, Settled, FitsPart}
 use Rattle.avr_tool.proofs.Leads.{AreSome, Climbs}
-use Rattle.stk_emu.specs.PageWrites.{changed_by, AreSteps}
-use Rattle.avr_tool.proofs.PageWrites.Conditions.{play_climbs}
-use Rattle.avr_tool.proofs.PageWrites.OutsideMode.{all_fit}
+use Rattle.stk_emu.specs.WriteOperations.{memories_after_steps, AreSteps}
+use Rattle.avr_tool.proofs.WriteOperations.Conditions.{play_climbs}
+use Rattle.avr_tool.proofs.WriteOperations.OutsideMode.{all_fit}
 
-pub sound_idle : (p : Programmer) → IsSoundChip p.chip → Idle p.chip.part (memories_of p.chip) p
+pub sound_idle : (p : Programmer) → IsSoundChip p.chip → HasMemories p.chip.part (memories_of p.chip) p
 sound_idle p sound = search rules
 
 pub sound_fits : (s : chip.ChipState) → IsSoundChip s → FitsPart s.part (memories_of s)
@@ -28,8 +28,8 @@ are_some part [] are = tt
 are_some part (commands ∷ steps) are = search (rules, are_some part steps are.1)
 
 pub steps_climb : (part : Part) (steps : List (List Command)) (m : Memories) (k : ℕ) (before : List ℕ) (p : Programmer)
-    (turns : List Turn)
+    (exchanges : List Exchange)
     → IsPart part → AreSteps part steps → Settled part m p
-    → Climbs device (λ j. Settled part (changed_by part j steps m)) k steps p turns
-    (along device k (play steps before) p turns)
-steps_climb part steps m k before p turns sound are s = search (rules, play_climbs, are_some, all_fit)
+    → Climbs device (λ j. Settled part (memories_after_steps part j steps m)) k steps p exchanges
+    (state_after device k (play steps before) p exchanges)
+steps_climb part steps m k before p exchanges sound are s = search (rules, play_climbs, are_some, all_fit)

@@ -8,21 +8,21 @@ use Rattle.std.specs.Prelude.{nat_le as leb}
 use Rattle.stk_frame.specs.Cut.{cut, rest, body_of}
 use Rattle.stk_frame.proofs.Cuts.{cut_append, cut_joined}
 use Rattle.stk_host.specs.declared.link.Item.TheVariants.{Byte}
-use Rattle.stk_host.specs.Tape.{Tape, on_tape, bytes_in, answer, read_to, silence_or_end, first_answer, is_answer, further, limit, Reading, Babbled}
+use Rattle.stk_host.specs.Tape.{Tape, on_tape, leading_bytes, answer, reading_from_first, timeout_or_end, first_answer, is_answer, past_skipped, reply_byte_limit, Reading, Babbled}
 use Rattle.stk_host.proofs.Tapes.Answers.{answer_silent, answer_ended, first_answer_stays, drop_tape, answer_by}
 
 pub record Split (tape : Tape) : Type 0 where
   pub tail : Tape
-  pub is : tape ≡ on_tape (bytes_in tape) ++ tail
-  pub stops : bytes_in tail ≡ []
+  pub is : tape ≡ on_tape (leading_bytes tape) ++ tail
+  pub stops : leading_bytes tail ≡ []
 
 split : (tape : Tape) → Split tape
 split [] = record { tail = []; is = refl; stops = refl }
 split (Byte b ∷ tape) = let s = split tape in record { tail = s.tail; is = ap (λ t. Byte b ∷ t) s.is; stops = s.stops }
 split tape = search rules
 
-bytes_more : (t u : Tape) → (z : List ℕ) × (bytes_in (t ++ u) ≡ bytes_in t ++ z)
-bytes_more [] u = (bytes_in u, refl)
+bytes_more : (t u : Tape) → (z : List ℕ) × (leading_bytes (t ++ u) ≡ leading_bytes t ++ z)
+bytes_more [] u = (leading_bytes u, refl)
 bytes_more (Byte b ∷ t) u = let m = bytes_more t u in (m.0, ap (λ bs. b ∷ bs) m.1)
 bytes_more (item ∷ t) u = ([], refl)
 
@@ -36,11 +36,11 @@ drop_more_tape zero t u le = refl
 drop_more_tape (suc n) [] u le = absurd (omega arith)
 drop_more_tape (suc n) (i ∷ t) u le = drop_more_tape n t u (omega arith)
 
-bytes_few : (t : Tape) → length (bytes_in t) ≤ length t
+bytes_few : (t : Tape) → length (leading_bytes t) ≤ length t
 bytes_few (Byte b ∷ t) = let l = bytes_few t in omega arith
 bytes_few t = omega arith
 
-further_used : (a n : ℕ) (o : Option (List ℕ × ℕ)) (body : List ℕ) (used : ℕ) → further a o ≡ Some (body, used)
+further_used : (a n : ℕ) (o : Option (List ℕ × ℕ)) (body : List ℕ) (used : ℕ) → past_skipped a o ≡ Some (body, used)
     → ((b : List ℕ) (k : ℕ) → o ≡ Some (b, k) → k ≤ n) → used ≤ a + n
 further_used a n o body used e each = search rules
 
@@ -55,7 +55,7 @@ used_within seq (piece ∷ pieces) body used e = elim (cases_Bool (is_answer seq
       let g : length piece ≡ used = ap (λ x. x.1) p in
       rw (length-append piece (concat pieces)) (omega arith)
   | inr is_not ↦
-      let f : further (length piece) (first_answer seq pieces) ≡ Some (body, used) =
+      let f : past_skipped (length piece) (first_answer seq pieces) ≡ Some (body, used) =
       search (rules, cond-false) in
       rw (length-append piece (concat pieces))
       (further_used (length piece) (length (concat pieces)) (first_answer seq pieces) body used f
@@ -72,60 +72,60 @@ some_tape : (a b : Reading) (s t : Tape) → ◌≡◌ {A = Option (Reading × T
     → (a ≡ b) × (s ≡ t)
 some_tape a b s t e = search rules
 
-stops_more : (seq : ℕ) (b : List ℕ) (tail u : Tape) (reading : Reading) (left : Tape) → bytes_in tail ≡ []
-    → first_answer seq (cut b) ≡ None → length b < limit → silence_or_end tail ≡ Some (reading, left)
+stops_more : (seq : ℕ) (b : List ℕ) (tail u : Tape) (reading : Reading) (left : Tape) → leading_bytes tail ≡ []
+    → first_answer seq (cut b) ≡ None → length b < reply_byte_limit → timeout_or_end tail ≡ Some (reading, left)
     → answer seq ((on_tape b ++ tail) ++ u) ≡ Some (reading, left ++ u)
 stops_more seq b tail u reading left stops none few e = search (rules, append_assoc, answer_silent, answer_ended)
 
 given_more : (seq : ℕ) (t u : Tape) (o : Option (List ℕ × ℕ)) (reading : Reading) (left : Tape)
-    → first_answer seq (cut (take limit (bytes_in t))) ≡ o
-    → read_to o (take limit (bytes_in t)) t ≡ Some (reading, left) → answer seq (t ++ u) ≡ Some (reading, left ++ u)
+    → first_answer seq (cut (take reply_byte_limit (leading_bytes t))) ≡ o
+    → reading_from_first o (take reply_byte_limit (leading_bytes t)) t ≡ Some (reading, left) → answer seq (t ++ u) ≡ Some (reading, left ++ u)
 given_more seq t u (Some (body, used)) reading left found e =
     let z = bytes_more t u in
-    let y = take_more_bytes limit (bytes_in t) z.0 in
-    let x : List ℕ = take limit (bytes_in t) in
-    let bytes : take limit (bytes_in (t ++ u)) ≡ x ++ y.0 = ap (take limit) z.1 ∙ y.1 in
+    let y = take_more_bytes reply_byte_limit (leading_bytes t) z.0 in
+    let x : List ℕ = take reply_byte_limit (leading_bytes t) in
+    let bytes : take reply_byte_limit (leading_bytes (t ++ u)) ≡ x ++ y.0 = ap (take reply_byte_limit) z.1 ∙ y.1 in
     let a : used ≤ length x = used_few seq x body used found in
-    let b : length x ≤ length (bytes_in t) = simp length-take (omega arith) in
-    let c : length (bytes_in t) ≤ length t = bytes_few t in
+    let b : length x ≤ length (leading_bytes t) = simp length-take (omega arith) in
+    let c : length (leading_bytes t) ≤ length t = bytes_few t in
     answer_by seq (t ++ u) (x ++ y.0) bytes
-    ∙ (ap (λ o. read_to o (x ++ y.0) (t ++ u))
+    ∙ (ap (λ o. reading_from_first o (x ++ y.0) (t ++ u))
     (ap (first_answer seq) (cut_append x y.0)
     ∙ first_answer_stays seq (cut x) (cut (rest x ++ y.0)) (body, used) found)
     ∙ (search (rules, drop_more_tape)))
 given_more seq t u None reading left none e =
-    let x : List ℕ = take limit (bytes_in t) in
-    let l : length x ≡ min limit (length (bytes_in t)) = length-take limit (bytes_in t) in
-    let c : length (bytes_in t) ≤ length t = bytes_few t in
-    elim (cases_Bool (leb limit (length x))) [
+    let x : List ℕ = take reply_byte_limit (leading_bytes t) in
+    let l : length x ≡ min reply_byte_limit (length (leading_bytes t)) = length-take reply_byte_limit (leading_bytes t) in
+    let c : length (leading_bytes t) ≤ length t = bytes_few t in
+    elim (cases_Bool (leb reply_byte_limit (length x))) [
       | inl full ↦
-          let le : limit ≤ length x = leb-true limit (length x) full in
+          let le : reply_byte_limit ≤ length x = leb-true reply_byte_limit (length x) full in
           let z = bytes_more t u in
-          let bytes : take limit (bytes_in (t ++ u)) ≡ x =
-          ap (take limit) z.1 ∙ take-append-le limit (bytes_in t) z.0 (omega arith) in
-          let f = some_tape Babbled reading (drop limit t) left
+          let bytes : take reply_byte_limit (leading_bytes (t ++ u)) ≡ x =
+          ap (take reply_byte_limit) z.1 ∙ take-append-le reply_byte_limit (leading_bytes t) z.0 (omega arith) in
+          let f = some_tape Babbled reading (drop reply_byte_limit t) left
           (search rules) in
           answer_by seq (t ++ u) x bytes
-          ∙ (ap (λ o. read_to o x (t ++ u)) none
-          ∙ (cond-true (leb limit (length x)) (Some (Babbled, drop limit (t ++ u)))
-          (silence_or_end (drop (length x) (t ++ u))) full
-          ∙ (ap (λ r. Some (Babbled, r)) (drop_more_tape limit t u (omega arith))
+          ∙ (ap (λ o. reading_from_first o x (t ++ u)) none
+          ∙ (cond-true (leb reply_byte_limit (length x)) (Some (Babbled, drop reply_byte_limit (t ++ u)))
+          (timeout_or_end (drop (length x) (t ++ u))) full
+          ∙ (ap (λ r. Some (Babbled, r)) (drop_more_tape reply_byte_limit t u (omega arith))
           ∙ ap₂ (λ r q. Some (r, q ++ u)) f.0 f.1)))
       | inr few ↦
-          let lt : length x < limit = leb-false limit (length x) few in
-          let same : x ≡ bytes_in t = take_all limit (bytes_in t) (omega arith) in
+          let lt : length x < reply_byte_limit = leb-false reply_byte_limit (length x) few in
+          let same : x ≡ leading_bytes t = take_all reply_byte_limit (leading_bytes t) (omega arith) in
           let s = split t in
-          let stop : silence_or_end (drop (length x) t) ≡ Some (reading, left) =
+          let stop : timeout_or_end (drop (length x) t) ≡ Some (reading, left) =
           search rules in
           let at : drop (length x) t ≡ s.tail = search (rules, drop_tape) in
           ap (λ w. answer seq (w ++ u)) s.is
-          ∙ stops_more seq (bytes_in t) s.tail u reading left s.stops
-          (ap (λ y. first_answer seq (cut y)) (sym same) ∙ none) (subst (λ y. length y < limit) same lt)
-          (ap silence_or_end (sym at) ∙ stop)
+          ∙ stops_more seq (leading_bytes t) s.tail u reading left s.stops
+          (ap (λ y. first_answer seq (cut y)) (sym same) ∙ none) (subst (λ y. length y < reply_byte_limit) same lt)
+          (ap timeout_or_end (sym at) ∙ stop)
     ]
 
 pub answer_extends : (seq : ℕ) (t u : Tape) (reading : Reading) (left : Tape) → answer seq t ≡ Some (reading, left)
     → answer seq (t ++ u) ≡ Some (reading, left ++ u)
 answer_extends seq t u reading left e =
-    given_more seq t u (first_answer seq (cut (take limit (bytes_in t)))) reading left refl
-    (sym (answer_by seq t (take limit (bytes_in t)) refl) ∙ e)
+    given_more seq t u (first_answer seq (cut (take reply_byte_limit (leading_bytes t)))) reading left refl
+    (sym (answer_by seq t (take reply_byte_limit (leading_bytes t)) refl) ∙ e)

@@ -9,7 +9,7 @@ use Rattle.stk_emu.specs.Programmer.{Programmer}
 use Rattle.stk_emu.specs.Device.{device}
 use Rattle.stk_emu.specs.Effect.{Memories}
 use Rattle.stk_emu.specs.Settled.{Ready}
-use Rattle.stk_emu.specs.PageWrites.{IsBlock, AreWords}
+use Rattle.stk_emu.specs.WriteOperations.{IsBlock, AreWords}
 use Rattle.stk_emu.proofs.Memories.Pages.{is_wide}
 use Rattle.stk_emu.proofs.Memories.BlocksRead.{flash_left, eeprom_left}
 

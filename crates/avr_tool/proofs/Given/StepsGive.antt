@@ -10,22 +10,22 @@ use Rattle.stk_frame.specs.Commands.{body}
 use Rattle.stk_frame.specs.HostCommands.{program_page, program_eeprom_block, program_fuse, read_flash_block, read_eeprom_block, read_fuse, read_lock, read_signature, read_calibration}
 use Rattle.stk_host.specs.Tape.{Answered}
 use Rattle.stk_host.specs.Places.{flash_address, load_flash, load_eeprom}
-use Rattle.stk_host.specs.Steps.{Data, reading_reply}
+use Rattle.stk_host.specs.Steps.{Data, reply_from_reading}
 use Rattle.stk_host.proofs.ImagePlaces.PagesAndRuns.{page_most}
-use Rattle.stk_emu.specs.Programmer.{Programmer, obey_command, flash_looks, eeprom_looks}
+use Rattle.stk_emu.specs.Programmer.{Programmer, execute_command, flash_reads, eeprom_reads}
 use Rattle.stk_emu.specs.Programmer as programmer
 use Rattle.stk_emu.specs.Device.{Device, device}
 use Rattle.stk_emu.specs.Effect.{Memories, effect, effects, Item}
 use Rattle.stk_emu.specs.Settled.{Settled, Ready, FitsPart}
-use Rattle.stk_emu.specs.PageWrites.{changed, page_write_of, IsStep, Erases, ProgramsPage, ProgramsRun, ProgramsFuse, ProgramsLock, ReadsFlash, ReadsEeprom, ReadsFuse, ReadsLock, ReadsSignature, ReadsCalibration, IsPage, FitsEepromPage, IsBlock, AreWords}
-use Rattle.stk_emu.specs.Given.{given_by, on_data, reply_to, joined_reply, Gives}
+use Rattle.stk_emu.specs.WriteOperations.{memories_after_step, write_operation_of, IsStep, Erases, ProgramsPage, ProgramsEepromRun, ProgramsFuse, ProgramsLock, ReadsFlash, ReadsEeprom, ReadsFuse, ReadsLock, ReadsSignature, ReadsCalibration, IsPage, FitsEepromPage, IsBlock, AreWords}
+use Rattle.stk_emu.specs.Given.{data_of_step, on_data, reply_to, joined_reply, IsDataOfAttempt}
 use Rattle.stk_emu.proofs.Answers.Commands.{settled_ready}
 use Rattle.stk_emu.proofs.Memories.Pages.{is_wide, flash_loaded_at, flash_address_back}
 use Rattle.stk_emu.proofs.Memories.Runs.{narrow_loaded}
-use Rattle.stk_emu.proofs.Memories.BlocksRead.{Looked, flash_looked, eeprom_looked}
-use Rattle.avr_tool.proofs.PageWrites.Steps.{address_fits}
-use Rattle.avr_tool.proofs.PageWrites.OutsideMode.{in_mode_by_data, load_reply}
-use Rattle.avr_tool.proofs.PageWrites.Items.{effect_sizes, flash_even}
+use Rattle.stk_emu.proofs.Memories.BlocksRead.{BytesAndChip, flash_looked, eeprom_looked}
+use Rattle.avr_tool.proofs.WriteOperations.Steps.{address_fits}
+use Rattle.avr_tool.proofs.WriteOperations.OutsideMode.{in_mode_by_data, load_reply}
+use Rattle.avr_tool.proofs.WriteOperations.Items.{effect_sizes, flash_even}
 
 module _ {P : Type 0} (m : Device P) where
   one_gathered : (c : Command) (p : P) (bytes : List ℕ) → reply_to m c p ≡ Data bytes
@@ -37,20 +37,20 @@ module _ {P : Type 0} (m : Device P) where
   two_gathered c d p bytes e f = search rules
 
 in_mode_reply : (c : Command) (p : Programmer) (x y : programmer.Response) → p.mode ≡ true
-    → reading_reply c (Answered (cond p.mode x y).0) ≡ reading_reply c (Answered x.0)
-in_mode_reply c p x y e = ap (λ (z : programmer.Response). reading_reply c (Answered z.0)) (cond-true p.mode x y e)
+    → reply_from_reading c (Answered (cond p.mode x y).0) ≡ reply_from_reading c (Answered x.0)
+in_mode_reply c p x y e = ap (λ (z : programmer.Response). reply_from_reading c (Answered z.0)) (cond-true p.mode x y e)
 
 fuse_reply : (f : Fuse) (v : ℕ) (p : Programmer) → p.mode ≡ true → reply_to device (program_fuse f v) p ≡ Data []
 fuse_reply f v p e = search rules
 
 flash_read_reply : (count : ℕ) (bytes : List ℕ) (p : Programmer) → p.mode ≡ true → 0 < count → count % 2 ≡ 0
-    → count ≤ 256 → (flash_looks p.wide 0x20 p.address 0 count p.chip).0 ≡ bytes → length bytes ≡ count
+    → count ≤ 256 → (flash_reads p.wide 0x20 p.address 0 count p.chip).0 ≡ bytes → length bytes ≡ count
     → reply_to device (read_flash_block count) p ≡ Data bytes
 flash_read_reply count bytes p mode some even few is len =
     search (rules, length-append, get_or-append_right, take-append-le, take_all, eq-eqb)
 
 eeprom_read_reply : (count : ℕ) (bytes : List ℕ) (p : Programmer) → p.mode ≡ true → 0 < count → count ≤ 256
-    → (eeprom_looks 0xA0 p.address 0 count p.chip).0 ≡ bytes → length bytes ≡ count
+    → (eeprom_reads 0xA0 p.address 0 count p.chip).0 ≡ bytes → length bytes ≡ count
     → reply_to device (read_eeprom_block count) p ≡ Data bytes
 eeprom_read_reply count bytes p mode some few is len =
     search (rules, length-append, get_or-append_right, take-append-le, take_all)
@@ -63,23 +63,23 @@ module _ (part : Part) (sound : IsPart part) where
   flash_given : (start count : ℕ) (m : Memories) (p : Programmer) → IsBlock part Flash start count
       → AreWords start count → FitsPart part m → Ready part m p
       → joined_reply device (load_flash part start ∷ read_flash_block count ∷ []) [] p
-      ≡ Data (given_by part (load_flash part start ∷ read_flash_block count ∷ []) m)
+      ≡ Data (data_of_step part (load_flash part start ∷ read_flash_block count ∷ []) m)
   flash_given start count m p is_block words f s =
       let most = sound.flash_most in
       let few : start < 4294967296 = omega arith in
       let halves : start / 2 * 2 + 0 ≡ start = let e = words.start_even in omega arith in
       let q : Programmer = record p { address = start / 2; wide = is_wide part } in
       let long : length p.chip.flash ≡ part.flash_size = ap (λ (x : Memories). length x.flash) s.memories ∙ f.flash in
-      let looked : Looked (is_wide part) (start / 2 * 2 + 0) count p.chip
-      (flash_looks (is_wide part) 0x20 (start / 2) 0 count p.chip) =
+      let looked : BytesAndChip (is_wide part) (start / 2 * 2 + 0) count p.chip
+      (flash_reads (is_wide part) 0x20 (start / 2) 0 count p.chip) =
       flash_looked (is_wide part) (start / 2) 0 count part.flash_size p.chip (ap (λ (x : Part). x.flash_size) s.part_is)
       long most (flash_even part sound) (omega arith)
       (λ narrow. let size = ltb-false 131072 part.flash_size narrow in (s.extended size, size)) in
       let bytes = take count (drop start m.flash) in
-      let is : (flash_looks (is_wide part) 0x20 (start / 2) 0 count p.chip).0 ≡ bytes =
+      let is : (flash_reads (is_wide part) 0x20 (start / 2) 0 count p.chip).0 ≡ bytes =
       search rules in
       two_gathered device (load_flash part start) (read_flash_block count) p
-      (given_by part (load_flash part start ∷ read_flash_block count ∷ []) m)
+      (data_of_step part (load_flash part start ∷ read_flash_block count ∷ []) m)
       (load_reply (flash_address part start) p (address_fits part sound start few))
       (ap (reply_to device (read_flash_block count)) (flash_loaded_at part start p few)
       ∙ (search (rules, flash_read_reply, block_length, flash_address_back)))
@@ -87,7 +87,7 @@ module _ (part : Part) (sound : IsPart part) where
   eeprom_given : (start count : ℕ) (m : Memories) (p : Programmer) → IsBlock part Eeprom start count → FitsPart part m
       → Ready part m p
       → joined_reply device (load_eeprom start ∷ read_eeprom_block count ∷ []) [] p
-      ≡ Data (given_by part (load_eeprom start ∷ read_eeprom_block count ∷ []) m)
+      ≡ Data (data_of_step part (load_eeprom start ∷ read_eeprom_block count ∷ []) m)
   eeprom_given start count m p is_block f s =
       let inside = is_block.inside in
       let most = sound.eeprom_most in
@@ -97,7 +97,7 @@ module _ (part : Part) (sound : IsPart part) where
       let looked = eeprom_looked start 0 count part.eeprom_size p.chip (ap (λ (x : Part). x.eeprom_size) s.part_is) long
       most (omega arith) in
       let bytes = take count (drop start m.eeprom) in
-      let is : (eeprom_looks 0xA0 start 0 count p.chip).0 ≡ bytes =
+      let is : (eeprom_reads 0xA0 start 0 count p.chip).0 ≡ bytes =
       search rules in
       two_gathered device (load_eeprom start) (read_eeprom_block count) p bytes
       (load_reply start p (omega arith))
@@ -106,20 +106,20 @@ module _ (part : Part) (sound : IsPart part) where
       (block_length start count part.eeprom_size m.eeprom f.eeprom inside))
 
   lock_given : (m : Memories) (p : Programmer) → Ready part m p
-      → reply_to device read_lock p ≡ Data (given_by part (read_lock ∷ []) m)
+      → reply_to device read_lock p ≡ Data (data_of_step part (read_lock ∷ []) m)
   lock_given m p s = in_mode_reply read_lock p _ _ s.mode ∙ ap (λ (x : Memories). Data (x.lock ∷ [])) s.memories
 
   signature_given : (place : ℕ) (m : Memories) (p : Programmer) → place < 3 → Ready part m p
-      → reply_to device (read_signature place) p ≡ Data (given_by part (read_signature place ∷ []) m)
+      → reply_to device (read_signature place) p ≡ Data (data_of_step part (read_signature place ∷ []) m)
   signature_given place m p few s = search (rules, ne_eqb, drop-cons)
 
   calibration_given : (m : Memories) (p : Programmer) → Ready part m p
-      → reply_to device read_calibration p ≡ Data (given_by part (read_calibration ∷ []) m)
+      → reply_to device read_calibration p ≡ Data (data_of_step part (read_calibration ∷ []) m)
   calibration_given m p s = in_mode_reply read_calibration p _ _ s.mode
 
   as_written : (written commands : List Command) (m : Memories) (p : Programmer) → commands ≡ written
-      → joined_reply device written [] p ≡ Data (given_by part written m)
-      → joined_reply device commands [] p ≡ Data (given_by part commands m)
+      → joined_reply device written [] p ≡ Data (data_of_step part written m)
+      → joined_reply device commands [] p ≡ Data (data_of_step part commands m)
   as_written written commands m p e given = search rules
 
   page_given : (number : ℕ) (bytes : List ℕ) (m : Memories) (p : Programmer) → IsPage part number bytes → Ready part m p
@@ -132,11 +132,11 @@ module _ (part : Part) (sound : IsPart part) where
 
   -- all commands of a step, each executed and replied to
   pub step_data : (commands : List Command) (m : Memories) (p : Programmer) → IsStep part commands → FitsPart part m
-      → Ready part m p → joined_reply device commands [] p ≡ Data (given_by part commands m)
+      → Ready part m p → joined_reply device commands [] p ≡ Data (data_of_step part commands m)
   step_data commands m p (Erases e) f s = search rules
   step_data commands m p (ProgramsPage number bytes is_page e) f s =
       as_written _ commands m p e (page_given number bytes m p is_page s)
-  step_data commands m p (ProgramsRun address bytes is_run e) f s =
+  step_data commands m p (ProgramsEepromRun address bytes is_run e) f s =
       as_written _ commands m p e (run_given address bytes m p is_run s)
   step_data commands m p (ProgramsFuse fuse v e) f s =
       as_written _ commands m p e (one_gathered device (program_fuse fuse v) p [] (fuse_reply fuse v p s.mode))
@@ -161,25 +161,25 @@ changed_sizes_by part (item ∷ items) m sound f =
     changed_sizes_by part items (effect part item m) sound (effect_sizes part sound item m f)
 
 pub changed_sizes : (part : Part) (commands : List Command) (m : Memories) → IsPart part → FitsPart part m
-    → FitsPart part (changed part commands m)
-changed_sizes part commands m sound f = changed_sizes_by part (page_write_of commands) m sound f
+    → FitsPart part (memories_after_step part commands m)
+changed_sizes part commands m sound f = changed_sizes_by part (write_operation_of commands) m sound f
 
 module _ (part : Part) (sound : IsPart part) where
   pub given_same : (commands : List Command) (m : Memories) → IsStep part commands
-      → given_by part commands (changed part commands m) ≡ given_by part commands m
+      → data_of_step part commands (memories_after_step part commands m) ≡ data_of_step part commands m
   given_same commands m c' = search rules
 
   -- an attempt under either condition gives what the memories hold
   pub gives_given : (commands : List Command) (m : Memories) (got : List ℕ) → IsStep part commands → FitsPart part m
-      → Gives device commands (Settled part m) (Settled part (changed part commands m)) got
-      → got ≡ given_by part commands m
+      → IsDataOfAttempt device commands (Settled part m) (Settled part (memories_after_step part commands m)) got
+      → got ≡ data_of_step part commands m
   gives_given commands m got is f g = search (rules, from_either)
     where
-      from_either : (q : Programmer) → Settled part m q ⊎ Settled part (changed part commands m) q
+      from_either : (q : Programmer) → Settled part m q ⊎ Settled part (memories_after_step part commands m) q
           → joined_reply device commands [] q ≡ Data got
-          → joined_reply device commands [] q ≡ Data (given_by part commands m)
+          → joined_reply device commands [] q ≡ Data (data_of_step part commands m)
       from_either q (inl t) has = search (rules, step_data, in_mode_by_data)
       from_either q (inr t) has =
-          step_data part sound commands (changed part commands m) q is (changed_sizes part commands m sound f)
-          (settled_ready part (changed part commands m) q (in_mode_by_data part sound commands q got is has) t)
+          step_data part sound commands (memories_after_step part commands m) q is (changed_sizes part commands m sound f)
+          (settled_ready part (memories_after_step part commands m) q (in_mode_by_data part sound commands q got is has) t)
           ∙ ap Data (given_same commands m is)

@@ -10,7 +10,7 @@ use Rattle.stk_host.specs.Places.{each_from}
 use Rattle.stk_host.specs.ReadSteps.{read_count, read_step, read_steps}
 use Rattle.stk_emu.specs.Effect.{Memories, memory_in}
 use Rattle.stk_emu.specs.Settled.{FitsPart}
-use Rattle.stk_emu.specs.Given.{all_given}
+use Rattle.stk_emu.specs.Given.{data_of_steps}
 
 block_join : (xs : List ℕ) (start size : ℕ) → length xs ≡ size
     → take (min 256 (size - start)) (drop start xs) ++ drop (start + 256) xs ≡ drop start xs
@@ -28,7 +28,7 @@ one_by_one xs e = grind (arith, common_steps)
 
 module _ (part : Part) (sound : IsPart part) (m : Memories) (f : FitsPart part m) where
   flash_blocks : (n k : ℕ) → n + k ≡ read_count part Flash
-      → all_given part (each_from (read_step part Flash) n k) m ≡ drop (n * 256) m.flash
+      → data_of_steps part (each_from (read_step part Flash) n k) m ≡ drop (n * 256) m.flash
   flash_blocks n zero e = let long = f.flash in sym (drop_all (n * 256) m.flash (omega (arith, e, long)))
   flash_blocks n (suc k) e =
       let most = sound.flash_most in
@@ -38,12 +38,12 @@ module _ (part : Part) (sound : IsPart part) (m : Memories) (f : FitsPart part m
       search (rules, block_join, flash_blocks (n + 1) k (let g : n + 1 + k ≡ n + suc k = omega arith in g ∙ e))
 
   eeprom_blocks : (n k : ℕ) → n + k ≡ read_count part Eeprom
-      → all_given part (each_from (read_step part Eeprom) n k) m ≡ drop (n * 256) m.eeprom
+      → data_of_steps part (each_from (read_step part Eeprom) n k) m ≡ drop (n * 256) m.eeprom
   eeprom_blocks n zero e = let long = f.eeprom in sym (drop_all (n * 256) m.eeprom (omega (arith, e, long)))
   eeprom_blocks n (suc k) e =
       let next : (n + 1) * 256 ≡ n * 256 + 256 = omega arith in
       search (rules, block_join, eeprom_blocks (n + 1) k (let g : n + 1 + k ≡ n + suc k = omega arith in g ∙ e))
 
   -- all blocks of a memory are the memory
-  pub read_gives : (mem : Mem) → all_given part (read_steps part mem) m ≡ memory_in part mem m
+  pub read_gives : (mem : Mem) → data_of_steps part (read_steps part mem) m ≡ memory_in part mem m
   read_gives mem = grind (arith, common_steps, flash_blocks, eeprom_blocks)

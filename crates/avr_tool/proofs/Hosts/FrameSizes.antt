@@ -7,11 +7,11 @@ use Rattle.stk_frame.specs.Commands.{body}
 use Rattle.stk_frame.specs.HostCommands.{program_fuse, read_fuse}
 use Rattle.avr_tool.proofs.Each.{Each}
 use Rattle.stk_host.proofs.ImagePlaces.PagesAndRuns.{page_most}
-use Rattle.stk_emu.specs.Lawful.{IsBody}
-use Rattle.stk_emu.specs.PageWrites.{IsStep, AreSteps}
+use Rattle.stk_emu.specs.Lawful.{IsFrameBody}
+use Rattle.stk_emu.specs.WriteOperations.{IsStep, AreSteps}
 
 abbrev pub AreSendable : List Command → Type 0
-AreSendable commands = Each (λ command. IsBody (body command)) commands
+AreSendable commands = Each (λ command. IsFrameBody (body command)) commands
 
 abbrev pub EachSendable : List (List Command) → Type 0
 EachSendable steps = Each AreSendable steps

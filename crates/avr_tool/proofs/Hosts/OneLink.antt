@@ -1,51 +1,51 @@
 -- Calls over one link, in the logic of dialogs.
 use Rattle.std.proofs.Common.{ℕ, List, rules}
 use Rattle.std.specs.Prelude.{⊤}
-use Rattle.stk_emu.specs.Along.{along}
+use Rattle.stk_emu.specs.DialogOverExchanges.{state_after}
 use Rattle.stk_emu.specs.Device.{Device}
 use Rattle.stk_emu.specs.Programmer.{Programmer}
-use Rattle.stk_emu.specs.Turn.{Turn, after_turn, turn_reading, first_turn, other_turns}
-use Rattle.stk_host.proofs.Dialogs.Logic.{World, HoldsFrom, Upholds, NoSays}
-use Rattle.stk_host.specs.Dialog.{Dialog, Done, Say, Ask}
-use Rattle.avr_tool.proofs.Hosts.AnyTurn.{any_turn, Keeps}
+use Rattle.stk_emu.specs.Exchange.{Exchange, after_exchange, reading_of_exchange, first_exchange, later_exchanges}
+use Rattle.stk_host.proofs.Dialogs.Logic.{World, HoldsFrom, Upholds, NoOutput}
+use Rattle.stk_host.specs.Dialog.{Dialog, Done, Emit, Ask}
+use Rattle.avr_tool.proofs.Hosts.AnyExchange.{over_any_exchange, Keeps}
 
 -- the programmer, and the exchanges to come
 abbrev pub Spot : Type 0
-Spot = Programmer × List Turn
+Spot = Programmer × List Exchange
 
 module _ (m : Device Programmer) where
   -- each exchange is the next of the list
   abbrev pub this_link : World Spot ⊤
   this_link = record {
-    reads = λ bytes z move. turn_reading (first_turn z.1) (m.answer bytes z.0);
-    after = λ bytes z move. (after_turn (first_turn z.1) (m.after bytes z.0) z.0 m.reset, other_turns z.1);
+    reads = λ bytes z move. reading_of_exchange (first_exchange z.1) (m.answer bytes z.0);
+    after = λ bytes z move. (after_exchange (first_exchange z.1) (m.after bytes z.0) z.0 m.reset, later_exchanges z.1);
   }
 
   -- what a call upholds over this link
   abbrev pub Runs : {R : Type 0} → (Spot → Type 0) → (R → Spot → Type 0) → Dialog ⊥ R → Spot → Type 0
-  Runs During After d z = Upholds this_link (λ bytes y. During y) NoSays After d z
+  Runs During After d z = Upholds this_link (λ bytes y. During y) NoOutput After d z
 
   -- the programmer and the exchanges after `k` questions
   abbrev pub spot : {E R : Type 0} → ℕ → Dialog E R → Spot → Spot
-  spot k d z = let s = along m k d z.0 z.1 in (s.programmer, s.turns)
+  spot k d z = let s = state_after m k d z.0 z.1 in (s.programmer, s.exchanges)
 
   pub on_link : {R : Type 0} {During : Programmer → Type 0} {After : R → Programmer → Type 0} {d : Dialog ⊥ R}
       {z : Spot} → Keeps m During After d z.0 → Runs (λ y. During y.0) (λ r y. After r y.0) d z
   on_link {R = R} {During = During} {After = After} {d = d} {z = z} l = record { holds = on d z l.holds }
     where
-      on : (d : Dialog ⊥ R) (z : Spot) → HoldsFrom (any_turn m) (λ bytes q. During q) NoSays After d z.0
-          → HoldsFrom this_link (λ bytes y. During y.0) NoSays (λ r y. After r y.0) d z
+      on : (d : Dialog ⊥ R) (z : Spot) → HoldsFrom (over_any_exchange m) (λ bytes q. During q) NoOutput After d z.0
+          → HoldsFrom this_link (λ bytes y. During y.0) NoOutput (λ r y. After r y.0) d z
       on (Done r) z h = h
-      on (Say e d) z h = absurd e
-      on (Ask bytes go_on) z h = (h.0, λ move. on (go_on _) (this_link.after bytes z tt) (h.1 (first_turn z.1)))
+      on (Emit e d) z h = absurd e
+      on (Ask bytes go_on) z h = (h.0, λ move. on (go_on _) (this_link.after bytes z tt) (h.1 (first_exchange z.1)))
 
   pub both : {R : Type 0} {During : Spot → Type 0} {After Here : R → Spot → Type 0} {d : Dialog ⊥ R} {z : Spot}
       → Runs During After d z → Runs (λ y. ⊤) Here d z → Runs During (λ r y. After r y × Here r y) d z
   both {R = R} {During = During} {After = After} {Here = Here} {d = d} {z = z} l g = search (rules, on)
     where
-      on : (d : Dialog ⊥ R) (z : Spot) → HoldsFrom this_link (λ bytes y. During y) NoSays After d z
-          → HoldsFrom this_link (λ bytes y. ⊤) NoSays Here d z
-          → HoldsFrom this_link (λ bytes y. During y) NoSays (λ r y. After r y × Here r y) d z
+      on : (d : Dialog ⊥ R) (z : Spot) → HoldsFrom this_link (λ bytes y. During y) NoOutput After d z
+          → HoldsFrom this_link (λ bytes y. ⊤) NoOutput Here d z
+          → HoldsFrom this_link (λ bytes y. During y) NoOutput (λ r y. After r y × Here r y) d z
       on (Done r) z h g = (h, g)
-      on (Say e d) z h g = absurd e
+      on (Emit e d) z h g = absurd e
       on (Ask bytes go_on) z h g = (h.0, λ move. on (go_on _) (this_link.after bytes z tt) (h.1 tt) (g.1 tt))

@@ -9,42 +9,42 @@ use Rattle.stk_frame.specs.HostCommands.{enter, leave}
 use Rattle.stk_host.specs.declared.fault.HostFault.{HostFault}
 use Rattle.stk_host.specs.declared.fault.StepFault.{StepFault}
 use Rattle.stk_host.specs.Dialog.{Dialog, Done, ◌>>=◌}
-use Rattle.stk_host.specs.Steps.{StepOutcome, step, if_done, play}
+use Rattle.stk_host.specs.Steps.{StepOutcome, step, unless_step_fault, play}
 use Rattle.stk_host.specs.ReadSteps.{signature_steps}
-use Rattle.stk_host.specs.Operations.{host_fault, handshake, without_bytes, closing, judged_by, operation}
+use Rattle.stk_host.specs.Operations.{host_fault, handshake, without_bytes, closing, checked_by, operation}
 use Rattle.stk_host.proofs.Dialogs.Logic.{OnOutcome, done, bind, told, wider, on_data}
-use Rattle.stk_emu.specs.Turn.{Turn}
+use Rattle.stk_emu.specs.Exchange.{Exchange}
 use Rattle.stk_emu.specs.Programmer.{Programmer}
 use Rattle.stk_emu.specs.Device.{Device, device}
-use Rattle.stk_emu.specs.Along.{LineState, along}
+use Rattle.stk_emu.specs.DialogOverExchanges.{StateAfter, state_after}
 use Rattle.stk_emu.specs.Effect.{Memories}
-use Rattle.stk_emu.specs.Fits.{Fits}
-use Rattle.stk_emu.specs.Given.{given_by, all_given, Gives}
-use Rattle.stk_emu.specs.Settled.{Idle, Settled, FitsPart}
+use Rattle.stk_emu.specs.Fits.{IsRepeatable}
+use Rattle.stk_emu.specs.Given.{data_of_step, data_of_steps, IsDataOfAttempt}
+use Rattle.stk_emu.specs.Settled.{HasMemories, Settled, FitsPart}
 use Rattle.avr_part.specs.declared.part.Mem.TheVariants.{Signature}
-use Rattle.stk_emu.specs.PageWrites.{changed, changed_by, AreSteps}
-use Rattle.avr_tool.proofs.PageWrites.Items.{read_are_steps}
-use Rattle.avr_tool.proofs.AnyLine.FirstSteps.{quiet_stays, read_quiet}
+use Rattle.stk_emu.specs.WriteOperations.{memories_after_step, memories_after_steps, AreSteps}
+use Rattle.avr_tool.proofs.WriteOperations.Items.{read_are_steps}
+use Rattle.avr_tool.proofs.OverFaultyLink.FirstSteps.{quiet_stays, read_quiet}
 use Rattle.avr_tool.proofs.Leads.{Reached, AfterSteps, AfterBeginning}
-use Rattle.avr_tool.proofs.Hosts.Attempts.{along_bind, onward}
-use Rattle.avr_tool.proofs.PageWrites.Steps.{sign_on_fits, enter_fits}
+use Rattle.avr_tool.proofs.Hosts.Attempts.{along_bind, along_next_dialog}
+use Rattle.avr_tool.proofs.WriteOperations.Steps.{sign_on_fits, enter_fits}
 use Rattle.stk_emu.proofs.Answers.Commands.{settled_idle}
 use Rattle.avr_tool.proofs.Given.WholeMemories.{one_by_one}
-use Rattle.avr_tool.proofs.PageWrites.OutsideMode.{step_fits}
+use Rattle.avr_tool.proofs.WriteOperations.OutsideMode.{step_fits}
 use Rattle.avr_tool.proofs.Given.StepsGive.{gives_given, changed_sizes}
-use Rattle.avr_tool.proofs.Hosts.AnyTurn.{any_turn, Keeps, step_leads}
+use Rattle.avr_tool.proofs.Hosts.AnyExchange.{over_any_exchange, Keeps, step_leads}
 
 module _ (part : Part) (sound : IsPart part) where
   one_more : (commands : List Command) (steps : List (List Command)) (m : Memories) (q : Programmer)
-      → Reached part steps (changed part commands m) q → Reached part (commands ∷ steps) m q
+      → Reached part steps (memories_after_step part commands m) q → Reached part (commands ∷ steps) m q
   one_more commands steps m q r = record { count = suc r.count; stands = r.stands }
 
   -- After a run of steps the memories are those after all of them, with what they give; after a fault, those after some
   -- first ones.
   stepped : (commands : List Command) (steps : List (List Command)) (m : Memories) (before bytes : List ℕ)
       (o : StepOutcome)
-      (q : Programmer) → bytes ≡ given_by part commands m
-      → AfterSteps part steps (changed part commands m) (before ++ bytes) o q
+      (q : Programmer) → bytes ≡ data_of_step part commands m
+      → AfterSteps part steps (memories_after_step part commands m) (before ++ bytes) o q
       → AfterSteps part (commands ∷ steps) m before o q
   stepped commands steps m before bytes o q is a = search (rules, append_assoc, one_more)
 
@@ -55,11 +55,11 @@ module _ (part : Part) (sound : IsPart part) where
   play_goes [] m before p are f s = done (s, sym (append-nil before))
   play_goes (commands ∷ steps) m before p are f s =
       bind
-      (step_leads device commands (Settled part m) (Settled part (changed part commands m))
+      (step_leads device commands (Settled part m) (Settled part (memories_after_step part commands m))
       (step_fits part sound commands m are.0) (Reached part (commands ∷ steps) m)
       (AfterSteps part (commands ∷ steps) m before) p (λ q t. record { count = 0; stands = t })
       (λ q t. record { count = 1; stands = t }) (λ fault q r. r) s)
-      (on_data (any_turn device) (λ bytes q. Reached part (commands ∷ steps) m q)
+      (on_data (over_any_exchange device) (λ bytes q. Reached part (commands ∷ steps) m q)
       (λ bytes. play steps (before ++ bytes))
       (λ bytes q x.
       search (
@@ -69,7 +69,7 @@ module _ (part : Part) (sound : IsPart part) where
         stepped,
         gives_given,
         changed_sizes,
-        play_goes steps (changed part commands m)
+        play_goes steps (memories_after_step part commands m)
             (before ++ bytes) q are.1 (changed_sizes part commands m sound f) x.0,
       )))
 
@@ -77,37 +77,37 @@ module _ (part : Part) (sound : IsPart part) where
   abbrev pub AfterCall : {A : Type 0} → List (List Command) → Memories → (List ℕ → Result A HostFault)
       → Result A HostFault → Programmer → Type 0
   AfterCall steps m judge r q =
-      (Settled part (changed_by part (length steps) steps m) q × (r ≡ judge (all_given part steps m)))
+      (Settled part (memories_after_steps part (length steps) steps m) q × (r ≡ judge (data_of_steps part steps m)))
       ⊎ ((fault : StepFault) × (r ≡ Err (host_fault fault)) × Reached part steps m q)
 
   pub operation_goes : {A : Type 0} (steps : List (List Command)) (m : Memories) (judge : List ℕ → Result A HostFault)
       (p : Programmer) → AreSteps part steps → FitsPart part m → Settled part m p
       → Keeps device (Reached part steps m) (AfterCall steps m judge) (operation steps judge) p
   unfolding operation
-  operation_goes {A = A} steps m judge p are f s = told (judged_by judge) (play_goes steps m [] p are f s) judged
+  operation_goes {A = A} steps m judge p are f s = told (checked_by judge) (play_goes steps m [] p are f s) judged
     where
       judged : (o : StepOutcome) (q : Programmer) → AfterSteps part steps m [] o q
-          → AfterCall steps m judge (judged_by judge o) q
+          → AfterCall steps m judge (checked_by judge o) q
       judged (Ok got) q a = inl (a.0, ap judge a.1)
       judged (Err fault) q a = inr (fault, refl, a)
 
-  idle_reached : (m : Memories) (q : Programmer) → Reached part signature_steps m q → Idle part m q
+  idle_reached : (m : Memories) (q : Programmer) → Reached part signature_steps m q → HasMemories part m q
   idle_reached m q r = settled_idle part m q (search (rules, quiet_stays, read_quiet))
 
-  pub beginning_goes : (m : Memories) (p : Programmer) → FitsPart part m → Idle part m p
-      → Keeps device (Idle part m) (AfterBeginning part m) handshake p
+  pub beginning_goes : (m : Memories) (p : Programmer) → FitsPart part m → HasMemories part m p
+      → Keeps device (HasMemories part m) (AfterBeginning part m) handshake p
   unfolding handshake
   beginning_goes m p f idle =
       bind
-      (step_leads device (SignOn ∷ []) (Idle part m) (Idle part m) (sign_on_fits part m) (Idle part m)
+      (step_leads device (SignOn ∷ []) (HasMemories part m) (HasMemories part m) (sign_on_fits part m) (HasMemories part m)
       (AfterBeginning part m) p (λ q i. i) (λ q i. i) (λ fault q i. i) idle)
-      (on_data (any_turn device) (λ bytes q. Idle part m q)
-      (λ name. step (enter ∷ []) >>= if_done (λ nothing. play signature_steps []))
+      (on_data (over_any_exchange device) (λ bytes q. HasMemories part m q)
+      (λ name. step (enter ∷ []) >>= unless_step_fault (λ nothing. play signature_steps []))
       (λ name q i.
       bind
-      (step_leads device (enter ∷ []) (Idle part m) (Settled part m) (enter_fits part m) (Idle part m)
+      (step_leads device (enter ∷ []) (HasMemories part m) (Settled part m) (enter_fits part m) (HasMemories part m)
       (AfterBeginning part m) q (λ r j. j) (λ r j. settled_idle part m r j) (λ fault r j. j) i.0)
-      (on_data (any_turn device) (λ bytes q. Idle part m q) (λ nothing. play signature_steps [])
+      (on_data (over_any_exchange device) (λ bytes q. HasMemories part m q) (λ nothing. play signature_steps [])
       (λ nothing r t. wider (λ bytes z y. idle_reached m z y) (λ e z y. y) begun
       (play_goes signature_steps m [] r (read_are_steps part sound Signature) f t.0)))))
     where
@@ -118,7 +118,7 @@ module _ (part : Part) (sound : IsPart part) where
 abbrev pub IsClosed : Result ⊤ HostFault → Type 0
 IsClosed r = (r ≡ Ok tt) ⊎ ((fault : StepFault) × (r ≡ Err (host_fault fault)))
 
-pub closing_goes : (Stands : Programmer → Type 0) → Fits device (leave ∷ []) Stands Stands → (p : Programmer) → Stands p
+pub closing_goes : (Stands : Programmer → Type 0) → IsRepeatable device (leave ∷ []) Stands Stands → (p : Programmer) → Stands p
     → Keeps device Stands (λ r q. Stands q × IsClosed r) closing p
 unfolding closing
 closing_goes Stands fits p stands =
@@ -126,7 +126,7 @@ closing_goes Stands fits p stands =
     (λ q i. i) (λ fault q i. i) stands) left
   where
     left : (o : StepOutcome) (q : Programmer)
-        → OnOutcome (λ got q. Stands q × Gives device (leave ∷ []) Stands Stands got)
+        → OnOutcome (λ got q. Stands q × IsDataOfAttempt device (leave ∷ []) Stands Stands got)
         (λ o q. Stands q) o q → Stands q × IsClosed (without_bytes o)
     left (Ok bytes) q i = (i.0, inl refl)
     left (Err fault) q i = (i, inr (fault, refl))
@@ -134,15 +134,15 @@ closing_goes Stands fits p stands =
 -- ---- along a link
 
 -- a dialog whose result is reported in another form
-abbrev reported : {E A B P : Type 0} → (A → B) → LineState E A P → LineState E B P
+abbrev reported : {E A B P : Type 0} → (A → B) → StateAfter E A P → StateAfter E B P
 reported tell s = record {
   dialog = s.dialog >>= (λ a. Done (tell a));
   programmer = s.programmer;
-  turns = s.turns;
+  exchanges = s.exchanges;
   left = s.left;
 }
 
 module _ {E P : Type 0} (m : Device P) where
-  pub along_told : {A B : Type 0} (k : ℕ) (d : Dialog E A) (tell : A → B) (p : P) (turns : List Turn)
-      → along m k (d >>= (λ a. Done (tell a))) p turns ≡ reported tell (along m k d p turns)
-  along_told {A = A} {B = B} k d tell p turns = search (rules, along_bind, told, onward)
+  pub along_told : {A B : Type 0} (k : ℕ) (d : Dialog E A) (tell : A → B) (p : P) (exchanges : List Exchange)
+      → state_after m k (d >>= (λ a. Done (tell a))) p exchanges ≡ reported tell (state_after m k d p exchanges)
+  along_told {A = A} {B = B} k d tell p exchanges = search (rules, along_bind, told, along_next_dialog)

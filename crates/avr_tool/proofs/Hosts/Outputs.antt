@@ -2,16 +2,16 @@
 use Rattle.std.proofs.Common.{◌≡◌, ℕ, zero, suc, List, [], ◌∷◌, ◌++◌, sym, subst, Result, rules}
 use Rattle.std.proofs.lemmas.List.{append-nil}
 use Rattle.std.specs.Prelude.{⊤}
-use Rattle.avr_desk.specs.Said.{OutputEvent}
+use Rattle.avr_desk.specs.OutputEvents.{OutputEvent}
 use Rattle.avr_session.specs.Session.{says, standing, reported}
 use Rattle.avr_session.specs.Standing.{Standing}
-use Rattle.stk_emu.specs.Along.{along, said_along}
+use Rattle.stk_emu.specs.DialogOverExchanges.{state_after, outputs_after}
 use Rattle.stk_emu.specs.Device.{device}
 use Rattle.stk_emu.specs.Programmer.{Programmer}
-use Rattle.stk_host.proofs.Dialogs.Logic.{World, HoldsFrom, NoSays}
-use Rattle.stk_host.specs.Dialog.{Dialog, Done, Say, Ask, ◌>>=◌}
+use Rattle.stk_host.proofs.Dialogs.Logic.{World, HoldsFrom, NoOutput}
+use Rattle.stk_host.specs.Dialog.{Dialog, Done, Emit, Ask, ◌>>=◌}
 use Rattle.stk_host.specs.declared.fault.HostFault.{HostFault}
-use Rattle.avr_tool.proofs.Hosts.AnyTurn.{asks≢done, done_is}
+use Rattle.avr_tool.proofs.Hosts.AnyExchange.{asks≢done, done_is}
 use Rattle.avr_tool.proofs.Hosts.OneLink.{Spot, this_link, Runs, spot}
 use Rattle.stk_host.proofs.Dialogs.Bound.{bind_done}
 
@@ -40,15 +40,15 @@ End R = R → List OutputEvent → Spot → Type 0
 -- both, after `k` questions along the link
 pub record Printed {R : Type 0} (Now : Moment) (After : End R) (k : ℕ) (d : Dialog OutputEvent R) (z : Spot) : Type
     0 where
-  pub now : Now (said_along device k d z.0 z.1) (spot device k d z)
-  pub after : (r : R) → (along device k d z.0 z.1).dialog ≡ Done r
-      → After r (said_along device k d z.0 z.1) (spot device k d z)
+  pub now : Now (outputs_after device k d z.0 z.1) (spot device k d z)
+  pub after : (r : R) → (state_after device k d z.0 z.1).dialog ≡ Done r
+      → After r (outputs_after device k d z.0 z.1) (spot device k d z)
 
 module _ (True : OutputEvent → Programmer → Type 0) where
   -- Each output event is true when it is printed. The first condition holds at each question, the second at the end.
   abbrev pub PrintsFrom : {R : Type 0} → Moment → End R → Dialog OutputEvent R → Spot → Type 0
   PrintsFrom Now After (Done r) z = After r [] z
-  PrintsFrom Now After (Say output d) z =
+  PrintsFrom Now After (Emit output d) z =
       True output z.0 × PrintsFrom (λ x. Now (output ∷ x)) (λ r x. After r (output ∷ x)) d z
   PrintsFrom Now After (Ask bytes go_on) z =
       Now [] z × PrintsFrom Now After (go_on (link.reads bytes z tt)) (link.after bytes z tt)
@@ -76,10 +76,10 @@ module _ (True : OutputEvent → Programmer → Type 0) where
   prints_reported {A = A} {During = During} {After = After} {Now = Now} {Then = Then} {d = d} {z = z} outcome_says l f
       each = record { holds = on d z l.holds }
     where
-      on : (d : Dialog ⊥ (Result A HostFault)) (z : Spot) → HoldsFrom link (λ bytes y. During y) NoSays After d z
+      on : (d : Dialog ⊥ (Result A HostFault)) (z : Spot) → HoldsFrom link (λ bytes y. During y) NoOutput After d z
           → PrintsFrom Now Then (reported d outcome_says) z
       on (Done r) z h = let x = each r z h in on_outputs Now Then (outcome_says r) (standing r) z x.0 x.1
-      on (Say e d) z h = absurd e
+      on (Emit e d) z h = absurd e
       on (Ask bytes go_on) z h = (f z h.0, on (go_on _) (link.after bytes z tt) (h.1 tt))
 
   on_bind : {A B : Type 0} (Now Now' : Moment) (Between : End A) (After : End B) (next : A → Dialog OutputEvent B)
@@ -88,7 +88,7 @@ module _ (True : OutputEvent → Programmer → Type 0) where
       → Prints (λ x. Now' (said ++ x)) (λ b x. After b (said ++ x)) (next a) y)
       → (d : Dialog OutputEvent A) (z : Spot) → PrintsFrom Now Between d z → PrintsFrom Now' After (d >>= next) z
   on_bind Now Now' Between After next f more (Done a) z h = (more a [] z h).holds
-  on_bind Now Now' Between After next f more (Say output d) z h = (
+  on_bind Now Now' Between After next f more (Emit output d) z h = (
     h.0,
     on_bind (λ x. Now (output ∷ x)) (λ x. Now' (output ∷ x)) (λ a x. Between a (output ∷ x))
         (λ b x. After b (output ∷ x)) next (λ x. f (output ∷ x)) (λ a x. more a (output ∷ x)) d z h.1,
@@ -117,7 +117,7 @@ module _ (True : OutputEvent → Programmer → Type 0) where
       → ((r : R) (said : List OutputEvent) (y : Spot) → After r said y → Now said y)
       → (k : ℕ) (d : Dialog OutputEvent R) (z : Spot) → PrintsFrom Now After d z → Printed Now After k d z
   on_moment Now After last k (Done a) z h = search (rules, done_is)
-  on_moment Now After last k (Say output d) z h =
+  on_moment Now After last k (Emit output d) z h =
       let more = on_moment (λ x. Now (output ∷ x)) (λ r x. After r (output ∷ x)) (λ r x. last r (output ∷ x)) k d z h.1
       in record { now = more.now; after = more.after }
   on_moment Now After last zero (Ask bytes go_on) z h =

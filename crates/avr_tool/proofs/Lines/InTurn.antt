@@ -9,18 +9,18 @@ use Rattle.stk_frame.proofs.Cuts.{cut_none, size_stays}
 use Rattle.stk_frame.proofs.Laws.{cut_first, frame_is_piece, frame_is_good}
 use Rattle.stk_host.specs.Tape.{Tape, Reading, answer, on_tape}
 use Rattle.stk_host.specs.Transcript.{Transcript, Sent, Taken, Got, sent, heard}
-use Rattle.stk_host.specs.Dialog.{Dialog, Done, Say, Ask, Event, Frame, Said, Played, played, by_answer, next, bytes_sent, outputs, frames_in}
-use Rattle.stk_host.specs.Play.{Progress, progress_at, IsDue, TurnsFrom, InTurn, Plays, IsPrefixOfEvents, IsBegun, IsPrefixOf}
+use Rattle.stk_host.specs.Dialog.{Dialog, Done, Emit, Ask, Event, Frame, Emitted, Played, played, continue_with_reading, next, bytes_sent, outputs, frames_in}
+use Rattle.stk_host.specs.Play.{Progress, progress_at, IsDueToListen, InTurnFrom, InTurn, Plays, IsPrefixOfEvents, IsPartOfFirst, IsBytePrefixOf}
 use Rattle.stk_host.proofs.Transcripts.InDialogs.{bytes_append}
 use Rattle.stk_host.proofs.Transcripts.Laws.{not_behind}
 use Rattle.stk_emu.specs.declared.fate.Fate.{Fate}
 use Rattle.stk_emu.specs.Programmer.{Programmer}
 use Rattle.stk_emu.specs.Device.{device}
-use Rattle.stk_emu.specs.Wire.{AreLawful, turns_of, fresh_wire}
+use Rattle.stk_emu.specs.Wire.{AreLawful, exchanges_of_fates, fresh_wire}
 use Rattle.stk_emu.specs.Wired.{WiredState, FollowsFates, NeverIdle, brought}
-use Rattle.stk_emu.specs.Along.{along, said_along, AsksBodies}
+use Rattle.stk_emu.specs.DialogOverExchanges.{state_after, outputs_after, SendsValidBodies}
 use Rattle.stk_emu.proofs.Wires.Arrivals.{none_clear}
-use Rattle.stk_emu.proofs.Answers.BodySizes.{answers_bodies}
+use Rattle.stk_emu.proofs.Answers.BodySizes.{replies_fit_frames}
 use Rattle.avr_tool.proofs.Given.LaterAnswers.{answer_extends}
 use Rattle.avr_tool.proofs.Lines.Plays.{played_along, said_played, done_played, waits_played}
 use Rattle.avr_tool.proofs.Lines.WireTapes.{GoesOver, over_wire}
@@ -38,14 +38,14 @@ frame_first f bytes w = search (rules, cut_first, cond-true)
 
 whole_by : {E R : Type 0} (go_on : Reading → Tape → Played E R) (o : Option (Reading × Tape))
     → ((reading : Reading) (left : Tape) → AreWhole (frames_in (go_on reading left).events))
-    → AreWhole (frames_in (by_answer go_on o).events)
+    → AreWhole (frames_in (continue_with_reading go_on o).events)
 whole_by go_on o each = search rules
 
 -- a run sends whole frames
-pub sends_whole : {E R : Type 0} (d : Dialog E R) (n : ℕ) (t : Tape) → AsksBodies d
+pub sends_whole : {E R : Type 0} (d : Dialog E R) (n : ℕ) (t : Tape) → SendsValidBodies d
     → AreWhole (frames_in (played d n t).events)
 sends_whole (Done r) n t asks = tt
-sends_whole (Say e d) n t asks = sends_whole d n t asks
+sends_whole (Emit e d) n t asks = sends_whole d n t asks
 sends_whole (Ask bytes go_on) n t asks = (
   (search (rules, frame_is_piece, and_parts, frame_is_good)),
   whole_by (λ reading. played (go_on reading) (next n)) (answer n t)
@@ -57,29 +57,29 @@ pub frames_sent : {E : Type 0} (events : List (Event E)) → AreWhole (frames_in
     → frames (bytes_sent events) ≡ frames_in events
 frames_sent [] whole = refl
 frames_sent (Frame f ∷ events) whole = search (rules, frame_first, frames_sent events whole.1)
-frames_sent (Said e ∷ events) whole = frames_sent events whole
+frames_sent (Emitted e ∷ events) whole = frames_sent events whole
 
 pub due_at : {E R : Type 0} (d : Dialog E R) (n : ℕ) (tape : Tape) (bytes : List ℕ) (before after : Transcript)
     (items : Tape)
-    → TurnsFrom d n tape bytes (before ++ Got items ∷ after) → IsDue d n (tape ++ heard before) (bytes ++ sent before)
-due_at d n tape bytes [] after items turns = search (rules, append-nil)
-due_at d n tape bytes (Sent more ∷ before) after items turns =
-    search (rules, append_assoc, due_at d n tape (bytes ++ more) before after items turns)
-due_at d n tape bytes (Taken more ∷ before) after items turns = absurd (not_behind before after items turns)
-due_at d n tape bytes (Got got ∷ before) after items turns =
-    search (rules, append_assoc, due_at d n (tape ++ got) bytes before after items turns.1)
+    → InTurnFrom d n tape bytes (before ++ Got items ∷ after) → IsDueToListen d n (tape ++ heard before) (bytes ++ sent before)
+due_at d n tape bytes [] after items half_duplex = search (rules, append-nil)
+due_at d n tape bytes (Sent more ∷ before) after items half_duplex =
+    search (rules, append_assoc, due_at d n tape (bytes ++ more) before after items half_duplex)
+due_at d n tape bytes (Taken more ∷ before) after items half_duplex = absurd (not_behind before after items half_duplex)
+due_at d n tape bytes (Got got ∷ before) after items half_duplex =
+    search (rules, append_assoc, due_at d n (tape ++ got) bytes before after items half_duplex.1)
 
 -- A transcript in turn never listens while nothing waits, so in a run over all that was brought each question got its
 -- reply.
 pub never_idle : {E R : Type 0} (d : Dialog E R) (n : ℕ) (p : Programmer) (fates : List Fate) (transcript : Transcript)
-    → AsksBodies d → AreLawful fates → InTurn d (progress_at n []) transcript → NeverIdle p fates transcript
-never_idle d n p fates transcript asks lawful turns before after items split same =
-    let due : IsDue d n (heard before) (sent before) =
-    due_at d n [] [] before after items (subst (TurnsFrom d n [] []) split turns) in
+    → SendsValidBodies d → AreLawful fates → InTurn d (progress_at n []) transcript → NeverIdle p fates transcript
+never_idle d n p fates transcript asks lawful half_duplex before after items split same =
+    let due : IsDueToListen d n (heard before) (sent before) =
+    due_at d n [] [] before after items (subst (InTurnFrom d n [] []) split half_duplex) in
     let play = played d n (brought p fates (sent before)) in
     let gone : frames_in play.events ≡ frames (sent before) =
     search (rules, frames_sent, sends_whole) in
-    let goes = over_wire device answers_bodies d n (fresh_wire p fates) (frames (sent before)) [] asks (none_clear n)
+    let goes = over_wire device replies_fit_frames d n (fresh_wire p fates) (frames (sent before)) [] asks (none_clear n)
     lawful (gone ∙ sym (append-nil (frames (sent before)))) in
     search (rules, waits_played)
 
@@ -90,14 +90,14 @@ Goes d n t u = (more : List (List ℕ)) × (frames_in (played d n (t ++ u)).even
 
 pub played_goes : {E R : Type 0} (d : Dialog E R) (n : ℕ) (t u : Tape) → Goes d n t u
 played_goes (Done r) n t u = ([], refl)
-played_goes (Say e d) n t u = played_goes d n t u
+played_goes (Emit e d) n t u = played_goes d n t u
 played_goes (Ask bytes go_on) n t u =
     let sent_by : Option (Reading × Tape) → List (List ℕ) =
-    λ o. frame n bytes ∷ frames_in (by_answer (λ reading. played (go_on reading) (next n)) o).events in
+    λ o. frame n bytes ∷ frames_in (continue_with_reading (λ reading. played (go_on reading) (next n)) o).events in
     (elim (answer n t) as (λ o. answer n t ≡ o
     → (more : List (List ℕ)) × (sent_by (answer n (t ++ u)) ≡ sent_by o ++ more)) [
       | None ↦ λ e.
-          (frames_in (by_answer (λ reading. played (go_on reading) (next n)) (answer n (t ++ u))).events, refl)
+          (frames_in (continue_with_reading (λ reading. played (go_on reading) (next n)) (answer n (t ++ u))).events, refl)
       | Some got ↦ λ e.
           let g = played_goes (go_on got.0) (next n) got.1 u in
           (g.0, ap sent_by (answer_extends n t u got.0 got.1 e) ∙ ap (λ fs. frame n bytes ∷ fs) g.1)
@@ -115,7 +115,7 @@ none_before (a ∷ x) y e = (cc, cc)
 pub frames_prefix : {E : Type 0} (events : List (Event E)) (bytes back : List ℕ) → AreWhole (frames_in events)
     → bytes ++ back ≡ bytes_sent events → (others : List (List ℕ)) × (frames_in events ≡ frames bytes ++ others)
 frames_prefix [] bytes back whole e = search (rules, none_before, append-nil)
-frames_prefix (Said s ∷ events) bytes back whole e = frames_prefix events bytes back whole e
+frames_prefix (Emitted s ∷ events) bytes back whole e = frames_prefix events bytes back whole e
 frames_prefix (Frame f ∷ events) bytes back whole e = elim (cases_lt (length bytes) (length f)) [
   | inl lt ↦
       let split : f ≡ bytes ++ drop (length bytes) f =
@@ -139,51 +139,51 @@ frames_prefix (Frame f ∷ events) bytes back whole e = elim (cases_lt (length b
 ]
 
 -- the events of a run that broke off send a prefix of the bytes
-begun_prefix : {E : Type 0} (SaidPart : E → E → Type 0) (begun later : List (Event E)) → IsBegun SaidPart begun later
-    → IsPrefixOf (bytes_sent begun) (bytes_sent later)
-begun_prefix SaidPart [] later part = (bytes_sent later, refl)
-begun_prefix SaidPart (Frame x ∷ []) (Frame y ∷ later) part =
+begun_prefix : {E : Type 0} (IsPartOfEvent : E → E → Type 0) (begun later : List (Event E)) → IsPartOfFirst IsPartOfEvent begun later
+    → IsBytePrefixOf (bytes_sent begun) (bytes_sent later)
+begun_prefix IsPartOfEvent [] later part = (bytes_sent later, refl)
+begun_prefix IsPartOfEvent (Frame x ∷ []) (Frame y ∷ later) part =
     search (rules, append-nil x, append_assoc x part.0 (bytes_sent later))
-begun_prefix SaidPart (Said x ∷ []) (Said y ∷ later) part = (bytes_sent later, refl)
-begun_prefix SaidPart begun later part = absurd part
+begun_prefix IsPartOfEvent (Emitted x ∷ []) (Emitted y ∷ later) part = (bytes_sent later, refl)
+begun_prefix IsPartOfEvent begun later part = absurd part
 
-pub shown_prefix : {E : Type 0} (SaidPart : E → E → Type 0) (shown events : List (Event E))
-    → IsPrefixOfEvents SaidPart shown events → IsPrefixOf (bytes_sent shown) (bytes_sent events)
-shown_prefix SaidPart shown events f = search (rules, begun_prefix, bytes_append, append_assoc)
+pub shown_prefix : {E : Type 0} (IsPartOfEvent : E → E → Type 0) (shown events : List (Event E))
+    → IsPrefixOfEvents IsPartOfEvent shown events → IsBytePrefixOf (bytes_sent shown) (bytes_sent events)
+shown_prefix IsPartOfEvent shown events f = search (rules, begun_prefix, bytes_append, append_assoc)
 
 module _ {E R : Type 0} (d : Dialog E R) (n : ℕ) (p : Programmer) (fates : List Fate) (w : WiredState)
-    (asks : AsksBodies d) (lawful : AreLawful fates) (keeps : FollowsFates p fates w)
-    (turns : InTurn d (progress_at n []) w.transcript) where
+    (asks : SendsValidBodies d) (lawful : AreLawful fates) (keeps : FollowsFates p fates w)
+    (half_duplex : InTurn d (progress_at n []) w.transcript) where
   -- what was sent is a prefix of what the run over what was received sends
   abbrev SendsFirst : Type 0
-  SendsFirst = IsPrefixOf (sent w.transcript) (bytes_sent (played d n (heard w.transcript)).events)
+  SendsFirst = IsBytePrefixOf (sent w.transcript) (bytes_sent (played d n (heard w.transcript)).events)
 
   abbrev count : ℕ
   count = length (frames (sent w.transcript))
 
-  pub goes_along : SendsFirst → GoesOver device d n (fresh_wire p fates) (frames (sent w.transcript)) p (turns_of fates)
+  pub goes_along : SendsFirst → GoesOver device d n (fresh_wire p fates) (frames (sent w.transcript)) p (exchanges_of_fates fates)
   goes_along prefix =
       let f = frames_prefix (played d n (heard w.transcript)).events (sent w.transcript) prefix.0
       (sends_whole d n (heard w.transcript) asks) prefix.1 in
       let g = played_goes d n (heard w.transcript) w.waits in
-      over_wire device answers_bodies d n (fresh_wire p fates) (frames (sent w.transcript)) (f.0 ++ g.0) asks
+      over_wire device replies_fit_frames d n (fresh_wire p fates) (frames (sent w.transcript)) (f.0 ++ g.0) asks
       (none_clear n)
       lawful
       (search (rules, never_idle, append_assoc))
 
   -- the programmer is where the link leads it
-  pub stands_along : SendsFirst → w.wire.programmer ≡ (along device count d p (turns_of fates)).programmer
+  pub stands_along : SendsFirst → w.wire.programmer ≡ (state_after device count d p (exchanges_of_fates fates)).programmer
   stands_along prefix = ap (λ x. x.programmer) keeps.stands ∙ (goes_along prefix).programmer
 
   -- a whole run has the same output and the same result there
   module _ (events : List (Event E)) (r : R) (after : Progress)
       (plays : Plays d (progress_at n []) w.transcript events r after) (prefix : SendsFirst) where
-    over : played_along device count d n p (turns_of fates) []
+    over : played_along device count d n p (exchanges_of_fates fates) []
         ≡ record { events = events; outcome = Some (r, after.next, on_tape after.unread ++ w.waits) }
     over = search (rules, goes_along, never_idle)
 
-    pub whole_said : outputs events ≡ said_along device count d p (turns_of fates)
-    whole_said = sym (ap (λ x. outputs x.events) over) ∙ said_played device count d n p (turns_of fates) []
+    pub whole_said : outputs events ≡ outputs_after device count d p (exchanges_of_fates fates)
+    whole_said = sym (ap (λ x. outputs x.events) over) ∙ said_played device count d n p (exchanges_of_fates fates) []
 
-    pub whole_done : (along device count d p (turns_of fates)).dialog ≡ Done r
+    pub whole_done : (state_after device count d p (exchanges_of_fates fates)).dialog ≡ Done r
     whole_done = search (rules, done_played, over)

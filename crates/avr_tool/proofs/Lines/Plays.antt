@@ -3,20 +3,20 @@ use Rattle.std.proofs.Common.{◌≡◌, ℕ, zero, suc, List, [], ◌∷◌, le
 use Rattle.std.proofs.lemmas.Option.{none-some}
 use Rattle.stk_frame.specs.Frame.{frame}
 use Rattle.stk_host.specs.Tape.{Tape}
-use Rattle.stk_host.specs.Dialog.{Dialog, Done, Say, Ask, Frame, Said, Played, behind, next, outputs, frames_in}
+use Rattle.stk_host.specs.Dialog.{Dialog, Done, Emit, Ask, Frame, Emitted, Played, prepend_events, next, outputs, frames_in}
 use Rattle.stk_emu.specs.Device.{Device}
-use Rattle.stk_emu.specs.Turn.{Turn, after_turn, turn_reading, first_turn, other_turns}
-use Rattle.stk_emu.specs.Along.{along, said_along}
+use Rattle.stk_emu.specs.Exchange.{Exchange, after_exchange, reading_of_exchange, first_exchange, later_exchanges}
+use Rattle.stk_emu.specs.DialogOverExchanges.{state_after, outputs_after}
 
 -- The run reads some of the exchanges, and then waits; if it is done, this is left of the tape.
-abbrev pub played_along : {E R P : Type 0} → Device P → ℕ → Dialog E R → ℕ → P → List Turn → Tape → Played E R
-played_along m k (Done r) n p turns left = record { events = []; outcome = Some (r, n, left) }
-played_along m k (Say e d) n p turns left = behind (Said e ∷ []) (played_along m k d n p turns left)
-played_along m zero (Ask bytes go_on) n p turns left = record { events = Frame (frame n bytes) ∷ []; outcome = None }
-played_along m (suc k) (Ask bytes go_on) n p turns left =
-    behind (Frame (frame n bytes) ∷ [])
-    (played_along m k (go_on (turn_reading (first_turn turns) (m.answer bytes p))) (next n)
-    (after_turn (first_turn turns) (m.after bytes p) p m.reset) (other_turns turns) left)
+abbrev pub played_along : {E R P : Type 0} → Device P → ℕ → Dialog E R → ℕ → P → List Exchange → Tape → Played E R
+played_along m k (Done r) n p exchanges left = record { events = []; outcome = Some (r, n, left) }
+played_along m k (Emit e d) n p exchanges left = prepend_events (Emitted e ∷ []) (played_along m k d n p exchanges left)
+played_along m zero (Ask bytes go_on) n p exchanges left = record { events = Frame (frame n bytes) ∷ []; outcome = None }
+played_along m (suc k) (Ask bytes go_on) n p exchanges left =
+    prepend_events (Frame (frame n bytes) ∷ [])
+    (played_along m k (go_on (reading_of_exchange (first_exchange exchanges) (m.answer bytes p))) (next n)
+    (after_exchange (first_exchange exchanges) (m.after bytes p) p m.reset) (later_exchanges exchanges) left)
 
 abbrev pub result_of : {R : Type 0} → R → Option (R × ℕ × Tape) → R
 result_of other None = other
@@ -36,31 +36,31 @@ pub cons_none : {A : Type 0} (x : A) (xs : List A) → [] ≡ x ∷ xs → ⊥
 cons_none x xs e = cc
 
 module _ {E R P : Type 0} (m : Device P) where
-  pub said_played : (k : ℕ) (d : Dialog E R) (n : ℕ) (p : P) (turns : List Turn) (left : Tape)
-      → outputs (played_along m k d n p turns left).events ≡ said_along m k d p turns
-  said_played k (Done r) n p turns left = refl
-  said_played k (Say e d) n p turns left = ap (λ said. e ∷ said) (said_played k d n p turns left)
-  said_played zero (Ask bytes go_on) n p turns left = refl
-  said_played (suc k) (Ask bytes go_on) n p turns left =
-      said_played k (go_on (turn_reading (first_turn turns) (m.answer bytes p))) (next n)
-      (after_turn (first_turn turns) (m.after bytes p) p m.reset) (other_turns turns) left
+  pub said_played : (k : ℕ) (d : Dialog E R) (n : ℕ) (p : P) (exchanges : List Exchange) (left : Tape)
+      → outputs (played_along m k d n p exchanges left).events ≡ outputs_after m k d p exchanges
+  said_played k (Done r) n p exchanges left = refl
+  said_played k (Emit e d) n p exchanges left = ap (λ said. e ∷ said) (said_played k d n p exchanges left)
+  said_played zero (Ask bytes go_on) n p exchanges left = refl
+  said_played (suc k) (Ask bytes go_on) n p exchanges left =
+      said_played k (go_on (reading_of_exchange (first_exchange exchanges) (m.answer bytes p))) (next n)
+      (after_exchange (first_exchange exchanges) (m.after bytes p) p m.reset) (later_exchanges exchanges) left
 
-  pub done_played : (k : ℕ) (d : Dialog E R) (n : ℕ) (p : P) (turns : List Turn) (left : Tape) (r : R) (seq : ℕ)
-      (rest : Tape) → (played_along m k d n p turns left).outcome ≡ Some (r, seq, rest)
-      → ((along m k d p turns).dialog ≡ Done r) × (rest ≡ left)
-  done_played k (Done q) n p turns left r seq rest o = (ap (λ x. Done (result_of q x)) o, sym (ap tape_left o))
-  done_played k (Say e d) n p turns left r seq rest o = done_played k d n p turns left r seq rest o
-  done_played zero (Ask bytes go_on) n p turns left r seq rest o = absurd (none-some (r, seq, rest) o)
-  done_played (suc k) (Ask bytes go_on) n p turns left r seq rest o =
-      done_played k (go_on (turn_reading (first_turn turns) (m.answer bytes p))) (next n)
-      (after_turn (first_turn turns) (m.after bytes p) p m.reset) (other_turns turns) left r seq rest o
+  pub done_played : (k : ℕ) (d : Dialog E R) (n : ℕ) (p : P) (exchanges : List Exchange) (left : Tape) (r : R) (seq : ℕ)
+      (rest : Tape) → (played_along m k d n p exchanges left).outcome ≡ Some (r, seq, rest)
+      → ((state_after m k d p exchanges).dialog ≡ Done r) × (rest ≡ left)
+  done_played k (Done q) n p exchanges left r seq rest o = (ap (λ x. Done (result_of q x)) o, sym (ap tape_left o))
+  done_played k (Emit e d) n p exchanges left r seq rest o = done_played k d n p exchanges left r seq rest o
+  done_played zero (Ask bytes go_on) n p exchanges left r seq rest o = absurd (none-some (r, seq, rest) o)
+  done_played (suc k) (Ask bytes go_on) n p exchanges left r seq rest o =
+      done_played k (go_on (reading_of_exchange (first_exchange exchanges) (m.answer bytes p))) (next n)
+      (after_exchange (first_exchange exchanges) (m.after bytes p) p m.reset) (later_exchanges exchanges) left r seq rest o
 
-  pub waits_played : (k : ℕ) (d : Dialog E R) (n : ℕ) (p : P) (turns : List Turn) (left : Tape)
-      → (played_along m k d n p turns left).outcome ≡ None
-      → length (frames_in (played_along m k d n p turns left).events) ≡ suc k
-  waits_played k (Done r) n p turns left none = absurd (none-some (r, n, left) (sym none))
-  waits_played k (Say e d) n p turns left none = waits_played k d n p turns left none
-  waits_played zero (Ask bytes go_on) n p turns left none = refl
-  waits_played (suc k) (Ask bytes go_on) n p turns left none =
-      ap suc (waits_played k (go_on (turn_reading (first_turn turns) (m.answer bytes p))) (next n)
-      (after_turn (first_turn turns) (m.after bytes p) p m.reset) (other_turns turns) left none)
+  pub waits_played : (k : ℕ) (d : Dialog E R) (n : ℕ) (p : P) (exchanges : List Exchange) (left : Tape)
+      → (played_along m k d n p exchanges left).outcome ≡ None
+      → length (frames_in (played_along m k d n p exchanges left).events) ≡ suc k
+  waits_played k (Done r) n p exchanges left none = absurd (none-some (r, n, left) (sym none))
+  waits_played k (Emit e d) n p exchanges left none = waits_played k d n p exchanges left none
+  waits_played zero (Ask bytes go_on) n p exchanges left none = refl
+  waits_played (suc k) (Ask bytes go_on) n p exchanges left none =
+      ap suc (waits_played k (go_on (reading_of_exchange (first_exchange exchanges) (m.answer bytes p))) (next n)
+      (after_exchange (first_exchange exchanges) (m.after bytes p) p m.reset) (later_exchanges exchanges) left none)

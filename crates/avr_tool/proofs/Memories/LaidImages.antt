@@ -4,16 +4,16 @@ use Rattle.std.proofs.lemmas.Bool.{true≢false}
 use Rattle.std.proofs.lemmas.List.{length-replicate}
 use Rattle.std.specs.Prelude.{◌==◌, if◌then◌else◌}
 use Rattle.avr_cli.specs.declared.settings.Switches.{Switches}
-use Rattle.avr_image.specs.Image.{empty, byte_at, either, over}
+use Rattle.avr_image.specs.Image.{empty, byte_at, byte_or_else, over}
 use Rattle.avr_part.specs.Part.{Part, size_of}
 use Rattle.avr_part.specs.declared.part.Mem.{Mem}
 use Rattle.avr_plan.specs.declared.planned.Task.{Task}
 use Rattle.avr_plan.specs.declared.planned.Task.TheVariants as task
-use Rattle.avr_session.specs.Actions.{TheWrite, Action, WriteImage, CompareImage, LeaveOut, tasks_actions}
+use Rattle.avr_session.specs.Actions.{SkippedWrite, Action, WriteImage, CompareImage, SkipAction, tasks_actions}
 use Rattle.stk_emu.specs.Effect.{Image, Memories, with_image, and_in, and_with, write_effect, effects, memory_in}
 use Rattle.stk_emu.proofs.Memories.LaidImages.{length-laid, length-and_in}
-use Rattle.avr_tool.proofs.PageWrites.EachMemory.{same_memory, write_is, others_stay}
-use Rattle.avr_tool.specs.Agrees.{Shows, ActionsAgree}
+use Rattle.avr_tool.proofs.WriteOperations.EachMemory.{same_memory, write_is, others_stay}
+use Rattle.avr_tool.specs.ComparisonsAgree.{MemoryHoldsImage, EachComparisonAgrees}
 use Rattle.avr_tool.specs.Items.{actions_items}
 use Rattle.avr_tool.specs.Written.{memory_number, written_to, byte_in}
 use Rattle.avr_tool.proofs.Plans.Fits.{AllFitActions}
@@ -30,7 +30,7 @@ length-over [] b = refl
 length-over (x ∷ a) [] = refl
 length-over (x ∷ a) (y ∷ b) = ap suc (length-over a b)
 
-byte_of_over : (a b : Image) (i : ℕ) → length b ≤ length a → byte_at (over a b) i ≡ either (byte_at b i) (byte_at a i)
+byte_of_over : (a b : Image) (i : ℕ) → length b ≤ length a → byte_at (over a b) i ≡ byte_or_else (byte_at b i) (byte_at a i)
 byte_of_over [] [] i l = refl
 byte_of_over [] (y ∷ b) i l = absurd (omega (arith, l))
 byte_of_over (x ∷ a) [] i l = refl
@@ -73,14 +73,14 @@ write_keeps part mem image m = search (rules, write_is, length-and_in, rest_ande
 -- It is as large as before, holds the image, and elsewhere its earlier bytes.
 pub record Left (part : Part) (mem : Mem) (image : Image) (old new : Memories) : Type 0 where
   pub size : length (memory_in part mem new) ≡ length (memory_in part mem old)
-  pub shows : Shows part mem image new
+  pub shows : MemoryHoldsImage part mem image new
   pub rest : (i : ℕ) → byte_at image i ≡ None → byte_in part mem i new ≡ byte_in part mem i old
 
 module _ (part : Part) where
   left_as_it_is : (mem : Mem) (size : ℕ) (m : Memories) → Left part mem (empty size) m m
   left_as_it_is mem size m = search (rules, byte_of_empty)
 
-  left_by_write : (mem : Mem) (image : Image) (m : Memories) → Shows part mem image (write_effect mem image m)
+  left_by_write : (mem : Mem) (image : Image) (m : Memories) → MemoryHoldsImage part mem image (write_effect mem image m)
       → Left part mem image m (write_effect mem image m)
   left_by_write mem image m shows = search (rules, write_keeps)
 
@@ -100,7 +100,7 @@ module _ (part : Part) where
   write_left : (mem other : Mem) (image more : Image) (m new : Memories) (same : Bool)
       → (memory_number other == memory_number mem) ≡ same
       → length image ≡ size_of other part → length more ≡ size_of mem part
-      → Shows part other image (write_effect other image m) → Left part mem more (write_effect other image m) new
+      → MemoryHoldsImage part other image (write_effect other image m) → Left part mem more (write_effect other image m) new
       → Left part mem (if same then over image more else more) m new
   write_left mem other image more m new true e fits size shows left =
       let is = same_memory other mem e in
@@ -109,12 +109,12 @@ module _ (part : Part) where
 
   -- what actions that agree leave of a memory
   abbrev Leave : Mem → List Action → Memories → Type 0
-  Leave mem actions m = AllFitActions part actions → ActionsAgree part actions m
+  Leave mem actions m = AllFitActions part actions → EachComparisonAgrees part actions m
       → Left part mem (written_to part mem (actions_items actions)) m (effects part (actions_items actions) m)
 
   write_leaves : (dry left_out : Bool) (mem other : Mem) (image : Image) (more : List Action) (m : Memories)
       → left_out ≡ false → ((now : Memories) → Leave mem more now)
-      → Leave mem ((if dry then LeaveOut (TheWrite other image) ∷ []
+      → Leave mem ((if dry then SkipAction (SkippedWrite other image) ∷ []
       else WriteImage other image ∷ (if left_out then [] else CompareImage other image ∷ [])) ++ more) m
   write_leaves true left_out mem other image more m e rest fit agree = rest m fit.1 agree.1
   write_leaves false true mem other image more m e rest fit agree = absurd (true≢false e)

@@ -14,8 +14,8 @@ use Rattle.avr_plan.specs.declared.planned.Task.TheVariants as task
 use Rattle.avr_session.specs.Actions.{writes_flash, tasks_actions}
 use Rattle.stk_emu.specs.Effect.{Image, Memories, Erase, effect, effects}
 use Rattle.stk_emu.specs.Settled.{FitsPart}
-use Rattle.avr_tool.proofs.PageWrites.Pages.{effects_on}
-use Rattle.avr_tool.specs.Agrees.{Shows, ActionsAgree}
+use Rattle.avr_tool.proofs.WriteOperations.Pages.{effects_on}
+use Rattle.avr_tool.specs.ComparisonsAgree.{MemoryHoldsImage, EachComparisonAgrees}
 use Rattle.avr_tool.specs.ExpectedRun.{expected_run}
 use Rattle.avr_tool.specs.Items.{items, asked_items, has_erase}
 use Rattle.avr_tool.specs.Outcome.{IsDone}
@@ -24,7 +24,7 @@ use Rattle.avr_tool.proofs.Plans.Fits.{tasks_fit}
 use Rattle.avr_tool.proofs.Plans.Items.{writes, erase_if, items_are, tasks_agree, items_by_tasks}
 use Rattle.avr_tool.proofs.Memories.ExpectedAgrees.{expected_status}
 use Rattle.avr_tool.proofs.Memories.LaidImages.{Left, tasks_left}
-use Rattle.avr_tool.proofs.AnyLine.FirstSteps.{effects_sizes}
+use Rattle.avr_tool.proofs.OverFaultyLink.FirstSteps.{effects_sizes}
 
 -- ---- after the erase
 
@@ -88,8 +88,8 @@ module _ (plan : Plan) (before after : Memories) (all : All (IsFitted plan.part)
 
 -- a memory that holds an image agrees with it once more
 shown_agree : (part : Part) (s : Switches) (image_of : Mem → Image) (m : Memories) (mems : List Mem)
-    → ((mem : Mem) → Shows part mem (image_of mem) m)
-    → ActionsAgree part (tasks_actions s (map (λ mem. task.Verify mem (image_of mem)) mems)) m
+    → ((mem : Mem) → MemoryHoldsImage part mem (image_of mem) m)
+    → EachComparisonAgrees part (tasks_actions s (map (λ mem. task.Verify mem (image_of mem)) mems)) m
 shown_agree part s image_of m [] shown = tt
 shown_agree part s image_of m (mem ∷ mems) shown = (shown mem, shown_agree part s image_of m mems shown)
 
@@ -101,7 +101,7 @@ none_writes image_of (mem ∷ mems) = none_writes image_of mems
 
 -- so a run that only compares images that the memories hold has status 0
 pub shown_succeeds : (part : Part) (s : Switches) (image_of : Mem → Image) (m : Memories) (mems : List Mem)
-    → s.erase ≡ false → ((mem : Mem) → Shows part mem (image_of mem) m)
+    → s.erase ≡ false → ((mem : Mem) → MemoryHoldsImage part mem (image_of mem) m)
     → (expected_run (record { part = part; tasks = map (λ mem. task.Verify mem (image_of mem)) mems; switches = s })
     m).status
     ≡ 0

@@ -5,13 +5,13 @@ use Rattle.std.proofs.lemmas.Bool.{cond-true}
 use Rattle.std.proofs.lemmas.List.{append-nil}
 use Rattle.std.specs.Prelude.{⊤, ◌≤◌}
 use Rattle.avr_cli.specs.declared.settings.Switches.{Switches}
-use Rattle.avr_desk.specs.Said.{OutputEvent}
+use Rattle.avr_desk.specs.OutputEvents.{OutputEvent}
 use Rattle.avr_part.specs.declared.part.Mem.{Mem}
 use Rattle.avr_part.specs.Mem.{is_writable}
 use Rattle.avr_part.specs.Part.{Part, IsPart, size_of}
-use Rattle.avr_session.specs.Actions.{Action, OpenSession, EraseChip, WriteImage, CompareImage, SaveMemory, LeaveOut}
+use Rattle.avr_session.specs.Actions.{Action, OpenSession, EraseChip, WriteImage, CompareImage, SaveMemory, SkipAction}
 use Rattle.avr_session.specs.PlanSteps.{action_steps}
-use Rattle.avr_session.specs.Session.{reported, fault_or, opening_says, erased_says, written_says, verified_says, read_says, left_out_says, action_dialog}
+use Rattle.avr_session.specs.Session.{reported, fault_line_or, opening_output, erased_output, written_output, verified_output, read_output, skipped_output, action_dialog}
 use Rattle.stk_host.specs.declared.fault.HostFault.{HostFault}
 use Rattle.stk_host.specs.declared.fault.HostFault.TheVariants.{ReadOnly}
 use Rattle.stk_host.specs.Dialog.{Dialog, Done}
@@ -20,12 +20,12 @@ use Rattle.stk_host.specs.ReadSteps.{read_steps}
 use Rattle.stk_host.specs.Steps.{play}
 use Rattle.stk_host.specs.WriteSteps.{write_steps}
 use Rattle.stk_emu.specs.Effect.{Memories, Erase, Write, effects, memory_in}
-use Rattle.stk_emu.specs.Given.{all_given}
-use Rattle.stk_emu.specs.PageWrites.{changed_by, all_steps, AreSteps}
+use Rattle.stk_emu.specs.Given.{data_of_steps}
+use Rattle.stk_emu.specs.WriteOperations.{memories_after_steps, steps_of_items, AreSteps}
 use Rattle.stk_emu.specs.Settled.{FitsPart}
-use Rattle.avr_tool.proofs.AnyLine.FirstSteps.{quiet_stays, read_quiet}
+use Rattle.avr_tool.proofs.OverFaultyLink.FirstSteps.{quiet_stays, read_quiet}
 use Rattle.avr_tool.proofs.Given.WholeMemories.{read_gives}
-use Rattle.avr_tool.proofs.PageWrites.Items.{changed_all, item_does, item_are_steps, read_are_steps}
+use Rattle.avr_tool.proofs.WriteOperations.Items.{changed_all, item_does, item_are_steps, read_are_steps}
 use Rattle.avr_tool.proofs.Plans.Fits.{FitsAction}
 use Rattle.avr_tool.specs.ExpectedRun.{Expected, reported_expected, action_expected}
 use Rattle.avr_tool.specs.Items.{action_items}
@@ -42,7 +42,7 @@ module _ (part : Part) where
   outcome_of (WriteImage mem image) m = Ok tt
   outcome_of (CompareImage mem image) m = comparison mem image (memory_in part mem m)
   outcome_of (SaveMemory mem format file) m = Ok (memory_in part mem m)
-  outcome_of (LeaveOut what) m = Ok tt
+  outcome_of (SkipAction what) m = Ok tt
 
   module _ (s : Switches) where
     abbrev pub call_of : (action : Action) → Dialog ⊥ (Result (Outcome action) HostFault)
@@ -51,15 +51,15 @@ module _ (part : Part) where
     call_of (WriteImage mem image) = writing part mem image
     call_of (CompareImage mem image) = verifying part mem image
     call_of (SaveMemory mem format file) = reading part mem
-    call_of (LeaveOut what) = Done (Ok tt)
+    call_of (SkipAction what) = Done (Ok tt)
 
     abbrev pub outcome_says : (action : Action) → Result (Outcome action) HostFault → List OutputEvent
-    outcome_says OpenSession = opening_says s.quiet part
-    outcome_says EraseChip = erased_says s.quiet part
-    outcome_says (WriteImage mem image) = written_says s.quiet part mem image
-    outcome_says (CompareImage mem image) = verified_says s.quiet part mem image
-    outcome_says (SaveMemory mem format file) = fault_or part (read_says s mem format file)
-    outcome_says (LeaveOut what) = fault_or part (λ _. left_out_says s.quiet what)
+    outcome_says OpenSession = opening_output s.quiet part
+    outcome_says EraseChip = erased_output s.quiet part
+    outcome_says (WriteImage mem image) = written_output s.quiet part mem image
+    outcome_says (CompareImage mem image) = verified_output s.quiet part mem image
+    outcome_says (SaveMemory mem format file) = fault_line_or part (read_output s mem format file)
+    outcome_says (SkipAction what) = fault_line_or part (λ _. skipped_output s.quiet what)
 
     pub dialog_is : (action : Action) → reported (call_of action) (outcome_says action) ≡ action_dialog part s action
     dialog_is OpenSession = refl
@@ -78,14 +78,14 @@ module _ (part : Part) where
       pub judge : List ℕ → Result (Outcome action) HostFault
       pub call_is : operation (action_steps part action) judge ≡ call_of action
       pub are : AreSteps part (action_steps part action)
-      pub some : (count : ℕ) → changed_by part count (action_steps part action) m
-          ≡ changed_by part count (all_steps part (action_items action)) m
-      pub all : changed_by part (length (action_steps part action)) (action_steps part action) m
+      pub some : (count : ℕ) → memories_after_steps part count (action_steps part action) m
+          ≡ memories_after_steps part count (steps_of_items part (action_items action)) m
+      pub all : memories_after_steps part (length (action_steps part action)) (action_steps part action) m
           ≡ effects part (action_items action) m
-      pub gives : judge (all_given part (action_steps part action) m) ≡ outcome_of action m
+      pub gives : judge (data_of_steps part (action_steps part action) m) ≡ outcome_of action m
 
     module _ (sound : IsPart part) (m : Memories) (f : FitsPart part m) where
-      quiet : (mem : Mem) (count : ℕ) → changed_by part count (read_steps part mem) m ≡ m
+      quiet : (mem : Mem) (count : ℕ) → memories_after_steps part count (read_steps part mem) m ≡ m
       quiet mem count = quiet_stays part count (read_steps part mem) m (read_quiet part mem)
 
       pub is_operation : (action : Action) → FitsAction part action → IsOperation action m
@@ -106,7 +106,7 @@ module _ (part : Part) where
             judge = no_result;
             call_is = sym (cond-true (is_writable mem) (operation steps no_result) (Done (Err (ReadOnly mem))) fits.1);
             are = item_are_steps part sound (Write mem image) size;
-            some = λ count. ap (λ all. changed_by part count all m) (sym (append-nil steps));
+            some = λ count. ap (λ all. memories_after_steps part count all m) (sym (append-nil steps));
             all = changed_all part steps m ∙ item_does part sound (Write mem image) m size f;
             gives = refl;
           }
@@ -126,5 +126,5 @@ module _ (part : Part) where
         all = quiet mem (length (read_steps part mem));
         gives = ap (λ bytes. Ok bytes) (read_gives part sound m f mem);
       }
-      is_operation (LeaveOut what) fits =
+      is_operation (SkipAction what) fits =
           record { judge = no_result; call_is = refl; are = tt; some = λ count. refl; all = refl; gives = refl }

@@ -9,7 +9,7 @@ use Rattle.avr_plan.specs.Plan.{Plan, IsFitted}
 use Rattle.avr_plan.specs.declared.planned.Task.{Task}
 use Rattle.avr_plan.specs.declared.planned.Task.TheVariants.{Write, Verify}
 use Rattle.avr_session.specs.Actions.{Action, OpenSession, WriteImage, CompareImage, erase_actions, task_actions, tasks_actions}
-use Rattle.stk_emu.specs.PageWrites.{AllFitItems}
+use Rattle.stk_emu.specs.WriteOperations.{ItemsFit}
 use Rattle.avr_tool.specs.Items.{action_items}
 use Rattle.avr_tool.proofs.Each.{Each, each_on}
 
@@ -39,7 +39,7 @@ module _ (part : Part) where
       (task_fits s task (All-head (IsFitted part) task tasks fitted))
       (tasks_fit s tasks (All-tail (IsFitted part) task tasks fitted))
 
-  pub action_items_fit : (action : Action) → FitsAction part action → AllFitItems part (action_items action)
+  pub action_items_fit : (action : Action) → FitsAction part action → ItemsFit part (action_items action)
   action_items_fit action fits = search rules
 
 pub work_fits : (plan : Plan) → All (IsFitted plan.part) plan.tasks → AllFitActions plan.part (work plan)

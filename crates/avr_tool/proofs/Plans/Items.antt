@@ -8,7 +8,7 @@ use Rattle.avr_plan.specs.declared.planned.Task.{Task}
 use Rattle.avr_plan.specs.declared.planned.Task.TheVariants as task
 use Rattle.avr_session.specs.Actions.{Action, erase_actions, tasks_actions}
 use Rattle.stk_emu.specs.Effect.{Memories, Item, Erase, Write, effects}
-use Rattle.avr_tool.specs.Agrees.{ActionsAgree, Agrees}
+use Rattle.avr_tool.specs.ComparisonsAgree.{EachComparisonAgrees, ComparisonsAgree}
 use Rattle.avr_tool.specs.Items.{action_items, actions_items, items, has_erase, task_item, asked_items}
 
 abbrev pub writes : Plan → List Item
@@ -50,14 +50,14 @@ items_by_tasks plan = search (rules, writes_by_tasks)
 -- ---- what they compare
 
 module _ (part : Part) where
-  agree_behind : (xs ys : List Action) (m : Memories) → ActionsAgree part (xs ++ ys) m
-      → ActionsAgree part ys (effects part (actions_items xs) m)
+  agree_behind : (xs ys : List Action) (m : Memories) → EachComparisonAgrees part (xs ++ ys) m
+      → EachComparisonAgrees part ys (effects part (actions_items xs) m)
   agree_behind [] ys m agree = agree
   agree_behind (x ∷ xs) ys m agree = search (rules, agree_behind xs ys (effects part (action_items x) m) agree.1)
 
 -- the comparisons of a plan are those of its tasks, after the erase
-pub tasks_agree : (plan : Plan) (m : Memories) → Agrees plan m
-    → ActionsAgree plan.part (tasks_actions plan.switches plan.tasks)
+pub tasks_agree : (plan : Plan) (m : Memories) → ComparisonsAgree plan m
+    → EachComparisonAgrees plan.part (tasks_actions plan.switches plan.tasks)
     (effects plan.part (erase_if (has_erase (items plan))) m)
 tasks_agree plan m agree =
     search (rules, begins, agree_behind)

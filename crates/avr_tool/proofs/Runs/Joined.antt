@@ -1,58 +1,58 @@
 -- Planning and session as one run.
 use Rattle.std.proofs.Common.{◌≡◌, ℕ, ◌⊎◌, inl, inr, List, [], ◌∷◌, ◌++◌, map, Bool, true, false, refl, sym, ap, ◌∙◌, subst, arith, append_assoc, append-nil, rules}
 use Rattle.avr_cli.specs.declared.settings.Settings.{Settings}
-use Rattle.avr_desk.specs.Fault.{Follows}
+use Rattle.avr_desk.specs.Fault.{CountsNeverFall}
 use Rattle.avr_desk.specs.Lines.{memory_line, not_opened_line, not_read_line}
 use Rattle.avr_desk.specs.Record.{DeskState, Record, Bytes, after_err}
-use Rattle.avr_desk.specs.Said.{OutputEvent, Line, SaidPart, IsPrefixOf, TellsLine, after_all}
+use Rattle.avr_desk.specs.OutputEvents.{OutputEvent, PrintsLine, IsPartOfEvent, IsPrefixOf, ReportsLineAs, after_events}
 use Rattle.avr_desk.proofs.Stages.Outputs.{kept_append, after_append}
 use Rattle.avr_desk.proofs.Lines.Told.{follows_on, follows_same, same_on}
 use Rattle.avr_plan.specs.Plan.{Plan}
 use Rattle.avr_plan.specs.Planning.{planned}
-use Rattle.avr_desk.specs.Playing.{Went, WentRefused, Break, InLine, NotOpened, NotRead, NoMemory, NoMemoryFor, TellsBreak, last_done}
-use Rattle.avr_desk.specs.Stage.{Made, StageResult}
-use Rattle.stk_host.specs.Dialog.{Event, Played, Said, behind, bytes_sent, outputs}
+use Rattle.avr_desk.specs.Playing.{StageCompleted, StageRefused, BreakCause, LineNotPrinted, NotOpened, NotRead, NoMemory, NoMemoryForFile, ReportsBreakAs, events_of_break}
+use Rattle.avr_desk.specs.Stage.{Produced, StageResult}
+use Rattle.stk_host.specs.Dialog.{Event, Played, Emitted, prepend_events, bytes_sent, outputs}
 use Rattle.stk_host.specs.Transcript.{LinkState, heard, Grows}
 use Rattle.stk_host.specs.Tape.{Tape}
 use Rattle.stk_host.specs.Play.{IsPrefixOfEvents}
 use Rattle.stk_host.proofs.Transcripts.Laws.{grows_none}
 use Rattle.avr_session.specs.Run.{RunsSession, RunsSettings, StopsSession}
-use Rattle.avr_session.specs.Runs.{Devices, devices, Cause, OfSending, OfListening, OfFile, OfPrinting, OfMemory, TellsCause, cause_line}
+use Rattle.avr_session.specs.Runs.{Devices, devices, Cause, SendingFailed, ReceivingFailed, FileFailed, PrintingFailed, AllocationFailed, ReportsCause, cause_line}
 use Rattle.avr_session.specs.Session.{session}
-use Rattle.avr_session.specs.Stopping.{IsPlayed}
-use Rattle.avr_tool.specs.Headline.{run, after_answer, IsInTurn, IsRun, IsPrefixOfRun, InSession, InPlanning, stop_line, opened_at, StoppedPlaying, StoppedPlanning, IsStopped}
+use Rattle.avr_session.specs.Stopping.{RanToStatus}
+use Rattle.avr_tool.specs.Headline.{run, run_after_planning, IsInTurn, IsRun, IsPrefixOfRun, InSession, InPlanning, stop_line, opened_at, StoppedInSession, StoppedPlanning, IsStopped}
 
-pub said_outputs : (says : List OutputEvent) (events : List (Event OutputEvent))
-    → outputs (map Said says ++ events) ≡ says ++ outputs events
+pub said_outputs : (emits : List OutputEvent) (events : List (Event OutputEvent))
+    → outputs (map Emitted emits ++ events) ≡ emits ++ outputs events
 said_outputs [] events = refl
-said_outputs (output ∷ says) events = ap (λ rest. output ∷ rest) (said_outputs says events)
+said_outputs (output ∷ emits) events = ap (λ rest. output ∷ rest) (said_outputs emits events)
 
-pub said_bytes : (says : List OutputEvent) (events : List (Event OutputEvent))
-    → bytes_sent (map Said says ++ events) ≡ bytes_sent events
+pub said_bytes : (emits : List OutputEvent) (events : List (Event OutputEvent))
+    → bytes_sent (map Emitted emits ++ events) ≡ bytes_sent events
 said_bytes [] events = refl
-said_bytes (output ∷ says) events = said_bytes says events
+said_bytes (output ∷ emits) events = said_bytes emits events
 
 -- the run of what planning gave
 abbrev after_planning : StageResult Plan → Tape → Played OutputEvent ℕ
-after_planning p tape = behind (map Said p.says) (after_answer p.answer tape)
+after_planning p tape = prepend_events (map Emitted p.emits) (run_after_planning p.stage_outcome tape)
 
-answered : {p q : StageResult Plan} → p ≡ q → p.answer ≡ q.answer
-answered e = ap (λ (p : StageResult Plan). p.answer) e
+answered : {p q : StageResult Plan} → p ≡ q → p.stage_outcome ≡ q.stage_outcome
+answered e = ap (λ (p : StageResult Plan). p.stage_outcome) e
 
 pub ran_whole : (settings : Settings) (plan : Plan) (x y : Devices) (between : DeskState) (status : ℕ)
-    → Went (planned settings) x.desk between (Made plan) → IsPlayed (session plan) (devices x.link between) y status
+    → StageCompleted (planned settings) x.desk between (Produced plan) → RanToStatus (session plan) (devices x.link between) y status
     → IsRun settings x y status
 ran_whole settings plan x y between status went whole =
     let ran = whole.1 in
     record {
       openings = went.passed;
       during = ran.during;
-      events = map Said went.says ++ ran.events;
+      events = map Emitted went.emits ++ ran.events;
       next = whole.0.next;
       left = whole.0.unread;
       is = search rules;
       in_turn = search rules;
-      all_sent = said_bytes went.says ran.events ∙ ran.plays.all_sent;
+      all_sent = said_bytes went.emits ran.events ∙ ran.plays.all_sent;
       grows = ran.grows;
       kept = search (rules, kept_append, said_outputs);
       few = ran.few (omega arith);
@@ -60,35 +60,35 @@ ran_whole settings plan x y between status went whole =
     }
 
 pub ran_openings : (settings : Settings) (plan : Plan) (x y : Devices) (between : DeskState) (status : ℕ)
-    (went : Went (planned settings) x.desk between (Made plan))
-    (whole : IsPlayed (session plan) (devices x.link between) y status)
+    (went : StageCompleted (planned settings) x.desk between (Produced plan))
+    (whole : RanToStatus (session plan) (devices x.link between) y status)
     → (ran_whole settings plan x y between status went whole).openings ≡ went.passed
 unfolding ran_whole
 ran_openings settings plan x y between status went whole = refl
 
 pub refused_whole : (settings : Settings) (x y : Devices) → y.link ≡ x.link
-    → WentRefused (planned settings) x.desk y.desk → IsRun settings x y 1
+    → StageRefused (planned settings) x.desk y.desk → IsRun settings x y 1
 refused_whole settings x y same (line, went) = record {
   openings = went.passed;
   during = [];
-  events = map Said went.says ++ Said (Line line) ∷ [];
+  events = map Emitted went.emits ++ Emitted (PrintsLine line) ∷ [];
   next = 1;
   left = [];
   is = λ later more. ap (λ q. after_planning q more) (went.comes later);
-  in_turn = λ later. subst (λ answer. IsInTurn answer []) (sym (answered (went.comes later))) refl;
-  all_sent = said_bytes went.says (Said (Line line) ∷ []);
+  in_turn = λ later. subst (λ stage_outcome. IsInTurn stage_outcome []) (sym (answered (went.comes later))) refl;
+  all_sent = said_bytes went.emits (Emitted (PrintsLine line) ∷ []);
   grows = subst (λ (l : LinkState). Grows x.link.transcript [] l.transcript) (sym same) (grows_none x.link.transcript);
-  kept = went.kept ∙ ap (λ says. after_all says x.desk.kept) (sym (said_outputs went.says (Said (Line line) ∷ [])));
+  kept = went.kept ∙ ap (λ emits. after_events emits x.desk.kept) (sym (said_outputs went.emits (Emitted (PrintsLine line) ∷ [])));
   few = omega arith;
   sound = (ap (λ (l : LinkState). l.failures) same, went.sound);
 }
 
-session_follows : (plan : Plan) (x y : Devices) (status : ℕ) → RunsSession plan x y status → Follows x.desk y.desk
+session_follows : (plan : Plan) (x y : Devices) (status : ℕ) → RunsSession plan x y status → CountsNeverFall x.desk y.desk
 session_follows plan x y status runs = search (rules, follows_same, follows_on)
 
 pub session_is_run : (settings : Settings) (plan : Plan) (x : Devices) (between : DeskState) (y : Devices) (status : ℕ)
-    (made : Went (planned settings) x.desk between (Made plan)) → RunsSession plan (devices x.link between) y status
-    → Follows between y.desk × (((r : IsRun settings x y status) × (r.openings ≡ made.passed))
+    (made : StageCompleted (planned settings) x.desk between (Produced plan)) → RunsSession plan (devices x.link between) y status
+    → CountsNeverFall between y.desk × (((r : IsRun settings x y status) × (r.openings ≡ made.passed))
     ⊎ (StopsSession plan (devices x.link between) y × (status ≡ 1)))
 session_is_run settings plan x between y status made runs =
     (session_follows plan (devices x.link between) y status runs, either runs)
@@ -114,94 +114,94 @@ is_run settings x between y status (inl runs) = elim runs.runs [
 ]
 is_run settings x between y status (inr (lacks, same)) = search (rules, refused_whole)
 
-behind_prefix : (says : List OutputEvent) {shown events : List (Event OutputEvent)}
-    → IsPrefixOfEvents SaidPart shown events
-    → IsPrefixOfEvents SaidPart (map Said says ++ shown) (map Said says ++ events)
-behind_prefix says f =
-    search (rules, append_assoc (map Said says) f.whole f.begun, append_assoc (map Said says) f.whole f.later)
+behind_prefix : (emits : List OutputEvent) {shown events : List (Event OutputEvent)}
+    → IsPrefixOfEvents IsPartOfEvent shown events
+    → IsPrefixOfEvents IsPartOfEvent (map Emitted emits ++ shown) (map Emitted emits ++ events)
+behind_prefix emits f =
+    search (rules, append_assoc (map Emitted emits) f.whole f.begun, append_assoc (map Emitted emits) f.whole f.later)
 
 -- all that the desk did, in planning and then in the session
-shown_kept : (says : List OutputEvent) (shown : List (Event OutputEvent)) (told : Bytes) (r s t : Record)
-    → s ≡ after_all says r → t ≡ after_err told (after_all (outputs shown) s)
-    → t ≡ after_err told (after_all (outputs (map Said says ++ shown) ++ []) r)
-shown_kept says shown told r s t first then =
-    then ∙ ap (λ k. after_err told (after_all (outputs shown) k)) first
-    ∙ ap (after_err told) (sym (after_append says (outputs shown) r))
-    ∙ ap (λ done. after_err told (after_all done r))
-    (sym (append-nil (outputs (map Said says ++ shown)) ∙ said_outputs says shown))
+shown_kept : (emits : List OutputEvent) (shown : List (Event OutputEvent)) (told : Bytes) (r s t : Record)
+    → s ≡ after_events emits r → t ≡ after_err told (after_events (outputs shown) s)
+    → t ≡ after_err told (after_events (outputs (map Emitted emits ++ shown) ++ []) r)
+shown_kept emits shown told r s t first then =
+    then ∙ ap (λ k. after_err told (after_events (outputs shown) k)) first
+    ∙ ap (after_err told) (sym (after_append emits (outputs shown) r))
+    ∙ ap (λ done. after_err told (after_events done r))
+    (sym (append-nil (outputs (map Emitted emits ++ shown)) ∙ said_outputs emits shown))
 
 -- what was reported is a part of the reason's line
-line_part : (line told : Bytes) (x y : DeskState) → TellsLine line told x y → IsPrefixOf told line
+line_part : (line told : Bytes) (x y : DeskState) → ReportsLineAs line told x y → IsPrefixOf told line
 line_part line told x y (inl whole) = ([], append-nil told ∙ whole.0)
 line_part line told x y (inr part) = part.0
 
 none_part : (line told : Bytes) → told ≡ [] → IsPrefixOf told line
 none_part line told none = (line, ap (λ t. t ++ line) none)
 
-cause_part : (was_told : Bool) (cause : Cause) (told : Bytes) (x y : DeskState)
-    → TellsCause was_told cause told x y → IsPrefixOf told (cause_line cause)
+cause_part : (has_reported : Bool) (cause : Cause) (told : Bytes) (x y : DeskState)
+    → ReportsCause has_reported cause told x y → IsPrefixOf told (cause_line cause)
 cause_part false cause told x y tells = line_part (cause_line cause) told x y tells
-cause_part true OfSending told x y none = none_part (cause_line OfSending) told none
-cause_part true OfListening told x y none = none_part (cause_line OfListening) told none
-cause_part true OfPrinting told x y none = none_part (cause_line OfPrinting) told none
-cause_part true (OfFile file trouble) told x y tells = absurd tells
-cause_part true OfMemory told x y tells = absurd tells
+cause_part true SendingFailed told x y none = none_part (cause_line SendingFailed) told none
+cause_part true ReceivingFailed told x y none = none_part (cause_line ReceivingFailed) told none
+cause_part true PrintingFailed told x y none = none_part (cause_line PrintingFailed) told none
+cause_part true (FileFailed file trouble) told x y tells = absurd tells
+cause_part true AllocationFailed told x y tells = absurd tells
 
-break_part : (break : Break) (told : Bytes) (x y : DeskState)
-    → TellsBreak break told x y → IsPrefixOf told (stop_line (InPlanning break))
-break_part (InLine line) told x y tells = tells.0
+break_part : (break : BreakCause) (told : Bytes) (x y : DeskState)
+    → ReportsBreakAs break told x y → IsPrefixOf told (stop_line (InPlanning break))
+break_part (LineNotPrinted line) told x y tells = tells.0
 break_part (NotOpened name) told x y tells = line_part (not_opened_line name) told tells.between y tells.tells
 break_part (NotRead name bytes) told x y tells = line_part (not_read_line name) told tells.between y tells.tells
 break_part NoMemory told x y tells = line_part memory_line told x y tells
-break_part (NoMemoryFor reading) told x y tells = line_part memory_line told x y tells
+break_part (NoMemoryForFile reading) told x y tells = line_part memory_line told x y tells
 
-stopped_prefix : (settings : Settings) (x y : Devices) → StoppedPlaying settings x y → IsPrefixOfRun settings x y
+stopped_prefix : (settings : Settings) (x y : Devices) → StoppedInSession settings x y → IsPrefixOfRun settings x y
 stopped_prefix settings x y stopped = record {
   openings = stopped.made.passed;
   during = stopped.then_is.during;
-  shown = map Said stopped.made.says ++ stopped.then_is.shown;
+  shown = map Emitted stopped.made.emits ++ stopped.then_is.shown;
   reason = InSession stopped.then_is.cause;
   told = stopped.then_is.told;
-  told_part = cause_part _ stopped.then_is.cause stopped.then_is.told _ y.desk stopped.then_is.stops.tells;
+  reported_part = cause_part _ stopped.then_is.cause stopped.then_is.told _ y.desk stopped.then_is.stops.tells;
   prefix = search (rules, behind_prefix);
-  in_turn = λ later. subst (λ answer. IsInTurn answer stopped.then_is.during)
+  in_turn = λ later. subst (λ stage_outcome. IsInTurn stage_outcome stopped.then_is.during)
       (sym (answered (stopped.made.comes later))) stopped.then_is.breaks.in_turn;
-  all_sent = said_bytes stopped.made.says stopped.then_is.shown ∙ stopped.then_is.breaks.all_sent;
+  all_sent = said_bytes stopped.made.emits stopped.then_is.shown ∙ stopped.then_is.breaks.all_sent;
   grows = stopped.then_is.grows;
-  kept = shown_kept stopped.made.says stopped.then_is.shown stopped.then_is.told x.desk.kept stopped.between.kept
+  kept = shown_kept stopped.made.emits stopped.then_is.shown stopped.then_is.told x.desk.kept stopped.between.kept
       y.desk.kept stopped.made.kept stopped.then_is.kept;
 }
 
 said_append : (whole later : List OutputEvent) (events : List (Event OutputEvent))
-    → map Said (whole ++ later) ++ events ≡ map Said whole ++ (map Said later ++ events)
+    → map Emitted (whole ++ later) ++ events ≡ map Emitted whole ++ (map Emitted later ++ events)
 said_append [] later events = refl
-said_append (output ∷ whole) later events = ap (λ rest. Said output ∷ rest) (said_append whole later events)
+said_append (output ∷ whole) later events = ap (λ rest. Emitted output ∷ rest) (said_append whole later events)
 
-last_is : (break : Break) (told : Bytes) → last_done break told ≡ opened_at (InPlanning break) ++ Line told ∷ []
+last_is : (break : BreakCause) (told : Bytes) → events_of_break break told ≡ opened_at (InPlanning break) ++ PrintsLine told ∷ []
 last_is (NotRead name bytes) told = refl
-last_is (NoMemoryFor reading) told = refl
-last_is (InLine line) told = refl
+last_is (NoMemoryForFile reading) told = refl
+last_is (LineNotPrinted line) told = refl
 last_is (NotOpened name) told = refl
 last_is NoMemory told = refl
 
-broken_kept : (whole : List OutputEvent) (break : Break) (told : Bytes) (r t : Record)
-    → t ≡ after_all (whole ++ last_done break told) r
-    → t ≡ after_err told (after_all (outputs (map Said whole ++ []) ++ opened_at (InPlanning break)) r)
+broken_kept : (whole : List OutputEvent) (break : BreakCause) (told : Bytes) (r t : Record)
+    → t ≡ after_events (whole ++ events_of_break break told) r
+    → t ≡ after_err told (after_events (outputs (map Emitted whole ++ []) ++ opened_at (InPlanning break)) r)
 broken_kept whole break told r t kept =
-    kept ∙ ap (λ last. after_all (whole ++ last) r) (last_is break told)
-    ∙ ap (λ done. after_all done r) (sym (append_assoc whole (opened_at (InPlanning break)) (Line told ∷ [])))
-    ∙ after_append (whole ++ opened_at (InPlanning break)) (Line told ∷ []) r
-    ∙ ap (λ done. after_err told (after_all (done ++ opened_at (InPlanning break)) r))
+    kept ∙ ap (λ last. after_events (whole ++ last) r) (last_is break told)
+    ∙ ap (λ done. after_events done r) (sym (append_assoc whole (opened_at (InPlanning break)) (PrintsLine told ∷ [])))
+    ∙ after_append (whole ++ opened_at (InPlanning break)) (PrintsLine told ∷ []) r
+    ∙ ap (λ done. after_err told (after_events (done ++ opened_at (InPlanning break)) r))
     (sym (said_outputs whole [] ∙ append-nil whole))
 
 planned_prefix : (settings : Settings) (x y : Devices) → StoppedPlanning settings x y → IsPrefixOfRun settings x y
 planned_prefix settings x y stopped = record {
   openings = stopped.broke.passed;
   during = [];
-  shown = map Said stopped.broke.whole ++ [];
+  shown = map Emitted stopped.broke.whole ++ [];
   reason = InPlanning stopped.broke.break;
   told = stopped.broke.told;
-  told_part = break_part stopped.broke.break stopped.broke.told x.desk y.desk stopped.broke.tells;
+  reported_part = break_part stopped.broke.break stopped.broke.told x.desk y.desk stopped.broke.tells;
   prefix = search (rules, said_append);
   in_turn = λ later. search rules;
   all_sent = said_bytes stopped.broke.whole [];

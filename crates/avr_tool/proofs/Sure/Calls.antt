@@ -9,30 +9,30 @@ use Rattle.stk_frame.specs.declared.command.Command.TheVariants.{SignOn}
 use Rattle.stk_frame.specs.HostCommands.{enter, leave}
 use Rattle.stk_host.proofs.Dialogs.Logic.{wider}
 use Rattle.stk_host.specs.Dialog.{Dialog, ◌>>=◌}
-use Rattle.stk_host.specs.Steps.{StepOutcome, step, if_done, play}
+use Rattle.stk_host.specs.Steps.{StepOutcome, step, unless_step_fault, play}
 use Rattle.stk_host.specs.ReadSteps.{signature_steps}
 use Rattle.stk_host.specs.Operations as host
-use Rattle.stk_host.specs.Operations.{judged_by, signature_judged, without_bytes}
+use Rattle.stk_host.specs.Operations.{checked_by, signature_checked, without_bytes}
 use Rattle.stk_emu.proofs.Answers.Commands.{ready_idle, ready_settled}
 use Rattle.stk_emu.specs.Device.{device}
 use Rattle.stk_emu.specs.Effect.{Memories, effects}
-use Rattle.stk_emu.specs.Given.{all_given}
-use Rattle.stk_emu.specs.PageWrites.{changed_by}
-use Rattle.stk_emu.specs.Settled.{Idle, Ready, FitsPart}
-use Rattle.stk_emu.specs.Turn.{Turn}
-use Rattle.avr_tool.proofs.AnyLine.EachAction.{Comes, Passes, operation_comes, opening_comes}
+use Rattle.stk_emu.specs.Given.{data_of_steps}
+use Rattle.stk_emu.specs.WriteOperations.{memories_after_steps}
+use Rattle.stk_emu.specs.Settled.{HasMemories, Ready, FitsPart}
+use Rattle.stk_emu.specs.Exchange.{Exchange}
+use Rattle.avr_tool.proofs.OverFaultyLink.EachAction.{Comes, Passes, operation_comes, opening_comes}
 use Rattle.avr_tool.proofs.Given.Comparisons.{signature_taken}
-use Rattle.avr_tool.proofs.Sure.Turns.{Brings, IsSure, brings_bind, brings_told, brings_play}
+use Rattle.avr_tool.proofs.Sure.Exchanges.{Brings, IsSure, brings_bind, brings_told, brings_play}
 use Rattle.avr_tool.proofs.Given.WholeMemories.{read_gives}
 use Rattle.avr_tool.proofs.Hosts.Operations.{closing_goes}
 use Rattle.avr_tool.proofs.Hosts.OneLink.{Spot, on_link, both}
-use Rattle.avr_tool.proofs.PageWrites.Items.{read_are_steps}
-use Rattle.avr_tool.proofs.PageWrites.Steps.{sign_on_steady, enter_ready, leave_steady, leave_fits}
+use Rattle.avr_tool.proofs.WriteOperations.Items.{read_are_steps}
+use Rattle.avr_tool.proofs.WriteOperations.Steps.{sign_on_steady, enter_ready, leave_steady, leave_fits}
 use Rattle.avr_tool.proofs.Plans.Calls.{outcome_of, call_of, is_operation}
 use Rattle.avr_tool.proofs.Plans.Fits.{FitsAction}
 use Rattle.avr_tool.specs.Items.{action_items}
 
-module _ (Such : List Turn → Type 0) (sure : IsSure Such) where
+module _ (Such : List Exchange → Type 0) (sure : IsSure Such) where
   module _ (part : Part) (sound : IsPart part) (m : Memories) (f : FitsPart part m) where
     operation_brings : (s : Switches) (action : Action) → FitsAction part action
         → Brings Such (Ready part m) (call_of part s action) (outcome_of part action m)
@@ -45,40 +45,40 @@ module _ (Such : List Turn → Type 0) (sure : IsSure Such) where
         o.call_is
         (subst (λ r. Brings Such (Ready part m) (host.operation steps o.judge) r (Ready part (effects part (action_items action)
         m))) o.gives
-        (subst (λ left. Brings Such (Ready part m) (host.operation steps o.judge) (o.judge (all_given part steps m))
+        (subst (λ left. Brings Such (Ready part m) (host.operation steps o.judge) (o.judge (data_of_steps part steps m))
         (Ready part left)) o.all
-        (brings_told Such (play steps []) (judged_by o.judge) (Ok (all_given part steps m)) (Ready part m)
-        (Ready part (changed_by part (length steps) steps m)) (brings_play part sound Such sure steps m [] o.are f))))
+        (brings_told Such (play steps []) (checked_by o.judge) (Ok (data_of_steps part steps m)) (Ready part m)
+        (Ready part (memories_after_steps part (length steps) steps m)) (brings_play part sound Such sure steps m [] o.are f))))
 
-    handshake_brings : Brings Such (Idle part m) host.handshake (Ok part.signature) (Ready part m)
+    handshake_brings : Brings Such (HasMemories part m) host.handshake (Ok part.signature) (Ready part m)
     unfolding host.handshake
     handshake_brings =
         let read : List ℕ → Dialog ⊥ StepOutcome = λ nothing. play signature_steps [] in
         let name : List ℕ = 0x53 ∷ 0x54 ∷ 0x4B ∷ 0x35 ∷ 0x30 ∷ 0x30 ∷ 0x5F ∷ 0x32 ∷ [] in
-        brings_bind Such (if_done (λ signed. step (enter ∷ []) >>= if_done read)) (Ok name) (Ok part.signature) (Idle part m)
-        (Idle part m) (Ready part m) (step (SignOn ∷ []))
+        brings_bind Such (unless_step_fault (λ signed. step (enter ∷ []) >>= unless_step_fault read)) (Ok name) (Ok part.signature) (HasMemories part m)
+        (HasMemories part m) (Ready part m) (step (SignOn ∷ []))
         (search (rules, sure, sign_on_steady))
-        (brings_bind Such (if_done read) (Ok []) (Ok part.signature) (Idle part m) (Ready part m) (Ready part m)
+        (brings_bind Such (unless_step_fault read) (Ok []) (Ok part.signature) (HasMemories part m) (Ready part m) (Ready part m)
         (step (enter ∷ []))
-        (sure (enter ∷ []) [] (Idle part m) (Ready part m) (enter_ready part m) (omega arith) (λ q stands. refl))
+        (sure (enter ∷ []) [] (HasMemories part m) (Ready part m) (enter_ready part m) (omega arith) (λ q stands. refl))
         (subst (λ bytes. Brings Such (Ready part m) (play signature_steps []) (Ok bytes) (Ready part m))
         (read_gives part sound m f Signature)
         (brings_play part sound Such sure signature_steps m [] (read_are_steps part sound Signature) f)))
 
-    opening_brings : (force : Bool) → Brings Such (Idle part m) (host.opening part.signature force) (Ok part.signature)
+    opening_brings : (force : Bool) → Brings Such (HasMemories part m) (host.opening part.signature force) (Ok part.signature)
         (Ready part m)
     unfolding host.opening
     opening_brings force =
-        subst (λ r. Brings Such (Idle part m) (host.opening part.signature force) r (Ready part m))
+        subst (λ r. Brings Such (HasMemories part m) (host.opening part.signature force) r (Ready part m))
         (signature_taken part.signature force)
-        (brings_told Such host.handshake (signature_judged part.signature force) (Ok part.signature) (Idle part m)
+        (brings_told Such host.handshake (signature_checked part.signature force) (Ok part.signature) (HasMemories part m)
         (Ready part m) handshake_brings)
 
-  closing_brings : (part : Part) (m : Memories) → Brings Such (Idle part m) host.closing (Ok tt) (Idle part m)
+  closing_brings : (part : Part) (m : Memories) → Brings Such (HasMemories part m) host.closing (Ok tt) (HasMemories part m)
   unfolding host.closing
   closing_brings part m =
-      brings_told Such (step (leave ∷ [])) without_bytes (Ok []) (Idle part m) (Idle part m)
-      (sure (leave ∷ []) [] (Idle part m) (Idle part m) (leave_steady part m) (omega arith) (λ q stands. refl))
+      brings_told Such (step (leave ∷ [])) without_bytes (Ok []) (HasMemories part m) (HasMemories part m)
+      (sure (leave ∷ []) [] (HasMemories part m) (HasMemories part m) (leave_steady part m) (omega arith) (λ q stands. refl))
 
   -- ---- the calls of a session
 
@@ -96,12 +96,12 @@ module _ (Such : List Turn → Type 0) (sure : IsSure Such) where
     closes = λ m z t.
         let i = ready_idle part m z.0 t.0 in
         wider (λ bytes y i. i) (λ e y x. x) (λ r y x. (x.0.0, inl x.1.0.0))
-        (both device (on_link device (closing_goes (Idle part m) (leave_fits part m) z.0 i))
+        (both device (on_link device (closing_goes (HasMemories part m) (leave_fits part m) z.0 i))
         (closing_brings part m z i t.1));
   }
 
   pub opens_sure : (part : Part) (sound : IsPart part) (s : Switches) (m : Memories) (z : Spot) → FitsPart part m
-      → Idle part m z.0 → Such z.1 → Comes part s (AtSure part) ⊥ OpenSession m z
+      → HasMemories part m z.0 → Such z.1 → Comes part s (AtSure part) ⊥ OpenSession m z
   opens_sure part sound s m z f idle few =
       wider (λ bytes y r. r) (λ e y x. x) (λ got y x. inl (x.1.0.0, (x.1.0.1, x.1.1)))
       (both device (on_link device (opening_comes part sound s m f z.0 idle))

@@ -4,68 +4,68 @@ use Rattle.std.specs.Prelude.{⊤}
 use Rattle.stk_frame.specs.declared.command.Command.{Command}
 use Rattle.stk_frame.specs.Commands.{body}
 use Rattle.stk_host.specs.declared.fault.StepFault.TheVariants.{NoAnswer}
-use Rattle.stk_host.specs.Dialog.{Dialog, Done, Say, Ask}
-use Rattle.stk_host.specs.Steps.{Reply, Data, Again, Stop, StepOutcome, reading_reply, with_data, exchange, attempt, step}
-use Rattle.stk_host.proofs.Dialogs.Logic.{HoldsFrom, NoSays, OnReply, done, ask, wider, attempts}
-use Rattle.stk_emu.specs.Turn.{Turn, Became, Anew, Instead, Ending, Right, Wrong, after_turn, turn_reading, first_turn, other_turns}
+use Rattle.stk_host.specs.Dialog.{Dialog, Done, Emit, Ask}
+use Rattle.stk_host.specs.Steps.{Reply, Data, Again, Stop, StepOutcome, reply_from_reading, with_data, exchange, attempt, step}
+use Rattle.stk_host.proofs.Dialogs.Logic.{HoldsFrom, NoOutput, OnReply, done, ask, wider, attempts}
+use Rattle.stk_emu.specs.Exchange.{Exchange, Execution, ThenRestarted, OtherReading, Ending, AsIntended, Disturbed, after_exchange, reading_of_exchange, first_exchange, later_exchanges}
 use Rattle.stk_emu.specs.Programmer.{Programmer}
 use Rattle.stk_emu.specs.Device.{device}
-use Rattle.stk_emu.specs.Fits.{Fits}
+use Rattle.stk_emu.specs.Fits.{IsRepeatable}
 use Rattle.stk_emu.specs.Given.{on_data, joined_reply}
-use Rattle.avr_tool.specs.AnyLine.{AreGood}
-use Rattle.avr_tool.proofs.Hosts.AnyTurn.{AfterStep, try_goes}
+use Rattle.avr_tool.specs.OverFaultyLink.{AllArriveRight}
+use Rattle.avr_tool.proofs.Hosts.AnyExchange.{AfterStep, try_goes}
 use Rattle.avr_tool.proofs.Hosts.OneLink.{Spot, this_link, Runs, on_link, both}
 use Rattle.stk_emu.proofs.Answers.Commands.{steady}
-use Rattle.avr_tool.proofs.PageWrites.OutsideMode.{gathered_steady}
-use Rattle.avr_tool.proofs.Sure.Turns.{IsSure}
+use Rattle.avr_tool.proofs.WriteOperations.OutsideMode.{gathered_steady}
+use Rattle.avr_tool.proofs.Sure.Exchanges.{IsSure}
 
 -- ---- links that don't end, and over which the programmer never restarts
 
-abbrev Stands : Became → Type 0
-Stands (Anew became) = ⊥
-Stands became = Unit {0}
+abbrev Stands : Execution → Type 0
+Stands (ThenRestarted execution) = ⊥
+Stands execution = Unit {0}
 
-abbrev GoesOn : Instead → Type 0
+abbrev GoesOn : OtherReading → Type 0
 GoesOn Ending = ⊥
 GoesOn instead = Unit {0}
 
-abbrev pub IsSteady : Turn → Type 0
-IsSteady Right = Unit {0}
-IsSteady (Wrong became instead) = Stands became × GoesOn instead
+abbrev pub IsSteady : Exchange → Type 0
+IsSteady AsIntended = Unit {0}
+IsSteady (Disturbed execution instead) = Stands execution × GoesOn instead
 
-abbrev pub AreSteady : List Turn → Type 0
+abbrev pub AreSteady : List Exchange → Type 0
 AreSteady [] = Unit {0}
-AreSteady (turn ∷ turns) = IsSteady turn × AreSteady turns
+AreSteady (one_exchange ∷ exchanges) = IsSteady one_exchange × AreSteady exchanges
 
-others_steady : (turns : List Turn) → AreSteady turns → AreSteady (other_turns turns)
-others_steady turns s = search rules
+others_steady : (exchanges : List Exchange) → AreSteady exchanges → AreSteady (later_exchanges exchanges)
+others_steady exchanges s = search rules
 
 -- over such exchanges no device restarts
 pub on_steady : {R : Type 0} (After : R → Spot → Type 0) (d : Dialog ⊥ R) (z : Spot) → AreSteady z.1
-    → HoldsFrom (this_link steady) (λ bytes y. ⊤) NoSays After d z
-    → HoldsFrom (this_link device) (λ bytes y. ⊤) NoSays After d z
+    → HoldsFrom (this_link steady) (λ bytes y. ⊤) NoOutput After d z
+    → HoldsFrom (this_link device) (λ bytes y. ⊤) NoOutput After d z
 on_steady After (Done r) z s h = h
-on_steady After (Say e d) z s h = absurd e
+on_steady After (Emit e d) z s h = absurd e
 on_steady After (Ask bytes go_on) z s h = search (rules, on_steady After (go_on _) _ (others_steady z.1 s) (h.1 tt))
 
 -- ---- good exchanges
 
-first_good : (turns : List Turn) → AreGood turns → first_turn turns ≡ Right
-first_good turns good = search rules
+first_good : (exchanges : List Exchange) → AllArriveRight exchanges → first_exchange exchanges ≡ AsIntended
+first_good exchanges good = search rules
 
-others_good : (turns : List Turn) → AreGood turns → AreGood (other_turns turns)
-others_good turns good = search rules
+others_good : (exchanges : List Exchange) → AllArriveRight exchanges → AllArriveRight (later_exchanges exchanges)
+others_good exchanges good = search rules
 
-good_steady : (turns : List Turn) → AreGood turns → AreSteady turns
+good_steady : (exchanges : List Exchange) → AllArriveRight exchanges → AreSteady exchanges
 good_steady [] good = tt
-good_steady (turn ∷ turns) good = (subst IsSteady (sym good.0) tt, good_steady turns good.1)
+good_steady (one_exchange ∷ exchanges) good = (subst IsSteady (sym good.0) tt, good_steady exchanges good.1)
 
 same_data : (a b : List ℕ) → Data a ≡ Data b → a ≡ b
 same_data a b e = cc
 
 -- an attempt whose commands would all have data: the data come
 abbrev Has : List ℕ → Dialog ⊥ Reply → Spot → Type 0
-Has got d z = Runs steady (λ y. ⊤) (λ reply y. (reply ≡ Data got) × AreGood y.1) d z
+Has got d z = Runs steady (λ y. ⊤) (λ reply y. (reply ≡ Data got) × AllArriveRight y.1) d z
 
 answered : (go_on : List ℕ → Dialog ⊥ Reply) (go : List ℕ → Reply) (got : List ℕ) (z : Spot) (reply : Reply)
     → ((bytes : List ℕ) → go bytes ≡ Data got → Has got (go_on bytes) z)
@@ -73,38 +73,38 @@ answered : (go_on : List ℕ → Dialog ⊥ Reply) (go : List ℕ → Reply) (go
 answered go_on go got z (Data bytes) each has = each bytes has
 answered go_on go got z reply each has = search rules
 
-attempt_has : (commands : List Command) (before : List ℕ) (z : Spot) (got : List ℕ) → AreGood z.1
+attempt_has : (commands : List Command) (before : List ℕ) (z : Spot) (got : List ℕ) → AllArriveRight z.1
     → joined_reply steady commands before z.0 ≡ Data got → Has got (attempt commands before) z
 unfolding attempt exchange
 attempt_has [] before z got good has = done (has, good)
 attempt_has (command ∷ commands) before z got good has =
     let q = steady.after (body command) z.0 in
     let go_on : List ℕ → Dialog ⊥ Reply = λ bytes. attempt commands (before ++ bytes) in
-    ask tt (λ move. subst (λ turn. Has got
-    (with_data go_on (reading_reply command (turn_reading turn (steady.answer (body command) z.0))))
-    (after_turn turn q z.0 steady.reset, other_turns z.1)) (sym (first_good z.1 good))
-    (answered go_on (λ bytes. joined_reply steady commands (before ++ bytes) q) got (q, other_turns z.1) _
-    (λ bytes f. attempt_has commands (before ++ bytes) (q, other_turns z.1) got (others_good z.1 good) f) has))
+    ask tt (λ move. subst (λ one_exchange. Has got
+    (with_data go_on (reply_from_reading command (reading_of_exchange one_exchange (steady.answer (body command) z.0))))
+    (after_exchange one_exchange q z.0 steady.reset, later_exchanges z.1)) (sym (first_good z.1 good))
+    (answered go_on (λ bytes. joined_reply steady commands (before ++ bytes) q) got (q, later_exchanges z.1) _
+    (λ bytes f. attempt_has commands (before ++ bytes) (q, later_exchanges z.1) got (others_good z.1 good) f) has))
 
 module _ (Before After : Programmer → Type 0) (commands : List Command) (got : List ℕ)
-    (fits : Fits steady commands Before After)
+    (fits : IsRepeatable steady commands Before After)
     (has : (q : Programmer) → Before q ⊎ After q → joined_reply device commands [] q ≡ Data got) where
   abbrev Whole : StepOutcome → Spot → Type 0
-  Whole o z = ((o ≡ Ok got) × After z.0) × AreGood z.1
+  Whole o z = ((o ≡ Ok got) × After z.0) × AllArriveRight z.1
 
   -- with this many attempts left
   abbrev Begins : ℕ → Spot → Type 0
   Begins zero z = ⊥
-  Begins (suc more) z = Before z.0 × AreGood z.1
+  Begins (suc more) z = Before z.0 × AllArriveRight z.1
 
   after_try : (more : ℕ) (reply : Reply) (y : Spot)
       → OnReply (λ q. Before q ⊎ After q) (AfterStep steady commands Before After fits) reply y.0
-      × ((reply ≡ Data got) × AreGood y.1) → OnReply (Begins more) Whole reply y
+      × ((reply ≡ Data got) × AllArriveRight y.1) → OnReply (Begins more) Whole reply y
   after_try more (Data bytes) y (stood, (is, good)) = ((ap (λ x. Ok x) (same_data bytes got is), stood.0), good)
   after_try more (Again fault) y (stood, (is, good)) = absurd (cc)
   after_try more (Stop fault) y (stood, (is, good)) = absurd (cc)
 
-  step_has : (z : Spot) → Before z.0 → AreGood z.1 → Runs steady (λ y. ⊤) Whole (step commands) z
+  step_has : (z : Spot) → Before z.0 → AllArriveRight z.1 → Runs steady (λ y. ⊤) Whole (step commands) z
   step_has z before good =
       attempts (this_link steady) (λ bytes y. ⊤) commands Begins Whole
       (λ more y begins. wider (λ bytes y x. tt) (λ e y x. x) (after_try more)
@@ -112,8 +112,8 @@ module _ (Before After : Programmer → Type 0) (commands : List Command) (got :
       (attempt_has commands [] y got begins.1 (gathered_steady commands [] y.0 ∙ has y.0 (inl begins.0)))))
       (λ fault y none. absurd none) 4 NoAnswer z (before, good)
 
-pub good_sure : IsSure AreGood
+pub good_sure : IsSure AllArriveRight
 good_sure commands got Before After fits short has z before good = record {
-  holds = on_steady (λ o y. ((o ≡ Ok got) × After y.0) × AreGood y.1) (step commands) z (good_steady z.1 good)
+  holds = on_steady (λ o y. ((o ≡ Ok got) × After y.0) × AllArriveRight y.1) (step commands) z (good_steady z.1 good)
       (step_has Before After commands got fits has z before good).holds;
 }

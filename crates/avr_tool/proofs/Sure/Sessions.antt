@@ -4,30 +4,30 @@ use Rattle.avr_part.specs.Part.{IsPart}
 use Rattle.avr_plan.specs.Plan.{Plan, IsFitted}
 use Rattle.avr_session.specs.Session.{session}
 use Rattle.stk_host.specs.Dialog.{Done}
-use Rattle.stk_emu.specs.Turn.{Turn}
-use Rattle.stk_emu.specs.Along.{along, said_along}
+use Rattle.stk_emu.specs.Exchange.{Exchange}
+use Rattle.stk_emu.specs.DialogOverExchanges.{state_after, outputs_after}
 use Rattle.stk_emu.specs.Device.{device}
 use Rattle.stk_emu.specs.Programmer.{Programmer}
 use Rattle.stk_emu.specs.Effect.{Memories, memories_of}
-use Rattle.stk_emu.specs.Settled.{Idle, FitsPart}
-use Rattle.avr_tool.proofs.AnyLine.Outcomes.{session_passes}
-use Rattle.avr_tool.proofs.AnyLine.Sessions.{at_last}
+use Rattle.stk_emu.specs.Settled.{HasMemories, FitsPart}
+use Rattle.avr_tool.proofs.OverFaultyLink.Outcomes.{session_passes}
+use Rattle.avr_tool.proofs.OverFaultyLink.Sessions.{at_last}
 use Rattle.avr_tool.proofs.Hosts.Outputs.{Anything, at_moment}
 use Rattle.avr_tool.proofs.Sure.Calls.{AtSure, no_failure, opens_sure}
-use Rattle.avr_tool.proofs.Sure.Turns.{IsSure}
+use Rattle.avr_tool.proofs.Sure.Exchanges.{IsSure}
 use Rattle.avr_tool.specs.Outcome.{IsExpectedRun}
 
 module _ (plan : Plan) (sound : IsPart plan.part) (fitted : All (IsFitted plan.part) plan.tasks)
-    (Such : List Turn → Type 0) (sure : IsSure Such) where
-  pub session_ends : (m : Memories) (p : Programmer) (turns : List Turn) → FitsPart plan.part m → Idle plan.part m p
-      → Such turns → (k : ℕ) (status : ℕ) → (along device k (session plan) p turns).dialog ≡ Done status
-      → IsExpectedRun plan m (memories_of (along device k (session plan) p turns).programmer.chip)
-      (said_along device k (session plan) p turns) status
-  session_ends m p turns sizes idle such k status e =
+    (Such : List Exchange → Type 0) (sure : IsSure Such) where
+  pub session_ends : (m : Memories) (p : Programmer) (exchanges : List Exchange) → FitsPart plan.part m → HasMemories plan.part m p
+      → Such exchanges → (k : ℕ) (status : ℕ) → (state_after device k (session plan) p exchanges).dialog ≡ Done status
+      → IsExpectedRun plan m (memories_of (state_after device k (session plan) p exchanges).programmer.chip)
+      (outputs_after device k (session plan) p exchanges) status
+  session_ends m p exchanges sizes idle such k status e =
       elim ((at_moment Anything (at_last plan m ⊥) k
       (session_passes plan sound m sizes fitted (AtSure Such sure plan.part) ⊥
-      (no_failure Such sure plan.part sound plan.switches) (p, turns)
-      (opens_sure Such sure plan.part sound plan.switches m (p, turns) sizes idle such))).after status e).1 [
+      (no_failure Such sure plan.part sound plan.switches) (p, exchanges)
+      (opens_sure Such sure plan.part sound plan.switches m (p, exchanges) sizes idle such))).after status e).1 [
         | inl own ↦ own
         | inr broke ↦ absurd broke.0
       ]

@@ -10,16 +10,16 @@ use Rattle.stk_frame.specs.Commands.{body}
 use Rattle.stk_frame.specs.Decoding as decoding
 use Rattle.stk_frame.specs.HostCommands.{enter, leave, erase, program_fuse, program_lock, read_fuse, read_lock, read_calibration}
 use Rattle.stk_frame.proofs.DecodedBodies.{read_back}
-use Rattle.stk_emu.specs.Programmer.{Programmer, Response, obey, obey_command, read_as}
+use Rattle.stk_emu.specs.Programmer.{Programmer, Response, execute, execute_command, execute_decoded}
 use Rattle.stk_emu.specs.Device.{Device, device}
-use Rattle.stk_emu.specs.Fits.{after_commands, Fits}
+use Rattle.stk_emu.specs.Fits.{after_commands, IsRepeatable}
 use Rattle.stk_emu.specs.Effect.{Memories}
-use Rattle.stk_emu.specs.PageWrites.{changed}
-use Rattle.stk_emu.specs.Settled.{Idle, Settled, Ready}
+use Rattle.stk_emu.specs.WriteOperations.{memories_after_step}
+use Rattle.stk_emu.specs.Settled.{HasMemories, Settled, Ready}
 
 -- executing a command's body is executing the command
-pub obeys : (c : Command) (p : Programmer) → decoding.FieldsFit c → obey (body c) p ≡ obey_command c p
-obeys c p fits = ap (λ o. read_as o (body c) p) (read_back c fits)
+pub executes_command : (c : Command) (p : Programmer) → decoding.FieldsFit c → execute (body c) p ≡ execute_command c p
+executes_command c p fits = ap (λ o. execute_decoded o (body c) p) (read_back c fits)
 
 module _ {P : Type 0} (m : Device P) where
   pub obeyed_none : (i : ℕ) (p : P) → after_commands m i [] p ≡ p
@@ -29,8 +29,8 @@ module _ {P : Type 0} (m : Device P) where
   pub one_fits : (c : Command) (Before After : P → Type 0) → ((p : P) → Before p → After (m.after (body c) p))
       → ((p : P) → After p → After (m.after (body c) p))
       → ((p : P) → Before p → Before (m.reset p)) → ((p : P) → After p → After (m.reset p))
-      → Fits m (c ∷ []) Before After
-  one_fits c Before After does again anew anew_again = search (rules, obeyed_none)
+      → IsRepeatable m (c ∷ []) Before After
+  one_fits c Before After does again restart_keeps restart_keeps_after = search (rules, obeyed_none)
 
   -- a step of two commands
   pub two_fits : (c d : Command) (Before After : P → Type 0) → ((p : P) → Before p → Before (m.after (body c) p))
@@ -38,8 +38,8 @@ module _ {P : Type 0} (m : Device P) where
       → ((p : P) → Before p → After (m.after (body d) (m.after (body c) p)))
       → ((p : P) → After p → After (m.after (body d) (m.after (body c) p)))
       → ((p : P) → Before p → Before (m.reset p)) → ((p : P) → After p → After (m.reset p))
-      → Fits m (c ∷ d ∷ []) Before After
-  two_fits c d Before After first first_again does again anew anew_again = search (rules, prefixes, agains)
+      → IsRepeatable m (c ∷ d ∷ []) Before After
+  two_fits c d Before After first first_again does again restart_keeps restart_keeps_after = search (rules, prefixes, agains)
     where
       prefixes : (p : P) (i : ℕ) → Before p → Before (after_commands m i (c ∷ d ∷ []) p)
           ⊎ After (after_commands m i (c ∷ d ∷ []) p)
@@ -58,7 +58,7 @@ steady = record { answer = device.answer; after = device.after; reset = λ p. p 
 
 pub one_steady : (c : Command) (Before After : Programmer → Type 0)
     → ((p : Programmer) → Before p → After (device.after (body c) p))
-    → ((p : Programmer) → After p → After (device.after (body c) p)) → Fits steady (c ∷ []) Before After
+    → ((p : Programmer) → After p → After (device.after (body c) p)) → IsRepeatable steady (c ∷ []) Before After
 one_steady c Before After does again = one_fits steady c Before After does again (λ p b. b) (λ p a. a)
 
 pub two_steady : (c d : Command) (Before After : Programmer → Type 0)
@@ -66,7 +66,7 @@ pub two_steady : (c d : Command) (Before After : Programmer → Type 0)
     → ((p : Programmer) → After p → After (device.after (body c) p))
     → ((p : Programmer) → Before p → After (device.after (body d) (device.after (body c) p)))
     → ((p : Programmer) → After p → After (device.after (body d) (device.after (body c) p)))
-    → Fits steady (c ∷ d ∷ []) Before After
+    → IsRepeatable steady (c ∷ d ∷ []) Before After
 two_steady c d Before After first first_again does again = search (rules, two_fits)
 
 -- a command of programming mode, in that mode
@@ -74,7 +74,7 @@ pub in_mode_is : (p : Programmer) (x y : Response) → p.mode ≡ true → (cond
 in_mode_is p x y e = ap (λ z. z.1) (cond-true p.mode x y e)
 
 module _ (part : Part) where
-  pub settled_idle : (m : Memories) (p : Programmer) → Settled part m p → Idle part m p
+  pub settled_idle : (m : Memories) (p : Programmer) → Settled part m p → HasMemories part m p
   settled_idle m p s = search (rules, length-replicate)
 
   -- a ready programmer is settled, and a settled one is ready in programming mode
@@ -84,21 +84,21 @@ module _ (part : Part) where
   pub settled_ready : (m : Memories) (p : Programmer) → p.mode ≡ true → Settled part m p → Ready part m p
   settled_ready m p mode s = search rules
 
-  pub ready_idle : (m : Memories) (p : Programmer) → Ready part m p → Idle part m p
+  pub ready_idle : (m : Memories) (p : Programmer) → Ready part m p → HasMemories part m p
   ready_idle m p s = settled_idle m p (ready_settled m p s)
 
   -- after a restart the memories are the same, and nothing is loaded
-  pub anew_idle : (m : Memories) (p : Programmer) → Idle part m p → Idle part m (device.reset p)
-  anew_idle m p s = search (rules, length-replicate)
+  pub restart_keeps_memories : (m : Memories) (p : Programmer) → HasMemories part m p → HasMemories part m (device.reset p)
+  restart_keeps_memories m p s = search (rules, length-replicate)
 
-  pub anew_settled : (m : Memories) (p : Programmer) → Settled part m p → Settled part m (device.reset p)
-  anew_settled m p s = search (rules, settled_idle)
+  pub restart_is_settled : (m : Memories) (p : Programmer) → Settled part m p → Settled part m (device.reset p)
+  restart_is_settled m p s = search (rules, settled_idle)
 
   -- CMD_ENTER_PROGMODE_ISP sets programming mode and empties the buffers
-  pub enter_does : (m : Memories) (p : Programmer) → Idle part m p → Ready part m (device.after (body enter) p)
+  pub enter_does : (m : Memories) (p : Programmer) → HasMemories part m p → Ready part m (device.after (body enter) p)
   enter_does m p s = search rules
 
-  pub leave_keeps : (m : Memories) (p : Programmer) → Idle part m p → Idle part m (device.after (body leave) p)
+  pub leave_keeps : (m : Memories) (p : Programmer) → HasMemories part m p → HasMemories part m (device.after (body leave) p)
   leave_keeps m p s = search rules
 
   pub load_keeps : (address : ℕ) (m : Memories) (p : Programmer) → address < 2 ^ 32 → Ready part m p
@@ -106,16 +106,16 @@ module _ (part : Part) where
   load_keeps address m p fits s = search rules
 
   pub fuse_does : (f : Fuse) (v : ℕ) (m : Memories) (p : Programmer) → Ready part m p
-      → Ready part (changed part (program_fuse f v ∷ []) m) (device.after (body (program_fuse f v)) p)
+      → Ready part (memories_after_step part (program_fuse f v ∷ []) m) (device.after (body (program_fuse f v)) p)
   fuse_does f v m p s = search rules
 
   pub lock_does : (v : ℕ) (m : Memories) (p : Programmer) → Ready part m p
-      → Ready part (changed part (program_lock v ∷ []) m) (device.after (body (program_lock v)) p)
+      → Ready part (memories_after_step part (program_lock v ∷ []) m) (device.after (body (program_lock v)) p)
   lock_does v m p s = search rules
 
   -- the EESAVE bit is the part's
   pub erase_does : (m : Memories) (p : Programmer) → Ready part m p
-      → Ready part (changed part (erase ∷ []) m) (device.after (body erase) p)
+      → Ready part (memories_after_step part (erase ∷ []) m) (device.after (body erase) p)
   erase_does m p s = search rules
 
 -- reading a byte changes nothing

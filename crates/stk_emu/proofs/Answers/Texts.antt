@@ -8,10 +8,10 @@ use Rattle.std.proofs.Math.Seq.{take-add}
 use Rattle.stk_frame.specs.declared.reader.Event.{Event}
 use Rattle.stk_frame.specs.declared.reader.Event.TheVariants.{More}
 use Rattle.stk_frame.specs.Cut.{frames, is_frame}
-use Rattle.stk_frame.specs.Reader.{HoldsFrame, MayHold, Fed, TellsEvent, frames_of_event}
+use Rattle.stk_frame.specs.Reader.{HoldsFrame, MayHaveBeenFed, Fed, EventMatchesHeld, frames_of_event}
 use Rattle.stk_emu.specs.Programmer.{Programmer}
 use Rattle.stk_emu.specs.Device.{Device, device, answers, after_frames, after_frame}
-use Rattle.stk_emu.specs.Emulator.{Machine, IsFed, Answers, AppendsAnswers, AnswersPrefix, emulate}
+use Rattle.stk_emu.specs.Emulator.{EmulatorState, WasFedText, RepliesToFrame, AppendsReplies, AppendsRepliesToPrefix, emulate}
 
 pub answers_more : {P : Type 0} (m : Device P) (xs ys : List (List ℕ)) (p : P)
     → answers m (xs ++ ys) p ≡ answers m xs p ++ answers m ys (after_frames m xs p)
@@ -24,7 +24,7 @@ after_more m [] ys p = refl
 after_more m (x ∷ xs) ys p = after_more m xs ys (after_frame m x p)
 
 -- an event of the reader gives at most one frame
-pub found_frames : (event : Event) (held : List ℕ) → TellsEvent event held
+pub found_frames : (event : Event) (held : List ℕ) → EventMatchesHeld event held
     → filter is_frame (frames_of_event event held) ≡ frames_of_event event held
 found_frames event held tells = search rules
 
@@ -32,13 +32,13 @@ pub found_few : (event : Event) (held : List ℕ) → length (frames_of_event ev
 found_few event held = search rules
 
 -- a reply belongs to a frame that has arrived whole
-pub answer_ends : (event : Event) (held out : List ℕ) (p : Programmer) → TellsEvent event held
+pub answer_ends : (event : Event) (held out : List ℕ) (p : Programmer) → EventMatchesHeld event held
     → out ≡ answers device (frames_of_event event held) p → 0 < length out → HoldsFrame held
 answer_ends event held out p tells e some = search rules
 
 -- the frames of a text with these bytes after it
 pub frames_fed : (old used new : List ℕ) (fs : List (List ℕ)) (text : List ℕ) → Fed old used new fs
-    → filter is_frame fs ≡ fs → MayHold old text → frames (text ++ used) ≡ frames text ++ fs
+    → filter is_frame fs ≡ fs → MayHaveBeenFed old text → frames (text ++ used) ≡ frames text ++ fs
 frames_fed old used new fs text fed are stands = search (rules, filter-append)
 
 -- without a reply no frame ended
@@ -46,43 +46,43 @@ pub none_found : (event : Event) (held : List ℕ) (p : Programmer) → answers 
     → event ≡ More
 none_found event held p e = search rules
 
-pub appends_none : (machine : Machine) (before : List ℕ) → AppendsAnswers machine [] machine before before
+pub appends_none : (machine : EmulatorState) (before : List ℕ) → AppendsReplies machine [] machine before before
 appends_none machine before = search rules
 
 -- the replies of one call, appended
-pub appends_one : (old new : Machine) (used out before after : List ℕ) → Answers old used new out
-    → after ≡ before ++ out → AppendsAnswers old used new before after
+pub appends_one : (old new : EmulatorState) (used out before after : List ℕ) → RepliesToFrame old used new out
+    → after ≡ before ++ out → AppendsReplies old used new before after
 appends_one old new used out before after a is = grind (arith, common_steps)
 
 -- after the first `n` bytes, `used` more
-pub appends_on : (bytes : List ℕ) (n used : ℕ) (old mid new : Machine) (a b c : List ℕ)
-    → AppendsAnswers old (take n bytes) mid a b → AppendsAnswers mid (take used (drop n bytes)) new b c
-    → AppendsAnswers old (take (n + used) bytes) new a c
+pub appends_on : (bytes : List ℕ) (n used : ℕ) (old mid new : EmulatorState) (a b c : List ℕ)
+    → AppendsReplies old (take n bytes) mid a b → AppendsReplies mid (take used (drop n bytes)) new b c
+    → AppendsReplies old (take (n + used) bytes) new a c
 appends_on bytes n used old mid new a b c first then = search (rules, take-add, append_assoc, answers_more, after_more)
 
 -- a prefix of the bytes, after which some are left
-pub appends_prefix : (bytes : List ℕ) (n : ℕ) (old new : Machine) (a b : List ℕ)
-    → AppendsAnswers old (take n bytes) new a b → n < length bytes → AnswersPrefix old bytes new a b
+pub appends_prefix : (bytes : List ℕ) (n : ℕ) (old new : EmulatorState) (a b : List ℕ)
+    → AppendsReplies old (take n bytes) new a b → n < length bytes → AppendsRepliesToPrefix old bytes new a b
 appends_prefix bytes n old new a b appends some =
     search (rules, length-drop, drop n bytes, sym (take-append-drop n bytes))
 
-pub appends_fed : (old new : Machine) (bytes a b : List ℕ) (p : Programmer) (text : List ℕ)
-    → AppendsAnswers old bytes new a b → IsFed p text old → IsFed p (text ++ bytes) new
+pub appends_fed : (old new : EmulatorState) (bytes a b : List ℕ) (p : Programmer) (text : List ℕ)
+    → AppendsReplies old bytes new a b → WasFedText p text old → WasFedText p (text ++ bytes) new
 appends_fed old new bytes a b p text appends f = search (rules, after_more)
 
 -- a list of all replies stays one
-pub appends_all : (old new : Machine) (bytes a b : List ℕ) (p : Programmer) (text given : List ℕ)
-    → AppendsAnswers old bytes new a b → IsFed p text old → given ++ a ≡ emulate p text
+pub appends_all : (old new : EmulatorState) (bytes a b : List ℕ) (p : Programmer) (text given : List ℕ)
+    → AppendsReplies old bytes new a b → WasFedText p text old → given ++ a ≡ emulate p text
     → given ++ b ≡ emulate p (text ++ bytes)
 appends_all old new bytes a b p text given appends f all = search (rules, append_assoc, answers_more)
 
-pub is_fed : (old new : Machine) (used out : List ℕ) (p : Programmer) (text : List ℕ) → Answers old used new out
-    → IsFed p text old → IsFed p (text ++ used) new
+pub is_fed : (old new : EmulatorState) (used out : List ℕ) (p : Programmer) (text : List ℕ) → RepliesToFrame old used new out
+    → WasFedText p text old → WasFedText p (text ++ used) new
 is_fed old new used out p text a f =
     appends_fed old new used [] out p text (appends_one old new used out [] out a refl) f
 
-pub emulated : (old new : Machine) (used out : List ℕ) (p : Programmer) (text : List ℕ) → Answers old used new out
-    → IsFed p text old → emulate p (text ++ used) ≡ emulate p text ++ out
+pub emulated : (old new : EmulatorState) (used out : List ℕ) (p : Programmer) (text : List ℕ) → RepliesToFrame old used new out
+    → WasFedText p text old → emulate p (text ++ used) ≡ emulate p text ++ out
 emulated old new used out p text a f =
     sym (appends_all old new used [] out p text (emulate p text) (appends_one old new used out [] out a refl) f
     (append-nil (emulate p text)))

@@ -1,25 +1,25 @@
 -- Blocks, byte by byte.
 use Rattle.std.proofs.Common.{true, if◌then◌else◌, ◌≡◌, ℕ, suc, ◌+◌, ◌<◌, Bool, List, [], ◌∷◌, ◌++◌, length, get_or, drop, refl, drop-cons, append_assoc, rules}
 use Rattle.avr_part.specs.State.{ChipState, spi_of}
-use Rattle.stk_emu.specs.Programmer.{Programmer, in_mode, fail, with_address_moved, with_instructions, sent_to, flash_loads, flash_looks, eeprom_looks, extension, at_address, for_half, word_at, byte_address}
+use Rattle.stk_emu.specs.Programmer.{Programmer, if_programming, fail, with_address_moved, with_instructions, after_instructions, flash_loads, flash_reads, eeprom_reads, extension, at_address, for_half, word_at, byte_address}
 
-pub sent-append : (xs ys : List (List ℕ)) (chip : ChipState) → sent_to (xs ++ ys) chip ≡ sent_to ys (sent_to xs chip)
+pub sent-append : (xs ys : List (List ℕ)) (chip : ChipState) → after_instructions (xs ++ ys) chip ≡ after_instructions ys (after_instructions xs chip)
 sent-append [] ys chip = refl
 sent-append (x ∷ xs) ys chip = sent-append xs ys ((spi_of x chip).1)
 
 module _ (wide : Bool) (cmd address i : ℕ) where
   pub flash_load : (bytes out : List ℕ) (chip after whole : ChipState) → i < length bytes
-      → sent_to (flash_loads wide cmd address i (drop i bytes)) chip ≡ whole
+      → after_instructions (flash_loads wide cmd address i (drop i bytes)) chip ≡ whole
       → (out, after) ≡ spi_of (at_address (for_half cmd i) (word_at address i) (get_or bytes i 0))
-      (sent_to (extension wide (word_at address i)) chip)
-      → sent_to (flash_loads wide cmd address (i + 1) (drop (i + 1) bytes)) after ≡ whole
+      (after_instructions (extension wide (word_at address i)) chip)
+      → after_instructions (flash_loads wide cmd address (i + 1) (drop (i + 1) bytes)) after ≡ whole
   flash_load bytes out chip after whole h so_far spi = search (rules, drop-cons, sent-append)
 
   -- the instruction as the code makes and sends it
   pub flash_sent : (word half byte : ℕ) (x : List ℕ) (chip extended : ChipState) → word ≡ word_at address i
-      → half ≡ for_half cmd i → x ≡ at_address half word byte → extended ≡ sent_to (extension wide word) chip
+      → half ≡ for_half cmd i → x ≡ at_address half word byte → extended ≡ after_instructions (extension wide word) chip
       → spi_of x extended ≡ spi_of (at_address (for_half cmd i) (word_at address i) byte)
-      (sent_to (extension wide (word_at address i)) chip)
+      (after_instructions (extension wide (word_at address i)) chip)
   flash_sent word half byte x chip extended w h is ext = search rules
 
 pub record LooksOn (before : List ℕ) (whole : List ℕ × ChipState) (out : List ℕ) (more : List ℕ × ChipState) : Type
@@ -30,29 +30,29 @@ pub record LooksOn (before : List ℕ) (whole : List ℕ × ChipState) (out : Li
 -- one more byte was read: an instruction was sent, and its fourth output byte was appended
 pub record PutsLook (x : List ℕ) (chip after : ChipState) (out new : List ℕ) : Type 0 where
   pub answer : List ℕ
-  pub obeyed : (answer, after) ≡ spi_of x chip
+  pub executed : (answer, after) ≡ spi_of x chip
   pub put : new ≡ out ++ get_or answer 3 0 ∷ []
 
 module _ (before : List ℕ) (whole : List ℕ × ChipState) (cmd address i : ℕ) where
   pub flash_look : (wide : Bool) (n m : ℕ) (chip after : ChipState) (out new : List ℕ) → n ≡ suc m
-      → LooksOn before whole out (flash_looks wide cmd address i n chip)
+      → LooksOn before whole out (flash_reads wide cmd address i n chip)
       → PutsLook (at_address (for_half cmd i) (word_at address i) 0)
-      (sent_to (extension wide (word_at address i)) chip) after out new
-      → LooksOn before whole new (flash_looks wide cmd address (i + 1) m after)
+      (after_instructions (extension wide (word_at address i)) chip) after out new
+      → LooksOn before whole new (flash_reads wide cmd address (i + 1) m after)
   flash_look wide n m chip after out new e on p = search (rules, append_assoc)
 
   pub eeprom_look : (n m : ℕ) (chip after : ChipState) (out new : List ℕ) → n ≡ suc m
-      → LooksOn before whole out (eeprom_looks cmd address i n chip)
+      → LooksOn before whole out (eeprom_reads cmd address i n chip)
       → PutsLook (at_address cmd (byte_address address i) 0) chip after out new
-      → LooksOn before whole new (eeprom_looks cmd address (i + 1) m after)
+      → LooksOn before whole new (eeprom_reads cmd address (i + 1) m after)
   eeprom_look n m chip after out new e on p = search (rules, append_assoc)
 
 -- A block was loaded, and written if that was requested.
 pub block_done : (code moved : ℕ) (fits : Bool) (p new : Programmer) (loads writes : List (List ℕ))
-    (loaded written : ChipState) (out : List ℕ) → p.mode ≡ true → fits ≡ true → loaded ≡ sent_to loads p.chip
-    → written ≡ sent_to writes loaded → new ≡ with_address_moved moved (record p { chip = written })
+    (loaded written : ChipState) (out : List ℕ) → p.mode ≡ true → fits ≡ true → loaded ≡ after_instructions loads p.chip
+    → written ≡ after_instructions writes loaded → new ≡ with_address_moved moved (record p { chip = written })
     → out ≡ code ∷ 0 ∷ []
-    → (out, new) ≡ in_mode code p
+    → (out, new) ≡ if_programming code p
     (if fits then (code ∷ 0 ∷ [], with_address_moved moved (with_instructions (loads ++ writes) p)) else fail code p)
 block_done code moved fits p new loads writes loaded written out mode fit load write is answer =
     search (rules, sent-append)

@@ -3,35 +3,35 @@ use Rattle.std.proofs.Common.{◌≡◌, ℕ, zero, suc, ◌+◌, ◌-◌, ◌*�
 use Rattle.avr_part.specs.State as chip
 use Rattle.avr_part.specs.State.{half_offset}
 use Rattle.avr_part.specs.declared.instruction.Instruction.TheVariants.{LoadFlash}
-use Rattle.avr_part.specs.Block.{half_at, loaded_in_turn, read_in_turn, load_block, flash_block, is_in_flash}
+use Rattle.avr_part.specs.Block.{half_at, loaded_one_by_one, read_one_by_one, load_block, flash_block, is_in_flash}
 use Rattle.avr_part.proofs.Blocks.{offset_at}
-use Rattle.stk_emu.specs.Programmer.{sent_to, extension, flash_loads, flash_looks, word_at, high, low}
+use Rattle.stk_emu.specs.Programmer.{after_instructions, extension, flash_loads, flash_reads, word_at, high, low}
 use Rattle.stk_emu.proofs.Memories.BlocksRead.{look_by, look_byte}
 
 -- a load and an extended address don't affect each other
 loads_apart : (word i x y : ℕ) (bytes : List ℕ) (s : chip.ChipState)
-    → record (loaded_in_turn word i bytes (record s { extended = x })) { extended = y }
-    ≡ record (loaded_in_turn word i bytes s) { extended = y }
+    → record (loaded_one_by_one word i bytes (record s { extended = x })) { extended = y }
+    ≡ record (loaded_one_by_one word i bytes s) { extended = y }
 loads_apart word i x y [] s = refl
 loads_apart word i x y (d ∷ ds) s = loads_apart word (suc i) x y ds
     (chip.after_instruction (LoadFlash (half_at i) ((word + i / 2) % 256) d) s)
 
 keeps_extended : (word i : ℕ) (bytes : List ℕ) (s : chip.ChipState)
-    → (loaded_in_turn word i bytes s).extended ≡ s.extended
+    → (loaded_one_by_one word i bytes s).extended ≡ s.extended
 keeps_extended word i [] s = refl
 keeps_extended word i (d ∷ ds) s = keeps_extended word (suc i) ds
     (chip.after_instruction (LoadFlash (half_at i) ((word + i / 2) % 256) d) s)
 
 one_load : (wide : Bool) (a i d : ℕ) (ds : List ℕ) (s : chip.ChipState)
-    → sent_to (flash_loads wide 0x40 a i (d ∷ ds)) s
-    ≡ sent_to (flash_loads wide 0x40 a (suc i) ds)
+    → after_instructions (flash_loads wide 0x40 a i (d ∷ ds)) s
+    ≡ after_instructions (flash_loads wide 0x40 a (suc i) ds)
     (record (chip.after_instruction (LoadFlash (half_at i) ((a % 256 + i / 2) % 256) d) s)
     { extended = cond wide (word_at a i / 65536 % 256) s.extended })
 one_load wide a i d ds s = search rules
 
 all_loads : (wide : Bool) (a i d : ℕ) (ds : List ℕ) (s : chip.ChipState)
-    → sent_to (flash_loads wide 0x40 a i (d ∷ ds)) s
-    ≡ record (loaded_in_turn (a % 256) i (d ∷ ds) s)
+    → after_instructions (flash_loads wide 0x40 a i (d ∷ ds)) s
+    ≡ record (loaded_one_by_one (a % 256) i (d ∷ ds) s)
     { extended = cond wide (word_at a (i + length ds) / 65536 % 256) s.extended }
 all_loads wide a i d [] s = search rules
 all_loads wide a i d (b ∷ bs) s =
@@ -42,15 +42,15 @@ all_loads wide a i d (b ∷ bs) s =
     one_load wide a i d (b ∷ bs) s
     ∙ (all_loads wide a (suc i) b bs s₂
     ∙ (loads_apart (a % 256) (suc i) x y (b ∷ bs) s₁
-    ∙ ap (λ e. record (loaded_in_turn (a % 256) (suc i) (b ∷ bs) s₁) { extended = e })
+    ∙ ap (λ e. record (loaded_one_by_one (a % 256) (suc i) (b ∷ bs) s₁) { extended = e })
     (search rules)))
 
 -- the block was loaded, and the extended address of its last word is sent
 pub block_is_loads : (wide : Bool) (cmd a last : ℕ) (bytes : List ℕ) (s loaded new : chip.ChipState) (done : Bool)
     → cmd ≡ 0x40 → 0 < length bytes
     → last ≡ word_at a (length bytes - 1)
-    → (done, loaded) ≡ load_block (a % 256) bytes s → done ≡ true → new ≡ sent_to (extension wide last) loaded
-    → new ≡ sent_to (flash_loads wide cmd a 0 bytes) s
+    → (done, loaded) ≡ load_block (a % 256) bytes s → done ≡ true → new ≡ after_instructions (extension wide last) loaded
+    → new ≡ after_instructions (flash_loads wide cmd a 0 bytes) s
 block_is_loads wide cmd a last [] s loaded new done c some l answer is ext = absurd (omega arith)
 block_is_loads wide cmd a last (d ∷ ds) s loaded new done c some l answer is ext =
     search (rules, keeps_extended, all_loads)
@@ -58,7 +58,7 @@ block_is_loads wide cmd a last (d ∷ ds) s loaded new done c some l answer is e
 -- if the extended address is right already, reading changes nothing
 all_looks : (wide : Bool) (a i n : ℕ) (s : chip.ChipState) → cond wide (a / 65536 % 256) s.extended ≡ s.extended
     → a < 2147483648 → a % 65536 * 2 + i + n ≤ 131072
-    → flash_looks wide 0x20 a i n s ≡ (read_in_turn (a % 65536) i n s, s)
+    → flash_reads wide 0x20 a i n s ≡ (read_one_by_one (a % 65536) i n s, s)
 all_looks wide a i zero s right few inside = refl
 all_looks wide a i (suc n) s right few inside =
     let w = word_at a i in
@@ -67,8 +67,8 @@ all_looks wide a i (suc n) s right few inside =
     search (rules, look_byte, offset_at, look_by, all_looks wide a (suc i) n s right few (omega arith))
 
 looks_again : (wide : Bool) (cmd a n : ℕ) (s new : chip.ChipState) → a < 2147483648 → 0 < n
-    → new ≡ sent_to (extension wide a) s
-    → flash_looks wide cmd a 0 n new ≡ flash_looks wide cmd a 0 n s
+    → new ≡ after_instructions (extension wide a) s
+    → flash_reads wide cmd a 0 n new ≡ flash_reads wide cmd a 0 n s
 looks_again wide cmd a n s new few some ext = search rules
 
 in_flash : (test : Bool) (bytes whole : List ℕ) → Some bytes ≡ cond test (Some whole) None
@@ -77,18 +77,18 @@ in_flash test bytes whole e = search rules
 
 pub block_is_looks : (wide : Bool) (cmd a word n : ℕ) (bytes : List ℕ) (s new : chip.ChipState) → cmd ≡ 0x20
     → a < 2147483648 → 0 < n → word ≡ a % 65536
-    → new ≡ sent_to (extension wide a) s → Some bytes ≡ flash_block word n new
-    → flash_looks wide cmd a 0 n s ≡ (bytes, new)
+    → new ≡ after_instructions (extension wide a) s → Some bytes ≡ flash_block word n new
+    → flash_reads wide cmd a 0 n s ≡ (bytes, new)
 block_is_looks wide cmd a word n bytes s new c few some w ext given =
-    let got = in_flash (is_in_flash word n new) bytes (read_in_turn word 0 n new) given in
+    let got = in_flash (is_in_flash word n new) bytes (read_one_by_one word 0 n new) given in
     let fits : word * 2 + n ≤ 131072 = search rules in
     let right : cond wide (a / 65536 % 256) new.extended ≡ new.extended =
     search rules in
-    ap (λ k. flash_looks wide k a 0 n s) c
+    ap (λ k. flash_reads wide k a 0 n s) c
     ∙ (sym (looks_again wide 0x20 a n s new few some ext)
     ∙ (search (rules, all_looks)))
 
-reads_length : (word i n : ℕ) (s : chip.ChipState) → length (read_in_turn word i n s) ≡ n
+reads_length : (word i n : ℕ) (s : chip.ChipState) → length (read_one_by_one word i n s) ≡ n
 reads_length word i zero s = refl
 reads_length word i (suc n) s = ap suc (reads_length word (suc i) n s)
 

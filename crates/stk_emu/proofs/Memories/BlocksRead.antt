@@ -5,13 +5,13 @@ use Rattle.std.proofs.Math.Nat.{mod-eq_of_lt}
 use Rattle.std.proofs.lemmas.Bool.{cond-false}
 use Rattle.std.specs.Prelude.{slice_index}
 use Rattle.avr_part.specs.State as chip
-use Rattle.stk_emu.specs.Programmer.{sent_to, extension, flash_looks, eeprom_looks, look, for_half, word_at, byte_address, at_address, high, low}
+use Rattle.stk_emu.specs.Programmer.{after_instructions, extension, flash_reads, eeprom_reads, read_then, for_half, word_at, byte_address, at_address, high, low}
 use Rattle.stk_emu.proofs.Memories.Pages.{extended_is}
 
 -- the bytes read after an instruction whose output is known
 pub look_by : (x : List ℕ) (s : chip.ChipState) {got : List ℕ × chip.ChipState}
     (more : chip.ChipState → List ℕ × chip.ChipState) → chip.spi_of x s ≡ got
-    → look x s more ≡ (slice_index got.0 3 ∷ (more got.1).0, (more got.1).1)
+    → read_then x s more ≡ (slice_index got.0 3 ∷ (more got.1).0, (more got.1).1)
 look_by x s more e = ap (λ (z : List ℕ × chip.ChipState). (slice_index z.0 3 ∷ (more z.1).0, (more z.1).1)) e
 
 pub look_byte : (i h lo : ℕ) (s : chip.ChipState) → chip.spi_of (for_half 0x20 i ∷ h ∷ lo ∷ 0 ∷ []) s
@@ -23,7 +23,7 @@ pub look_byte : (i h lo : ℕ) (s : chip.ChipState) → chip.spi_of (for_half 0x
 look_byte i h lo s = search rules
 
 -- the bytes of a block, and the chip with some extended address
-pub record Looked (wide : Bool) (j n : ℕ) (s : chip.ChipState) (looked : List ℕ × chip.ChipState) : Type 0 where
+pub record BytesAndChip (wide : Bool) (j n : ℕ) (s : chip.ChipState) (looked : List ℕ × chip.ChipState) : Type 0 where
   pub bytes : looked.0 ≡ take n (drop j s.flash)
   pub value : ℕ
   pub kept : wide ≡ false → value ≡ s.extended
@@ -39,7 +39,7 @@ flash_place wide a i size s is few low_enough inside narrow = search (rules, mod
 
 pub flash_looked : (wide : Bool) (a i n size : ℕ) (s : chip.ChipState) → s.part.flash_size ≡ size
     → length s.flash ≡ size → size ≤ 262144 → size % 2 ≡ 0 → a * 2 + i + n ≤ size
-    → (wide ≡ false → (s.extended ≡ 0) × (size ≤ 131072)) → Looked wide (a * 2 + i) n s (flash_looks wide 0x20 a i n s)
+    → (wide ≡ false → (s.extended ≡ 0) × (size ≤ 131072)) → BytesAndChip wide (a * 2 + i) n s (flash_reads wide 0x20 a i n s)
 flash_looked wide a i zero size s is long most even fits narrow =
     record { bytes = refl; value = s.extended; kept = λ e. refl; is = refl }
 flash_looked wide a i (suc n) size s is long most even fits narrow =
@@ -48,14 +48,14 @@ flash_looked wide a i (suc n) size s is long most even fits narrow =
     let place = flash_place wide a i size s is (omega arith) (omega arith) (omega arith)
     (λ e. ((narrow e).0, (let l = (narrow e).1 in omega arith))) in
     let byte = get_or s.flash (a * 2 + i) 0 in
-    let spi : chip.spi_of (at_address (for_half 0x20 i) (word_at a i) 0) (sent_to (extension wide (word_at a i)) s)
+    let spi : chip.spi_of (at_address (for_half 0x20 i) (word_at a i) 0) (after_instructions (extension wide (word_at a i)) s)
     ≡ (0 ∷ for_half 0x20 i ∷ high (word_at a i) ∷ byte ∷ [], s₁) =
     rw (extended_is wide (word_at a i) s, look_byte i (high (word_at a i)) (low (word_at a i)) s₁, place) refl in
-    let more : Looked wide (a * 2 + suc i) n s₁ (flash_looks wide 0x20 a (suc i) n s₁) =
+    let more : BytesAndChip wide (a * 2 + suc i) n s₁ (flash_reads wide 0x20 a (suc i) n s₁) =
     flash_looked wide a (suc i) n size s₁ is long most even (omega arith)
     (λ e. (cond-false wide (word_at a i / 65536 % 256) s.extended e ∙ (narrow e).0, (narrow e).1)) in
-    let looks : flash_looks wide 0x20 a i (suc n) s
-    ≡ (byte ∷ (flash_looks wide 0x20 a (suc i) n s₁).0, (flash_looks wide 0x20 a (suc i) n s₁).1) =
+    let looks : flash_reads wide 0x20 a i (suc n) s
+    ≡ (byte ∷ (flash_reads wide 0x20 a (suc i) n s₁).0, (flash_reads wide 0x20 a (suc i) n s₁).1) =
     search (rules, look_by) in grind (arith, common_steps)
 
 eeprom_place : (a i size : ℕ) (s : chip.ChipState) → s.part.eeprom_size ≡ size → a + i < size → size ≤ 4096
@@ -63,7 +63,7 @@ eeprom_place : (a i size : ℕ) (s : chip.ChipState) → s.part.eeprom_size ≡ 
 eeprom_place a i size s is inside most = search rules
 
 pub eeprom_looked : (a i n size : ℕ) (s : chip.ChipState) → s.part.eeprom_size ≡ size → length s.eeprom ≡ size
-    → size ≤ 4096 → a + i + n ≤ size → eeprom_looks 0xA0 a i n s ≡ (take n (drop (a + i) s.eeprom), s)
+    → size ≤ 4096 → a + i + n ≤ size → eeprom_reads 0xA0 a i n s ≡ (take n (drop (a + i) s.eeprom), s)
 eeprom_looked a i zero size s is long most fits = refl
 eeprom_looked a i (suc n) size s is long most fits =
     let place = eeprom_place a i size s is (omega arith) most in
@@ -80,17 +80,17 @@ pub record Left (wide : Bool) (s t : chip.ChipState) : Type 0 where
   pub kept : wide ≡ false → value ≡ s.extended
   pub is : t ≡ record s { extended = value }
 
-pub flash_left : (wide : Bool) (a i n : ℕ) (s : chip.ChipState) → Left wide s (flash_looks wide 0x20 a i n s).1
+pub flash_left : (wide : Bool) (a i n : ℕ) (s : chip.ChipState) → Left wide s (flash_reads wide 0x20 a i n s).1
 flash_left wide a i zero s = record { value = s.extended; kept = λ e. refl; is = refl }
 flash_left wide a i (suc n) s =
     let x = cond wide (word_at a i / 65536 % 256) s.extended in
     let s₁ : chip.ChipState = record s { extended = x } in
     let after : (chip.spi_of (at_address (for_half 0x20 i) (word_at a i) 0)
-    (sent_to (extension wide (word_at a i)) s)).1 ≡ s₁ =
+    (after_instructions (extension wide (word_at a i)) s)).1 ≡ s₁ =
     rw (extended_is wide (word_at a i) s) (ap (λ z. z.1) (look_byte i (high (word_at a i)) (low (word_at a i)) s₁)) in
-    let more : Left wide s₁ (flash_looks wide 0x20 a (suc i) n s₁).1 = flash_left wide a (suc i) n s₁ in
+    let more : Left wide s₁ (flash_reads wide 0x20 a (suc i) n s₁).1 = flash_left wide a (suc i) n s₁ in
     search rules
 
-pub eeprom_left : (a i n : ℕ) (s : chip.ChipState) → (eeprom_looks 0xA0 a i n s).1 ≡ s
+pub eeprom_left : (a i n : ℕ) (s : chip.ChipState) → (eeprom_reads 0xA0 a i n s).1 ≡ s
 eeprom_left a i zero s = refl
 eeprom_left a i (suc n) s = eeprom_left a (suc i) n s

@@ -3,10 +3,10 @@ use Rattle.std.proofs.lemmas.Grind.{common_steps}
 use Rattle.std.proofs.Common.{◌≡◌, ℕ, zero, suc, ◌+◌, ◌-◌, ◌≤◌, ◌<◌, List, [], ◌∷◌, ◌++◌, length, get_or, set, map, refl, sym, ap, ap₂, ◌∙◌, append_assoc, arith, replicate, Option, Some, None, unwrap_or, length-append, rules}
 use Rattle.std.proofs.lemmas.List.{length-replicate, length-map, get_or-replicate, get_or_append_left, get_or-append_right, get_or_past, set_at, replicate-append-replicate}
 use Rattle.std.proofs.lemmas.Nat.{and_assoc}
-use Rattle.avr_part.specs.Memory.{map_indexed, overlaid, byte_and_page}
+use Rattle.avr_part.specs.Memory.{map_indexed, overlaid_byte, byte_and_page}
 use Rattle.avr_part.proofs.Changes.{changed_is}
 use Rattle.stk_emu.specs.Effect.{Image, with_image, and_in, and_with}
-use Rattle.stk_emu.specs.PageWrites.{image_at}
+use Rattle.stk_emu.specs.WriteOperations.{image_at}
 
 pub length-laid : (image : Image) (xs : List ℕ) → length (with_image image xs) ≡ length xs
 length-laid image [] = refl
@@ -65,9 +65,9 @@ pub in_part : (start : ℕ) (loads : Image) (i : ℕ) → start ≤ i
 in_part start loads i l = search (rules, get_or-append_right, length-replicate)
 
 pub overlaid_laid : (start : ℕ) (loads : Image) (xs : List ℕ)
-    → map_indexed (overlaid start loads) xs ≡ with_image (replicate start None ++ loads) xs
+    → map_indexed (overlaid_byte start loads) xs ≡ with_image (replicate start None ++ loads) xs
 overlaid_laid start loads xs =
-    sym (changed_is (overlaid start loads) xs (with_image (replicate start None ++ loads) xs)
+    sym (changed_is (overlaid_byte start loads) xs (with_image (replicate start None ++ loads) xs)
     (length-laid (replicate start None ++ loads) xs)
     (λ i l. search (rules, get_laid, before_part, in_part, get_or_past)))
 
@@ -106,7 +106,7 @@ put_is f e (d ∷ ds) prefix place k at =
 
 -- the bytes loaded for a run within a page, laid over a memory
 pub run_laid : (start off : ℕ) (run : List ℕ) (page : ℕ) (xs : List ℕ) → off + length run ≤ page
-    → map_indexed (overlaid start (put Some off run (replicate page None))) xs
+    → map_indexed (overlaid_byte start (put Some off run (replicate page None))) xs
     ≡ with_image (image_at (start + off) run) xs
 run_laid start off run page xs fits =
     let buffer : put Some off run (replicate page None)
@@ -114,7 +114,7 @@ run_laid start off run page xs fits =
     ap (put Some off run) (search (rules, replicate-append-replicate))
     ∙ put_is Some None run (replicate off None) off (page - (off + length run))
     (length-replicate {A = Option ℕ} off None) in
-    ap (λ b. map_indexed (overlaid start b) xs) buffer
+    ap (λ b. map_indexed (overlaid_byte start b) xs) buffer
     ∙ (overlaid_laid start (replicate off None ++ (map Some run ++ replicate (page - (off + length run)) None)) xs
     ∙ (ap (λ b. with_image b xs) (simp (append_assoc, ← replicate-append-replicate {A = Option ℕ} start off None))
     ∙ laid_nothing (image_at (start + off) run) (page - (off + length run)) xs))

@@ -13,12 +13,12 @@ use Rattle.stk_frame.specs.Commands.{body}
 use Rattle.stk_frame.specs.HostCommands.{program_page}
 use Rattle.stk_host.specs.Places.{flash_address, load_flash}
 use Rattle.stk_host.proofs.ImagePlaces.PagesAndRuns.{page_most}
-use Rattle.stk_emu.specs.Programmer.{Programmer, sent_to, extension, flash_loads, flash_writes, for_half, word_at, high, low}
+use Rattle.stk_emu.specs.Programmer.{Programmer, after_instructions, extension, flash_loads, flash_writes, for_half, word_at, high, low}
 use Rattle.stk_emu.specs.Device.{device}
 use Rattle.avr_part.specs.declared.part.Mem.TheVariants.{Flash}
 use Rattle.stk_emu.specs.Effect.{Memories, Write, and_in, effects}
-use Rattle.stk_emu.specs.Settled.{Ready, IsNarrow}
-use Rattle.stk_emu.specs.PageWrites.{image_at, changed, IsPage}
+use Rattle.stk_emu.specs.Settled.{Ready, NeedsNoExtendedAddress}
+use Rattle.stk_emu.specs.WriteOperations.{image_at, memories_after_step, IsPage}
 use Rattle.stk_emu.proofs.Memories.Blocks.{sent-append}
 use Rattle.stk_emu.proofs.Memories.LaidImages.{put, put_is, anded_in}
 
@@ -45,7 +45,7 @@ pub flash_address_back : (part : Part) (start : ℕ) → start < 4294967296 → 
 flash_address_back part start few even = search rules
 
 pub extended_is : (wide : Bool) (a : ℕ) (s : chip.ChipState)
-    → sent_to (extension wide a) s ≡ record s { extended = cond wide (a / 65536 % 256) s.extended }
+    → after_instructions (extension wide a) s ≡ record s { extended = cond wide (a / 65536 % 256) s.extended }
 extended_is wide a s = search rules
 
 pub load_byte : (i h lo d : ℕ) (s : chip.ChipState)
@@ -61,7 +61,7 @@ record Loaded (wide : Bool) (i : ℕ) (ds : List ℕ) (s t : chip.ChipState) : T
 
 flash_loaded : (wide : Bool) (a i half : ℕ) (ds : List ℕ) (s : chip.ChipState) → s.part.flash_page / 2 ≡ half
     → ((k : ℕ) → k < length ds → word_at a (i + k) % 256 % half * 2 + (i + k) % 2 ≡ i + k)
-    → Loaded wide i ds s (sent_to (flash_loads wide 0x40 a i ds) s)
+    → Loaded wide i ds s (after_instructions (flash_loads wide 0x40 a i ds) s)
 flash_loaded wide a i half [] s e each = record { value = s.extended; kept = λ n. refl; is = refl }
 flash_loaded wide a i half (d ∷ ds) s e each =
     let x = cond wide (word_at a i / 65536 % 256) s.extended in
@@ -70,10 +70,10 @@ flash_loaded wide a i half (d ∷ ds) s e each =
     ap (λ h. low (word_at a i) % h * 2 + i % 2) e
     ∙ (ap (λ j. word_at a j % 256 % half * 2 + j % 2) (omega arith) ∙ (each 0 (omega arith) ∙ omega arith)) in
     let s₂ : chip.ChipState = record s { flash_buffer = set s.flash_buffer i d; extended = x } in
-    let one : sent_to (flash_loads wide 0x40 a i (d ∷ ds)) s ≡ sent_to (flash_loads wide 0x40 a (suc i) ds) s₂ =
+    let one : after_instructions (flash_loads wide 0x40 a i (d ∷ ds)) s ≡ after_instructions (flash_loads wide 0x40 a (suc i) ds) s₂ =
     sent-append (extension wide (word_at a i)) _ s ∙ rw (extended_is wide (word_at a i) s)
     (rw (load_byte i (high (word_at a i)) (low (word_at a i)) d s₁, here) refl) in
-    let more : Loaded wide (suc i) ds s₂ (sent_to (flash_loads wide 0x40 a (suc i) ds) s₂) =
+    let more : Loaded wide (suc i) ds s₂ (after_instructions (flash_loads wide 0x40 a (suc i) ds) s₂) =
     flash_loaded wide a (suc i) half ds s₂ e
     (λ k l. ap (λ j. word_at a j % 256 % half * 2 + j % 2) (omega arith)
     ∙ (each (suc k) (omega arith) ∙ omega arith)) in search rules
@@ -98,7 +98,7 @@ word_whole wide s w few n = search rules
 flash_written : (wide : Bool) (s : chip.ChipState) (a start size page : ℕ) → s.part.flash_page ≡ page
     → s.part.flash_size ≡ size → a < 16777216 → a < size / 2 → (wide ≡ false → (s.extended ≡ 0) × (a < 65536))
     → a * 2 / page * page ≡ start
-    → sent_to (flash_writes wide 0x4C a true) s ≡ record s {
+    → after_instructions (flash_writes wide 0x4C a true) s ≡ record s {
       flash = cond (chip.is_locked s) s.flash (map_indexed (byte_and_page start s.flash_buffer) s.flash);
       flash_buffer = blank s.flash_buffer;
       extended = cond wide (a / 65536 % 256) s.extended;
@@ -117,7 +117,7 @@ module _ (part : Part) (sound : IsPart part) where
 
   page_chip : (s : chip.ChipState) (n : ℕ) (page : List ℕ) → s.part ≡ part
       → s.flash_buffer ≡ replicate part.flash_page 255 → (is_wide part ≡ false → s.extended ≡ 0) → IsPage part n page
-      → Paged n page s (sent_to (flash_loads (is_wide part) 0x40 (n * (part.flash_page / 2)) 0 page
+      → Paged n page s (after_instructions (flash_loads (is_wide part) 0x40 (n * (part.flash_page / 2)) 0 page
       ++ flash_writes (is_wide part) 0x4C (n * (part.flash_page / 2)) true) s)
   page_chip s n page e empty narrow is_page =
       let a = n * (part.flash_page / 2) in
@@ -129,7 +129,7 @@ module _ (part : Part) (sound : IsPart part) where
       let inside = is_page.inside in
       let count = is_page.whole in
       let few : a < 16777216 = omega arith in
-      let loads : Loaded wide 0 page s (sent_to (flash_loads wide 0x40 a 0 page) s) =
+      let loads : Loaded wide 0 page s (after_instructions (flash_loads wide 0x40 a 0 page) s) =
       search (rules, flash_loaded, word_place) in
       let t : chip.ChipState = record s { flash_buffer = put (λ d. d) 0 page s.flash_buffer; extended = loads.value } in
       let buffer : put (λ d. d) 0 page s.flash_buffer ≡ page =
@@ -142,12 +142,12 @@ module _ (part : Part) (sound : IsPart part) where
 
   -- what the step of a page writes
   page_changed : (n : ℕ) (page : List ℕ) (m : Memories) → IsPage part n page
-      → changed part (load_flash part (n * part.flash_page) ∷ program_page page ∷ []) m
+      → memories_after_step part (load_flash part (n * part.flash_page) ∷ program_page page ∷ []) m
       ≡ effects part (Write Flash (image_at (n * part.flash_page) page) ∷ []) m
   page_changed n page m is_page = search (rules, page_even)
 
   pub page_does : (n : ℕ) (page : List ℕ) (m : Memories) (p : Programmer) → IsPage part n page → Ready part m p
-      → Ready part (changed part (load_flash part (n * part.flash_page) ∷ program_page page ∷ []) m)
+      → Ready part (memories_after_step part (load_flash part (n * part.flash_page) ∷ program_page page ∷ []) m)
       (device.after (body (program_page page)) (device.after (body (load_flash part (n * part.flash_page))) p))
   page_does n page m p is_page s =
       let a = n * (part.flash_page / 2) in
@@ -163,5 +163,5 @@ module _ (part : Part) (sound : IsPart part) where
       page_chip p.chip n page s.part_is s.flash_buffer (λ w. s.extended (ltb-false 131072 part.flash_size w)) is_page in
       search (rules, flash_loaded_at, words_twice, page_changed)
     where
-      narrow_test : IsNarrow part → is_wide part ≡ false
+      narrow_test : NeedsNoExtendedAddress part → is_wide part ≡ false
       narrow_test is_narrow = le-ltb 131072 part.flash_size is_narrow

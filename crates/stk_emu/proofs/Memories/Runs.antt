@@ -10,11 +10,11 @@ use Rattle.avr_part.specs.State as chip
 use Rattle.stk_frame.specs.declared.command.Command.TheVariants.{LoadAddress}
 use Rattle.stk_frame.specs.Commands.{body}
 use Rattle.stk_frame.specs.HostCommands.{program_eeprom_block}
-use Rattle.stk_emu.specs.Programmer.{Programmer, sent_to, eeprom_loads, eeprom_writes, byte_address, low}
+use Rattle.stk_emu.specs.Programmer.{Programmer, after_instructions, eeprom_loads, eeprom_writes, byte_address, low}
 use Rattle.stk_emu.specs.Device.{device}
 use Rattle.stk_emu.specs.Effect.{Memories, with_image}
 use Rattle.stk_emu.specs.Settled.{Ready}
-use Rattle.stk_emu.specs.PageWrites.{image_at, changed, FitsEepromPage}
+use Rattle.stk_emu.specs.WriteOperations.{image_at, memories_after_step, FitsEepromPage}
 use Rattle.stk_emu.proofs.Memories.Blocks.{sent-append}
 use Rattle.stk_emu.proofs.Memories.LaidImages.{put, run_laid, length_put}
 use Rattle.stk_emu.proofs.Answers.Commands.{in_mode_is}
@@ -33,7 +33,7 @@ place_in address page k whole some within few =
 
 eeprom_loaded : (a i off page : ℕ) (ds : List ℕ) (s : chip.ChipState) → s.part.eeprom_page ≡ page
     → ((k : ℕ) → k < length ds → byte_address a (i + k) % 256 % page ≡ off + k)
-    → sent_to (eeprom_loads 0xC1 a i ds) s ≡ record s { eeprom_buffer = put Some off ds s.eeprom_buffer }
+    → after_instructions (eeprom_loads 0xC1 a i ds) s ≡ record s { eeprom_buffer = put Some off ds s.eeprom_buffer }
 eeprom_loaded a i off page [] s e each = refl
 eeprom_loaded a i off page (d ∷ ds) s e each =
     let here : low (byte_address a i) % s.part.eeprom_page ≡ off =
@@ -45,7 +45,7 @@ module _ (part : Part) (sound : IsPart part) where
   -- the chip after a run
   run_chip : (s : chip.ChipState) (a : ℕ) (run : List ℕ) → s.part ≡ part
       → s.eeprom_buffer ≡ replicate part.eeprom_page None → FitsEepromPage part a run
-      → sent_to (eeprom_loads 0xC1 a 0 run ++ eeprom_writes 0xC2 a true) s
+      → after_instructions (eeprom_loads 0xC1 a 0 run ++ eeprom_writes 0xC2 a true) s
       ≡ record s {
         eeprom = cond (chip.is_locked s) s.eeprom (with_image (image_at a run) s.eeprom);
         eeprom_buffer = replicate part.eeprom_page None;
@@ -59,11 +59,11 @@ module _ (part : Part) (sound : IsPart part) where
       let some = sound.eeprom_page in
       let off = a % part.eeprom_page in
       let loaded = put Some off run s.eeprom_buffer in
-      let loads : sent_to (eeprom_loads 0xC1 a 0 run) s ≡ record s { eeprom_buffer = loaded } =
+      let loads : after_instructions (eeprom_loads 0xC1 a 0 run) s ≡ record s { eeprom_buffer = loaded } =
       search (rules, eeprom_loaded, place_in) in
       search (rules, mod-eq_of_lt, run_laid, length_put, length-replicate, sent-append)
 
   pub run_does : (a : ℕ) (run : List ℕ) (m : Memories) (p : Programmer) → FitsEepromPage part a run → Ready part m p
-      → Ready part (changed part (LoadAddress a ∷ program_eeprom_block run ∷ []) m)
+      → Ready part (memories_after_step part (LoadAddress a ∷ program_eeprom_block run ∷ []) m)
       (device.after (body (program_eeprom_block run)) (device.after (body (LoadAddress a)) p))
   run_does a run m p is_run s = grind (arith, common_steps, in_mode_is, cond-true, run_chip)

@@ -5,7 +5,7 @@ use Rattle.avr_part.specs.State.{fresh_state}
 use Rattle.stk_frame.specs.Commands.{body}
 use Rattle.stk_frame.specs.Frame.{frame}
 use Rattle.stk_frame.specs.HostCommands.{enter}
-use Rattle.stk_emu.specs.Programmer.{Programmer, fresh_programmer, restarted_programmer, obey}
+use Rattle.stk_emu.specs.Programmer.{Programmer, fresh_programmer, restarted_programmer, execute}
 use Rattle.stk_emu.specs.declared.fate.TheConstants.{LARGEST_NOISE}
 use Rattle.stk_emu.specs.declared.programmer.TheConstants.{LARGEST_READ}
 use Rattle.stk_emu.specs.declared.arrival.TheConstants.{ROOM}
@@ -30,18 +30,18 @@ abbrev pub start : Programmer
 start = fresh_programmer (fresh_state small)
 
 abbrev behind : List ℕ → Programmer → Programmer
-behind bytes p = (obey bytes p).1
+behind bytes p = (execute bytes p).1
 
 abbrev entered : Programmer
 entered = behind (body enter) start
 
-pub multi_outside : (obey (0x1D ∷ 0x04 ∷ 0x04 ∷ 0x00 ∷ 0x30 ∷ 0x00 ∷ 0x01 ∷ 0x00 ∷ []) start).0 ≡ 0x1D ∷ 0xC0 ∷ []
+pub multi_outside : (execute (0x1D ∷ 0x04 ∷ 0x04 ∷ 0x00 ∷ 0x30 ∷ 0x00 ∷ 0x01 ∷ 0x00 ∷ []) start).0 ≡ 0x1D ∷ 0xC0 ∷ []
 multi_outside = refl
 
-pub short_fuse : (obey (0x17 ∷ 0xAC ∷ 0xA0 ∷ 0x00 ∷ []) entered).0 ≡ 0x17 ∷ 0xC0 ∷ []
+pub short_fuse : (execute (0x17 ∷ 0xAC ∷ 0xA0 ∷ 0x00 ∷ []) entered).0 ≡ 0x17 ∷ 0xC0 ∷ []
 short_fuse = refl
 
-pub poll_above_four : (obey (0x10 ∷ 0xC8 ∷ 0x64 ∷ 0x19 ∷ 0x20 ∷ 0x00 ∷ 0x53 ∷ 0x05 ∷ 0xAC ∷ 0x53 ∷ 0x00 ∷ 0x00 ∷ [])
+pub poll_above_four : (execute (0x10 ∷ 0xC8 ∷ 0x64 ∷ 0x19 ∷ 0x20 ∷ 0x00 ∷ 0x53 ∷ 0x05 ∷ 0xAC ∷ 0x53 ∷ 0x00 ∷ 0x00 ∷ [])
     start).0 ≡ 0x10 ∷ 0xC0 ∷ []
 poll_above_four = refl
 

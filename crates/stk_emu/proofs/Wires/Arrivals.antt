@@ -8,67 +8,67 @@ use Rattle.stk_frame.specs.Frame.{frame}
 use Rattle.stk_frame.specs.Cut.{cut, is_good}
 use Rattle.stk_frame.proofs.Laws.{cut_first, frame_is_piece, frame_is_good, body_of_frame}
 use Rattle.stk_host.specs.declared.link.Item.TheVariants.{Silence}
-use Rattle.stk_host.specs.Tape.{Tape, Answered, Silent, answer, on_tape, first_answer, further, limit}
+use Rattle.stk_host.specs.Tape.{Tape, Answered, Silent, answer, on_tape, first_answer, past_skipped, reply_byte_limit}
 use Rattle.stk_host.specs.Dialog.{next}
 use Rattle.stk_host.proofs.Tapes.Answers.{answer_found, answer_silent, on_tape_append, further_zero}
 use Rattle.stk_emu.specs.declared.fate.Fate.{Fate}
 use Rattle.stk_emu.specs.declared.fate.Fate.TheVariants.{Good, HeldAnswer, CommandRefused, AnswerSpoiled}
 use Rattle.stk_emu.specs.Device.{Device, refusal}
-use Rattle.stk_emu.specs.Wire.{IsLawfulFate, first_fate, turn_of, back, let_go, late_of, Wire, arrival, wire_behind}
-use Rattle.stk_emu.specs.Lawful.{IsLawful, IsBody, Late, none_late, waiting, later, IsPast, IsClear}
-use Rattle.stk_emu.specs.Turn.{after_turn, turn_reading}
+use Rattle.stk_emu.specs.Wire.{IsLawfulFate, first_fate, exchange_of_fate, brought_by_fate, released_replies, late_after, Wire, arrival, wire_after_frame}
+use Rattle.stk_emu.specs.Lawful.{IsLawful, IsFrameBody, Late, no_late_replies, waiting, later, IsEmptyOrEarlier, NoneHasNumber}
+use Rattle.stk_emu.specs.Exchange.{after_exchange, reading_of_exchange}
 
 -- without a good frame there is no reply
 none_good : (n : ℕ) (pieces : List (List ℕ)) → filter is_good pieces ≡ [] → first_answer n pieces ≡ None
 none_good n [] e = refl
 none_good n (piece ∷ pieces) e = elim (cases_Bool (is_good piece)) [
   | inl good ↦ let f = rw good at e in cc
-  | inr bad ↦ rw bad (ap (further (length piece)) (none_good n pieces (rw bad at e)))
+  | inr bad ↦ rw bad (ap (past_skipped (length piece)) (none_good n pieces (rw bad at e)))
 ]
 
-frame_cut : (n : ℕ) (bytes more : List ℕ) → IsBody bytes → cut (frame n bytes ++ more) ≡ frame n bytes ∷ cut more
+frame_cut : (n : ℕ) (bytes more : List ℕ) → IsFrameBody bytes → cut (frame n bytes ++ more) ≡ frame n bytes ∷ cut more
 frame_cut n bytes more b = cut_first (frame n bytes) more (frame_is_piece n bytes b.some b.few)
 
 -- Skipped bytes don't change how those after them are read.
 pub record Skipped (n : ℕ) (prefix : List ℕ) : Type 0 where
   pub first : (more : List ℕ) → first_answer n (cut (prefix ++ more))
-      ≡ further (length prefix) (first_answer n (cut more))
+      ≡ past_skipped (length prefix) (first_answer n (cut more))
 
 pub none_skipped : (n : ℕ) → Skipped n []
 none_skipped n = record { first = λ more. further_zero (first_answer n (cut more)) }
 
-pub frame_skipped : (n seq : ℕ) (bytes : List ℕ) → seq ≢ n → IsBody bytes → Skipped n (frame seq bytes)
+pub frame_skipped : (n seq : ℕ) (bytes : List ℕ) → seq ≢ n → IsFrameBody bytes → Skipped n (frame seq bytes)
 frame_skipped n seq bytes other carried = search (rules, frame_cut)
 
 pub both_skipped : (n : ℕ) (x y : List ℕ) → Skipped n x → Skipped n y → Skipped n (x ++ y)
 both_skipped n x y f g = search (rules, append_assoc, length-append)
 
 -- a reply to a frame before this one
-late_skipped : (k n : ℕ) (late : List ℕ) → ((seq : ℕ) → later k seq ≡ n → seq ≢ n) → IsPast k n late → Skipped n late
+late_skipped : (k n : ℕ) (late : List ℕ) → ((seq : ℕ) → later k seq ≡ n → seq ≢ n) → IsEmptyOrEarlier k n late → Skipped n late
 late_skipped k n late other (inl e) = rw e (none_skipped n)
 late_skipped k n late other (inr l) = rw l.is (frame_skipped n l.seq l.bytes (other l.seq l.before) l.carried)
 
-clear_skipped : (n : ℕ) (late : Late) → IsClear n late → Skipped n (waiting late)
+clear_skipped : (n : ℕ) (late : Late) → NoneHasNumber n late → Skipped n (waiting late)
 clear_skipped n late c =
     both_skipped n late.first (late.second ++ late.third)
     (late_skipped 3 n late.first (λ seq e. omega (arith, e)) c.first)
     (both_skipped n late.second late.third (late_skipped 2 n late.second (λ seq e. omega (arith, e)) c.second)
     (late_skipped 1 n late.third (λ seq e. omega (arith, e)) c.third))
 
-clear_length : (n : ℕ) (late : Late) → IsClear n late → length (waiting late) ≤ 3 * LARGEST_FRAME
+clear_length : (n : ℕ) (late : Late) → NoneHasNumber n late → length (waiting late) ≤ 3 * LARGEST_FRAME
 clear_length n late c = search (rules, length-append)
 
-pub found_frame : (n : ℕ) (bytes : List ℕ) → IsBody bytes
+pub found_frame : (n : ℕ) (bytes : List ℕ) → IsFrameBody bytes
     → first_answer n (cut (frame n bytes)) ≡ Some (bytes, length (frame n bytes))
 found_frame n bytes b = grind (arith, common_steps)
 
 reads_frame : (n : ℕ) (prefix bytes : List ℕ) (more : Tape) → Skipped n prefix → length prefix ≤ 3 * LARGEST_FRAME
-    → IsBody bytes
+    → IsFrameBody bytes
     → answer n ((on_tape prefix ++ on_tape (frame n bytes)) ++ more) ≡ Some (Answered bytes, more)
 reads_frame n prefix bytes more skipped short b =
     let found : first_answer n (cut (prefix ++ frame n bytes)) ≡ Some (bytes, length (prefix ++ frame n bytes)) =
     rw (skipped.first (frame n bytes), found_frame n bytes b, length-append prefix (frame n bytes)) refl in
-    let few : length (prefix ++ frame n bytes) ≤ limit =
+    let few : length (prefix ++ frame n bytes) ≤ reply_byte_limit =
     search (rules, length-append) in
     ap (λ t. answer n (t ++ more)) (sym (on_tape_append prefix (frame n bytes)))
     ∙ answer_found n (prefix ++ frame n bytes) more bytes found few
@@ -78,8 +78,8 @@ reads_silence : (n : ℕ) (prefix noise : List ℕ) (more : Tape) → Skipped n 
     → answer n ((on_tape prefix ++ (on_tape noise ++ Silence ∷ [])) ++ more) ≡ Some (Silent, more)
 reads_silence n prefix noise more skipped short lawful =
     let none : first_answer n (cut (prefix ++ noise)) ≡ None =
-    skipped.first noise ∙ ap (further (length prefix)) (none_good n (cut noise) lawful.no_frame) in
-    let few : length (prefix ++ noise) < limit =
+    skipped.first noise ∙ ap (past_skipped (length prefix)) (none_good n (cut noise) lawful.no_frame) in
+    let few : length (prefix ++ noise) < reply_byte_limit =
     search (rules, length-append) in
     rw (append_assoc (on_tape prefix) (on_tape noise ++ Silence ∷ []) more)
     (rw (append_assoc (on_tape noise) (Silence ∷ []) more)
@@ -89,10 +89,10 @@ reads_silence n prefix noise more skipped short lawful =
 no_noise : IsLawful []
 no_noise = record { few = omega arith; no_frame = refl }
 
-reads_back : (n : ℕ) (fate : Fate) (late : Late) (bytes : List ℕ) (more : Tape) → IsClear n late → IsLawfulFate fate
-    → IsBody bytes
-    → answer n ((on_tape (let_go fate late) ++ back fate (frame n bytes) (frame n refusal)) ++ more)
-    ≡ Some (turn_reading (turn_of fate) bytes, more)
+reads_back : (n : ℕ) (fate : Fate) (late : Late) (bytes : List ℕ) (more : Tape) → NoneHasNumber n late → IsLawfulFate fate
+    → IsFrameBody bytes
+    → answer n ((on_tape (released_replies fate late) ++ brought_by_fate fate (frame n bytes) (frame n refusal)) ++ more)
+    ≡ Some (reading_of_exchange (exchange_of_fate fate) bytes, more)
 reads_back n Good late bytes more clear lawful b = search (rules, reads_frame, clear_skipped, clear_length)
 reads_back n HeldAnswer late bytes more clear lawful b =
     reads_silence n [] [] more (none_skipped n) (omega arith) no_noise
@@ -103,26 +103,26 @@ reads_back n _ late bytes more clear lawful b =
     reads_silence n (waiting late) [] more (clear_skipped n late clear) (clear_length n late clear) no_noise
 
 -- The arrival for frame n is read whole, and nothing after it: as the programmer's reply, the refusal or a timeout.
-pub arrival_read : {P : Type 0} (m : Device P) (n : ℕ) (bytes : List ℕ) (w : Wire P) (more : Tape) → IsBody bytes
-    → IsBody (m.answer bytes w.programmer) → IsClear n w.late → IsLawfulFate (first_fate w.fates)
+pub arrival_read : {P : Type 0} (m : Device P) (n : ℕ) (bytes : List ℕ) (w : Wire P) (more : Tape) → IsFrameBody bytes
+    → IsFrameBody (m.answer bytes w.programmer) → NoneHasNumber n w.late → IsLawfulFate (first_fate w.fates)
     → answer n (arrival m (frame n bytes) w ++ more)
-    ≡ Some (turn_reading (turn_of (first_fate w.fates)) (m.answer bytes w.programmer), more)
+    ≡ Some (reading_of_exchange (exchange_of_fate (first_fate w.fates)) (m.answer bytes w.programmer), more)
 arrival_read m n bytes w more b a clear lawful = search (rules, reads_back, frame_is_good, body_of_frame)
 
 -- and the programmer behind it
-pub arrival_leaves : {P : Type 0} (m : Device P) (n : ℕ) (bytes : List ℕ) (w : Wire P) → IsBody bytes
-    → (wire_behind m (frame n bytes) w).programmer
-    ≡ after_turn (turn_of (first_fate w.fates)) (m.after bytes w.programmer) w.programmer m.reset
+pub arrival_leaves : {P : Type 0} (m : Device P) (n : ℕ) (bytes : List ℕ) (w : Wire P) → IsFrameBody bytes
+    → (wire_after_frame m (frame n bytes) w).programmer
+    ≡ after_exchange (exchange_of_fate (first_fate w.fates)) (m.after bytes w.programmer) w.programmer m.reset
 arrival_leaves m n bytes w b = search (rules, frame_is_good, body_of_frame)
 
-pub none_clear : (n : ℕ) → IsClear n none_late
+pub none_clear : (n : ℕ) → NoneHasNumber n no_late_replies
 none_clear n = record { first = inl refl; second = inl refl; third = inl refl }
 
 -- a late reply has the sequence number of its frame
-late_is : (n : ℕ) (fate : Fate) (bytes : List ℕ) (late : Late) → IsBody bytes → IsClear n late
-    → IsClear (next n) (late_of fate (frame n bytes) late)
+late_is : (n : ℕ) (fate : Fate) (bytes : List ℕ) (late : Late) → IsFrameBody bytes → NoneHasNumber n late
+    → NoneHasNumber (next n) (late_after fate (frame n bytes) late)
 late_is n fate bytes late b c = search rules
 
-pub arrival_late : {P : Type 0} (m : Device P) (n : ℕ) (bytes : List ℕ) (w : Wire P) → IsBody bytes
-    → IsBody (m.answer bytes w.programmer) → IsClear n w.late → IsClear (next n) (wire_behind m (frame n bytes) w).late
+pub arrival_late : {P : Type 0} (m : Device P) (n : ℕ) (bytes : List ℕ) (w : Wire P) → IsFrameBody bytes
+    → IsFrameBody (m.answer bytes w.programmer) → NoneHasNumber n w.late → NoneHasNumber (next n) (wire_after_frame m (frame n bytes) w).late
 arrival_late m n bytes w b a clear = search (rules, frame_is_good, body_of_frame, late_is)

@@ -8,23 +8,23 @@ use Rattle.stk_host.proofs.Transcripts.Laws.{sent_append, heard_append}
 use Rattle.stk_emu.specs.declared.fate.Fate.{Fate}
 use Rattle.stk_emu.specs.Programmer.{Programmer}
 use Rattle.stk_emu.specs.Device.{Device}
-use Rattle.stk_emu.specs.Wire.{Wire, wire_behind, tape_of, wire_after}
-use Rattle.stk_emu.specs.Wired.{WiredState, FollowsFates, PassesBytes, IsNext, after_hearing}
+use Rattle.stk_emu.specs.Wire.{Wire, wire_after_frame, tape_of, wire_after_frames}
+use Rattle.stk_emu.specs.Wired.{WiredState, FollowsFates, PassesBytes, IsReceivedNext, after_receiving}
 use Rattle.stk_emu.proofs.Answers.Texts.{frames_fed}
 
 pub tape_more : {P : Type 0} (m : Device P) (xs ys : List (List ℕ)) (w : Wire P)
-    → tape_of m (xs ++ ys) w ≡ tape_of m xs w ++ tape_of m ys (wire_after m xs w)
+    → tape_of m (xs ++ ys) w ≡ tape_of m xs w ++ tape_of m ys (wire_after_frames m xs w)
 tape_more m [] ys w = refl
-tape_more m (x ∷ xs) ys w = search (rules, append_assoc, tape_more m xs ys (wire_behind m x w))
+tape_more m (x ∷ xs) ys w = search (rules, append_assoc, tape_more m xs ys (wire_after_frame m x w))
 
 pub wire_more : {P : Type 0} (m : Device P) (xs ys : List (List ℕ)) (w : Wire P)
-    → wire_after m (xs ++ ys) w ≡ wire_after m ys (wire_after m xs w)
+    → wire_after_frames m (xs ++ ys) w ≡ wire_after_frames m ys (wire_after_frames m xs w)
 wire_more m [] ys w = refl
-wire_more m (x ∷ xs) ys w = wire_more m xs ys (wire_behind m x w)
+wire_more m (x ∷ xs) ys w = wire_more m xs ys (wire_after_frame m x w)
 
-pub keeps_passing : (old new : WiredState) (used : List ℕ) (p : Programmer) (fates : List Fate)
+pub keeps_sending : (old new : WiredState) (used : List ℕ) (p : Programmer) (fates : List Fate)
     → PassesBytes old new used → FollowsFates p fates old → FollowsFates p fates new
-keeps_passing old new used p fates passes keeps =
+keeps_sending old new used p fates passes keeps =
     let sent_is : sent new.transcript ≡ sent old.transcript ++ used =
     search (rules, sent_append) in
     let heard_is : heard new.transcript ≡ heard old.transcript =
@@ -34,12 +34,12 @@ keeps_passing old new used p fates passes keeps =
     (sent old.transcript) passes.fed passes.are_frames
     keeps.held in search (rules, wire_more, tape_more, append_assoc)
 
-pub keeps_hearing : (old : WiredState) (items : Tape) (p : Programmer) (fates : List Fate) → IsNext items old.waits
-    → FollowsFates p fates old → FollowsFates p fates (after_hearing items old)
+pub keeps_hearing : (old : WiredState) (items : Tape) (p : Programmer) (fates : List Fate) → IsReceivedNext items old.waits
+    → FollowsFates p fates old → FollowsFates p fates (after_receiving items old)
 keeps_hearing old items p fates next keeps = search (rules, sent_append, heard_append, append_assoc, take-append-drop)
 
 pub heard_state : (w : WiredState) (transcript : Transcript) (waits items : Tape)
     → transcript ≡ w.transcript ++ Got items ∷ []
     → waits ≡ drop (length items) w.waits
-    → record w { transcript = transcript; waits = waits } ≡ after_hearing items w
+    → record w { transcript = transcript; waits = waits } ≡ after_receiving items w
 heard_state w transcript waits items t a = search rules

@@ -8,7 +8,7 @@ use Rattle.std.proofs.lemmas.List.Elements.{filter-append}
 use Rattle.stk_frame.specs.Cut.{cut, is_frame, is_good}
 use Rattle.stk_frame.specs.declared.reader.Event.{Event}
 use Rattle.stk_frame.specs.declared.reader.Event.TheVariants.{Frame}
-use Rattle.stk_frame.specs.Reader.{MayHold, Fed, TellsEvent, frames_of_event}
+use Rattle.stk_frame.specs.Reader.{MayHaveBeenFed, Fed, EventMatchesHeld, frames_of_event}
 use Rattle.stk_frame.proofs.Cuts.{cut_append}
 
 -- no frames, so no good ones
@@ -19,7 +19,7 @@ no_good (piece ∷ pieces) e = elim (cases_Bool (is_frame piece)) [
   | inr f ↦ rw f (no_good pieces (rw f at e))
 ]
 
-good_fed : (old used new : List ℕ) (fs : List (List ℕ)) (text : List ℕ) → Fed old used new fs → MayHold old text
+good_fed : (old used new : List ℕ) (fs : List (List ℕ)) (text : List ℕ) → Fed old used new fs → MayHaveBeenFed old text
     → filter is_good (cut text) ≡ [] → filter is_good (cut (text ++ used)) ≡ filter is_good fs
 good_fed old used new fs text fed stands none = search (rules, filter-append, no_good)
 
@@ -30,9 +30,9 @@ fed_rest old new noise at used fs fed = search (rules, take_all, length-drop)
 
 pub noise_next : (old new noise : List ℕ) (at used : ℕ) (event : Event)
     → Fed old (take used (take (length noise - at) (drop at noise))) new (frames_of_event event new)
-    → TellsEvent event new → event ≢ Frame
-    → MayHold old (take at noise) → filter is_good (cut (take at noise)) ≡ []
-    → MayHold new (take (at + used) noise) × (filter is_good (cut (take (at + used) noise)) ≡ [])
+    → EventMatchesHeld event new → event ≢ Frame
+    → MayHaveBeenFed old (take at noise) → filter is_good (cut (take at noise)) ≡ []
+    → MayHaveBeenFed new (take (at + used) noise) × (filter is_good (cut (take (at + used) noise)) ≡ [])
 noise_next old new noise at used event part tells bad stands none =
     let fs = frames_of_event event new in
     let fed = fed_rest old new noise at used fs part in
@@ -43,7 +43,7 @@ noise_next old new noise at used event part tells bad stands none =
 
 pub good_next : (old new noise : List ℕ) (at used : ℕ)
     → Fed old (take used (take (length noise - at) (drop at noise))) new (new ∷ []) → is_good new ≡ true
-    → MayHold old (take at noise) → filter is_good (cut (take at noise)) ≡ []
+    → MayHaveBeenFed old (take at noise) → filter is_good (cut (take at noise)) ≡ []
     → filter is_good (cut noise) ≢ []
 good_next old new noise at used part good stands none e =
     let prefix = take at noise ++ take used (drop at noise) in

@@ -2,21 +2,21 @@
 use Rattle.std.proofs.Common.{◌≡◌, ℕ, zero, suc, ◌+◌, ◌-◌, ◌<◌, ◌≤◌, List, [], ◌∷◌, ◌++◌, length, take, drop, slice_index_or, refl, ap, sym, ◌∙◌, append_assoc, arith, rules, length-drop}
 use Rattle.std.proofs.lemmas.List.{length-take, map-append, drop-map, drop-append-le, take-append-le, drop-drop, drop-take, take_rest, length-map, drop_all}
 use Rattle.stk_host.specs.declared.link.Item.TheVariants.{Byte, Silence, End}
-use Rattle.stk_host.specs.Tape.{Tape, on_tape, bytes_in}
+use Rattle.stk_host.specs.Tape.{Tape, on_tape, leading_bytes}
 use Rattle.stk_host.proofs.Tapes.Answers.{on_tape_append}
-use Rattle.stk_emu.specs.Waiting.{tape_in, AreWithin, BeginsSilent}
-use Rattle.stk_emu.specs.Wired.{IsNext}
+use Rattle.stk_emu.specs.Waiting.{tape_in, AreWithin, HasNoLeadingByte}
+use Rattle.stk_emu.specs.Wired.{IsReceivedNext}
 
 -- the bytes at the front of a tape
-bytes_before : (xs : List ℕ) (tape : Tape) → bytes_in (on_tape xs ++ Silence ∷ tape) ≡ xs
+bytes_before : (xs : List ℕ) (tape : Tape) → leading_bytes (on_tape xs ++ Silence ∷ tape) ≡ xs
 bytes_before [] tape = refl
 bytes_before (x ∷ xs) tape = ap (λ ys. x ∷ ys) (bytes_before xs tape)
 
-bytes_all : (xs : List ℕ) → bytes_in (on_tape xs) ≡ xs
+bytes_all : (xs : List ℕ) → leading_bytes (on_tape xs) ≡ xs
 bytes_all [] = refl
 bytes_all (x ∷ xs) = ap (λ ys. x ∷ ys) (bytes_all xs)
 
-pub bytes_taken : (tape : Tape) (n : ℕ) → n ≤ length (bytes_in tape) → on_tape (take n (bytes_in tape)) ≡ take n tape
+pub bytes_taken : (tape : Tape) (n : ℕ) → n ≤ length (leading_bytes tape) → on_tape (take n (leading_bytes tape)) ≡ take n tape
 bytes_taken tape zero le = refl
 bytes_taken [] (suc n) le = absurd (omega (arith, le))
 bytes_taken (Byte b ∷ tape) (suc n) le = ap (λ ys. Byte b ∷ ys) (bytes_taken tape n (omega (arith, le)))
@@ -62,7 +62,7 @@ timeout_put at bytes (place ∷ places) w =
     rw (timeout_put place bytes places w.2)
     (sym (append_assoc next (Silence ∷ tape_in place bytes places) (Silence ∷ [])))
 
-pub bytes_dropped : (at count : ℕ) (bytes places : List ℕ) → count ≤ length (bytes_in (tape_in at bytes places))
+pub bytes_dropped : (at count : ℕ) (bytes places : List ℕ) → count ≤ length (leading_bytes (tape_in at bytes places))
     → tape_in (at + count) bytes places ≡ drop count (tape_in at bytes places)
 bytes_dropped at count bytes [] le = sym (drop-map Byte count (drop at bytes) ∙ ap on_tape (drop-drop count at bytes))
 bytes_dropped at count bytes (place ∷ places) le =
@@ -76,7 +76,7 @@ bytes_dropped at count bytes (place ∷ places) le =
     ∙ ap (λ t. t ++ Silence ∷ tape_in place bytes places) (drop-map Byte count xs ∙ ap on_tape left))
 
 pub at_dropped : (at count : ℕ) (bytes places : List ℕ) → at ≤ length bytes → AreWithin at places (length bytes)
-    → count ≤ length (bytes_in (tape_in at bytes places)) → at + count ≤ length bytes
+    → count ≤ length (leading_bytes (tape_in at bytes places)) → at + count ≤ length bytes
 at_dropped at count bytes [] from w le =
     let few : count ≤ length (drop at bytes) = rw (bytes_all (drop at bytes)) at le in
     omega (arith, few, length-drop at bytes, from)
@@ -86,7 +86,7 @@ at_dropped at count bytes (place ∷ places) from w le =
     omega (arith, few, length-take (place - at) (drop at bytes), w.0, w.1)
 
 pub within_dropped : (at count : ℕ) (bytes places : List ℕ) → AreWithin at places (length bytes)
-    → count ≤ length (bytes_in (tape_in at bytes places)) → AreWithin (at + count) places (length bytes)
+    → count ≤ length (leading_bytes (tape_in at bytes places)) → AreWithin (at + count) places (length bytes)
 within_dropped at count bytes [] w le = w
 within_dropped at count bytes (place ∷ places) w le =
     let few : count ≤ length (take (place - at) (drop at bytes)) =
@@ -94,16 +94,16 @@ within_dropped at count bytes (place ∷ places) w le =
     (omega (arith, few, length-take (place - at) (drop at bytes), w.0), w.1, w.2)
 
 -- a timeout is received, or nothing waits
-silent_before : (xs : List ℕ) (tape : Tape) → BeginsSilent (on_tape xs ++ Silence ∷ tape) → xs ≡ []
+silent_before : (xs : List ℕ) (tape : Tape) → HasNoLeadingByte (on_tape xs ++ Silence ∷ tape) → xs ≡ []
 silent_before [] tape s = refl
 silent_before (x ∷ xs) tape s = absurd s
 
-silent_all : (xs : List ℕ) → BeginsSilent (on_tape xs) → xs ≡ []
+silent_all : (xs : List ℕ) → HasNoLeadingByte (on_tape xs) → xs ≡ []
 silent_all [] s = refl
 silent_all (x ∷ xs) s = absurd s
 
 pub timeout_dropped : (at : ℕ) (bytes places : List ℕ) → AreWithin at places (length bytes)
-    → BeginsSilent (tape_in at bytes places) → tape_in at bytes (drop 1 places) ≡ drop 1 (tape_in at bytes places)
+    → HasNoLeadingByte (tape_in at bytes places) → tape_in at bytes (drop 1 places) ≡ drop 1 (tape_in at bytes places)
 timeout_dropped at bytes [] w silent = rw (silent_all (drop at bytes) silent) refl
 timeout_dropped at bytes (place ∷ places) w silent =
     let none = silent_before (take (place - at) (drop at bytes)) (tape_in place bytes places) silent in
@@ -112,7 +112,7 @@ timeout_dropped at bytes (place ∷ places) w silent =
     rw (none, is) refl
 
 pub next_place : (at place : ℕ) (bytes places : List ℕ) → 0 < length places → place ≡ slice_index_or places 0 place
-    → bytes_in (tape_in at bytes places) ≡ take (place - at) (drop at bytes)
+    → leading_bytes (tape_in at bytes places) ≡ take (place - at) (drop at bytes)
 next_place at place bytes [] some is = absurd (omega (arith, some))
 next_place at place bytes (first ∷ places) some is =
     rw is (bytes_before (take (first - at) (drop at bytes)) (tape_in first bytes places))
@@ -123,7 +123,7 @@ place_within at place n [] some is w = absurd (omega (arith, some))
 place_within at place n (first ∷ places) some is w = rw is (w.0, w.1)
 
 pub no_place : (at : ℕ) (bytes places : List ℕ) → length places ≡ 0
-    → bytes_in (tape_in at bytes places) ≡ drop at bytes
+    → leading_bytes (tape_in at bytes places) ≡ drop at bytes
 no_place at bytes [] none = bytes_all (drop at bytes)
 no_place at bytes (first ∷ places) none = absurd (omega (arith, none))
 
@@ -138,13 +138,13 @@ pub three_put : (t x y z : Tape) (a b c : List ℕ) → x ≡ t ++ on_tape a →
 three_put t x y z a b c f g h = search (rules, on_tape_append, append_assoc)
 
 -- a timeout is next, or nothing waits
-pub silence_next : (waits : Tape) → BeginsSilent waits → IsNext (Silence ∷ []) waits
+pub silence_next : (waits : Tape) → HasNoLeadingByte waits → IsReceivedNext (Silence ∷ []) waits
 silence_next [] silent = refl
 silence_next (Silence ∷ waits) silent = (omega arith, refl)
 silence_next (Byte b ∷ waits) silent = absurd silent
 silence_next (End ∷ waits) silent = absurd silent
 
-pub bytes_next : (waits items : Tape) (n : ℕ) → 0 < n → n ≤ length (bytes_in waits) → length items ≡ n
-    → items ≡ take n waits → IsNext items waits
+pub bytes_next : (waits items : Tape) (n : ℕ) → 0 < n → n ≤ length (leading_bytes waits) → length items ≡ n
+    → items ≡ take n waits → IsReceivedNext items waits
 bytes_next [] items n some le size is = absurd (omega (arith, some, le))
 bytes_next (item ∷ waits) items n some le size is = (rw size some, rw size is)

@@ -2,7 +2,7 @@
 use Rattle.std.proofs.Common.{◌≡◌, refl, ap}
 use Rattle.std.proofs.Math.Path.{fun_ext}
 use Rattle.stk_host.specs.Tape.{Reading}
-use Rattle.stk_host.specs.Dialog.{Dialog, Done, Say, Ask, ◌>>=◌}
+use Rattle.stk_host.specs.Dialog.{Dialog, Done, Emit, Ask, ◌>>=◌}
 
 -- two continuations that agree give the same dialog
 pub bind_same : {E A B : Type 0} (dialog : Dialog E A) (f g : A → Dialog E B) → ((a : A) → f a ≡ g a)
@@ -12,7 +12,7 @@ bind_same {E = E} {A = A} {B = B} dialog f g same = ap (λ (go_on : A → Dialog
 -- a continuation that only returns the result changes nothing
 pub bind_done : {E A : Type 0} (dialog : Dialog E A) → dialog >>= Done ≡ dialog
 bind_done (Done a) = refl
-bind_done (Say e dialog) = ap (Say e) (bind_done dialog)
+bind_done (Emit e dialog) = ap (Emit e) (bind_done dialog)
 bind_done {E = E} {A = A} (Ask body answered) =
     ap (λ (go_on : Reading → Dialog E A). Ask body go_on) (fun_ext (λ reading. bind_done (answered reading)))
 
@@ -20,6 +20,6 @@ bind_done {E = E} {A = A} (Ask body answered) =
 pub bind_assoc : {E A B C : Type 0} (dialog : Dialog E A) (f : A → Dialog E B) (g : B → Dialog E C)
     → dialog >>= f >>= g ≡ dialog >>= (λ a. f a >>= g)
 bind_assoc (Done a) f g = refl
-bind_assoc (Say e dialog) f g = ap (Say e) (bind_assoc dialog f g)
+bind_assoc (Emit e dialog) f g = ap (Emit e) (bind_assoc dialog f g)
 bind_assoc {E = E} {C = C} (Ask body answered) f g =
     ap (λ (go_on : Reading → Dialog E C). Ask body go_on) (fun_ext (λ reading. bind_assoc (answered reading) f g))

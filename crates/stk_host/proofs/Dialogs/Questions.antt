@@ -9,18 +9,18 @@ use Rattle.stk_host.specs.declared.fault.HostFault.{HostFault}
 use Rattle.stk_host.specs.declared.fault.StepFault.{StepFault}
 use Rattle.stk_host.specs.declared.fault.StepFault.TheVariants.{NoAnswer}
 use Rattle.stk_host.specs.Tape.{Tape, Reading, answer}
-use Rattle.stk_host.specs.Dialog.{Dialog, Done, Say, Ask, ◌>>=◌, Event, Frame, Said, Played, played, by_answer, next, frames_in}
+use Rattle.stk_host.specs.Dialog.{Dialog, Done, Emit, Ask, ◌>>=◌, Event, Frame, Emitted, Played, played, continue_with_reading, next, frames_in}
 use Rattle.stk_host.specs.Play.{IsPrefixOfEvents, NoPart}
-use Rattle.stk_host.specs.Steps.{exchange, Reply, reading_reply, with_data, attempt, StepOutcome, end_or_again, tries, step, if_done, play}
+use Rattle.stk_host.specs.Steps.{exchange, Reply, reply_from_reading, with_data, attempt, StepOutcome, retry_or_end, attempts_or_fault, step, unless_step_fault, play}
 use Rattle.stk_host.specs.WriteSteps.{write_steps}
-use Rattle.stk_host.specs.Operations.{handshake, opening, without_bytes, closing, judged_by, operation, writing}
+use Rattle.stk_host.specs.Operations.{handshake, opening, without_bytes, closing, checked_by, operation, writing}
 use Rattle.stk_host.specs.Bound.{AsksAtMost, SendsAtMost, commands_in, opening_steps, closing_steps, IsBoundedBy}
 
 -- questions
 
 asks_within : {E R : Type 0} (n m : ℕ) (d : Dialog E R) → n ≤ m → AsksAtMost n d → AsksAtMost m d
 asks_within n m (Done r) le f = tt
-asks_within n m (Say e d) le f = asks_within n m d le f
+asks_within n m (Emit e d) le f = asks_within n m d le f
 asks_within zero m (Ask body answered) le f = absurd f
 asks_within (suc n) zero (Ask body answered) le f = absurd (omega arith)
 asks_within (suc n) (suc m) (Ask body answered) le f =
@@ -29,7 +29,7 @@ asks_within (suc n) (suc m) (Ask body answered) le f =
 asks_bind : {E A B : Type 0} (n k m : ℕ) (d : Dialog E A) (go_on : A → Dialog E B) → n + k ≤ m → AsksAtMost n d
     → ((a : A) → AsksAtMost k (go_on a)) → AsksAtMost m (d >>= go_on)
 asks_bind n k m (Done a) go_on le f g = asks_within k m (go_on a) (omega arith) (g a)
-asks_bind n k m (Say e d) go_on le f g = asks_bind n k m d go_on le f g
+asks_bind n k m (Emit e d) go_on le f g = asks_bind n k m d go_on le f g
 asks_bind zero k m (Ask body answered) go_on le f g = absurd f
 asks_bind (suc n) k zero (Ask body answered) go_on le f g = absurd (omega arith)
 asks_bind (suc n) k (suc m) (Ask body answered) go_on le f g =
@@ -39,14 +39,14 @@ asks_bind (suc n) k (suc m) (Ask body answered) go_on le f g =
 
 heard_most : {E R : Type 0} (n : ℕ) (go_on : Reading → Tape → Played E R) (got : Option (Reading × Tape))
     → ((reading : Reading) (left : Tape) → length (frames_in (go_on reading left).events) ≤ n)
-    → length (frames_in (by_answer go_on got).events) ≤ n
+    → length (frames_in (continue_with_reading go_on got).events) ≤ n
 heard_most n go_on got f = search rules
 
 -- a dialog sends no more frames than it asks
 pub sends_most : {E R : Type 0} (n : ℕ) (d : Dialog E R) (seq : ℕ) (tape : Tape) → AsksAtMost n d
     → length (frames_in (played d seq tape).events) ≤ n
 sends_most n (Done r) seq tape f = omega arith
-sends_most n (Say e d) seq tape f = sends_most n d seq tape f
+sends_most n (Emit e d) seq tape f = sends_most n d seq tape f
 sends_most zero (Ask body answered) seq tape f = absurd f
 sends_most (suc n) (Ask body answered) seq tape f =
     let l = heard_most n (λ reading. played (answered reading) (next seq)) (answer seq tape)
@@ -55,17 +55,17 @@ sends_most (suc n) (Ask body answered) seq tape f =
 frames_append : {E : Type 0} (x y : List (Event E)) → frames_in (x ++ y) ≡ frames_in x ++ frames_in y
 frames_append [] y = refl
 frames_append (Frame bytes ∷ x) y = ap (λ frames. bytes ∷ frames) (frames_append x y)
-frames_append (Said e ∷ x) y = frames_append x y
+frames_append (Emitted e ∷ x) y = frames_append x y
 
 -- a prefix of events has no more frames
-pub prefix_most : {E : Type 0} {SaidPart : E → E → Type 0} {shown events : List (Event E)}
-    → IsPrefixOfEvents SaidPart shown events → length (frames_in shown) ≤ length (frames_in events)
-prefix_most {SaidPart = SaidPart} {shown = shown} {events = events} f = search (rules, frames_append, length-append)
+pub prefix_most : {E : Type 0} {IsPartOfEvent : E → E → Type 0} {shown events : List (Event E)}
+    → IsPrefixOfEvents IsPartOfEvent shown events → length (frames_in shown) ≤ length (frames_in events)
+prefix_most {IsPartOfEvent = IsPartOfEvent} {shown = shown} {events = events} f = search (rules, frames_append, length-append)
 
 -- what a dialog asks bounds what it sends
-pub sends_asked : {E R : Type 0} (SaidPart : E → E → Type 0) (n : ℕ) (d : Dialog E R) → AsksAtMost n d
-    → SendsAtMost SaidPart n d
-sends_asked SaidPart n d f = record {
+pub sends_asked : {E R : Type 0} (IsPartOfEvent : E → E → Type 0) (n : ℕ) (d : Dialog E R) → AsksAtMost n d
+    → SendsAtMost IsPartOfEvent n d
+sends_asked IsPartOfEvent n d f = record {
   over_tape = λ seq tape. sends_most n d seq tape f;
   whole = λ before transcript events result after p.
       rw (← ap (λ x. x.events) (p.plays [])) (search (rules, sends_most));
@@ -84,21 +84,21 @@ attempt_most : (commands : List Command) (before : List ℕ) → AsksAtMost (len
 unfolding attempt exchange
 attempt_most [] before = tt
 attempt_most (command ∷ commands) before = λ reading.
-    most_reply (length commands) (λ bytes. attempt commands (before ++ bytes)) (reading_reply command reading)
+    most_reply (length commands) (λ bytes. attempt commands (before ++ bytes)) (reply_from_reading command reading)
     (λ bytes. attempt_most commands (before ++ bytes))
 
 most_settled : (n : ℕ) (again : StepFault → Dialog ⊥ StepOutcome) (reply : Reply)
-    → ((fault : StepFault) → AsksAtMost n (again fault)) → AsksAtMost n (end_or_again again reply)
+    → ((fault : StepFault) → AsksAtMost n (again fault)) → AsksAtMost n (retry_or_end again reply)
 most_settled n again reply f = search rules
 
 tries_most : (more : ℕ) (commands : List Command) (fault : StepFault)
-    → AsksAtMost (more * length commands) (tries more commands fault)
-unfolding tries
+    → AsksAtMost (more * length commands) (attempts_or_fault more commands fault)
+unfolding attempts_or_fault
 tries_most zero commands fault = tt
 tries_most (suc more) commands fault =
     asks_bind (length commands) (more * length commands) (suc more * length commands) (attempt commands [])
-    (end_or_again (tries more commands)) (omega (arith, suc-mul more (length commands))) (attempt_most commands [])
-    (λ reply. most_settled (more * length commands) (tries more commands) reply (tries_most more commands))
+    (retry_or_end (attempts_or_fault more commands)) (omega (arith, suc-mul more (length commands))) (attempt_most commands [])
+    (λ reply. most_settled (more * length commands) (attempts_or_fault more commands) reply (tries_most more commands))
 
 pub step_most : (commands : List Command) → AsksAtMost (4 * length commands) (step commands)
 step_most commands = tries_most 4 commands NoAnswer
@@ -106,10 +106,10 @@ step_most commands = tries_most 4 commands NoAnswer
 -- a step, then the dialog that its data choose
 pub then_most : (commands : List Command) (steps : List (List Command)) (go_on : List ℕ → Dialog ⊥ StepOutcome)
     → ((bytes : List ℕ) → AsksAtMost (4 * commands_in steps) (go_on bytes))
-    → AsksAtMost (4 * commands_in (commands ∷ steps)) (step commands >>= if_done go_on)
+    → AsksAtMost (4 * commands_in (commands ∷ steps)) (step commands >>= unless_step_fault go_on)
 then_most commands steps go_on f =
     asks_bind (4 * length commands) (4 * commands_in steps) (4 * commands_in (commands ∷ steps)) (step commands)
-    (if_done go_on) (omega arith) (step_most commands) (λ outcome. (search rules))
+    (unless_step_fault go_on) (omega arith) (step_most commands) (λ outcome. (search rules))
 
 pub play_most : (steps : List (List Command)) (before : List ℕ) → AsksAtMost (4 * commands_in steps) (play steps before)
 unfolding play
@@ -131,7 +131,7 @@ judged_most n d judge f = asks_bind n 0 n d (λ outcome. Done (judge outcome)) (
 pub operation_most : {A : Type 0} (steps : List (List Command)) (judge : List ℕ → Result A HostFault)
     → AsksAtMost (4 * commands_in steps) (operation steps judge)
 unfolding operation
-operation_most steps judge = judged_most (4 * commands_in steps) (play steps []) (judged_by judge) (play_most steps [])
+operation_most steps judge = judged_most (4 * commands_in steps) (play steps []) (checked_by judge) (play_most steps [])
 
 beginning_most : AsksAtMost (4 * commands_in opening_steps) handshake
 unfolding handshake

@@ -3,8 +3,8 @@ use Rattle.std.proofs.Common.{◌≡◌, ℕ, ◌+◌, ◌*◌, ◌<◌, ◌≤�
 use Rattle.std.specs.Prelude.{min}
 use Rattle.avr_part.specs.declared.part.Mem.{Mem}
 use Rattle.avr_part.specs.Part.{Part, IsPart, size_of}
-use Rattle.stk_host.specs.ReadSteps.{read_unit, read_count, load_at, read_at}
-use Rattle.stk_host.specs.Calls.{IsSizedStep, step_brings}
+use Rattle.stk_host.specs.ReadSteps.{read_unit, read_count, load_command_at, read_command_at}
+use Rattle.stk_host.specs.Calls.{IsSizedStep, step_data_count}
 
 -- how many bytes the steps before this number have brought
 abbrev pub read_before : Part → Mem → ℕ → ℕ
@@ -12,7 +12,7 @@ read_before part mem number = min (number * read_unit mem) (size_of mem part)
 
 -- what one more step brings
 pub record BringsMore (part : Part) (mem : Mem) (number : ℕ) : Type 0 where
-  pub more : read_before part mem (number + 1) ≡ read_before part mem number + step_brings (read_at part mem number)
+  pub more : read_before part mem (number + 1) ≡ read_before part mem number + step_data_count (read_command_at part mem number)
   pub within : read_before part mem (number + 1) ≤ size_of mem part
 
 pub brings_more : (part : Part) (mem : Mem) (number : ℕ) → number < read_count part mem → BringsMore part mem number
@@ -26,5 +26,5 @@ pub few_reads : (part : Part) (mem : Mem) → IsPart part → read_count part me
 few_reads part mem is = search rules
 
 pub sized_read : (part : Part) (mem : Mem) (number : ℕ)
-    → IsSizedStep (load_at part mem number) (read_at part mem number)
+    → IsSizedStep (load_command_at part mem number) (read_command_at part mem number)
 sized_read part mem number = search rules

@@ -8,10 +8,10 @@ use Rattle.stk_host.specs.declared.fault.HostFault.{HostFault}
 use Rattle.stk_host.specs.declared.fault.HostFault.TheVariants.{SendFailed, RecvFailed, WrongSignature}
 use Rattle.stk_host.specs.Transcript.{LinkState}
 use Rattle.stk_host.specs.Dialog.{Dialog, Done, ◌>>=◌}
-use Rattle.stk_host.specs.Play.{Progress, PlaysOver}
+use Rattle.stk_host.specs.Play.{Progress, RunsOverLink}
 use Rattle.stk_host.specs.Reach.{Reaches}
-use Rattle.stk_host.specs.Steps.{StepOutcome, if_done, step, play}
-use Rattle.stk_host.specs.Operations.{host_fault, signature_judged, handshake, opening, without_bytes, closing}
+use Rattle.stk_host.specs.Steps.{StepOutcome, unless_step_fault, step, play}
+use Rattle.stk_host.specs.Operations.{host_fault, signature_checked, handshake, opening, without_bytes, closing}
 use Rattle.stk_host.specs.Calls.{StopsSteps, EndsSteps, EndsCall, opening_result}
 use Rattle.stk_host.proofs.Transcripts.Reached.{reaches_on, reaches_from, played_from, broken_on, broken_bind, then_reaches}
 
@@ -23,18 +23,18 @@ stops_on k q fault f (inr (of, is, e)) = inr (of, is, played_from (reaches_on f 
 
 -- a stop, after which nothing follows
 pub stops_there : (a : Dialog ⊥ StepOutcome) (go_on : List ℕ → Dialog ⊥ StepOutcome) (m n : Progress) (o p : LinkState)
-    (fault : HostFault) → StopsSteps a m o p fault n → StopsSteps (a >>= if_done go_on) m o p fault n
-stops_there a go_on m n o p fault (inl e) = inl (broken_bind (if_done go_on) e)
-stops_there a go_on m n o p fault (inr (of, is, e)) = inr (of, is, played_from (then_reaches (if_done go_on) e))
+    (fault : HostFault) → StopsSteps a m o p fault n → StopsSteps (a >>= unless_step_fault go_on) m o p fault n
+stops_there a go_on m n o p fault (inl e) = inl (broken_bind (unless_step_fault go_on) e)
+stops_there a go_on m n o p fault (inr (of, is, e)) = inr (of, is, played_from (then_reaches (unless_step_fault go_on) e))
 
 -- steps that brought their data
 pub goes_on : {a : Dialog ⊥ StepOutcome} {m n : Progress} {o p : LinkState} (go_on : List ℕ → Dialog ⊥ StepOutcome)
-    (bytes : List ℕ) → PlaysOver a m o p (Ok bytes) n → Reaches (a >>= if_done go_on) m o (go_on bytes) n p
-goes_on go_on bytes f = then_reaches (if_done go_on) f
+    (bytes : List ℕ) → RunsOverLink a m o p (Ok bytes) n → Reaches (a >>= unless_step_fault go_on) m o (go_on bytes) n p
+goes_on go_on bytes f = then_reaches (unless_step_fault go_on) f
 
 -- a step of a list of steps
 pub play_on : (commands : List Command) (steps : List (List Command)) (before bytes : List ℕ) {m n : Progress}
-    {o p : LinkState} → PlaysOver (step commands) m o p (Ok bytes) n
+    {o p : LinkState} → RunsOverLink (step commands) m o p (Ok bytes) n
     → Reaches (play (commands ∷ steps) before) m o (play steps (before ++ bytes)) n p
 unfolding play
 play_on commands steps before bytes f = goes_on (λ bs. play steps (before ++ bs)) bytes f
@@ -46,7 +46,7 @@ unfolding play
 play_stops commands steps before m n o p fault e = search (rules, stops_there)
 
 pub play_done : (bytes : List ℕ) {a : Dialog ⊥ StepOutcome} {m n : Progress} {o p : LinkState}
-    → Reaches a m o (play [] bytes) n p → PlaysOver a m o p (Ok bytes) n
+    → Reaches a m o (play [] bytes) n p → RunsOverLink a m o p (Ok bytes) n
 unfolding play
 play_done bytes f = played_from f
 
@@ -65,7 +65,7 @@ stop_ends takes first judge told _ m n o p (inl e) = absurd e.breaks
 -- the checked signature is right or wrong; neither is a fault of the link
 judged_ends : {dialog : Dialog ⊥ (Result (List ℕ) HostFault)} {m n : Progress} {o p : LinkState} (wanted found : List ℕ)
     (force same : Bool)
-    → PlaysOver dialog m o p (if force then Ok found else if same then Ok found else Err (WrongSignature found)) n
+    → RunsOverLink dialog m o p (if force then Ok found else if same then Ok found else Err (WrongSignature found)) n
     → EndsCall false dialog m o p (if force then Ok found else if same then Ok found else Err (WrongSignature found)) n
 judged_ends wanted found force same e = search rules
 
@@ -75,7 +75,7 @@ pub opening_ends : (wanted : List ℕ) (force : Bool) (begun : Result (List ℕ)
 unfolding opening
 opening_ends wanted force (Ok found) m n o p e =
     judged_ends wanted found force (bytes_eq found wanted)
-    (played_from (then_reaches (λ outcome. Done (signature_judged wanted force outcome)) e))
+    (played_from (then_reaches (λ outcome. Done (signature_checked wanted force outcome)) e))
 opening_ends wanted force (Err fault) m n o p e = search (rules, stop_ends)
 
 pub closing_ends : (result : Result (Unit {0}) HostFault) (m n : Progress) (o p : LinkState)

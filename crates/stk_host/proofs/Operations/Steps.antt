@@ -7,29 +7,29 @@ use Rattle.avr_part.specs.Mem.{is_writable}
 use Rattle.avr_part.specs.Part.{Part, IsPart, size_of}
 use Rattle.stk_frame.specs.declared.command.Command.{Command}
 use Rattle.stk_frame.specs.declared.answer.Shape.{Shape}
-use Rattle.stk_frame.specs.Commands.{SizedBy}
+use Rattle.stk_frame.specs.Commands.{FitsShape}
 use Rattle.stk_host.specs.declared.fault.HostFault.{HostFault}
 use Rattle.stk_host.specs.declared.fault.HostFault.TheVariants.{ReadOnly}
 use Rattle.stk_host.specs.Transcript.{LinkState}
 use Rattle.stk_host.specs.Dialog.{Dialog, Done}
-use Rattle.stk_host.specs.Play.{Progress, PlaysOver}
+use Rattle.stk_host.specs.Play.{Progress, RunsOverLink}
 use Rattle.stk_host.specs.Reach.{Reaches}
 use Rattle.stk_host.specs.Steps.{StepOutcome, step, play}
 use Rattle.stk_host.specs.Places.{each_from}
 use Rattle.stk_host.specs.WriteSteps.{write_steps}
-use Rattle.stk_host.specs.Operations.{judged_by, operation, writing, Difference, difference_from, differs, comparison}
-use Rattle.stk_host.specs.Calls.{StopsSteps, EndsSteps, EndsCall, GoesOn, GoesOnWith, IsSizedShape, data_count, given_or_fault, vector_after, verifying_result}
+use Rattle.stk_host.specs.Operations.{checked_by, operation, writing, Difference, difference_from, differs, comparison}
+use Rattle.stk_host.specs.Calls.{StopsSteps, EndsSteps, EndsCall, CompletesSteps, CompletesStepsWithData, IsSizedShape, data_count, value_or_fault, emptied_on_fault, verifying_result}
 use Rattle.stk_host.proofs.ImagePlaces.PagesAndRuns.{next_place}
 use Rattle.stk_host.proofs.Transcripts.Reached.{reaches_here, reaches_on, played_from, then_reaches}
 use Rattle.stk_host.proofs.Operations.StepEnds.{stops_on, stop_ends, play_on, play_stops, play_done}
 
 -- data of this size
-pub counted_data : (of : Shape) (bytes : List ℕ) → IsSizedShape of → SizedBy of bytes → length bytes ≡ data_count of
+pub counted_data : (of : Shape) (bytes : List ℕ) → IsSizedShape of → FitsShape of bytes → length bytes ≡ data_count of
 counted_data of bytes counted sized = search rules
 
 -- a step that was run goes on with those that follow
 pub goes_with : (commands : List Command) (before bytes : List ℕ) {m n : Progress} {o p : LinkState}
-    → PlaysOver (step commands) m o p (Ok bytes) n → GoesOnWith (commands ∷ []) before (before ++ bytes) m o p (Ok tt) n
+    → RunsOverLink (step commands) m o p (Ok bytes) n → CompletesStepsWithData (commands ∷ []) before (before ++ bytes) m o p (Ok tt) n
 goes_with commands before bytes f = λ steps. play_on commands steps before bytes f
 
 pub stops_with : (commands : List Command) (before : List ℕ) (m n : Progress) (o p : LinkState) (fault : HostFault)
@@ -39,18 +39,18 @@ stops_with commands before m n o p fault e = λ steps. play_stops commands steps
 
 -- a step that brings no data
 pub goes_quietly : (commands : List Command) (of : Shape) (bytes : List ℕ) (result : Result (Unit {0}) HostFault)
-    (m n : Progress) (o p : LinkState) → IsSizedShape of → data_count of ≡ 0 → OnOk result (SizedBy of bytes)
-    → EndsSteps (step commands) (λ done. bytes) m o p result n → GoesOn (commands ∷ []) m o p result n
+    (m n : Progress) (o p : LinkState) → IsSizedShape of → data_count of ≡ 0 → OnOk result (FitsShape of bytes)
+    → EndsSteps (step commands) (λ done. bytes) m o p result n → CompletesSteps (commands ∷ []) m o p result n
 goes_quietly commands of bytes (Ok done) m n o p counted zero sized e =
     rw (nil_from_length bytes (counted_data of bytes counted sized ∙ zero)) at (goes_with commands [] bytes e)
 goes_quietly commands of bytes (Err fault) m n o p counted zero sized e = stops_with commands [] m n o p fault e
 
 -- a step that nothing follows
 pub alone : (commands : List Command) (result : Result (Unit {0}) HostFault) (m n : Progress) (o p : LinkState)
-    → GoesOn (commands ∷ []) m o p result n → EndsSteps (play (commands ∷ []) []) (λ done. []) m o p result n
+    → CompletesSteps (commands ∷ []) m o p result n → EndsSteps (play (commands ∷ []) []) (λ done. []) m o p result n
 alone commands result m n o p e = search (rules, play_done)
 
-pub none_played : (m : Progress) (o : LinkState) → PlaysOver (play [] []) m o o (Ok []) m
+pub none_played : (m : Progress) (o : LinkState) → RunsOverLink (play [] []) m o o (Ok []) m
 none_played m o = play_done [] (reaches_here (play [] []) m o)
 
 -- the steps of a place among those that are left of a dialog
@@ -61,7 +61,7 @@ module _ {a : Dialog ⊥ StepOutcome} {k m : Progress} {r o : LinkState} (steps_
   rest = each_from steps_at (place + 1) (end - (place + 1))
 
   pub reaches_next : {n : Progress} {p : LinkState} (after : List ℕ)
-      → GoesOnWith (steps_at place) before after m o p (Ok tt) n → Reaches a k r (play rest after) n p
+      → CompletesStepsWithData (steps_at place) before after m o p (Ok tt) n → Reaches a k r (play rest after) n p
   reaches_next after e = search (rules, reaches_on, next_place)
 
   pub stops_next : (n : Progress) (p : LinkState) (fault : HostFault)
@@ -70,14 +70,14 @@ module _ {a : Dialog ⊥ StepOutcome} {k m : Progress} {r o : LinkState} (steps_
   stops_next n p fault e = search (rules, stops_on, next_place)
 
 -- a place without steps
-pub passes : {these : List (List Command)} (m : Progress) (o : LinkState) → these ≡ [] → GoesOn these m o o (Ok tt) m
+pub passes : {these : List (List Command)} (m : Progress) (o : LinkState) → these ≡ [] → CompletesSteps these m o o (Ok tt) m
 passes m o none = λ steps. rw none (reaches_here (play steps []) m o)
 
 -- after the last place
 pub plays_all : {a : Dialog ⊥ StepOutcome} {k m : Progress} {r o : LinkState} (steps_at : ℕ → List (List Command))
     (place end : ℕ) {before : List ℕ}
     → Reaches a k r (play (each_from steps_at place (end - place)) before) m o → end ≤ place
-    → PlaysOver a k r o (Ok before) m
+    → RunsOverLink a k r o (Ok before) m
 plays_all steps_at place end {before = before} come past = search (rules, play_done)
 
 -- the outcome of an operation, from the outcome of its steps
@@ -91,9 +91,9 @@ told_ends takes steps judge fault m n o p e = search (rules, stop_ends)
 
 judged_from : {A : Type 0} (steps : List (List Command)) (judge : List ℕ → Result A HostFault) (bytes : List ℕ)
     {m n : Progress} {o p : LinkState}
-    → PlaysOver (play steps []) m o p (Ok bytes) n → PlaysOver (operation steps judge) m o p (judge bytes) n
+    → RunsOverLink (play steps []) m o p (Ok bytes) n → RunsOverLink (operation steps judge) m o p (judge bytes) n
 unfolding operation
-judged_from steps judge bytes e = played_from (then_reaches (λ outcome. Done (judged_by judge outcome)) e)
+judged_from steps judge bytes e = played_from (then_reaches (λ outcome. Done (checked_by judge outcome)) e)
 
 -- an operation that reads nothing
 pub done_ends : (steps : List (List Command)) (result : Result (Unit {0}) HostFault) (m n : Progress) (o p : LinkState)
@@ -114,13 +114,13 @@ writes_nothing part mem image m o cannot = search (rules, played_from, reaches_h
 
 pub reading_ends : (steps : List (List Command)) (bytes : List ℕ) (result : Result (Unit {0}) HostFault)
     (m n : Progress) (o p : LinkState) → EndsSteps (play steps []) (λ done. bytes) m o p result n
-    → EndsCall true (operation steps Ok) m o p (given_or_fault (vector_after result bytes) result) n
+    → EndsCall true (operation steps Ok) m o p (value_or_fault (emptied_on_fault result bytes) result) n
 reading_ends steps bytes (Ok done) m n o p e = judged_from steps Ok bytes e
 reading_ends steps bytes (Err fault) m n o p e = told_ends true steps Ok fault m n o p e
 
 differs_ends : (dialog : Dialog ⊥ (Result (Unit {0}) HostFault)) (mem : Mem) (found : Option Difference)
     {m n : Progress} {o p : LinkState}
-    → PlaysOver dialog m o p (differs mem found) n → EndsCall true dialog m o p (differs mem found) n
+    → RunsOverLink dialog m o p (differs mem found) n → EndsCall true dialog m o p (differs mem found) n
 differs_ends dialog mem found e = search rules
 
 pub verifying_ends : (steps : List (List Command)) (mem : Mem) (image : List (Option ℕ)) (bytes : List ℕ)
@@ -140,11 +140,11 @@ begins_at steps_at count before m o = search (rules, reaches_here)
 -- the number of bytes kept of a memory that was read
 
 pub read_sized : (taken : Result (Unit {0}) HostFault) (items : List ℕ) (n : ℕ) → OnOk taken (length items ≡ n)
-    → OnOk taken (length (vector_after taken items) ≡ n)
+    → OnOk taken (length (emptied_on_fault taken items) ≡ n)
 read_sized taken items n size = search rules
 
 pub read_short : (taken : Result (Unit {0}) HostFault) (items : List ℕ) (n : ℕ) → n < 2 ^ 32
-    → OnOk taken (length items ≡ n) → length (vector_after taken items) < 2 ^ 32
+    → OnOk taken (length items ≡ n) → length (emptied_on_fault taken items) < 2 ^ 32
 read_short taken items n bound size = search rules
 
 pub size_fits : (mem : Mem) (part : Part) → IsPart part → size_of mem part < 2 ^ 32

@@ -5,8 +5,8 @@ use Rattle.stk_host.specs.declared.link.Item.TheVariants.{Silence}
 use Rattle.stk_host.specs.Tape.{answer}
 use Rattle.stk_host.specs.Transcript.{Transcript, LinkState, Sent, Taken, Got, NoneTaken, sent}
 use Rattle.stk_host.specs.Dialog.{Dialog, Event, Frame, bytes_sent}
-use Rattle.stk_host.specs.Play.{Progress, progress_at, InTurn, played_over, BreaksSending, BreaksListening, FailsOver}
-use Rattle.stk_host.specs.Steps.{exchange, attempt, tries}
+use Rattle.stk_host.specs.Play.{Progress, progress_at, InTurn, played_over, BreaksSending, BreaksListening, BreaksOverLink}
+use Rattle.stk_host.specs.Steps.{exchange, attempt, attempts_or_fault}
 use Rattle.stk_host.specs.Operations.{closing}
 use Rattle.stk_host.specs.Calls.{EndsCall}
 use Rattle.stk_host.proofs.Transcripts.InDialogs.{bytes_append}
@@ -34,8 +34,8 @@ showing transcript = record { transcript = transcript; failures = 1 }
 
 -- nor does a call over it
 pub never_either : {R : Type 0} (dialog : Dialog ⊥ R) (before : Progress) (transcript : Transcript)
-    → FailsOver SendFailed dialog before fresh (showing transcript)
-    → FailsOver RecvFailed dialog before fresh (showing transcript) → ⊥
+    → BreaksOverLink SendFailed dialog before fresh (showing transcript)
+    → BreaksOverLink RecvFailed dialog before fresh (showing transcript) → ⊥
 never_either dialog before transcript f g =
     never_both
     (subst (λ t. BreaksSending dialog before t f.shown) (sym f.grows) f.breaks)
@@ -49,7 +49,7 @@ leaving = 0x1B ∷ 0x06 ∷ 0x00 ∷ 0x03 ∷ 0x0E ∷ 0x11 ∷ 0x01 ∷ 0x01 �
 
 -- the frame was sent, and its reply not received
 pub unheard : EndsCall false closing sixth fresh (showing (Sent leaving ∷ [])) (Err RecvFailed) sixth
-unfolding exchange attempt tries answer closing
+unfolding exchange attempt attempts_or_fault answer closing
 unheard = search rules
 
 -- that is not a failure to send it
@@ -59,7 +59,7 @@ not_unsent after f = never_either closing sixth (Sent leaving ∷ []) f unheard
 
 -- two bytes of the frame were sent
 pub unsent : EndsCall false closing sixth fresh (showing (Sent (0x1B ∷ 0x06 ∷ []) ∷ [])) (Err SendFailed) sixth
-unfolding exchange attempt tries answer closing
+unfolding exchange attempt attempts_or_fault answer closing
 unsent = record {
   during = Sent (0x1B ∷ 0x06 ∷ []) ∷ [];
   shown = Frame (0x1B ∷ 0x06 ∷ []) ∷ [];
@@ -90,7 +90,7 @@ not_unheard_whole after f = search rules
 
 -- nothing was sent, and nothing received
 pub unsent_at_all : EndsCall false closing sixth fresh (showing []) (Err SendFailed) sixth
-unfolding exchange attempt tries answer closing
+unfolding exchange attempt attempts_or_fault answer closing
 unsent_at_all = record {
   during = [];
   shown = Frame [] ∷ [];
@@ -114,5 +114,5 @@ not_unasked after f = never_either closing sixth [] unsent_at_all f
 
 -- listening before the frame is sent whole isn't in turn
 pub not_early : InTurn closing sixth (Sent (0x1B ∷ 0x06 ∷ []) ∷ (Got (Silence ∷ []) ∷ [])) → ⊥
-unfolding exchange attempt tries answer closing
+unfolding exchange attempt attempts_or_fault answer closing
 not_early in_turn = let all : leaving ≡ 0x1B ∷ 0x06 ∷ [] = in_turn.0.all_sent in absurd (cc)

@@ -10,15 +10,15 @@ use Rattle.std.specs.Prelude.{filter}
 use Rattle.stk_frame.specs.Cut.{cut, rest, is_frame, body_of}
 use Rattle.stk_frame.proofs.Cuts.{cut_append, cut_joined}
 use Rattle.stk_host.specs.declared.link.Item.TheVariants.{Byte, Silence, End}
-use Rattle.stk_host.specs.Tape.{Tape, on_tape, bytes_of, bytes_in, answer, read_to, silence_or_end, first_answer, is_answer, further, limit, Answered, Silent, Ended, Babbled}
+use Rattle.stk_host.specs.Tape.{Tape, on_tape, bytes_on_tape, leading_bytes, answer, reading_from_first, timeout_or_end, first_answer, is_answer, past_skipped, reply_byte_limit, Answered, Silent, Ended, Babbled}
 
 -- the bytes of two tapes joined, and of a tape of bytes alone
-pub bytes_of_append : (x y : Tape) → bytes_of (x ++ y) ≡ bytes_of x ++ bytes_of y
+pub bytes_of_append : (x y : Tape) → bytes_on_tape (x ++ y) ≡ bytes_on_tape x ++ bytes_on_tape y
 bytes_of_append [] y = refl
 bytes_of_append (Byte byte ∷ x) y = ap (λ bytes. byte ∷ bytes) (bytes_of_append x y)
 bytes_of_append (item ∷ x) y = bytes_of_append x y
 
-pub bytes_of_on_tape : (bytes : List ℕ) → bytes_of (on_tape bytes) ≡ bytes
+pub bytes_of_on_tape : (bytes : List ℕ) → bytes_on_tape (on_tape bytes) ≡ bytes
 bytes_of_on_tape [] = refl
 bytes_of_on_tape (byte ∷ bytes) = ap (λ bs. byte ∷ bs) (bytes_of_on_tape bytes)
 
@@ -26,7 +26,7 @@ pub on_tape_append : (x y : List ℕ) → on_tape (x ++ y) ≡ on_tape x ++ on_t
 on_tape_append [] y = refl
 on_tape_append (b ∷ x) y = ap (λ t. Byte b ∷ t) (on_tape_append x y)
 
-bytes_in_tape : (x : List ℕ) (tape : Tape) → bytes_in (on_tape x ++ tape) ≡ x ++ bytes_in tape
+bytes_in_tape : (x : List ℕ) (tape : Tape) → leading_bytes (on_tape x ++ tape) ≡ x ++ leading_bytes tape
 bytes_in_tape [] tape = refl
 bytes_in_tape (b ∷ x) tape = ap (λ t. b ∷ t) (bytes_in_tape x tape)
 
@@ -38,67 +38,67 @@ take_over : (n : ℕ) (x y : List ℕ) → length x ≤ n → take n (x ++ y) �
 take_over n x y le = ap (λ m. take m (x ++ y)) (omega arith) ∙ take-append-add x y (n - length x)
 
 -- the reply, by the bytes looked at
-pub answer_by : (seq : ℕ) (tape : Tape) (bytes : List ℕ) → take limit (bytes_in tape) ≡ bytes
-    → answer seq tape ≡ read_to (first_answer seq (cut bytes)) bytes tape
+pub answer_by : (seq : ℕ) (tape : Tape) (bytes : List ℕ) → take reply_byte_limit (leading_bytes tape) ≡ bytes
+    → answer seq tape ≡ reading_from_first (first_answer seq (cut bytes)) bytes tape
 unfolding answer
-answer_by seq tape bytes is = ap (λ bs. read_to (first_answer seq (cut bs)) bs tape) is
+answer_by seq tape bytes is = ap (λ bs. reading_from_first (first_answer seq (cut bs)) bs tape) is
 
 -- no reply yet, and more may come
-stopped_at : (seq : ℕ) (x : List ℕ) (tape : Tape) → first_answer seq (cut x) ≡ None → length x < limit
-    → bytes_in tape ≡ [] → answer seq (on_tape x ++ tape) ≡ silence_or_end tape
+stopped_at : (seq : ℕ) (x : List ℕ) (tape : Tape) → first_answer seq (cut x) ≡ None → length x < reply_byte_limit
+    → leading_bytes tape ≡ [] → answer seq (on_tape x ++ tape) ≡ timeout_or_end tape
 stopped_at seq x tape none few no_bytes =
-    let bytes : take limit (bytes_in (on_tape x ++ tape)) ≡ x =
-    rw (bytes_in_tape x tape, no_bytes, append-nil x) (take_all limit x (omega arith)) in
-    answer_by seq (on_tape x ++ tape) x bytes ∙ rw (none, lt-leb limit (length x) few, drop_tape x tape) refl
+    let bytes : take reply_byte_limit (leading_bytes (on_tape x ++ tape)) ≡ x =
+    rw (bytes_in_tape x tape, no_bytes, append-nil x) (take_all reply_byte_limit x (omega arith)) in
+    answer_by seq (on_tape x ++ tape) x bytes ∙ rw (none, lt-leb reply_byte_limit (length x) few, drop_tape x tape) refl
 
-pub answer_silent : (seq : ℕ) (x : List ℕ) (more : Tape) → first_answer seq (cut x) ≡ None → length x < limit
+pub answer_silent : (seq : ℕ) (x : List ℕ) (more : Tape) → first_answer seq (cut x) ≡ None → length x < reply_byte_limit
     → answer seq (on_tape x ++ Silence ∷ more) ≡ Some (Silent, more)
 answer_silent seq x more none few = stopped_at seq x (Silence ∷ more) none few refl
 
-pub answer_ended : (seq : ℕ) (x : List ℕ) (more : Tape) → first_answer seq (cut x) ≡ None → length x < limit
+pub answer_ended : (seq : ℕ) (x : List ℕ) (more : Tape) → first_answer seq (cut x) ≡ None → length x < reply_byte_limit
     → answer seq (on_tape x ++ End ∷ more) ≡ Some (Ended, more)
 answer_ended seq x more none few = stopped_at seq x (End ∷ more) none few refl
 
-pub answer_waits : (seq : ℕ) (x : List ℕ) → first_answer seq (cut x) ≡ None → length x < limit
+pub answer_waits : (seq : ℕ) (x : List ℕ) → first_answer seq (cut x) ≡ None → length x < reply_byte_limit
     → answer seq (on_tape x) ≡ None
 answer_waits seq x none few = ap (answer seq) (sym (append-nil (on_tape x))) ∙ stopped_at seq x [] none few refl
 
 -- if the limit is reached
-pub answer_babbled : (seq : ℕ) (x : List ℕ) (more : Tape) → first_answer seq (cut x) ≡ None → length x ≡ limit
+pub answer_babbled : (seq : ℕ) (x : List ℕ) (more : Tape) → first_answer seq (cut x) ≡ None → length x ≡ reply_byte_limit
     → answer seq (on_tape x ++ more) ≡ Some (Babbled, more)
 answer_babbled seq x more none full =
-    let bytes : take limit (bytes_in (on_tape x ++ more)) ≡ x =
-    ap (take limit) (bytes_in_tape x more) ∙
-    (take-append-le limit x (bytes_in more) (omega arith) ∙ take_all limit x (omega arith)) in
-    answer_by seq (on_tape x ++ more) x bytes ∙ rw (none, le-leb limit (length x) (omega arith))
+    let bytes : take reply_byte_limit (leading_bytes (on_tape x ++ more)) ≡ x =
+    ap (take reply_byte_limit) (bytes_in_tape x more) ∙
+    (take-append-le reply_byte_limit x (leading_bytes more) (omega arith) ∙ take_all reply_byte_limit x (omega arith)) in
+    answer_by seq (on_tape x ++ more) x bytes ∙ rw (none, le-leb reply_byte_limit (length x) (omega arith))
     (ap (λ t. Some (Babbled, t)) (ap (λ n. drop n (on_tape x ++ more)) (sym full) ∙ drop_tape x more))
 
-pub further_zero : (o : Option (List ℕ × ℕ)) → o ≡ further 0 o
+pub further_zero : (o : Option (List ℕ × ℕ)) → o ≡ past_skipped 0 o
 further_zero None = refl
 further_zero (Some (body, used)) = ap (λ n. Some (body, n)) (omega arith)
 
-pub further_further : (a b : ℕ) (o : Option (List ℕ × ℕ)) → further a (further b o) ≡ further (a + b) o
+pub further_further : (a b : ℕ) (o : Option (List ℕ × ℕ)) → past_skipped a (past_skipped b o) ≡ past_skipped (a + b) o
 further_further a b None = refl
 further_further a b (Some (body, used)) = ap (λ n. Some (body, n)) (omega arith)
 
-further_none : (a : ℕ) (o : Option (List ℕ × ℕ)) → further a o ≡ None → o ≡ None
+further_none : (a : ℕ) (o : Option (List ℕ × ℕ)) → past_skipped a o ≡ None → o ≡ None
 further_none a None e = refl
 further_none a (Some (body, used)) e = cc
 
 -- after pieces without a reply
 pub first_answer_behind : (seq : ℕ) (xs ys : List (List ℕ)) → first_answer seq xs ≡ None
-    → first_answer seq (xs ++ ys) ≡ further (length (concat xs)) (first_answer seq ys)
+    → first_answer seq (xs ++ ys) ≡ past_skipped (length (concat xs)) (first_answer seq ys)
 first_answer_behind seq [] ys none = further_zero (first_answer seq ys)
 first_answer_behind seq (x ∷ xs) ys none = elim (cases_Bool (is_answer seq x)) [
   | inl is_it ↦ let e = rw is_it at none in cc
   | inr is_not ↦
       let none' = further_none (length x) (first_answer seq xs) (rw is_not at none) in
-      rw is_not (ap (further (length x)) (first_answer_behind seq xs ys none')
+      rw is_not (ap (past_skipped (length x)) (first_answer_behind seq xs ys none')
       ∙ (further_further (length x) (length (concat xs)) (first_answer seq ys)
-      ∙ ap (λ n. further n (first_answer seq ys)) (sym (length-append x (concat xs)))))
+      ∙ ap (λ n. past_skipped n (first_answer seq ys)) (sym (length-append x (concat xs)))))
 ]
 
-some_inside : (a : ℕ) (o : Option (List ℕ × ℕ)) (v : List ℕ × ℕ) → further a o ≡ Some v
+some_inside : (a : ℕ) (o : Option (List ℕ × ℕ)) (v : List ℕ × ℕ) → past_skipped a o ≡ Some v
     → (w : List ℕ × ℕ) × (o ≡ Some w)
 some_inside a None v e = absurd (none-some v e)
 some_inside a (Some w) v e = (w, refl)
@@ -112,7 +112,7 @@ first_answer_stays seq (x ∷ xs) ys found some = elim (cases_Bool (is_answer se
   | inr is_not ↦
       let inner = rw is_not at some in
       let at = some_inside (length x) (first_answer seq xs) found inner in
-      rw is_not (ap (further (length x)) (first_answer_stays seq xs ys at.0 at.1 ∙ sym at.1) ∙ inner)
+      rw is_not (ap (past_skipped (length x)) (first_answer_stays seq xs ys at.0 at.1 ∙ sym at.1) ∙ inner)
 ]
 
 -- pieces that aren't frames contain no reply
@@ -120,7 +120,7 @@ pub first_answer_skipped : (seq : ℕ) (xs : List (List ℕ)) → filter is_fram
 first_answer_skipped seq [] none = refl
 first_answer_skipped seq (x ∷ xs) none = elim (cases_Bool (is_frame x)) [
   | inl is_it ↦ let e = rw is_it at none in cc
-  | inr is_not ↦ rw is_not (ap (further (length x)) (first_answer_skipped seq xs (rw is_not at none)))
+  | inr is_not ↦ rw is_not (ap (past_skipped (length x)) (first_answer_skipped seq xs (rw is_not at none)))
 ]
 
 -- more bytes that bring no frame, or one that isn't the reply
@@ -144,13 +144,13 @@ now_found seq x y skipped frame none no_frames pieces is_it whole =
 
 -- the reply, if the bytes end with it
 pub answer_found : (seq : ℕ) (x : List ℕ) (more : Tape) (body : List ℕ)
-    → first_answer seq (cut x) ≡ Some (body, length x) → length x ≤ limit
+    → first_answer seq (cut x) ≡ Some (body, length x) → length x ≤ reply_byte_limit
     → answer seq (on_tape x ++ more) ≡ Some (Answered body, more)
 answer_found seq x more body found few =
-    let bytes : take limit (bytes_in (on_tape x ++ more)) ≡ x ++ take (limit - length x) (bytes_in more) =
-    ap (take limit) (bytes_in_tape x more) ∙ take_over limit x (bytes_in more) few in
-    answer_by seq (on_tape x ++ more) (x ++ take (limit - length x) (bytes_in more)) bytes
-    ∙ (ap (λ o. read_to o (x ++ take (limit - length x) (bytes_in more)) (on_tape x ++ more))
-    (ap (first_answer seq) (cut_append x (take (limit - length x) (bytes_in more)))
-    ∙ first_answer_stays seq (cut x) (cut (rest x ++ take (limit - length x) (bytes_in more))) (body, length x) found)
+    let bytes : take reply_byte_limit (leading_bytes (on_tape x ++ more)) ≡ x ++ take (reply_byte_limit - length x) (leading_bytes more) =
+    ap (take reply_byte_limit) (bytes_in_tape x more) ∙ take_over reply_byte_limit x (leading_bytes more) few in
+    answer_by seq (on_tape x ++ more) (x ++ take (reply_byte_limit - length x) (leading_bytes more)) bytes
+    ∙ (ap (λ o. reading_from_first o (x ++ take (reply_byte_limit - length x) (leading_bytes more)) (on_tape x ++ more))
+    (ap (first_answer seq) (cut_append x (take (reply_byte_limit - length x) (leading_bytes more)))
+    ∙ first_answer_stays seq (cut x) (cut (rest x ++ take (reply_byte_limit - length x) (leading_bytes more))) (body, length x) found)
     ∙ ap (λ t. Some (Answered body, t)) (drop_tape x more))

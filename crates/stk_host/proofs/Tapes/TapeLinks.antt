@@ -1,11 +1,11 @@
 -- What a link over a tape gave, call after call.
 use Rattle.std.proofs.Common.{◌≡◌, ◌∙◌, ◌<◌, sym, ap, refl, arith, ℕ, zero, suc, ◌+◌, List, [], ◌∷◌, ◌++◌, append_assoc, append-nil, replicate, take, drop, min, length, Result, Ok, Err, IfOk, OnErr, rules}
-use Rattle.ghosts.specs.Stays.{Stays}
+use Rattle.ghosts.specs.Preserves.{Preserves}
 use Rattle.stk_host.specs.declared.link.Heard.{Heard}
 use Rattle.stk_host.specs.declared.link.Item.TheVariants.{Byte, Silence, End}
 use Rattle.stk_host.specs.declared.link.LinkFault.{LinkFault}
-use Rattle.stk_host.specs.Links.{TapeState, IsOfTape, tape_state, next_piece}
-use Rattle.stk_host.specs.Tape.{Tape, bytes_in, on_tape}
+use Rattle.stk_host.specs.Links.{TapeState, ConsumesTape, tape_state, next_piece}
+use Rattle.stk_host.specs.Tape.{Tape, leading_bytes, on_tape}
 use Rattle.stk_host.specs.Transcript.{Transcript, Sent, Got, Receives, heard, items_of}
 use Rattle.stk_host.proofs.Transcripts.Laws.{heard_append}
 
@@ -23,8 +23,8 @@ nothing_behind (item ∷ prefix) back none = absurd (cc)
 
 -- ---- a piece, and what is left of a tape after it
 
-bytes_given : (most : ℕ) (tape : Tape) → on_tape (take most (bytes_in tape))
-    ++ drop (length (on_tape (take most (bytes_in tape)))) tape ≡ tape
+bytes_given : (most : ℕ) (tape : Tape) → on_tape (take most (leading_bytes tape))
+    ++ drop (length (on_tape (take most (leading_bytes tape)))) tape ≡ tape
 bytes_given zero tape = refl
 bytes_given (suc most) [] = refl
 bytes_given (suc most) (Byte b ∷ tape) = ap (λ (t : Tape). Byte b ∷ t) (bytes_given most tape)
@@ -50,7 +50,7 @@ none_left n (item ∷ tape) some = absurd (omega (arith, some))
 
 -- ---- calls
 
-pub of_tape_now : (a : TapeState) → IsOfTape a a
+pub of_tape_now : (a : TapeState) → ConsumesTape a a
 of_tape_now a = record {
   during = [];
   grows = sym (append-nil a.transcript);
@@ -59,7 +59,7 @@ of_tape_now a = record {
   over = λ some. absurd (omega (arith, some));
 }
 
-of_tape_on : (a b c : TapeState) → IsOfTape a b → IsOfTape b c → IsOfTape a c
+of_tape_on : (a b c : TapeState) → ConsumesTape a b → ConsumesTape b c → ConsumesTape a c
 of_tape_on a b c f g = record {
   during = f.during ++ g.during;
   grows = g.grows ∙ ap (λ (t : Transcript). t ++ g.during) f.grows ∙ append_assoc a.transcript f.during g.during;
@@ -74,27 +74,27 @@ of_tape_on a b c f g = record {
     none m zero gave first last some =
         nothing_behind (heard g.during) c.left (gave ∙ append-nil b.left ∙ first (omega (arith, some)))
 
-since : (b c : TapeState) → IsOfTape b c → Stays IsOfTape b c
+since : (b c : TapeState) → ConsumesTape b c → Preserves ConsumesTape b c
 since b c g = λ start f. of_tape_on start b c f g
 
 -- nothing was received
 quiet_of_tape : (during : Transcript) (b c : TapeState) → heard during ≡ [] → c.left ≡ b.left
     → c.transcript ≡ b.transcript ++ during
-    → Stays IsOfTape b c
+    → Preserves ConsumesTape b c
 quiet_of_tape during b c quiet left transcript = since b c (search rules)
 
-pub same_of_tape : (b c : TapeState) → c.left ≡ b.left → c.transcript ≡ b.transcript → Stays IsOfTape b c
+pub same_of_tape : (b c : TapeState) → c.left ≡ b.left → c.transcript ≡ b.transcript → Preserves ConsumesTape b c
 same_of_tape b c left transcript = quiet_of_tape [] b c refl left (transcript ∙ sym (append-nil b.transcript))
 
 pub sent_of_tape : (bytes : List ℕ) (b c : TapeState) → c.left ≡ b.left → c.transcript ≡ b.transcript ++ Sent bytes ∷ []
-    → Stays IsOfTape b c
+    → Preserves ConsumesTape b c
 sent_of_tape bytes b c left transcript = quiet_of_tape (Sent bytes ∷ []) b c refl left transcript
 
 pub heard_of_tape : (result : Result Heard LinkFault) (buffer : List ℕ) (b c : TapeState)
     → Receives buffer (tape_state b) (tape_state c) result
     → IfOk result (λ given. items_of given buffer ≡ next_piece (min b.cut (length buffer)) b.left)
     → IfOk result (λ given. c.left ≡ drop (length (items_of given buffer)) b.left) → OnErr result (c.left ≡ b.left)
-    → Stays IsOfTape b c
+    → Preserves ConsumesTape b c
 heard_of_tape (Ok given) buffer b c receives piece left kept =
     let most : ℕ = min b.cut (length buffer) in
     let rest : c.left ≡ drop (length (next_piece most b.left)) b.left =

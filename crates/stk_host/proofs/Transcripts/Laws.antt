@@ -2,8 +2,8 @@
 use Rattle.std.proofs.Common.{◌≡◌, ℕ, [], ◌∷◌, ◌++◌, refl, sym, ap, ◌∙◌, append_assoc, rules}
 use Rattle.std.proofs.lemmas.List.{append-nil}
 use Rattle.stk_host.specs.Tape.{Tape}
-use Rattle.stk_host.specs.Transcript.{Transcript, Sent, Taken, Got, NoneTaken, IsTaken, sent, heard, Grows}
-use Rattle.stk_host.specs.Reach.{IsQuiet, WaitsFrom}
+use Rattle.stk_host.specs.Transcript.{Transcript, Sent, Taken, Got, NoneTaken, IsNothingOrTaken, sent, heard, Grows}
+use Rattle.stk_host.specs.Reach.{NothingReceived, WaitsFrom}
 
 pub sent_append : (x y : Transcript) → sent (x ++ y) ≡ sent x ++ sent y
 sent_append [] y = refl
@@ -28,17 +28,17 @@ pub grows_on : (a b c : Transcript) (x y : Transcript) → Grows a x b → Grows
 grows_on a b c x y f g = g ∙ ap (λ (t : Transcript). t ++ y) f ∙ append_assoc a x y
 
 -- in a quiet transcript nothing is received
-pub heard_quiet : (transcript : Transcript) → IsQuiet transcript → heard transcript ≡ []
+pub heard_quiet : (transcript : Transcript) → NothingReceived transcript → heard transcript ≡ []
 heard_quiet [] quiet = refl
 heard_quiet (Sent bytes ∷ transcript) quiet = heard_quiet transcript quiet
 heard_quiet transcript quiet = search rules
 
-pub quiet_append : (x y : Transcript) → NoneTaken x → IsQuiet x → IsQuiet y → IsQuiet (x ++ y)
+pub quiet_append : (x y : Transcript) → NoneTaken x → NothingReceived x → NothingReceived y → NothingReceived (x ++ y)
 quiet_append [] y none f g = g
 quiet_append (Sent bytes ∷ x) y none f g = quiet_append x y none f g
 quiet_append x y none f g = search rules
 
-pub taken_quiet : (last : Transcript) → IsTaken last → IsQuiet last
+pub taken_quiet : (last : Transcript) → IsNothingOrTaken last → NothingReceived last
 taken_quiet last taken = search rules
 
 -- nothing is sent during the wait for a reply

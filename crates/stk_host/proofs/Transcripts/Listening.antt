@@ -5,16 +5,16 @@ use Rattle.std.proofs.lemmas.List.{append-nil, length-map, nil_from_length}
 use Rattle.stk_frame.specs.declared.reader.Event.{Event}
 use Rattle.stk_frame.specs.declared.reader.Event.TheVariants as event
 use Rattle.stk_frame.specs.Cut.{cut, rest, body_of}
-use Rattle.stk_frame.specs.Reader.{Fed, HoldsFrame, MayHold, frames_of_event}
+use Rattle.stk_frame.specs.Reader.{Fed, HoldsFrame, MayHaveBeenFed, frames_of_event}
 use Rattle.stk_frame.proofs.FedReaders.{rest_whole}
 use Rattle.stk_host.specs.declared.link.Heard.{Heard}
 use Rattle.stk_host.specs.declared.link.Heard.TheVariants as heard
 use Rattle.stk_host.specs.declared.link.Item.{Item}
 use Rattle.stk_host.specs.declared.link.Item.TheVariants.{Silence, End}
-use Rattle.stk_host.specs.Tape.{Tape, Reading, on_tape, answer, first_answer, is_answer, limit, Answered, Silent, Ended, Babbled}
+use Rattle.stk_host.specs.Tape.{Tape, Reading, on_tape, answer, first_answer, is_answer, reply_byte_limit, Answered, Silent, Ended, Babbled}
 use Rattle.stk_host.specs.Transcript.{Transcript, LinkState, Got, heard as heard_in, Grows}
-use Rattle.stk_host.specs.Reach.{WaitsFrom, Hears, HearsNone}
-use Rattle.stk_host.specs.Calls.{HearsPiece}
+use Rattle.stk_host.specs.Reach.{WaitsFrom, ReceivesReply, ReceivesNoReply}
+use Rattle.stk_host.specs.Calls.{ReceivesPiece}
 use Rattle.stk_host.proofs.Tapes.Answers.{on_tape_append, answer_silent, answer_ended, answer_waits, answer_babbled, answer_found, still_none, now_found}
 use Rattle.stk_host.proofs.Transcripts.Laws.{heard_append, heard_both, grows_none, grows_on, waits_append}
 
@@ -23,16 +23,16 @@ use Rattle.stk_host.proofs.Transcripts.Laws.{heard_append, heard_both, grows_non
 pub record Listening (seq : ℕ) (unread : List ℕ) (old : LinkState) (held : List ℕ) (count : ℕ) (left : List ℕ)
     (new : LinkState) : Type 0 where
   pub text : List ℕ
-  pub stands : MayHold held text
+  pub stands : MayHaveBeenFed held text
   pub counted : length text ≡ count
-  pub few : count + length left ≤ limit
+  pub few : count + length left ≤ reply_byte_limit
   pub no_answer : first_answer seq (cut text) ≡ None
   pub during : Transcript
   pub grows : Grows old.transcript during new.transcript
   pub waits : WaitsFrom seq (on_tape unread) during
   pub all_heard : on_tape unread ++ heard_in during ≡ on_tape (text ++ left)
 
-pub begins : (seq : ℕ) (u : List ℕ) (o : LinkState) → length u ≤ limit → Listening seq u o [] 0 u o
+pub begins : (seq : ℕ) (u : List ℕ) (o : LinkState) → length u ≤ reply_byte_limit → Listening seq u o [] 0 u o
 begins seq u o few = record {
   text = [];
   stands = refl;
@@ -67,7 +67,7 @@ module _ {seq : ℕ} {u : List ℕ} {o : LinkState} where
 
   -- if nothing is left unread, and a piece is received
   module _ {held : List ℕ} {count : ℕ} {left : List ℕ} {p : LinkState} (of_left : Listening seq u o held count left p)
-      (none : length left ≡ 0) (few : count < limit) where
+      (none : length left ≡ 0) (few : count < reply_byte_limit) where
     l : Listening seq u o held count [] p
     l = subst (λ bs. Listening seq u o held count bs p) (nil_from_length left none) of_left
 
@@ -81,8 +81,8 @@ module _ {seq : ℕ} {u : List ℕ} {o : LinkState} where
     waits_more : (items : Tape) → WaitsFrom seq (on_tape u) (l.during ++ Got items ∷ [])
     waits_more items = waits_append seq (on_tape u) l.during (Got items ∷ []) l.waits (not_yet, tt)
 
-    pub heard_bytes : {q : LinkState} {what : Heard} {n : ℕ} {new : List ℕ} → count + length new ≤ limit
-        → what ≡ heard.Bytes n → HearsPiece what new p q → Listening seq u o held count new q
+    pub heard_bytes : {q : LinkState} {what : Heard} {n : ℕ} {new : List ℕ} → count + length new ≤ reply_byte_limit
+        → what ≡ heard.Bytes n → ReceivesPiece what new p q → Listening seq u o held count new q
     heard_bytes {q = q} {new = new} most is piece =
         search (rules, waits_more, heard_append, append-nil, append_assoc, text_heard, on_tape_append)
 
@@ -90,7 +90,7 @@ module _ {seq : ℕ} {u : List ℕ} {o : LinkState} where
     stops : {q : LinkState} {new : List ℕ} (item : Item) (reading : Reading)
         → (new ≡ []) × Grows p.transcript (Got (item ∷ []) ∷ []) q.transcript
         → ((more : Tape) → answer seq (on_tape l.text ++ item ∷ more) ≡ Some (reading, more))
-        → Hears seq u o q reading new
+        → ReceivesReply seq u o q reading new
     stops {q = q} item reading piece answers = rw piece.0 (record {
       during = l.during ++ Got (item ∷ []) ∷ [];
       grows = grows_on o.transcript p.transcript q.transcript l.during (Got (item ∷ []) ∷ []) l.grows piece.1;
@@ -99,20 +99,20 @@ module _ {seq : ℕ} {u : List ℕ} {o : LinkState} where
       answers = search (rules, heard_both, l, append_assoc, text_heard);
     })
 
-    pub heard_silence : {q : LinkState} {what : Heard} {new : List ℕ} → what ≡ heard.Silence → HearsPiece what new p q
-        → Hears seq u o q Silent new
+    pub heard_silence : {q : LinkState} {what : Heard} {new : List ℕ} → what ≡ heard.Silence → ReceivesPiece what new p q
+        → ReceivesReply seq u o q Silent new
     heard_silence is piece =
         stops Silence Silent (rw is at piece)
         (λ more. answer_silent seq l.text more l.no_answer (omega (arith, l.counted)))
 
-    pub heard_end : {q : LinkState} {what : Heard} {new : List ℕ} → what ≡ heard.End → HearsPiece what new p q
-        → Hears seq u o q Ended new
+    pub heard_end : {q : LinkState} {what : Heard} {new : List ℕ} → what ≡ heard.End → ReceivesPiece what new p q
+        → ReceivesReply seq u o q Ended new
     heard_end is piece =
         stops End Ended (rw is at piece)
         (λ more. answer_ended seq l.text more l.no_answer (omega (arith, l.counted)))
 
     -- nothing is received: the link failed
-    pub hears_none : {q : LinkState} → Grows p.transcript [] q.transcript → HearsNone seq u o q
+    pub hears_none : {q : LinkState} → Grows p.transcript [] q.transcript → ReceivesNoReply seq u o q
     hears_none {q = q} g = grind (arith, common_steps, not_yet)
 
   pub reads_on : {held : List ℕ} {count : ℕ} {left : List ℕ} {p : LinkState} (n : ℕ)
@@ -124,7 +124,7 @@ module _ {seq : ℕ} {u : List ℕ} {o : LinkState} where
   -- listening whose reading is known
   gives : {held : List ℕ} {count : ℕ} {left : List ℕ} {p : LinkState} (x rest_left : List ℕ) (reading : Reading)
       → (l : Listening seq u o held count left p) → on_tape u ++ heard_in l.during ≡ on_tape (x ++ rest_left)
-      → ((more : Tape) → answer seq (on_tape x ++ more) ≡ Some (reading, more)) → Hears seq u o p reading rest_left
+      → ((more : Tape) → answer seq (on_tape x ++ more) ≡ Some (reading, more)) → ReceivesReply seq u o p reading rest_left
   gives x rest_left reading l all answers = record {
     during = l.during;
     grows = l.grows;
@@ -135,21 +135,21 @@ module _ {seq : ℕ} {u : List ℕ} {o : LinkState} where
 
   finds_in : {held : List ℕ} {count : ℕ} {p : LinkState} (used left new : List ℕ)
       → Listening seq u o held count (used ++ left) p → Fed held used new (new ∷ []) → HoldsFrame new
-      → is_answer seq new ≡ true → count + length used ≤ limit → Hears seq u o p (Answered (body_of new)) left
+      → is_answer seq new ≡ true → count + length used ≤ reply_byte_limit → ReceivesReply seq u o p (Answered (body_of new)) left
   finds_in used left new l fed frame good few =
       let whole : rest (l.text ++ used) ≡ [] = fed.stands l.text l.stands ∙ rest_whole new frame.whole in
-      let size : length (l.text ++ used) ≤ limit = rw length-append (omega (arith, l.counted)) in
+      let size : length (l.text ++ used) ≤ reply_byte_limit = rw length-append (omega (arith, l.counted)) in
       gives (l.text ++ used) left (Answered (body_of new)) l
       (l.all_heard ∙ ap on_tape (sym (append_assoc l.text used left)))
       (λ more. search (rules, answer_found, now_found))
 
   pub finds : {held : List ℕ} {count : ℕ} {left : List ℕ} {p : LinkState} (n : ℕ) (new_left new : List ℕ) (what : Event)
       → Listening seq u o held count left p → ReadOn left new_left n held new what
-      → (what ≡ event.Frame) × HoldsFrame new × (is_answer seq new ≡ true) → count + n ≤ limit
-      → Hears seq u o p (Answered (body_of new)) new_left
+      → (what ≡ event.Frame) × HoldsFrame new × (is_answer seq new ≡ true) → count + n ≤ reply_byte_limit
+      → ReceivesReply seq u o p (Answered (body_of new)) new_left
   finds n new_left new what l read is few =
       finds_in read.0 new_left new (rw read.2 at l) (rw is.0 at read.3) is.1 is.2 (omega (arith, read.1))
 
   pub babbles : {held : List ℕ} {count : ℕ} {left : List ℕ} {p : LinkState}
-      → Listening seq u o held count left p → count ≡ limit → Hears seq u o p Babbled left
+      → Listening seq u o held count left p → count ≡ reply_byte_limit → ReceivesReply seq u o p Babbled left
   babbles {left = left} l full = grind (arith, common_steps, answer_babbled)

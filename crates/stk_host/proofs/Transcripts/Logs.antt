@@ -5,10 +5,10 @@ use Rattle.stk_host.specs.declared.log.Mark.{Mark}
 use Rattle.stk_host.specs.declared.log.Mark.TheVariants as mark
 use Rattle.stk_host.specs.declared.link.Heard.{Heard}
 use Rattle.stk_host.specs.declared.link.Heard.TheVariants as heard
-use Rattle.stk_host.specs.Tape.{on_tape, bytes_of}
+use Rattle.stk_host.specs.Tape.{on_tape, bytes_on_tape}
 use Rattle.stk_host.specs.Transcript as transcript
 use Rattle.stk_host.specs.Transcript.{Transcript, Got, FitsBuffer, items_of, sent}
-use Rattle.stk_host.specs.Log.{byte_count, transcript_of, out_count, back_count}
+use Rattle.stk_host.specs.Log.{heard_byte_count, transcript_of, sent_count, received_count}
 use Rattle.stk_host.proofs.Tapes.Answers.{bytes_of_append, bytes_of_on_tape}
 
 drop_prefix : (n : ℕ) (xs ys : List ℕ) → n ≤ length xs → drop n (xs ++ ys) ≡ drop n xs ++ ys
@@ -17,8 +17,8 @@ drop_prefix (suc n) [] ys le = absurd (omega arith)
 drop_prefix (suc n) (x ∷ xs) ys le = drop_prefix n xs ys (omega arith)
 
 -- what the new mark and its bytes add
-pub log_more : (marks : List Mark) (out back more_out more_back : List ℕ) (m : Mark) → out_count marks ≡ length out
-    → back_count marks ≡ length back
+pub log_more : (marks : List Mark) (out back more_out more_back : List ℕ) (m : Mark) → sent_count marks ≡ length out
+    → received_count marks ≡ length back
     → transcript_of (marks ++ m ∷ []) (out ++ more_out) (back ++ more_back)
     ≡ transcript_of marks out back ++ transcript_of (m ∷ []) more_out more_back
 log_more [] [] [] more_out more_back m o b = refl
@@ -45,26 +45,26 @@ log_more (mark.Heard heard.Silence ∷ marks) out back more_out more_back m o b 
 log_more (mark.Heard heard.End ∷ marks) out back more_out more_back m o b =
     ap (λ t. Got (items_of heard.End []) ∷ t) (log_more marks out back more_out more_back m o (omega (arith, b)))
 
-pub out_more : (marks : List Mark) (m : Mark) → out_count (marks ++ m ∷ []) ≡ out_count marks + out_count (m ∷ [])
+pub out_more : (marks : List Mark) (m : Mark) → sent_count (marks ++ m ∷ []) ≡ sent_count marks + sent_count (m ∷ [])
 out_more [] m = omega arith
 out_more (mark.Sent n ∷ marks) m = omega (arith, out_more marks m)
 out_more (other ∷ marks) m = out_more marks m
 
-pub back_more : (marks : List Mark) (m : Mark) → back_count (marks ++ m ∷ []) ≡ back_count marks + back_count (m ∷ [])
+pub back_more : (marks : List Mark) (m : Mark) → received_count (marks ++ m ∷ []) ≡ received_count marks + received_count (m ∷ [])
 back_more [] m = omega arith
 back_more (mark.Heard h ∷ marks) m = omega (arith, back_more marks m)
 back_more (other ∷ marks) m = back_more marks m
 
-pub sent_in : (marks : List Mark) (out back : List ℕ) → out_count marks ≡ length out
+pub sent_in : (marks : List Mark) (out back : List ℕ) → sent_count marks ≡ length out
     → sent (transcript_of marks out back) ≡ out
 sent_in [] [] back o = refl
 sent_in [] (x ∷ out) back o = absurd (omega arith)
 sent_in (mark.Sent n ∷ marks) out back o =
     rw (sent_in marks (drop n out) back (rw length-drop (omega arith))) (take-append-drop n out)
-sent_in (mark.Heard h ∷ marks) out back o = sent_in marks out (drop (byte_count h) back) o
+sent_in (mark.Heard h ∷ marks) out back o = sent_in marks out (drop (heard_byte_count h) back) o
 
-pub heard_in : (marks : List Mark) (out back : List ℕ) → back_count marks ≡ length back
-    → bytes_of (transcript.heard (transcript_of marks out back)) ≡ back
+pub heard_in : (marks : List Mark) (out back : List ℕ) → received_count marks ≡ length back
+    → bytes_on_tape (transcript.heard (transcript_of marks out back)) ≡ back
 heard_in [] out [] b = refl
 heard_in [] out (x ∷ back) b = absurd (omega arith)
 heard_in (mark.Sent n ∷ marks) out back b = heard_in marks (drop n out) back b
@@ -77,21 +77,21 @@ heard_in (mark.Heard heard.End ∷ marks) out back b = heard_in marks out back (
 
 -- what was received is what is kept of the buffer
 pub items_received : (h : Heard) (buffer : List ℕ) → FitsBuffer h (length buffer)
-    → items_of h (take (byte_count h) buffer) ≡ items_of h buffer
+    → items_of h (take (heard_byte_count h) buffer) ≡ items_of h buffer
 items_received h buffer fits = search (rules, take_all)
 
 pub count_received : (h : Heard) (buffer : List ℕ) → FitsBuffer h (length buffer)
-    → back_count (mark.Heard h ∷ []) ≡ length (take (byte_count h) buffer)
+    → received_count (mark.Heard h ∷ []) ≡ length (take (heard_byte_count h) buffer)
 count_received h buffer fits = search rules
 
 -- the whole log, as the code goes on: this mark and these bytes are new
 module _ (marks new_marks : List Mark) (out new_out back new_back x y : List ℕ) (m : Mark)
-    (o : out_count marks ≡ length out) (b : back_count marks ≡ length back) (marks_are : new_marks ≡ marks ++ m ∷ [])
+    (o : sent_count marks ≡ length out) (b : received_count marks ≡ length back) (marks_are : new_marks ≡ marks ++ m ∷ [])
     (out_is : new_out ≡ out ++ x) (back_is : new_back ≡ back ++ y) where
   pub log_adds : (old : Transcript) → transcript_of marks out back ≡ old
       → transcript_of new_marks new_out new_back ≡ old ++ transcript_of (m ∷ []) x y
   log_adds old view = search (rules, log_more)
 
-  pub counts_more : out_count (m ∷ []) ≡ length x → back_count (m ∷ []) ≡ length y
-      → (out_count new_marks ≡ length new_out) × (back_count new_marks ≡ length new_back)
+  pub counts_more : sent_count (m ∷ []) ≡ length x → received_count (m ∷ []) ≡ length y
+      → (sent_count new_marks ≡ length new_out) × (received_count new_marks ≡ length new_back)
   counts_more mo mb = search (rules, length-append, out_more, back_more)

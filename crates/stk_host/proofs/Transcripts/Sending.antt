@@ -4,27 +4,27 @@ use Rattle.std.proofs.Common.{◌≡◌, ℕ, ◌+◌, ◌-◌, ◌<◌, ◌≤�
 use Rattle.std.proofs.lemmas.List.{drop-take, drop-drop, take-append-drop, length-take, length-drop, take_all}
 use Rattle.std.proofs.Math.Seq.{take-add}
 use Rattle.std.specs.Prelude.{slice_range}
-use Rattle.ghosts.specs.Failures.{HasRisen}
-use Rattle.stk_host.specs.Transcript.{Transcript, LinkState, Sent, NoneTaken, IsTaken, TakesPart, sent, Grows, LinkCounts}
-use Rattle.stk_host.specs.Reach.{Says, SaysPart}
+use Rattle.ghosts.specs.Failures.{OneFailureCounted}
+use Rattle.stk_host.specs.Transcript.{Transcript, LinkState, Sent, NoneTaken, IsNothingOrTaken, TakesPart, sent, Grows, LinkCounts}
+use Rattle.stk_host.specs.Reach.{SendsExactly, SendsOnlyPart}
 use Rattle.stk_host.proofs.Transcripts.Laws.{sent_append, grows_on, quiet_append, taken_quiet, none_append, none_behind}
 
-pub says_more : (x y : List ℕ) (o p q : Transcript) → Says x o p → Grows p (Sent y ∷ []) q → Says (x ++ y) o q
+pub says_more : (x y : List ℕ) (o p q : Transcript) → SendsExactly x o p → Grows p (Sent y ∷ []) q → SendsExactly (x ++ y) o q
 says_more x y o p q says g = grind (arith, common_steps, quiet_append, none_append, sent_append)
 
 -- one more part
-pub says_part : (bytes : List ℕ) (n m : ℕ) (part : List ℕ) (o p q : Transcript) → Says (take n bytes) o p
-    → part ≡ drop n bytes → Grows p (Sent (take m part) ∷ []) q → Says (take (n + m) bytes) o q
+pub says_part : (bytes : List ℕ) (n m : ℕ) (part : List ℕ) (o p q : Transcript) → SendsExactly (take n bytes) o p
+    → part ≡ drop n bytes → Grows p (Sent (take m part) ∷ []) q → SendsExactly (take (n + m) bytes) o q
 says_part bytes n m part o p q says is g = search (rules, take-add, says_more)
 
 -- what a failed send didn't take
-some_unsent : (last : Transcript) (bytes unsent : List ℕ) → IsTaken last → NoneTaken last
+some_unsent : (last : Transcript) (bytes unsent : List ℕ) → IsNothingOrTaken last → NoneTaken last
     → bytes ≡ sent last ++ unsent → 0 < length bytes → 0 < length unsent
 some_unsent last bytes unsent taken none is some = search rules
 
 -- the first `n` bytes were sent, and the send of the others failed
 pub part_of : (bytes : List ℕ) (n : ℕ) (part : List ℕ) (o p q : Transcript) → n < length bytes
-    → Says (take n bytes) o p → part ≡ drop n bytes → TakesPart part p q → SaysPart bytes o q
+    → SendsExactly (take n bytes) o p → part ≡ drop n bytes → TakesPart part p q → SendsOnlyPart bytes o q
 part_of bytes n part o p q few says is t =
     let some : 0 < length part = rw (is, length-drop) (omega arith) in
     record {
@@ -52,7 +52,7 @@ takes_first bytes n old new t =
 
 -- a link that has failed since an earlier time with the same count
 pub fails_since : {A E : Type 0} (a c : LinkState) (count : ℕ) (error : E) → count ≡ a.failures → count ≤ c.failures
-    → HasRisen count c.failures → LinkCounts {A = A} a c (Err error)
+    → OneFailureCounted count c.failures → LinkCounts {A = A} a c (Err error)
 fails_since a c count error same counted failed = search rules
 
 -- the rest of a range after its first places

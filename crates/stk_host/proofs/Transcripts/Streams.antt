@@ -3,7 +3,7 @@ use Rattle.std.proofs.Common.{◌≡◌, ℕ, List, [], ◌∷◌, ◌++◌, ◌
 use Rattle.std.proofs.KnownBytes.{Appends-nil, Appends-kept}
 use Rattle.std.specs.Io.KnownBytes.{Keeps, Appends}
 use Rattle.stk_host.specs.declared.link.Heard.{Heard}
-use Rattle.stk_host.specs.Links.{StreamState, IsTrueSince, TakesKnown, HearsKnown}
+use Rattle.stk_host.specs.Links.{StreamState, IsTrueSince, TakesKnownBytes, ReceivesKnownBytes}
 use Rattle.stk_host.specs.Transcript.{Transcript, Sent, Taken, Got, items_of}
 use Rattle.stk_host.proofs.Transcripts.Laws.{sent_append, heard_append}
 use Rattle.stk_host.proofs.Tapes.Answers.{bytes_of_append, bytes_of_on_tape}
@@ -11,7 +11,7 @@ use Rattle.stk_host.proofs.Tapes.Answers.{bytes_of_append, bytes_of_on_tape}
 -- the writer took the first bytes and nothing more, and the send failed
 pub takes_known : (bytes : List ℕ) (n : ℕ) (before now : Transcript) (a b c : Option (List ℕ))
     → now ≡ before ++ Taken (take n bytes) ∷ [] → Appends a b (take n bytes) → Keeps b c
-    → TakesKnown bytes before now a c
+    → TakesKnownBytes bytes before now a c
 takes_known bytes n before now a b c is took keeps = record {
   takes = record {
     last = Taken (take n bytes) ∷ [];
@@ -25,7 +25,7 @@ takes_known bytes n before now a b c is took keeps = record {
 
 -- it took nothing
 pub takes_nothing : (bytes : List ℕ) (before now : Transcript) (a b : Option (List ℕ)) → now ≡ before → Keeps a b
-    → TakesKnown bytes before now a b
+    → TakesKnownBytes bytes before now a b
 takes_nothing bytes before now a b is keeps = record {
   takes = record { last = []; is_taken = tt; unsent = bytes; bytes_are = refl; grows = is ∙ sym (append-nil before) };
   took = Appends-kept a a b [] (Appends-nil a) keeps;
@@ -45,13 +45,13 @@ module _ {R W : Type 0} (remaining : R → Option (List ℕ)) (contents : W → 
   true_of_sent a b bytes reader failures transcript took = search rules
 
   pub true_of_taken : (a b : StreamState R W) (bytes : List ℕ) → b.reader ≡ a.reader → a.failures ≤ b.failures
-      → TakesKnown bytes a.transcript b.transcript (contents a.writer) (contents b.writer)
+      → TakesKnownBytes bytes a.transcript b.transcript (contents a.writer) (contents b.writer)
       → IsTrueSince remaining contents a b
   true_of_taken a b bytes reader failures t = search rules
 
   pub true_of_heard : (a b : StreamState R W) (h : Heard) (buffer : List ℕ) → b.writer ≡ a.writer
       → b.failures ≡ a.failures
       → b.transcript ≡ a.transcript ++ Got (items_of h buffer) ∷ []
-      → HearsKnown h buffer (remaining a.reader) (remaining b.reader)
+      → ReceivesKnownBytes h buffer (remaining a.reader) (remaining b.reader)
       → IsTrueSince remaining contents a b
   true_of_heard a b h buffer writer failures transcript given = search (rules, bytes_of_on_tape)

@@ -1,14 +1,14 @@
 use Rattle.std.proofs.Common.{◌≡◌, ◌≤◌, ◌-◌, ◌+◌, length, false}
 use Rattle.avr_desk.specs.Fault.{HasSameCounts}
 use Rattle.avr_desk.specs.Files.{with_read}
-use Rattle.ghosts.specs.Stays.{Stays}
+use Rattle.ghosts.specs.Preserves.{Preserves}
 use Rattle.avr_desk.proofs.files.read_file.Given as goal
 
 abbrev pub invariant-pieces : goal.invariant-pieces
 invariant-pieces g l = record {
   read : (g.D.Desk.view l.desk).kept ≡ with_read l.fn.name l.bytes false (g.D.Desk.view l.fn.desk).kept;
   counted : HasSameCounts (g.D.Desk.view l.fn.desk) (g.D.Desk.view l.desk);
-  stays : Stays g.D.Desk.comes_of l.fn.desk l.desk;
+  stays : Preserves g.D.Desk.started_as l.fn.desk l.desk;
   bound : length l.bytes ≤ l.limit + 4096;
 }
 

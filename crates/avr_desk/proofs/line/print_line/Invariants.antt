@@ -2,7 +2,7 @@ use Rattle.std.proofs.Common.{◌≡◌, ◌++◌, take}
 use Rattle.avr_desk.specs.Fault.{HasSameCounts}
 use Rattle.avr_desk.specs.Record.{after_err}
 use Rattle.avr_desk.proofs.Lines.Pieces.{all_text}
-use Rattle.ghosts.specs.Stays.{Stays}
+use Rattle.ghosts.specs.Preserves.{Preserves}
 use Rattle.avr_desk.proofs.line.print_line.Given as goal
 
 abbrev pub invariant-loop-piece : goal.invariant-loop-piece
@@ -10,5 +10,5 @@ invariant-loop-piece g l = record {
   sent : (g.D.Desk.view l.desk).kept ≡ after_err (l.fn.mark ++ all_text (take l.piece-index l.pieces))
       (g.D.Desk.view l.fn.desk).kept;
   counted : HasSameCounts (g.D.Desk.view l.fn.desk) (g.D.Desk.view l.desk);
-  stays : Stays g.D.Desk.comes_of l.fn.desk l.desk;
+  stays : Preserves g.D.Desk.started_as l.fn.desk l.desk;
 }

@@ -1,4 +1,4 @@
-use Rattle.avr_tool.proofs.AnyLine.PageWriteOrder.{session_makes}
+use Rattle.avr_tool.proofs.OverFaultyLink.WriteOperationOrder.{session_makes}
 use Rattle.avr_laws.proofs.any_line.a_run_makes_its_page_writes_in_order.Goals as goal
 
 pub returns : goal.returns

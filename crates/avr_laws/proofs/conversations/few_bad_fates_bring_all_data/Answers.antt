@@ -1,5 +1,5 @@
 use Rattle.std.proofs.Common.{rules}
-use Rattle.avr_laws.proofs.FewBad.Turns.{good_few, four_too_many, second_too_many, three_of_six, few_left, step_comes, play_few}
+use Rattle.avr_laws.proofs.FewBad.Exchanges.{good_few, four_too_many, second_too_many, three_of_six, few_left, step_comes, play_few}
 use Rattle.avr_laws.proofs.conversations.few_bad_fates_bring_all_data.Goals as goal
 
 pub returns-clause-step : goal.returns-clause-step

@@ -1,4 +1,4 @@
-use Rattle.avr_desk.specs.Shown.{shown_state}
+use Rattle.avr_desk.specs.Shown.{system_desk_view}
 use Rattle.avr_session.specs.Runs.{devices}
 use Rattle.avr_tool.specs.Sockets.{peers_of}
 use Rattle.stk_host.specs.Links.{stream_state}
@@ -9,6 +9,6 @@ pub returns-clause-plan : goal.returns-clause-plan
 returns-clause-plan g c = λ zero silent.
     words_kept g.C.CommandLine
     (peers_of g.N.Network g.N.Listener.Callers g.N.Stream.Read g.N.Stream.Write g.N.Stream.Side.closed)
-    (devices (stream_state c.args.link.now) (shown_state c.args.desk.now))
-    (devices (stream_state c.run_command_line.new.link) (shown_state c.run_command_line.new.desk))
+    (devices (stream_state c.args.link.now) (system_desk_view c.args.desk.now))
+    (devices (stream_state c.run_command_line.new.link) (system_desk_view c.run_command_line.new.desk))
     c.run_command_line.result c.run_command_line.ensures.starts zero silent

@@ -1,7 +1,7 @@
 use Rattle.std.proofs.Common.{◌≡◌, ◌≤◌, ◌-◌, length, false}
 use Rattle.avr_desk.specs.Fault.{HasSameCounts}
 use Rattle.avr_desk.specs.Files.{after_reading}
-use Rattle.ghosts.specs.Stays.{Stays}
+use Rattle.ghosts.specs.Preserves.{Preserves}
 use Rattle.avr_plan.proofs.image_file.read_first_bytes.Given as goal
 
 abbrev pub invariant-prefix : goal.invariant-prefix
@@ -9,7 +9,7 @@ invariant-prefix g l = record {
   read : (g.D.Desk.view l.desk).kept ≡ after_reading l.bytes.items false (g.D.Desk.view l.initial.desk).kept;
   same : HasSameCounts (g.D.Desk.view l.initial.desk) (g.D.Desk.view l.desk);
   bound : length l.bytes.items ≤ 1024;
-  stays : Stays g.D.Desk.comes_of l.initial.desk l.desk;
+  stays : Preserves g.D.Desk.started_as l.initial.desk l.desk;
 }
 
 abbrev pub decreases-prefix : goal.decreases-prefix

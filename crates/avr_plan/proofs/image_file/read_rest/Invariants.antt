@@ -1,16 +1,16 @@
 use Rattle.std.proofs.Common.{◌≤◌, ◌+◌}
 use Rattle.avr_desk.specs.Fault.{HasSameCounts}
-use Rattle.avr_plan.specs.ImageReading.{Going}
+use Rattle.avr_plan.specs.ImageReading.{FedSoFar}
 use Rattle.avr_plan.specs.Intake.{fed_count}
-use Rattle.ghosts.specs.Stays.{Stays}
+use Rattle.ghosts.specs.Preserves.{Preserves}
 use Rattle.avr_plan.proofs.image_file.read_rest.Given as goal
 
 abbrev pub invariant-pieces : goal.invariant-pieces
 invariant-pieces g l = record {
-  going : Going (g.D.Desk.view l.initial.desk) (g.D.Desk.view l.desk) l.initial.intake l.intake l.initial.left l.left;
+  going : FedSoFar (g.D.Desk.view l.initial.desk) (g.D.Desk.view l.desk) l.initial.intake l.intake l.initial.left l.left;
   same : HasSameCounts (g.D.Desk.view l.initial.desk) (g.D.Desk.view l.desk);
   room : fed_count l.intake + l.left ≤ fed_count l.initial.intake + l.initial.left;
-  stays : Stays g.D.Desk.comes_of l.initial.desk l.desk;
+  stays : Preserves g.D.Desk.started_as l.initial.desk l.desk;
 }
 
 abbrev pub decreases-pieces : goal.decreases-pieces

@@ -1,5 +1,5 @@
 use Rattle.std.proofs.Common.{sym, ap, false}
-use Rattle.avr_desk.specs.Playing.{AtStart}
+use Rattle.avr_desk.specs.Playing.{OnlyAtStart}
 use Rattle.avr_plan.specs.Lines.{no_part_line}
 use Rattle.avr_plan.specs.Planning.{part_or_line}
 use Rattle.avr_desk.proofs.Stages.Played.{went_settled, goes_unsettled}
@@ -10,5 +10,5 @@ returns-in-Ok-clause-goes g c = went_settled _ _ _ (ap (part_or_line _) (sym c.i
 
 pub returns-in-Err-clause-goes : goal.returns-in-Err-clause-goes
 returns-in-Err-clause-goes g c =
-    goes_unsettled (AtStart false) _ (no_part_line _) _ _ _ (ap (part_or_line _) (sym c.in-Err.ensures.value))
+    goes_unsettled (OnlyAtStart false) _ (no_part_line _) _ _ _ (ap (part_or_line _) (sym c.in-Err.ensures.value))
     c.refuse.ensures.status (rw c.no_part_message.ensures at c.refuse.ensures.told)

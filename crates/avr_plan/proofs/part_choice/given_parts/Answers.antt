@@ -1,11 +1,11 @@
 use Rattle.std.proofs.Common.{refl, Ok, [], false, rules}
-use Rattle.avr_desk.specs.Playing.{AtStart}
+use Rattle.avr_desk.specs.Playing.{OnlyAtStart}
 use Rattle.avr_plan.specs.declared.part_choice.TheConstants.{LARGEST_PART_FILE}
 use Rattle.avr_plan.proofs.Stages.Parts.{went_parts, goes_bad_parts, goes_long_parts}
 use Rattle.avr_desk.proofs.Stages.Files.{goes_file_fault}
 use Rattle.avr_desk.proofs.Stages.Openings.{breaks_as, counted_as}
 use Rattle.avr_desk.proofs.Stages.Played.{went_settled}
-use Rattle.avr_plan.specs.Planning.{judged_parts}
+use Rattle.avr_plan.specs.Planning.{checked_parts}
 use Rattle.avr_plan.proofs.part_choice.given_parts.Goals as goal
 
 pub returns-in_default-clause-goes : goal.returns-in_default-clause-goes
@@ -13,7 +13,7 @@ returns-in_default-clause-goes g c = rw (c.in_default.is, c.none.ensures) (went_
 
 pub returns-in-Err-clause-goes : goal.returns-in-Err-clause-goes
 returns-in-Err-clause-goes g c =
-    rw (c.in-Some.is, ← c.as_str-file.ensures) (goes_file_fault (AtStart false) _ LARGEST_PART_FILE (judged_parts _)
+    rw (c.in-Some.is, ← c.as_str-file.ensures) (goes_file_fault (OnlyAtStart false) _ LARGEST_PART_FILE (checked_parts _)
     _ _ _ _ _ (breaks_as _ _ _ _ c.in-Err.ensures.kept) c.in-Err.ensures.counts.0
     (counted_as _ _ _ _ _ c.in-Err.ensures.counts) refl (rw c.file_message.ensures at c.refuse.ensures.told))
 

@@ -5,7 +5,7 @@ use Rattle.std.proofs.lemmas.List.{drop_more, drop_all}
 use Rattle.std.proofs.lemmas.List.Elements.{All-append}
 use Rattle.std.proofs.lemmas.Option.{slice_get-get_or}
 use Rattle.avr_cli.specs.declared.update.Update.{Update}
-use Rattle.avr_desk.proofs.Stages.Played.{went_nowhere}
+use Rattle.avr_desk.proofs.Stages.Played.{completed_without_events}
 use Rattle.avr_plan.proofs.Stages.Tasks.{goes_with_next, goes_without_next, all_one}
 use Rattle.avr_plan.proofs.planning.update_tasks.Goals as goal
 
@@ -27,4 +27,4 @@ returns-in-Err-clause-told g c = search (rules, slice_get, slice_get-get_or, fau
 
 pub returns-clause-goes : goal.returns-clause-goes
 returns-clause-goes g c =
-    search (rules, drop_all, went_nowhere, c.loop-update-test.false, c.of.ensures, c.loop-update.invariant.goes)
+    search (rules, drop_all, completed_without_events, c.loop-update-test.false, c.of.ensures, c.loop-update.invariant.goes)

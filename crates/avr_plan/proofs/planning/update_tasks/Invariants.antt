@@ -3,22 +3,22 @@ use Rattle.avr_desk.specs.Fault.{HasSameCounts}
 use Rattle.avr_desk.specs.Record.{DeskState}
 use Rattle.avr_plan.specs.Plan.{IsFitted}
 use Rattle.avr_plan.specs.Planning.{tasks_stage}
-use Rattle.avr_plan.specs.Taking.{AtTask}
-use Rattle.avr_desk.specs.Playing.{Goes}
+use Rattle.avr_plan.specs.AllocationPoints.{AtAllocatingTask}
+use Rattle.avr_desk.specs.Playing.{RunsStage}
 use Rattle.avr_plan.specs.declared.planned.Task.{Task}
-use Rattle.ghosts.specs.Stays.{Stays}
+use Rattle.ghosts.specs.Preserves.{Preserves}
 use Rattle.avr_plan.proofs.planning.update_tasks.Given as goal
 
 -- the outcome of the remaining updates is that of all of them
 abbrev pub invariant-loop-update : goal.invariant-loop-update
 invariant-loop-update g l = record {
   goes : (new : DeskState) (result : Result (List Task) ℕ)
-      → Goes (AtTask l.switches l.part l.tasks.items (drop l.update-index l.updates))
+      → RunsStage (AtAllocatingTask l.switches l.part l.tasks.items (drop l.update-index l.updates))
       (tasks_stage l.switches l.part l.tasks.items (drop l.update-index l.updates)) (g.D.Desk.view l.desk) new result
-      → Goes (AtTask l.switches l.part [] l.updates) (tasks_stage l.switches l.part [] l.updates)
+      → RunsStage (AtAllocatingTask l.switches l.part [] l.updates) (tasks_stage l.switches l.part [] l.updates)
       (g.D.Desk.view l.initial.desk) new result;
   fitted : All (IsFitted l.part) l.tasks.items;
   counts : HasSameCounts (g.D.Desk.view l.initial.desk) (g.D.Desk.view l.desk);
   placed : length l.tasks.items ≡ l.update-index;
-  stays : Stays g.D.Desk.comes_of l.initial.desk l.desk;
+  stays : Preserves g.D.Desk.started_as l.initial.desk l.desk;
 }

@@ -6,8 +6,8 @@ use Rattle.avr_records_c.proofs.memory.row_end.Goals as goal
 pub row-preserved : goal.row-preserved
 row-preserved c = search (rules, run-there)
 
-pub returns-else-is_there : goal.returns-else-is_there
-returns-else-is_there c = search (rules, run-gap)
+pub returns-else-is_marked : goal.returns-else-is_marked
+returns-else-is_marked c = search (rules, run-gap)
 
 pub returns-after-row : goal.returns-after-row
 returns-after-row c = search (rules, cases_lt, run-past)

@@ -1,5 +1,5 @@
 use Rattle.std.proofs.Common.{◌≡◌, ◌+◌, ◌-◌, ◌≤◌, length, drop}
-use Rattle.avr_image.specs.Runs.{lead}
+use Rattle.avr_image.specs.Runs.{leading_run}
 use Rattle.avr_records_c.specs.Bitmap.{image_of}
 use Rattle.avr_records_c.proofs.memory.row_end.Given as goal
 
@@ -8,8 +8,8 @@ invariant-row l = record {
   rises : l.addr ≤ l.end;
   bound : l.end ≤ l.stop;
   run :
-      l.addr + length (lead (drop l.addr (image_of l.present l.bytes)))
-      ≡ l.end + length (lead (drop l.end (image_of l.present l.bytes)));
+      l.addr + length (leading_run (drop l.addr (image_of l.present l.bytes)))
+      ≡ l.end + length (leading_run (drop l.end (image_of l.present l.bytes)));
 }
 
 abbrev pub decreases-row : goal.decreases-row

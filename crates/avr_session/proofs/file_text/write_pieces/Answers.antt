@@ -1,12 +1,12 @@
 use Rattle.std.proofs.Common.{◌∙◌, ap, sym, subst, refl, arith, ◌≡◌, ◌<◌, ◌≤◌, ◌+◌, ℕ, List, [], ◌∷◌, ◌++◌, length, append_assoc, append-nil, Result, Ok, Err, IsOk, OnOk, OnErr, IsTrue, Bool, true, false, rules}
 use Rattle.std.proofs.lemmas.Result.{err_from_is_err_and}
 use Rattle.avr_desk.specs.Fault.{HasSameCounts}
-use Rattle.avr_desk.specs.Record.{Passes, Record, showing}
+use Rattle.avr_desk.specs.Record.{ChangesRecord, Record, showing}
 use Rattle.avr_desk.specs.Stream.{after_sent, SendsPart}
 use Rattle.avr_desk.specs.declared.desk.DeskFault.{DeskFault}
 use Rattle.avr_desk.specs.declared.stream.Stream.{Stream}
 use Rattle.avr_desk.proofs.Lines.SentBytes.{sent_next, sent_next_part, sent_none}
-use Rattle.ghosts.specs.Stays.{Stays}
+use Rattle.ghosts.specs.Preserves.{Preserves}
 use Rattle.avr_session.proofs.file_text.write_pieces.Goals as goal
 use Rattle.avr_session.proofs.file_text.write_pieces.Goals.{then-len-remaining_capacity+in_ok-write_all, else-len-remaining_capacity}
 
@@ -48,8 +48,8 @@ pieces-preserved g c =
     let j = c.if-len-remaining_capacity in
     let view = g.D.Desk.view in
     let w : (sent : List ℕ) × ((c.pieces.waiting.items ≡ sent ++ j.waiting.items)
-    × Passes (after_sent c.args.stream sent) (view c.pieces.desk) (view j.desk)
-    × HasSameCounts (view c.pieces.desk) (view j.desk) × Stays g.D.Desk.comes_of c.pieces.desk j.desk
+    × ChangesRecord (after_sent c.args.stream sent) (view c.pieces.desk) (view j.desk)
+    × HasSameCounts (view c.pieces.desk) (view j.desk) × Preserves g.D.Desk.started_as c.pieces.desk j.desk
     × (length j.waiting.items + length c.next_piece.new.out.items ≤ 4096)) = elim j.branch [
       | then-len-remaining_capacity+in_ok-write_all w ↦ rw (w.desk-is, w.waiting-is, w.clear.ensures)
           (c.pieces.waiting.items, search (rules, append-nil, w.as_slice.ensures.value, w.in_ok-write_all.ensures))

@@ -1,7 +1,7 @@
 use Rattle.std.proofs.Common.{[], ◌∷◌, rules}
 use Rattle.std.proofs.lemmas.Result.{err_from_is_err_and}
 use Rattle.stk_host.specs.declared.fault.HostFault.TheVariants.{WrongSignature}
-use Rattle.avr_desk.specs.Said.{Line}
+use Rattle.avr_desk.specs.OutputEvents.{PrintsLine}
 use Rattle.avr_session.specs.Lines.{fault_line}
 use Rattle.avr_session.specs.Session.{warns_of_signature}
 use Rattle.avr_session.proofs.ActionByAction.Reports.{reports_then, prints_until}
@@ -25,7 +25,7 @@ pub returns-in_ok-report_found-in-Err-WrongSignature : goal.returns-in_ok-report
 returns-in_ok-report_found-in-Err-WrongSignature g c =
     let printed = reports_then g.D.Desk _ _ _
     (rw c.switches-quiet.ensures at c.in_ok-report_found-in-Err-WrongSignature.ensures)
-    (rw c.part-in-Err-WrongSignature.ensures at c.tell_fault.ensures) in
+    (rw c.part-in-Err-WrongSignature.ensures at c.report_fault.ensures) in
     search rules
 
 pub returns-in_err-report_found-in-Err-WrongSignature : goal.returns-in_err-report_found-in-Err-WrongSignature
@@ -33,6 +33,6 @@ returns-in_err-report_found-in-Err-WrongSignature g c =
     let p = err_from_is_err_and c.from_residual-in_err-report_found-in-Err-WrongSignature.result
     c.from_residual-in_err-report_found-in-Err-WrongSignature.ensures.1 in
     let fault = WrongSignature c.in-Err-WrongSignature.found in
-    let printed = prints_until g.D.Desk _ (Line (fault_line c.args.plan.now.part fault) ∷ []) _
+    let printed = prints_until g.D.Desk _ (PrintsLine (fault_line c.args.plan.now.part fault) ∷ []) _
     (rw c.switches-quiet.ensures at c.in_err-report_found-in-Err-WrongSignature.ensures) in
     rw (p.1, p.2) (search rules)

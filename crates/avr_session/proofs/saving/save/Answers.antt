@@ -1,5 +1,5 @@
 use Rattle.std.proofs.Common.{◌∙◌, sym, [], ◌∷◌, refl, rules}
-use Rattle.avr_desk.specs.Said.{Writes}
+use Rattle.avr_desk.specs.OutputEvents.{WritesFile}
 use Rattle.avr_desk.specs.declared.stream.Stream.TheVariants.{File}
 use Rattle.avr_desk.proofs.Lines.Told.{failed_by, follows_on}
 use Rattle.avr_session.specs.FileText.{file_text}
@@ -31,7 +31,7 @@ returns-in-Err g c =
     let says = file_stops (SaveStops c.args.target.file.now) _ (g.D.Desk.view c.create.new.self) _ _
     c.args.target.file.now NotCreated
     (not_created _ _ c.args.target.file.now c.create.result _
-    (Writes (file_text c.args.target.format c.args.bytes.now) ∷ []) c.in-Err.is c.create.ensures.kept)
+    (WritesFile (file_text c.args.target.format c.args.bytes.now) ∷ []) c.in-Err.is c.create.ensures.kept)
     failed c.create.ensures.call.counts.0 (λ told stops. (refl, stops))
     (rw c.not_created_message.ensures at c.refuse.ensures.told) in
     let follows = follows_on (g.D.Desk.view c.args.desk.now) (g.D.Desk.view c.create.new.self)

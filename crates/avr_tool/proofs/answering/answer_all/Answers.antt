@@ -4,23 +4,23 @@ use Rattle.avr_tool.specs.Serving.{Serves}
 use Rattle.avr_tool.proofs.ReadByRead.{serves_none, serves_more, serves_within, read_answered, read_broken}
 use Rattle.avr_tool.proofs.answering.answer_all.Goals as goal
 
-pub loop-turn-init : goal.loop-turn-init
-loop-turn-init g c = search (rules, serves_none)
+pub loop-reads_done-init : goal.loop-reads_done-init
+loop-reads_done-init g c = search (rules, serves_none)
 
-pub loop-turn-preserved : goal.loop-turn-preserved
-loop-turn-preserved g c = search (rules, serves_more, read_answered)
+pub loop-reads_done-preserved : goal.loop-reads_done-preserved
+loop-reads_done-preserved g c = search (rules, serves_more, read_answered)
 
 pub returns-in_default-clause-serves : goal.returns-in_default-clause-serves
 returns-in_default-clause-serves g c =
     let grows = rw c.in-Ok-Bytes.field-0-is at c.in-Ok-Bytes.ensures.receives.ok in
-    let within : c.loop-turn.turn + 1 ≤ c.args.turns = omega arith in
+    let within : c.loop-reads_done.reads_done + 1 ≤ c.args.most_reads = omega arith in
     let one = read_broken _ _ _ _ _ _ grows c.in_default.ensures.err in
-    serves_within _ _ _ _ _ _ _ (λ e. cc) within (serves_more _ _ _ _ _ _ _ _ c.loop-turn.invariant.serves one)
+    serves_within _ _ _ _ _ _ _ (λ e. cc) within (serves_more _ _ _ _ _ _ _ _ c.loop-reads_done.invariant.serves one)
 
 pub returns-in-Ok-End-clause-serves : goal.returns-in-Ok-End-clause-serves
 returns-in-Ok-End-clause-serves g c =
     let grows = rw c.in-Ok-End.field-0-is at c.in-Ok-End.ensures.receives.ok in
-    let one : Serves c.loop-turn.emulator 1 Ended (g.L.Link.view c.loop-turn.link) (g.L.Link.view c.recv.new.self)
-    c.loop-turn.emulator = search rules in
-    let within : c.loop-turn.turn + 1 ≤ c.args.turns = omega arith in
-    serves_within _ _ _ _ _ _ _ (λ e. cc) within (serves_more _ _ _ _ _ _ _ _ c.loop-turn.invariant.serves one)
+    let one : Serves c.loop-reads_done.emulator 1 Ended (g.L.Link.view c.loop-reads_done.link) (g.L.Link.view c.recv.new.self)
+    c.loop-reads_done.emulator = search rules in
+    let within : c.loop-reads_done.reads_done + 1 ≤ c.args.most_reads = omega arith in
+    serves_within _ _ _ _ _ _ _ (λ e. cc) within (serves_more _ _ _ _ _ _ _ _ c.loop-reads_done.invariant.serves one)

@@ -1,5 +1,5 @@
 use Rattle.std.proofs.Common.{rules}
-use Rattle.avr_desk.proofs.Stages.Played.{goes_without_memory}
+use Rattle.avr_desk.proofs.Stages.Played.{runs_without_memory}
 use Rattle.avr_tool.proofs.Chips.{went_chip, goes_wrong_length}
 use Rattle.avr_tool.proofs.loading.chip_of.Goals as goal
 
@@ -13,4 +13,4 @@ returns-in-Err-BadChipFile-clause-goes g c =
     search (rules, goes_wrong_length)
 
 pub returns-in-Err : goal.returns-in-Err
-returns-in-Err g c = search (rules, goes_without_memory)
+returns-in-Err g c = search (rules, runs_without_memory)

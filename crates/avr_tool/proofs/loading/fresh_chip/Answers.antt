@@ -1,5 +1,5 @@
 use Rattle.std.proofs.Common.{rules}
-use Rattle.avr_desk.proofs.Stages.Played.{goes_without_memory}
+use Rattle.avr_desk.proofs.Stages.Played.{runs_without_memory}
 use Rattle.avr_tool.proofs.Chips.{went_fresh}
 use Rattle.avr_tool.proofs.loading.fresh_chip.Goals as goal
 
@@ -7,4 +7,4 @@ pub returns-in-Ok-clause-goes : goal.returns-in-Ok-clause-goes
 returns-in-Ok-clause-goes g c = search (rules, went_fresh)
 
 pub returns-in-Err-clause-goes : goal.returns-in-Err-clause-goes
-returns-in-Err-clause-goes g c = search (rules, goes_without_memory)
+returns-in-Err-clause-goes g c = search (rules, runs_without_memory)

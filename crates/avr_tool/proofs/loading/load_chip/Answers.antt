@@ -1,21 +1,21 @@
 use Rattle.std.proofs.Common.{refl, true, rules}
-use Rattle.avr_desk.specs.Playing.{AtStart}
+use Rattle.avr_desk.specs.Playing.{OnlyAtStart}
 use Rattle.avr_desk.specs.declared.record.Opening.TheVariants.{Absent}
-use Rattle.avr_desk.proofs.Stages.Openings.{breaks_as, counted_as, goes_opened, goes_broken}
+use Rattle.avr_desk.proofs.Stages.Openings.{breaks_as, counted_as, runs_open, runs_until_break}
 use Rattle.avr_tool.specs.Loading.{AtOpened, chip_given}
 use Rattle.avr_tool.proofs.Chips.{opened_at, goes_ended, goes_past}
 use Rattle.avr_tool.proofs.loading.load_chip.Goals as goal
 
 pub returns-in-Absent-clause-goes : goal.returns-in-Absent-clause-goes
 returns-in-Absent-clause-goes g c =
-    goes_opened (AtStart true) AtOpened c.args.file.now (chip_given c.args.part.now c.args.file.now)
+    runs_open (OnlyAtStart true) AtOpened c.args.file.now (chip_given c.args.part.now c.args.file.now)
     (Absent c.args.file.now) _ _ _ _ refl (rw c.in-Absent.is at c.in-Err.ensures.kept)
     (rw c.in-Absent.is at c.in-Err.ensures.counts).1 (opened_at (Absent c.args.file.now)) c.fresh_chip.ensures.goes
 
 pub returns-in_default-clause-goes : goal.returns-in_default-clause-goes
 returns-in_default-clause-goes g c =
     let counts = c.in-Err.ensures.counts in
-    goes_broken AtOpened c.args.file.now (chip_given c.args.part.now c.args.file.now) c.in-Err.fault _ _ _ _
+    runs_until_break AtOpened c.args.file.now (chip_given c.args.part.now c.args.file.now) c.in-Err.fault _ _ _ _
     c.in_default.not-Absent (breaks_as _ _ _ c.in-Err.fault c.in-Err.ensures.kept) counts.0
     (counted_as _ _ _ _ c.in-Err.fault counts) (search rules) (rw c.file_message.ensures at c.refuse.ensures.told)
 

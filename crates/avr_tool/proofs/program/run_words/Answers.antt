@@ -6,7 +6,7 @@ use Rattle.avr_tool.proofs.program.run_words.Goals as goal
 pub returns-in-Err-Words-clause-runs : goal.returns-in-Err-Words-clause-runs
 returns-in-Err-Words-clause-runs g c =
     let asks = rw c.in-Err-Words.field-0-is at c.in-Err-Words.ensures.asks in
-    let leaves = rw c.in-Err-Words.field-0-is at c.words_untaken.ensures.leaves in search (rules, untaken)
+    let leaves = rw c.in-Err-Words.field-0-is at c.report_allocation_only.ensures.leaves in search (rules, untaken)
 
 pub returns-in-Err-Words-clause-tells : goal.returns-in-Err-Words-clause-tells
 returns-in-Err-Words-clause-tells g c = true_now _ _ _

@@ -12,13 +12,13 @@ returns-clause-serves g c =
     record {
       served = c.answer_all-served.result;
       left = c.answer_all-served.new.emulator;
-      told_desk = g.D.Desk.view c.tell_end.new.desk;
+      reported_desk = g.D.Desk.view c.report_end.new.desk;
       serves = serves;
       in_turn = serves.in_turn (fresh_programmer c.args.chip) [] fed;
       leaves = serves.leaves (fresh_programmer c.args.chip) [] fed;
       fails = c.answer_all-served.ensures.failed;
-      told = c.tell_end.ensures.told;
-      rises = c.tell_end.ensures.follows;
+      told = c.report_end.ensures.told;
+      rises = c.report_end.ensures.follows;
       saved = rw (c.chip.ensures, c.status_of.ensures) at c.save_after.ensures.saved;
       follows = c.save_after.ensures.follows;
     }

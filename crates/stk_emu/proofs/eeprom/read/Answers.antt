@@ -12,7 +12,7 @@ loop-place-preserved c = record {
       c.spi-bytes.new.self c.loop-place.out.items c.push.new.self.items (omega arith) c.loop-place.invariant.on
       (record {
         answer = c.spi-bytes.result;
-        obeyed =
+        executed =
             c.spi-bytes.ensures
             ∙ ap (λ x. spi_of x c.loop-place.chip)
             (c.at_address.ensures ∙ ap (λ at. at_address c.args.command at 0) c.byte_at-at.ensures);

@@ -1,6 +1,6 @@
 use Rattle.std.proofs.Common.{rules, ◌≡◌, ◌<◌, ◌%◌, ◌++◌, ◌+◌, ◌-◌, ◌∙◌, refl, sym, ap, arith, length-append}
 use Rattle.std.proofs.lemmas.Bool.Decides.{nat_tests}
-use Rattle.stk_emu.specs.Programmer.{block_looks}
+use Rattle.stk_emu.specs.Programmer.{block_reads}
 use Rattle.stk_emu.proofs.Memories.Blocks.{flash_look, flash_sent}
 use Rattle.stk_emu.proofs.Memories.BlocksAtOnce.{block_is_looks, block_length}
 use Rattle.stk_emu.proofs.flash.read.Goals as goal
@@ -14,7 +14,7 @@ loop-place-preserved c = record {
       c.spi-bytes.new.self c.loop-place.out.items c.push.new.self.items (omega arith) c.loop-place.invariant.on
       (record {
         answer = c.spi-bytes.result;
-        obeyed =
+        executed =
             c.spi-bytes.ensures
             ∙ flash_sent b.wide b.command b.address c.loop-place.place c.word_at-word.result
             c.for_half.result 0 c.at_address.result c.loop-place.chip c.extend-in-loop-place.new.chip
@@ -29,7 +29,7 @@ returns-in-Some c =
     let b = c.args.block in
     let is : b.command ≡ 0x20 = grind (arith, nat_tests, c.if-block-eq-READ.true) in
     let some : 0 < c.args.count = grind (arith, nat_tests, c.if-count-ne0.true) in
-    let whole : block_looks b c.args.count c.args.chip.now ≡ (c.in-Some.bytes.now, c.extend.new.chip) =
+    let whole : block_reads b c.args.count c.args.chip.now ≡ (c.in-Some.bytes.now, c.extend.new.chip) =
     block_is_looks b.wide b.command b.address (b.address % 65536) c.args.count c.in-Some.bytes.now c.args.chip.now
     c.extend.new.chip is c.requires.address some refl c.extend.ensures c.in-Some.ensures in
     let put : c.try_extend_from_slice.new.self.items ≡ c.args.out.now.items ++ c.in-Some.bytes.now =

@@ -2,7 +2,7 @@ use Rattle.std.proofs.Common.{arith, rules, ◌-◌}
 use Rattle.std.proofs.lemmas.Result.{err_from_is_err_and}
 use Rattle.stk_host.proofs.Transcripts.Listening.{Listening, begins, heard_bytes, heard_silence, heard_end, reads_on, read_on, finds, babbles, hears_none}
 use Rattle.stk_host.proofs.listen.listen.Goals as goal
-use Rattle.stk_host.proofs.listen.listen.Goals.{then-is_empty+in_ok-hear+in-Bytes, else-is_empty}
+use Rattle.stk_host.proofs.listen.listen.Goals.{then-is_empty+in_ok-receive_piece+in-Bytes, else-is_empty}
 
 pub loop-count-init : goal.loop-count-init
 loop-count-init g c = search (rules, begins)
@@ -10,23 +10,23 @@ loop-count-init g c = search (rules, begins)
 pub returns-in-Silence : goal.returns-in-Silence
 returns-in-Silence g c =
     let hears = heard_silence c.loop-count.invariant.listening (c.is_empty.ensures.0 c.if-is_empty.true) (omega arith)
-    c.in-Silence.is c.in_ok-hear.ensures.ok in
+    c.in-Silence.is c.in_ok-receive_piece.ensures.ok in
     search rules
 
 pub returns-in-End : goal.returns-in-End
 returns-in-End g c =
     let hears = heard_end c.loop-count.invariant.listening (c.is_empty.ensures.0 c.if-is_empty.true) (omega arith)
-    c.in-End.is c.in_ok-hear.ensures.ok in
+    c.in-End.is c.in_ok-receive_piece.ensures.ok in
     search rules
 
-pub returns-in_err-hear : goal.returns-in_err-hear
-returns-in_err-hear g c = record {
+pub returns-in_err-receive_piece : goal.returns-in_err-receive_piece
+returns-in_err-receive_piece g c = record {
   ok = search rules;
   holds = search rules;
   err =
       let p = err_from_is_err_and c.from_residual.result c.from_residual.ensures.1 in
       rw p.1 (hears_none c.loop-count.invariant.listening (c.is_empty.ensures.0 c.if-is_empty.true) (omega arith)
-      c.in_err-hear.ensures.err);
+      c.in_err-receive_piece.ensures.err);
   counts = search rules;
   fits = search rules;
   comes = search rules;
@@ -37,9 +37,9 @@ returns-then-is_answer g c =
     let l : Listening c.args.seq c.args.unread.now (g.L.Link.view c.args.link.now) c.loop-count.reader
     c.loop-count.count c.if-is_empty.unread (g.L.Link.view c.if-is_empty.link) =
     elim c.if-is_empty.branch [
-      | then-is_empty+in_ok-hear+in-Bytes w ↦ rw (w.unread-is, w.link-is)
+      | then-is_empty+in_ok-receive_piece+in-Bytes w ↦ rw (w.unread-is, w.link-is)
           (heard_bytes c.loop-count.invariant.listening (c.is_empty.ensures.0 w.if-is_empty.true) (omega arith)
-          (omega (arith, w.in_ok-hear.ensures.within)) w.in-Bytes.is w.in_ok-hear.ensures.ok)
+          (omega (arith, w.in_ok-receive_piece.ensures.within)) w.in-Bytes.is w.in_ok-receive_piece.ensures.ok)
       | else-is_empty w ↦ rw (w.unread-is, w.link-is) c.loop-count.invariant.listening
     ] in
     let read = read_on _ (4096 - c.loop-count.count) _ c.prefix.ensures c.feed-used.ensures.within
@@ -53,9 +53,9 @@ loop-count-preserved g c =
     let l : Listening c.args.seq c.args.unread.now (g.L.Link.view c.args.link.now) c.loop-count.reader
     c.loop-count.count c.if-is_empty.unread (g.L.Link.view c.if-is_empty.link) =
     elim c.if-is_empty.branch [
-      | then-is_empty+in_ok-hear+in-Bytes w ↦ rw (w.unread-is, w.link-is)
+      | then-is_empty+in_ok-receive_piece+in-Bytes w ↦ rw (w.unread-is, w.link-is)
           (heard_bytes c.loop-count.invariant.listening (c.is_empty.ensures.0 w.if-is_empty.true) (omega arith)
-          (omega (arith, w.in_ok-hear.ensures.within)) w.in-Bytes.is w.in_ok-hear.ensures.ok)
+          (omega (arith, w.in_ok-receive_piece.ensures.within)) w.in-Bytes.is w.in_ok-receive_piece.ensures.ok)
       | else-is_empty w ↦ rw (w.unread-is, w.link-is) c.loop-count.invariant.listening
     ] in
     let read = read_on _ (4096 - c.loop-count.count) _ c.prefix.ensures c.feed-used.ensures.within
@@ -65,13 +65,13 @@ loop-count-preserved g c =
       fits = c.consume.ensures.fits;
       listening = reads_on _ _ _ _ l read.0 (c.is_answer.ensures.no c.if-is_answer.false);
       counted = elim c.if-is_empty.branch [
-        | then-is_empty+in_ok-hear+in-Bytes w ↦ rw w.link-is
-            (omega (arith, w.in_ok-hear.ensures.counts.sound, c.loop-count.invariant.counted))
+        | then-is_empty+in_ok-receive_piece+in-Bytes w ↦ rw w.link-is
+            (omega (arith, w.in_ok-receive_piece.ensures.counts.sound, c.loop-count.invariant.counted))
         | else-is_empty w ↦ rw w.link-is c.loop-count.invariant.counted
       ];
       comes = elim c.if-is_empty.branch [
-        | then-is_empty+in_ok-hear+in-Bytes w ↦ rw w.link-is
-            (λ start of. w.in_ok-hear.ensures.comes start (c.loop-count.invariant.comes start of))
+        | then-is_empty+in_ok-receive_piece+in-Bytes w ↦ rw w.link-is
+            (λ start of. w.in_ok-receive_piece.ensures.comes start (c.loop-count.invariant.comes start of))
         | else-is_empty w ↦ rw w.link-is c.loop-count.invariant.comes
       ];
     }

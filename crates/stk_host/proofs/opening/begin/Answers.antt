@@ -5,9 +5,9 @@ use Rattle.stk_frame.specs.declared.command.Command.TheVariants.{SignOn}
 use Rattle.stk_frame.specs.HostCommands.{enter, read_signature}
 use Rattle.stk_host.specs.Transcript.{LinkState}
 use Rattle.stk_host.specs.Dialog.{Dialog, ◌>>=◌}
-use Rattle.stk_host.specs.Play.{Progress, PlaysOver}
+use Rattle.stk_host.specs.Play.{Progress, RunsOverLink}
 use Rattle.stk_host.specs.Reach.{Reaches}
-use Rattle.stk_host.specs.Steps.{StepOutcome, if_done, step, play}
+use Rattle.stk_host.specs.Steps.{StepOutcome, unless_step_fault, step, play}
 use Rattle.stk_host.specs.ReadSteps.{signature_steps}
 use Rattle.stk_host.specs.Operations.{handshake}
 use Rattle.stk_host.proofs.Transcripts.Reached.{reaches_on}
@@ -15,17 +15,17 @@ use Rattle.stk_host.proofs.Operations.StepEnds.{stops_on, stops_there, goes_on, 
 use Rattle.stk_host.proofs.opening.begin.Goals as goal
 
 entering : Dialog ⊥ StepOutcome
-entering = step (enter ∷ []) >>= if_done (λ nothing. play signature_steps [])
+entering = step (enter ∷ []) >>= unless_step_fault (λ nothing. play signature_steps [])
 
 -- after SIGN_ON
-signed_on : {m n : Progress} {o p : LinkState} {name : List ℕ} → PlaysOver (step (SignOn ∷ [])) m o p (Ok name) n
+signed_on : {m n : Progress} {o p : LinkState} {name : List ℕ} → RunsOverLink (step (SignOn ∷ [])) m o p (Ok name) n
     → Reaches handshake m o entering n p
 unfolding handshake entering
-signed_on {name = name} f = goes_on (λ name. step (enter ∷ []) >>= if_done (λ nothing. play signature_steps [])) name f
+signed_on {name = name} f = goes_on (λ name. step (enter ∷ []) >>= unless_step_fault (λ nothing. play signature_steps [])) name f
 
 -- after ENTER
 entered : {k m n : Progress} {r o p : LinkState} {nothing : List ℕ} {command : Command} → command ≡ enter
-    → Reaches handshake k r entering m o → PlaysOver (step (command ∷ [])) m o p (Ok nothing) n
+    → Reaches handshake k r entering m o → RunsOverLink (step (command ∷ [])) m o p (Ok nothing) n
     → Reaches handshake k r (play signature_steps []) n p
 unfolding entering
 entered {nothing = nothing} is f g =
@@ -37,7 +37,7 @@ returns-in_err-step g c =
     let p = err_from_is_err_and c.from_residual.result c.from_residual.ensures.1 in
     rw (p.1, p.2) (
     let played = stops_there (step (SignOn ∷ []))
-    (λ name. step (enter ∷ []) >>= if_done (λ nothing. play signature_steps [])) _ _ _ _ _
+    (λ name. step (enter ∷ []) >>= unless_step_fault (λ nothing. play signature_steps [])) _ _ _ _ _
     c.in_err-step.ensures.asks.played in
     search rules)
 

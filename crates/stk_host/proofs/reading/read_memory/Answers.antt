@@ -13,7 +13,7 @@ read_step-requires-clause-room g c = search (rules, brings_more)
 
 pub read_step-requires-clause-sized : goal.read_step-requires-clause-sized
 read_step-requires-clause-sized g c =
-    rw (c.load_at-first.ensures, c.read_at-last.ensures) (sized_read c.args.part.now c.args.mem c.loop-number.number)
+    rw (c.load_command_at-first.ensures, c.read_command_at-last.ensures) (sized_read c.args.part.now c.args.mem c.loop-number.number)
 
 pub returns-in_err-read_step-clause-is : goal.returns-in_err-read_step-clause-is
 returns-in_err-read_step-clause-is g c =
@@ -21,8 +21,8 @@ returns-in_err-read_step-clause-is g c =
     rw (p.1, p.2) (
     let played = stops_next (read_step c.args.part.now c.args.mem) _ _ _ c.loop-number.invariant.reaches (rw
     c.read_count-number-end.ensures.value at c.loop-number-test.true) _ _ _ (rw (
-      c.load_at-first.ensures,
-      c.read_at-last.ensures,
+      c.load_command_at-first.ensures,
+      c.read_command_at-last.ensures,
     ) at c.in_err-read_step.ensures.asks.played) in
     search rules)
 

@@ -5,7 +5,7 @@ use Rattle.stk_host.specs.Places.{each_from}
 use Rattle.stk_host.specs.ReadSteps.{read_count, read_step, read_steps}
 use Rattle.stk_host.specs.Reach.{Reaches}
 use Rattle.stk_host.specs.Steps.{play}
-use Rattle.ghosts.specs.Stays.{Stays}
+use Rattle.ghosts.specs.Preserves.{Preserves}
 use Rattle.stk_host.proofs.Operations.Reads.{read_before}
 use Rattle.stk_host.proofs.reading.read_memory.Given as goal
 
@@ -16,6 +16,6 @@ invariant-loop-number g l = record {
       l.talk.progress (g.L.Link.view l.link);
   size : length l.out.items ≡ read_before l.part l.mem l.number;
   room : size_of l.mem l.part ≤ vec_capacity l.out;
-  comes : Stays g.L.Link.comes_of l.fn.link l.link;
+  comes : Preserves g.L.Link.started_as l.fn.link l.link;
   bound : length l.fn.talk.progress.unread ≤ 281 → length l.talk.progress.unread ≤ 281;
 }

@@ -1,6 +1,6 @@
 use Rattle.std.proofs.Common.{rules}
 use Rattle.stk_host.specs.Dialog.{Done}
-use Rattle.avr_session.specs.Standing.{Fine, Faulty, Over}
+use Rattle.avr_session.specs.Standing.{NoFault, Faulty, Over}
 use Rattle.avr_session.proofs.ActionByAction.Sequences.{quietly_performs, quietly_over, performs_until}
 use Rattle.avr_session.proofs.performing.Session.leave.Goals as goal
 
@@ -8,7 +8,7 @@ pub returns-in-Ok : goal.returns-in-Ok
 returns-in-Ok g c =
     let closes = quietly_performs (g.D.Desk.view c.args.self.now.desk.now) c.requires.serves
     c.close-closed.ensures.calls c.conclude.ensures in
-    let left = quietly_over Fine (rw c.in-Ok.is at closes) in
+    let left = quietly_over NoFault (rw c.in-Ok.is at closes) in
     search rules
 
 pub returns-in-Err-Faulty : goal.returns-in-Err-Faulty

@@ -1,12 +1,12 @@
 use Rattle.std.proofs.Common.{rules}
 use Rattle.avr_session.specs.Session.{ending}
-use Rattle.avr_session.specs.Standing.{Fine, Faulty, Over}
+use Rattle.avr_session.specs.Standing.{NoFault, Faulty, Over}
 use Rattle.avr_session.proofs.ActionByAction.Sequences.{ends_so, nothing_performs, performs_until}
 use Rattle.avr_session.proofs.performing.Session.play.Goals as goal
 
 pub returns-in-Ok : goal.returns-in-Ok
 returns-in-Ok g c =
-    let plays = ends_so c.args.self.now.plan.now Fine _ (rw c.in-Ok.is at c.work.ensures.performs)
+    let plays = ends_so c.args.self.now.plan.now NoFault _ (rw c.in-Ok.is at c.work.ensures.performs)
     (rw c.work.ensures.plan at c.close.ensures.performs) in
     search rules
 

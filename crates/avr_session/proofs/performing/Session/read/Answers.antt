@@ -1,8 +1,8 @@
 use Rattle.std.proofs.Common.{ap, sym, ◌∙◌, true, rules}
 use Rattle.stk_host.specs.Operations.{reading}
 use Rattle.avr_session.specs.Actions.{SaveMemory}
-use Rattle.avr_session.specs.Session.{fault_or, read_says}
-use Rattle.avr_session.proofs.ActionByAction.FaultsTold.{read_none}
+use Rattle.avr_session.specs.Session.{fault_line_or, read_output}
+use Rattle.avr_session.proofs.ActionByAction.FaultsReported.{read_none}
 use Rattle.avr_session.proofs.ActionByAction.Sequences.{calls_of, does_one, operation_performs, given_concluded, given_told, read_stops_report}
 use Rattle.avr_session.proofs.performing.Session.read.Goals as goal
 
@@ -16,10 +16,10 @@ returns g c =
     let format = c.args.target.format in
     let file = c.args.target.file.now in
     let items = c.read-outcome.new.out.items in
-    let good = read_says plan.switches mem format file in
+    let good = read_output plan.switches mem format file in
     let reports = rw c.as_slice.ensures.value at c.report_read-reported.ensures.reports in
     let does = does_one plan (SaveMemory mem format file)
-    (operation_performs (reading plan.part mem) (fault_or plan.part good) reports true
+    (operation_performs (reading plan.part mem) (fault_line_or plan.part good) reports true
     (read_stops_report plan.part good items (read_none plan.switches mem format file items) c.read-outcome.result _ _
     reports)
     (given_told items good plan.part c.read-outcome.result reports) c.requires.0

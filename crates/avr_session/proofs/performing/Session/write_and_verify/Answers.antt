@@ -1,15 +1,15 @@
 use Rattle.std.proofs.Common.{◌≡◌, refl, [], ◌∷◌, rules}
 use Rattle.std.proofs.lemmas.Result.{err_from_is_err_and}
-use Rattle.avr_session.specs.Actions.{TheWrite, WriteImage, CompareImage, LeaveOut, read_back_actions, write_actions}
+use Rattle.avr_session.specs.Actions.{SkippedWrite, WriteImage, CompareImage, SkipAction, read_back_actions, write_actions}
 use Rattle.avr_session.proofs.ActionByAction.Sequences.{left_out_performs, ends_untold, does_one, does_same, does_then, does_last}
 use Rattle.avr_session.proofs.performing.Session.write_and_verify.Goals as goal
 
 pub returns-then-switches : goal.returns-then-switches
 returns-then-switches g c =
     let plan = c.args.self.now.plan.now in
-    let what = TheWrite c.args.mem c.args.image.now in
+    let what = SkippedWrite c.args.mem c.args.image.now in
     let is_dry = rw c.switches.ensures at c.if-switches.true in
-    let due : LeaveOut what ∷ [] ≡ write_actions plan.switches c.args.mem c.args.image.now = rw is_dry refl in
+    let due : SkipAction what ∷ [] ≡ write_actions plan.switches c.args.mem c.args.image.now = rw is_dry refl in
     let reports = rw (c.switches-quiet.ensures, c.len.ensures) at c.report_bytes-said.ensures.reports in
     search (rules, does_same, does_one, left_out_performs, ends_untold)
 

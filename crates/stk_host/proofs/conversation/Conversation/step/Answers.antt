@@ -1,4 +1,4 @@
-use Rattle.stk_host.specs.Steps.{tries}
+use Rattle.stk_host.specs.Steps.{attempts_or_fault}
 use Rattle.std.proofs.Common.{arith, ◌-◌, ◌+◌, rules}
 use Rattle.std.proofs.lemmas.Result.{err_from_is_err_and}
 use Rattle.stk_host.proofs.Transcripts.Reached.{reaches_here}
@@ -32,5 +32,5 @@ pub loop-tried-preserved : goal.loop-tried-preserved
 loop-tried-preserved g c = search (rules, try_again)
 
 pub returns-clause-asks : goal.returns-clause-asks
-unfolding tries
+unfolding attempts_or_fault
 returns-clause-asks g c = search (rules, try_end)

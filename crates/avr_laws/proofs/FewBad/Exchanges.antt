@@ -1,0 +1,266 @@
+-- Over few bad exchanges each step gives its data.
+use Rattle.std.proofs.Common.{◌≡◌, ℕ, zero, suc, ◌+◌, ◌*◌, ◌≤◌, List, [], ◌∷◌, ◌++◌, length, refl, sym, ap, ◌∙◌, subst, arith, inl, inr, ◌⊎◌, Ok, Err, rules}
+use Rattle.std.specs.Prelude.{⊤}
+use Rattle.avr_part.specs.Part.{Part, IsPart}
+use Rattle.stk_frame.specs.declared.command.Command.{Command}
+use Rattle.stk_frame.specs.declared.command.Command.TheVariants.{LoadAddress}
+use Rattle.stk_frame.specs.Commands.{body}
+use Rattle.stk_host.specs.declared.fault.StepFault.{StepFault}
+use Rattle.stk_host.specs.declared.fault.StepFault.TheVariants.{NoAnswer}
+use Rattle.stk_host.specs.Dialog.{Dialog, Done, Emit, Ask}
+use Rattle.stk_host.specs.Bound.{AsksAtMost}
+use Rattle.stk_host.specs.Steps.{Reply, Data, Again, Stop, StepOutcome, reply_from_reading, with_data, exchange, attempt, attempts_or_fault, step, play}
+use Rattle.stk_host.proofs.Dialogs.Logic.{OnReply, done, ask, wider, attempts}
+use Rattle.stk_host.proofs.Dialogs.Questions.{step_most}
+use Rattle.stk_emu.specs.Exchange.{Exchange, after_exchange, reading_of_exchange, first_exchange, later_exchanges}
+use Rattle.stk_emu.specs.Programmer.{Programmer}
+use Rattle.stk_emu.specs.Device.{device}
+use Rattle.stk_emu.specs.DialogOverExchanges.{state_after}
+use Rattle.stk_emu.specs.Effect.{Memories}
+use Rattle.avr_laws.specs.FewBadFrames.{badness, badness_of_first, AtMostThreeBadOf, AtMostThreeBadOfSeven, lost_command, every_second_lost}
+use Rattle.avr_tool.specs.OverFaultyLink.{AllArriveRight}
+use Rattle.stk_emu.specs.Fits.{IsRepeatable}
+use Rattle.stk_emu.specs.Settled.{Ready, FitsPart}
+use Rattle.stk_emu.specs.WriteOperations.{IsStep, AreSteps}
+use Rattle.stk_emu.specs.Given.{on_data, reply_to, joined_reply, data_of_step, data_of_steps}
+use Rattle.avr_tool.proofs.Hosts.AnyExchange.{AfterStep, try_goes}
+use Rattle.avr_tool.proofs.Hosts.OneLink.{Spot, this_link, Runs, on_link, both}
+use Rattle.stk_emu.proofs.Answers.Commands.{steady}
+use Rattle.avr_tool.proofs.WriteOperations.OutsideMode.{gathered_steady}
+use Rattle.avr_tool.proofs.Sure.Good.{AreSteady, IsSteady, on_steady}
+use Rattle.avr_laws.proofs.Lines.Ends.{where_done, first_steady}
+use Rattle.avr_tool.proofs.Sure.Exchanges.{IsSure, brings_one, brings_play, step_short}
+
+-- ---- counting
+
+pub more_bad : (n m : ℕ) (exchanges : List Exchange) → n ≤ m → badness_of_first n exchanges ≤ badness_of_first m exchanges
+more_bad zero m exchanges le = omega arith
+more_bad (suc n) zero exchanges le = absurd (omega (arith, le))
+more_bad (suc n) (suc m) exchanges le = search (rules, more_bad n m (later_exchanges exchanges) (omega (arith, le)))
+
+pub others_few : (exchanges : List Exchange) → AtMostThreeBadOfSeven exchanges → AtMostThreeBadOfSeven (later_exchanges exchanges)
+others_few exchanges few = search rules
+
+in_seven : (exchanges : List Exchange) → AtMostThreeBadOfSeven exchanges → badness_of_first 7 exchanges ≤ 3
+in_seven exchanges few = search rules
+
+none_bad : (n : ℕ) (exchanges : List Exchange) → AllArriveRight exchanges → badness_of_first n exchanges ≡ 0
+none_bad zero exchanges good = refl
+none_bad (suc n) [] good = let none = none_bad n [] good in omega (arith, none)
+none_bad (suc n) (one_exchange ∷ exchanges) good = let none = none_bad n exchanges good.1 in let well : badness one_exchange ≡ 0 = ap badness good.0 in
+    omega (arith, none, well)
+
+-- a good link is the simplest case
+pub good_few : (exchanges : List Exchange) → AllArriveRight exchanges → AtMostThreeBadOfSeven exchanges
+good_few [] good = tt
+good_few (one_exchange ∷ exchanges) good = (let none = none_bad 7 (one_exchange ∷ exchanges) good in omega (arith, none), good_few exchanges good.1)
+
+module _ {E R : Type 0} where
+  -- if few of the exchanges to come are bad, so are few of those that are left
+  pub few_left : (k : ℕ) (d : Dialog E R) (p : Programmer) (exchanges : List Exchange) → AtMostThreeBadOfSeven exchanges
+      → AtMostThreeBadOfSeven (state_after device k d p exchanges).exchanges
+  few_left k (Done r) p exchanges few = few
+  few_left k (Emit s d) p exchanges few = few_left k d p exchanges few
+  few_left zero (Ask bytes go_on) p exchanges few = few
+  few_left (suc k) (Ask bytes go_on) p exchanges few = few_left k (go_on _) _ (later_exchanges exchanges) (others_few exchanges few)
+
+  -- a dialog that asks at most `n` questions is done after `n`
+  pub done_within : (n k : ℕ) (d : Dialog E R) (p : Programmer) (exchanges : List Exchange) → AsksAtMost n d → n ≤ k
+      → (r : R) × ((state_after device k d p exchanges).dialog ≡ Done r)
+  done_within n k (Done r) p exchanges asks le = (r, refl)
+  done_within n k (Emit e d) p exchanges asks le = done_within n k d p exchanges asks le
+  done_within zero k (Ask bytes go_on) p exchanges asks le = absurd asks
+  done_within (suc n) zero (Ask bytes go_on) p exchanges asks le = absurd (omega (arith, le))
+  done_within (suc n) (suc k) (Ask bytes go_on) p exchanges asks le =
+      done_within n k (go_on _) _ (later_exchanges exchanges) (asks _) (omega (arith, le))
+
+-- the exchanges after the first `n`
+abbrev behind : ℕ → List Exchange → List Exchange
+behind zero exchanges = exchanges
+behind (suc n) exchanges = behind n (later_exchanges exchanges)
+
+-- An attempt that brought no data: it ended with the frame at this place, which went wrong.
+record Spent (size : ℕ) (exchanges : List Exchange) (then : Reply) (rest : List Exchange) : Type 0 where
+  fault : StepFault
+  again : then ≡ Again fault
+  place : ℕ
+  near : suc place ≤ size
+  went_wrong : 1 ≤ badness (first_exchange (behind place exchanges))
+  behind_it : rest ≡ later_exchanges (behind place exchanges)
+
+abbrev Tried : ℕ → List Exchange → List ℕ → Reply → List Exchange → Type 0
+Tried size exchanges got then rest = (then ≡ Data got) ⊎ Spent size exchanges then rest
+
+again_not : (fault : StepFault) (got : List ℕ) → Again fault ≡ Data got → ⊥
+again_not fault got e = cc
+
+same_data : (a b : List ℕ) → Data a ≡ Data b → a ≡ b
+same_data a b e = cc
+
+-- the first frame went well
+well : (size : ℕ) (exchanges : List Exchange) (got : List ℕ) (then : Reply) (rest : List Exchange)
+    → Tried size (later_exchanges exchanges) got then rest → Tried (suc size) exchanges got then rest
+well size exchanges got then rest (inl brings) = inl brings
+well size exchanges got then rest (inr s) = inr
+    (record {
+      fault = s.fault;
+      again = s.again;
+      place = suc s.place;
+      near = (let n = s.near in omega (arith, n));
+      went_wrong = s.went_wrong;
+      behind_it = s.behind_it;
+    })
+
+-- the frame that went wrong
+wrong : (size : ℕ) (exchanges : List Exchange) (got : List ℕ) (fault : StepFault) → 1 ≤ badness (first_exchange exchanges)
+    → Tried (suc size) exchanges got (Again fault) (later_exchanges exchanges)
+wrong size exchanges got fault is = search rules
+
+-- Enough frames go well for one attempt and `more` others: at most one frame goes well between two that go wrong.
+record Clear (more : ℕ) (exchanges : List Exchange) : Type 0 where
+  here : badness_of_first (suc (more + more)) exchanges ≤ more
+  next : badness_of_first (suc (more + more)) (later_exchanges exchanges) ≤ more
+
+next_clear : (more : ℕ) (exchanges : List Exchange) → 1 ≤ badness (first_exchange exchanges)
+    → badness_of_first (suc (suc more + suc more)) exchanges ≤ suc more → Clear more (later_exchanges exchanges)
+next_clear more exchanges is le =
+    let rest = later_exchanges exchanges in
+    let e : suc more + suc more ≡ suc (suc (more + more)) = omega arith in
+    let few : badness_of_first (suc more + suc more) rest ≤ more = omega (arith, is, le) in
+    let few' : badness_of_first (suc (suc (more + more))) rest ≤ more = subst (λ n. badness_of_first n rest ≤ more) e few in
+    let less = more_bad (suc (more + more)) (suc (suc (more + more))) rest (omega arith) in search rules
+
+clear_behind : (place more : ℕ) (exchanges rest : List Exchange) → suc place ≤ 2 → rest ≡ later_exchanges (behind place exchanges)
+    → 1 ≤ badness (first_exchange (behind place exchanges)) → Clear (suc more) exchanges → Clear more rest
+clear_behind zero more exchanges rest le is wrong c = subst (Clear more) (sym is) (next_clear more exchanges wrong c.here)
+clear_behind (suc zero) more exchanges rest le is wrong c = search (rules, next_clear)
+clear_behind (suc (suc place)) more exchanges rest le is wrong c = absurd (omega (arith, le))
+
+-- ---- such exchanges are steady
+
+not_four : (one_exchange : Exchange) → badness one_exchange ≤ 3 → IsSteady one_exchange
+not_four one_exchange le = search rules
+
+-- if few exchanges go wrong, none restarts the programmer
+few_steady : (exchanges : List Exchange) → AtMostThreeBadOfSeven exchanges → AreSteady exchanges
+few_steady [] few = tt
+few_steady (one_exchange ∷ exchanges) few = (not_four one_exchange (let le = few.0 in omega (arith, le)), few_steady exchanges few.1)
+
+-- ---- attempts and steps of a programmer that never restarts
+
+-- whenever the dialog ends with a reply, an attempt of `size` frames was tried
+abbrev Tries : ℕ → List Exchange → List ℕ → Dialog ⊥ Reply → Spot → Type 0
+Tries size exchanges got d z = Runs steady (λ y. ⊤) (λ reply y. Tried size exchanges got reply y.1 × AtMostThreeBadOfSeven y.1) d z
+
+module _ (go_on : List ℕ → Dialog ⊥ Reply) (go : List ℕ → Reply) (size : ℕ) (exchanges : List Exchange) (got : List ℕ)
+    (few : AtMostThreeBadOfSeven (later_exchanges exchanges)) where
+  -- by the reply to a command that was obeyed
+  answered : (q : Programmer) (reply : Reply)
+      → ((bytes : List ℕ) → go bytes ≡ Data got
+      → Tries size (later_exchanges exchanges) got (go_on bytes) (q, later_exchanges exchanges))
+      → on_data reply go ≡ Data got → Tries (suc size) exchanges got (with_data go_on reply) (q, later_exchanges exchanges)
+  answered q (Data bytes) each has = wider (λ b y x. x) (λ e y x. x)
+      (λ reply y x. (well size exchanges got reply y.1 x.0, x.1)) (each bytes has)
+  answered q reply each has = search rules
+
+  by_exchange : (one_exchange : Exchange) (command : Command) (p : Programmer) → badness (first_exchange exchanges) ≡ badness one_exchange → IsSteady one_exchange
+      → ((bytes : List ℕ) → go bytes ≡ Data got
+      → Tries size (later_exchanges exchanges) got (go_on bytes) (steady.after (body command) p, later_exchanges exchanges))
+      → on_data (reply_to steady command p) go ≡ Data got
+      → Tries (suc size) exchanges got
+      (with_data go_on (reply_from_reading command (reading_of_exchange one_exchange (steady.answer (body command) p))))
+      (after_exchange one_exchange (steady.after (body command) p) p steady.reset, later_exchanges exchanges)
+  by_exchange one_exchange command p is calm each has = search (rules, answered)
+
+-- an attempt whose commands would all have data: the data come, or a frame went wrong
+attempt_tried : (commands : List Command) (before : List ℕ) (z : Spot) (got : List ℕ) → AtMostThreeBadOfSeven z.1
+    → joined_reply steady commands before z.0 ≡ Data got
+    → Tries (length commands) z.1 got (attempt commands before) z
+unfolding attempt exchange
+attempt_tried [] before z got few has = done (inl has, few)
+attempt_tried (command ∷ commands) before z got few has =
+    let left = others_few z.1 few in
+    let q = steady.after (body command) z.0 in
+    ask tt (λ move. by_exchange (λ bytes. attempt commands (before ++ bytes))
+    (λ bytes. joined_reply steady commands (before ++ bytes) q) (length commands) z.1 got left (first_exchange z.1) command
+    z.0 refl (first_steady z.1 (few_steady z.1 few))
+    (λ bytes f. attempt_tried commands (before ++ bytes) (q, later_exchanges z.1) got left f) has)
+
+-- a step of at most two commands, which have these data under either condition
+module _ (Before After : Programmer → Type 0) (commands : List Command) (got : List ℕ)
+    (fits : IsRepeatable steady commands Before After) (short : length commands ≤ 2)
+    (has : (q : Programmer) → Before q ⊎ After q → joined_reply device commands [] q ≡ Data got) where
+  abbrev Whole : StepOutcome → Spot → Type 0
+  Whole o z = ((o ≡ Ok got) × After z.0) × AtMostThreeBadOfSeven z.1
+
+  -- with this many attempts left
+  abbrev Begins : ℕ → Spot → Type 0
+  Begins zero z = ⊥
+  Begins (suc more) z = (Before z.0 ⊎ After z.0) × (AtMostThreeBadOfSeven z.1 × Clear more z.1)
+
+  again : (more : ℕ) (place : ℕ) (exchanges : List Exchange) (y : Spot) → suc place ≤ length commands
+      → 1 ≤ badness (first_exchange (behind place exchanges)) → y.1 ≡ later_exchanges (behind place exchanges) → Clear more exchanges
+      → Before y.0 ⊎ After y.0 → AtMostThreeBadOfSeven y.1 → Begins more y
+  again more place exchanges y near wrong is clear stood few = search (rules, clear_behind)
+
+  after_try : (more : ℕ) (exchanges : List Exchange) → Clear more exchanges → (reply : Reply) (y : Spot)
+      → OnReply (λ q. Before q ⊎ After q) (AfterStep steady commands Before After fits) reply y.0
+      × (Tried (length commands) exchanges got reply y.1 × AtMostThreeBadOfSeven y.1) → OnReply (Begins more) Whole reply y
+  after_try more exchanges clear (Data bytes) y (stood, (inl is, few)) =
+      ((ap (λ x. Ok x) (same_data bytes got is), stood.0), few)
+  after_try more exchanges clear (Data bytes) y (stood, (inr s, few)) = absurd (again_not s.fault bytes (sym s.again))
+  after_try more exchanges clear (Again fault) y (stood, (inl is, few)) = absurd (again_not fault got is)
+  after_try more exchanges clear (Again fault) y (stood, (inr s, few)) =
+      again more s.place exchanges y s.near s.went_wrong s.behind_it clear stood few
+  after_try more exchanges clear (Stop fault) y f' = search rules
+
+  step_steady : (z : Spot) → Before z.0 → AtMostThreeBadOfSeven z.1 → Runs steady (λ y. ⊤) Whole (step commands) z
+  step_steady z before few =
+      attempts (this_link steady) (λ bytes y. ⊤) commands Begins Whole
+      (λ more y begins. wider (λ bytes y x. tt) (λ e y x. x) (after_try more y.1 begins.1.1)
+      (both steady (on_link steady (try_goes steady commands Before After fits y.0 begins.0))
+      (attempt_tried commands [] y got begins.1.0 (gathered_steady commands [] y.0 ∙ has y.0 begins.0))))
+      (λ fault y none. absurd none) 4 NoAnswer z
+      (inl before, (few, record { here = in_seven z.1 few; next = in_seven (later_exchanges z.1) (others_few z.1 few) }))
+
+pub few_sure : IsSure AtMostThreeBadOfSeven
+few_sure commands got Before After fits short has z before few = record {
+  holds = on_steady (λ o y. ((o ≡ Ok got) × After y.0) × AtMostThreeBadOfSeven y.1) (step commands) z (few_steady z.1 few)
+      (step_steady Before After commands got fits short has z before few).holds;
+}
+
+-- ---- the steps of a host
+
+module _ (part : Part) (sound : IsPart part) where
+  -- a step gives its data, in at most eight questions
+  pub step_comes : (commands : List Command) (m : Memories) (k : ℕ) (p : Programmer) (exchanges : List Exchange)
+      → IsStep part commands → FitsPart part m → Ready part m p → AtMostThreeBadOfSeven exchanges → 8 ≤ k
+      → (state_after device k (step commands) p exchanges).dialog ≡ Done (Ok (data_of_step part commands m))
+  step_comes commands m k p exchanges is f ready few le =
+      let short = step_short part sound commands is in
+      let within : (o : StepOutcome) × ((state_after device k (step commands) p exchanges).dialog ≡ Done o) =
+      done_within (4 * length commands) k (step commands) p exchanges (step_most commands) (omega (arith, short, le)) in
+      within.1 ∙ ap (λ x. Done x)
+      (where_done device (step commands) (p, exchanges)
+      (brings_one part sound AtMostThreeBadOfSeven few_sure commands m is f (p, exchanges) ready few) k within.0 within.1).0.0
+
+  pub play_few : (steps : List (List Command)) (m : Memories) (k : ℕ) (before : List ℕ) (p : Programmer)
+      (exchanges : List Exchange) (o : StepOutcome) → AreSteps part steps → FitsPart part m → Ready part m p → AtMostThreeBadOfSeven exchanges
+      → (state_after device k (play steps before) p exchanges).dialog ≡ Done o → o ≡ Ok (before ++ data_of_steps part steps m)
+  play_few steps m k before p exchanges o are f ready few e =
+      (where_done device (play steps before) (p, exchanges)
+      (brings_play part sound AtMostThreeBadOfSeven few_sure steps m before are f (p, exchanges) ready few) k o e).0.0
+
+-- four bad frames of seven are too many, both in a row and if each second one is bad
+pub four_too_many : (command : Command) (commands : List Command) (p : Programmer)
+    → (state_after device 4 (step (command ∷ commands)) p (lost_command ∷ lost_command ∷ lost_command ∷ lost_command ∷ [])).dialog ≡ Done (Err NoAnswer)
+unfolding attempts_or_fault attempt exchange
+four_too_many command commands p = refl
+
+pub second_too_many : (address : ℕ) (command : Command) (commands : List Command) (p : Programmer)
+    → (state_after device 7 (step (LoadAddress address ∷ command ∷ commands)) p every_second_lost).dialog ≡ Done (Err NoAnswer)
+unfolding attempts_or_fault attempt exchange
+second_too_many address command commands p = refl
+
+pub three_of_six : AtMostThreeBadOf 6 every_second_lost
+three_of_six = search rules

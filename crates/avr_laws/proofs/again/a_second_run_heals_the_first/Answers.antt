@@ -1,6 +1,0 @@
-use Rattle.std.proofs.Common.{rules}
-use Rattle.avr_laws.proofs.SecondRun.ErasesTwice.{plan_again}
-use Rattle.avr_laws.proofs.again.a_second_run_heals_the_first.Goals as goal
-
-pub returns : goal.returns
-returns c = search (rules, plan_again)

@@ -1,6 +1,0 @@
-use Rattle.std.proofs.Common.{rules}
-use Rattle.avr_laws.proofs.Reports.Truth.{session_tells}
-use Rattle.avr_laws.proofs.any_line.what_a_run_tells_is_true.Goals as goal
-
-pub returns : goal.returns
-returns c = search (rules, session_tells)

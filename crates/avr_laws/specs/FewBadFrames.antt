@@ -1,0 +1,42 @@
+-- A link on which few frames go wrong.
+use Rattle.std.specs.Prelude.{ℕ, zero, suc, ◌+◌, ◌≤◌, List, [], ◌∷◌}
+use Rattle.stk_emu.specs.Exchange.{Exchange, Execution, NotExecuted, Executed, ThenRestarted, OtherReading, Refusal, NoReply, Babble, Ending, AsIntended, Disturbed, first_exchange, later_exchanges}
+
+-- For how many bad frames a question that goes wrong counts. A restart of the programmer or the end of the link counts
+-- 4, because no attempt can succeed after it.
+abbrev pub bad_became : Execution → ℕ
+bad_became NotExecuted = 1
+bad_became Executed = 1
+bad_became (ThenRestarted execution) = 4
+
+abbrev pub badness_of_reading : OtherReading → ℕ
+badness_of_reading Refusal = 0
+badness_of_reading NoReply = 0
+badness_of_reading Babble = 0
+badness_of_reading Ending = 3
+
+abbrev pub badness : Exchange → ℕ
+badness AsIntended = 0
+badness (Disturbed execution instead) = bad_became execution + badness_of_reading instead
+
+-- How many of the first `n` frames go wrong, so counted.
+abbrev pub badness_of_first : ℕ → List Exchange → ℕ
+badness_of_first zero exchanges = 0
+badness_of_first (suc n) exchanges = badness (first_exchange exchanges) + badness_of_first n (later_exchanges exchanges)
+
+-- At most three of any `n` consecutive frames go wrong.
+abbrev pub AtMostThreeBadOf : ℕ → List Exchange → Type 0
+AtMostThreeBadOf n [] = Unit {0}
+AtMostThreeBadOf n (one_exchange ∷ exchanges) = (badness_of_first n (one_exchange ∷ exchanges) ≤ 3) × AtMostThreeBadOf n exchanges
+
+-- FEW BAD FRAMES: at most three of any seven consecutive frames go wrong. Seven, because four failed attempts of at
+-- most two commands have four bad frames of seven.
+abbrev pub AtMostThreeBadOfSeven : List Exchange → Type 0
+AtMostThreeBadOfSeven = AtMostThreeBadOf 7
+
+abbrev pub lost_command : Exchange
+lost_command = Disturbed NotExecuted NoReply
+
+-- Every second command is lost: three of any six consecutive frames go wrong, and four of these seven.
+abbrev pub every_second_lost : List Exchange
+every_second_lost = lost_command ∷ AsIntended ∷ lost_command ∷ AsIntended ∷ lost_command ∷ AsIntended ∷ lost_command ∷ []

@@ -1,0 +1,148 @@
+-- A session's state records whether a fault was reported in it: laws of dialogs alone.
+use Rattle.std.proofs.Common.{◌≡◌, ℕ, true, false, List, [], ◌∷◌, ◌++◌, map, refl, ap, ◌∙◌, subst, append-nil, Option, Some, None, Result, rules}
+use Rattle.std.proofs.lemmas.Bool.{or_parts}
+use Rattle.std.proofs.lemmas.List.Folds.{list_any-append}
+use Rattle.avr_desk.specs.Record.{DeskState, Bytes}
+use Rattle.avr_cli.specs.declared.settings.Switches.{Switches}
+use Rattle.avr_cli.specs.declared.update.Format.{Format}
+use Rattle.avr_part.specs.Part.{Part}
+use Rattle.avr_part.specs.declared.part.Mem.{Mem}
+use Rattle.stk_host.specs.declared.fault.HostFault.{HostFault}
+use Rattle.stk_host.specs.Tape.{Tape, Reading, on_tape, answer}
+use Rattle.stk_host.specs.Play.{Progress}
+use Rattle.stk_host.specs.Transcript.{heard}
+use Rattle.stk_host.specs.Dialog.{Dialog, Done, Emit, Ask, ◌>>=◌, lifted, Event, Emitted, Played, played, continue_with_reading, next, outputs}
+use Rattle.avr_desk.specs.OutputEvents.{OutputEvent, PrintsLine}
+use Rattle.avr_session.specs.Standing.{Standing, NoFault}
+use Rattle.avr_session.specs.Actions.{SkippedByDryRun, Action, OpenSession}
+use Rattle.avr_session.specs.Lines.{fault_line}
+use Rattle.avr_session.specs.Performing.{has_fault}
+use Rattle.avr_session.specs.Runs.{Devices, Cause, SendingFailed, reports_fault, RanWhole, StopsAt}
+use Rattle.avr_session.specs.Reporting.{OutputsPrefix}
+use Rattle.avr_session.specs.Session.{says, standing, reported, unless_fault, opening_output, bytes_output, read_output, skipped_output, action_dialog, actions_dialog}
+use Rattle.avr_session.proofs.Runs.Stops.{outputs_by}
+
+-- ---- along every path of a dialog
+
+-- whatever is read, this holds of the whole output and the result
+abbrev pub Along : {R : Type 0} → (List OutputEvent → R → Type 0) → Dialog OutputEvent R → Type 0
+Along P (Done r) = P [] r
+Along P (Emit e dialog) = Along (λ said r. P (e ∷ said) r) dialog
+Along {R = R} P (Ask body answered) = (reading : Reading) → Along P (answered reading)
+
+pub along_bind : {A R : Type 0} (P : List OutputEvent → A → Type 0) (Q : List OutputEvent → R
+    → Type 0) (dialog : Dialog OutputEvent A)
+    (go_on : A → Dialog OutputEvent R)
+    → Along P dialog → ((said : List OutputEvent) (a : A) → P said a → Along (λ more r. Q (said ++ more) r) (go_on a))
+    → Along Q (dialog >>= go_on)
+along_bind P Q (Done a) go_on f g = g [] a f
+along_bind P Q (Emit e dialog) go_on f g =
+    along_bind (λ said a. P (e ∷ said) a) (λ said r. Q (e ∷ said) r) dialog go_on f (λ said a p. g (e ∷ said) a p)
+along_bind P Q (Ask body answered) go_on f g = λ reading. along_bind P Q (answered reading) go_on (f reading) g
+
+pub along_lifted : {R : Type 0} (dialog : Dialog ⊥ R) → Along (λ said r. said ≡ []) (lifted dialog)
+along_lifted (Done r) = refl
+along_lifted (Emit e dialog) = absurd e
+along_lifted (Ask body answered) = λ reading. along_lifted (answered reading)
+
+pub along_says : {R : Type 0} (Q : List OutputEvent → R
+    → Type 0) (xs : List OutputEvent) (dialog : Dialog OutputEvent R)
+    → Along (λ more r. Q (xs ++ more) r) dialog → Along Q (says xs dialog)
+along_says Q [] dialog f = f
+along_says Q (x ∷ xs) dialog f = along_says (λ said r. Q (x ∷ said) r) xs dialog f
+
+-- a run follows one of the paths
+abbrev Ends : {R : Type 0} → (List OutputEvent → R → Type 0) → List OutputEvent → Option (R × ℕ × Tape) → Type 0
+Ends P said None = Unit {0}
+Ends P said (Some x) = P said x.0
+
+along_play : {R : Type 0} (P : List OutputEvent → R → Type 0) (dialog : Dialog OutputEvent R) (seq : ℕ) (tape : Tape)
+    → Along P dialog → Ends P (outputs (played dialog seq tape).events) (played dialog seq tape).outcome
+along_play P (Done r) seq tape f = f
+along_play P (Emit e dialog) seq tape f = search (rules, along_play (λ said r. P (e ∷ said) r) dialog seq tape f)
+along_play {R = R} P (Ask body answered) seq tape f =
+    elim (answer seq tape) as (λ o. Ends P (outputs (continue_with_reading (λ r. played (answered r) (next seq)) o).events)
+    (continue_with_reading (λ r. played (answered r) (next seq)) o).outcome) [
+      | None ↦ tt
+      | Some got ↦ along_play P (answered got.0) (next seq) got.1 (f got.0)
+    ]
+
+-- ---- the state of a session
+
+abbrev pub FaultAsInState : List OutputEvent → Standing → Type 0
+FaultAsInState said standing = reports_fault said ≡ has_fault standing
+
+abbrev pub Foretells : Dialog OutputEvent Standing → Type 0
+Foretells dialog = Along FaultAsInState dialog
+
+pub foretold : {dialog : Dialog OutputEvent Standing} {m n : Progress} {o p : Devices} {standing : Standing}
+    → Foretells dialog → (ran : RanWhole dialog m o p standing n) → reports_fault (outputs ran.events) ≡ has_fault standing
+foretold {dialog = dialog} {m = m} f ran =
+    subst (λ (p : Played OutputEvent Standing). Ends FaultAsInState (outputs p.events) p.outcome) (ran.plays.plays [])
+    (along_play FaultAsInState dialog m.next (on_tape m.unread ++ (heard ran.during ++ [])) f)
+
+pub foretells_then : (first more : Dialog OutputEvent Standing) → Foretells first → Foretells more
+    → Foretells (first >>= unless_fault more)
+foretells_then first more f g = search (rules, along_bind, list_any-append, append-nil)
+
+foretells_reported : {A : Type 0} (operation : Dialog ⊥ (Result A HostFault))
+    (outcome_says : Result A HostFault → List OutputEvent)
+    → ((outcome : Result A HostFault) → reports_fault (outcome_says outcome) ≡ has_fault (standing outcome))
+    → Foretells (reported operation outcome_says)
+foretells_reported operation outcome_says f =
+    along_bind (λ said outcome. said ≡ []) FaultAsInState (lifted operation)
+    (λ outcome. says (outcome_says outcome) (Done (standing outcome))) (along_lifted operation) λ said outcome none.
+    along_says (λ more after. FaultAsInState (said ++ more) after) (outcome_says outcome) (Done (standing outcome))
+    (search rules)
+
+foretells_says : (outputs : List OutputEvent) → reports_fault outputs ≡ false → Foretells (says outputs (Done NoFault))
+foretells_says outputs f = along_says FaultAsInState outputs (Done NoFault) (ap reports_fault (append-nil outputs) ∙ f)
+
+-- ---- lines that report no fault, and those that do
+
+fault_tells : (part : Part) (fault : HostFault) → reports_fault (PrintsLine (fault_line part fault) ∷ []) ≡ true
+unfolding fault_line
+fault_tells part fault = refl
+
+bytes_none : (quiet : ℕ) (mem : Mem) (count : ℕ) (done : Bytes) → reports_fault (bytes_output quiet mem count done) ≡ false
+bytes_none quiet mem count done = search rules
+
+pub read_none : (s : Switches) (mem : Mem) (format : Format) (file bytes : Bytes)
+    → reports_fault (read_output s mem format file bytes) ≡ false
+read_none s mem format file bytes = search rules
+
+opening_tells : (quiet : ℕ) (part : Part) (outcome : Result Bytes HostFault)
+    → reports_fault (opening_output quiet part outcome) ≡ has_fault (standing outcome)
+opening_tells quiet part outcome = search (rules, list_any-append, fault_tells)
+
+left_out_none : (quiet : ℕ) (what : SkippedByDryRun) → reports_fault (skipped_output quiet what) ≡ false
+left_out_none quiet what = search (rules, bytes_none)
+
+-- ---- the actions of a session
+
+pub action_foretells : (part : Part) (s : Switches) (action : Action) → Foretells (action_dialog part s action)
+action_foretells part s OpenSession = search (rules, foretells_reported, opening_tells)
+action_foretells part s action =
+    search (rules, foretells_reported, fault_tells, bytes_none, read_none, foretells_says, left_out_none)
+
+pub actions_foretells : (part : Part) (s : Switches) (actions : List Action) → Foretells (actions_dialog part s actions)
+actions_foretells part s [] = refl
+actions_foretells part s (action ∷ actions) =
+    search (rules, foretells_then, action_foretells, actions_foretells part s actions)
+
+-- ---- a prefix of output without a fault has none
+
+quiet_by : (begun : List OutputEvent) (events : List (Event OutputEvent)) → map Emitted begun ≡ events
+    → reports_fault (outputs events) ≡ false → reports_fault begun ≡ false
+quiet_by begun events is none = ap reports_fault (outputs_by begun events is) ∙ none
+
+begun_none : (cause : Cause) (whole begun later : List OutputEvent)
+    → StopsAt cause [] (map Emitted whole) (map Emitted begun) (map Emitted later) → reports_fault later ≡ false
+    → reports_fault begun ≡ false
+begun_none SendingFailed whole begun later x none = search (rules, quiet_by)
+begun_none cause whole begun later x none = search (rules, quiet_by, outputs_by, or_parts)
+
+pub prefix_tells_none : {cause : Cause} {old new : DeskState} {outputs : List OutputEvent}
+    (prefix : OutputsPrefix cause old new outputs) → reports_fault outputs ≡ false
+    → reports_fault (prefix.whole ++ prefix.begun) ≡ false
+prefix_tells_none {cause = cause} prefix none = search (rules, or_parts, list_any-append, begun_none)

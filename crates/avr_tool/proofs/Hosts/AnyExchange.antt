@@ -1,0 +1,138 @@
+-- A device behind a link that may make any exchange of any question, in the logic of dialogs: attempts and steps of a
+-- host.
+use Rattle.std.proofs.Common.{◌≡◌, ℕ, zero, suc, List, [], ◌∷◌, ◌++◌, length, refl, ◌⊎◌, inl, inr, Ok, Err, rules}
+use Rattle.stk_frame.specs.declared.command.Command.{Command}
+use Rattle.stk_frame.specs.Commands.{body}
+use Rattle.stk_host.specs.declared.fault.StepFault.{StepFault}
+use Rattle.stk_host.specs.declared.fault.StepFault.TheVariants.{NoAnswer}
+use Rattle.stk_host.specs.Tape.{Reading}
+use Rattle.stk_host.specs.Dialog.{Dialog, Done, Emit, Ask}
+use Rattle.stk_host.specs.Steps.{Reply, Data, reply_from_reading, with_data, exchange, attempt, StepOutcome, step}
+use Rattle.stk_host.proofs.Dialogs.Logic.{World, HoldsFrom, Upholds, NoOutput, OnReply, OnOutcome, done, ask, wider, attempts}
+use Rattle.stk_emu.specs.Exchange.{Exchange, Execution, NotExecuted, Executed, ThenRestarted}
+use Rattle.stk_emu.specs.Exchange.{after_execution, after_exchange, reading_of_exchange, first_exchange, later_exchanges}
+use Rattle.stk_emu.specs.Device.{Device}
+use Rattle.stk_emu.specs.DialogOverExchanges.{state_after}
+use Rattle.stk_emu.specs.Fits.{after_commands, IsRepeatable}
+use Rattle.stk_emu.specs.Given.{on_data, joined_reply, reply_to, IsDataOfAttempt}
+use Rattle.avr_tool.proofs.Leads.{Leads}
+
+-- What holds at each move holds along all links, so no list of exchanges and no count of questions is needed.
+abbrev pub over_any_exchange : {P : Type 0} → Device P → World P Exchange
+over_any_exchange m = record {
+  reads = λ bytes p one_exchange. reading_of_exchange one_exchange (m.answer bytes p);
+  after = λ bytes p one_exchange. after_exchange one_exchange (m.after bytes p) p m.reset;
+}
+
+pub done_is : {E R : Type 0} (a b : R) → ◌≡◌ {A = Dialog E R} (Done a) (Done b) → a ≡ b
+done_is a b e = cc
+
+pub asks≢done : {E R : Type 0} (bytes : List ℕ) (go_on : Reading → Dialog E R) (r : R)
+    → ◌≡◌ {A = Dialog E R} (Ask bytes go_on) (Done r) → ⊥
+asks≢done bytes go_on r e = cc
+
+module _ {P : Type 0} (m : Device P) where
+  -- what a dialog upholds holds along each link
+  module _ {E R : Type 0} (During : P → Type 0) (Says : E → P → Type 0) (After After' : R → P → Type 0)
+      (at_end : (r : R) (q : P) → After r q → During q × After' r q) where
+    led : (d : Dialog E R) (k : ℕ) (p : P) (exchanges : List Exchange)
+        → HoldsFrom (over_any_exchange m) (λ bytes q. During q) Says After d p
+        → During (state_after m k d p exchanges).programmer
+        × ((r : R) → (state_after m k d p exchanges).dialog ≡ Done r → After' r (state_after m k d p exchanges).programmer)
+    led (Done a) k p exchanges h = search (rules, done_is)
+    led (Emit e d) k p exchanges h = led d k p exchanges h.1
+    led (Ask bytes go_on) zero p exchanges h = (h.0, λ r e. absurd (asks≢done bytes go_on r e))
+    led (Ask bytes go_on) (suc k) p exchanges h = led (go_on _) k _ (later_exchanges exchanges) (h.1 (first_exchange exchanges))
+
+  pub leads : {E R : Type 0} {During : P → Type 0} {Says : E → P → Type 0} {After After' : R → P → Type 0}
+      {d : Dialog E R} {p : P} {exchanges : List Exchange} → ((r : R) (q : P) → After r q → During q × After' r q)
+      → Upholds (over_any_exchange m) (λ bytes q. During q) Says After d p → Leads m d p exchanges During After'
+  leads {During = J} {Says = Says} {After = A} {After' = A'} {d = d} {p = p} {exchanges = exchanges} at_end l = record {
+    during = λ k. (led J Says A A' at_end d k p exchanges l.holds).0;
+    after = λ k. (led J Says A A' at_end d k p exchanges l.holds).1;
+  }
+
+  -- what a call upholds if one condition holds throughout
+  abbrev pub Keeps : {R : Type 0} → (P → Type 0) → (R → P → Type 0) → Dialog ⊥ R → P → Type 0
+  Keeps During After d p = Upholds (over_any_exchange m) (λ bytes q. During q) NoOutput After d p
+
+  -- An attempt. If a condition holds after each prefix of its commands, also after a restart, it holds throughout. Its
+  -- data are those of all commands, each executed and replied to.
+  module _ (Stands : P → Type 0) (After : StepOutcome → P → Type 0) (restart_keeps : (q : P) → Stands q → Stands (m.reset q))
+      (failed : (fault : StepFault) (q : P) → Stands q → After (Err fault) q) where
+    abbrev Tries : Dialog ⊥ Reply → P → Type 0
+    Tries d p = Keeps Stands (OnReply Stands After) d p
+
+    answered : (reply : Reply) (joined : List ℕ → Reply) (go_on : List ℕ → Dialog ⊥ Reply) (q : P)
+        (All : List ℕ → Type 0) → Stands q
+        → ((bytes : List ℕ) → ((got : List ℕ) → joined bytes ≡ Data got → All got) → Tries (go_on bytes) q)
+        → ((got : List ℕ) → on_data reply joined ≡ Data got → All got) → Tries (with_data go_on reply) q
+    answered reply joined go_on q All stands each whole = search rules
+
+    lost : (execution : Execution) (executed p : P) → Stands executed → Stands p → Stands (after_execution execution executed p m.reset)
+    lost NotExecuted executed p o s = s
+    lost Executed executed p o s = o
+    lost (ThenRestarted execution) executed p o s = restart_keeps _ (lost execution executed p o s)
+
+    by_exchange : (one_exchange : Exchange) (command : Command) (go_on : List ℕ → Dialog ⊥ Reply) (p : P)
+        → Stands (m.after (body command) p) → Stands p
+        → Tries (with_data go_on (reply_to m command p)) (m.after (body command) p)
+        → Tries (with_data go_on (reply_from_reading command (reading_of_exchange one_exchange (m.answer (body command) p))))
+        (after_exchange one_exchange (m.after (body command) p) p m.reset)
+    by_exchange one_exchange command go_on p o s right = search (rules, lost)
+
+    attempt_goes : (commands : List Command) (before : List ℕ) (p : P)
+        → ((i : ℕ) → Stands (after_commands m i commands p))
+        → ((got : List ℕ) → joined_reply m commands before p ≡ Data got
+        → After (Ok got) (after_commands m (length commands) commands p)) → Tries (attempt commands before) p
+    unfolding attempt exchange
+    attempt_goes [] before p prefixes whole = done (whole before refl)
+    attempt_goes (command ∷ commands) before p prefixes whole =
+        let q = m.after (body command) p in
+        let go_on : List ℕ → Dialog ⊥ Reply = λ bytes. attempt commands (before ++ bytes) in
+        ask (prefixes 0) (λ one_exchange. by_exchange one_exchange command go_on p (prefixes 1) (prefixes 0)
+        (answered (reply_to m command p) (λ bytes. joined_reply m commands (before ++ bytes) q) go_on q
+        (λ got. After (Ok got) (after_commands m (length commands) commands q)) (prefixes 1)
+        (λ bytes each. attempt_goes commands (before ++ bytes) q (λ i. prefixes (suc i)) each) whole))
+
+  -- A step leads from its first condition to its second. With data the second holds, otherwise either.
+  module _ (commands : List Command) (Before After : P → Type 0) (fits : IsRepeatable m commands Before After) where
+    abbrev Either : P → Type 0
+    Either q = Before q ⊎ After q
+
+    abbrev pub AfterStep : StepOutcome → P → Type 0
+    AfterStep (Ok got) q = After q × IsDataOfAttempt m commands Before After got
+    AfterStep (Err fault) q = Either q
+
+    restart_keeps : (q : P) → Either q → Either (m.reset q)
+    restart_keeps q b' = search rules
+
+    prefixes : (q : P) → Either q → (i : ℕ) → Either (after_commands m i commands q)
+    prefixes q (inl b) i = fits.prefix q i b
+    prefixes q (inr a) i = inr (fits.again q i a)
+
+    wholes : (q : P) → Either q → (got : List ℕ) → joined_reply m commands [] q ≡ Data got
+        → After (after_commands m (length commands) commands q)
+    wholes q (inl b) got has = fits.whole q got has b
+    wholes q (inr a) got has = fits.again q (length commands) a
+
+    pub try_goes : (p : P) → Either p → Keeps Either (OnReply Either AfterStep) (attempt commands []) p
+    try_goes p stood = search (rules, attempt_goes, restart_keeps, prefixes, wholes)
+
+    step_goes : (p : P) → Before p → Keeps Either AfterStep (step commands) p
+    step_goes p before =
+        attempts (over_any_exchange m) (λ bytes q. Either q) commands (λ more q. Either q) AfterStep
+        (λ more q stood. try_goes q stood) (λ fault q stood. stood) 4 NoAnswer p (inl before)
+
+    -- under one condition throughout, which a fault leaves
+    pub step_leads : (During : P → Type 0) (Whole : StepOutcome → P → Type 0) (p : P) → ((q : P) → Before q → During q)
+        → ((q : P) → After q → During q) → ((fault : StepFault) (q : P) → During q → Whole (Err fault) q) → Before p
+        → Keeps During (OnOutcome (λ got q. After q × IsDataOfAttempt m commands Before After got) Whole) (step commands) p
+    step_leads During Whole p from to failed before = search (rules, wider, step_goes)
+
+    pub step_along : (p : P) (exchanges : List Exchange) → Before p → Leads m (step commands) p exchanges Either AfterStep
+    step_along p exchanges before = leads at_end (step_goes p before)
+      where
+        at_end : (o : StepOutcome) (q : P) → AfterStep o q → Either q × AfterStep o q
+        at_end (Ok got) q x = (inr x.0, x)
+        at_end (Err fault) q x = (x, x)

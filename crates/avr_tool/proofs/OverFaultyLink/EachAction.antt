@@ -1,0 +1,293 @@
+-- The actions of a session over one link, on which steps may fail or none does: their output, and what they leave.
+use Rattle.std.proofs.Common.{◌≡◌, List, [], ◌∷◌, ◌++◌, append_assoc, refl, sym, ap, ap₂, ◌∙◌, subst, inl, inr, ◌⊎◌, Ok, Err, Result, rules}
+use Rattle.std.specs.Prelude.{⊤}
+use Rattle.avr_cli.specs.declared.settings.Switches.{Switches}
+use Rattle.avr_desk.specs.OutputEvents.{OutputEvent, PrintsLine}
+use Rattle.avr_part.specs.Part.{Part, IsPart}
+use Rattle.avr_session.specs.Actions.{Action, OpenSession}
+use Rattle.avr_session.specs.Lines.{fault_line}
+use Rattle.avr_session.specs.PlanSteps.{action_steps}
+use Rattle.avr_session.specs.Session.{standing, unless_fault, action_dialog, actions_dialog}
+use Rattle.avr_session.specs.Standing.{Standing, NoFault}
+use Rattle.stk_host.proofs.Dialogs.Logic.{told, wider}
+use Rattle.stk_host.specs.declared.fault.HostFault.{HostFault}
+use Rattle.stk_host.specs.declared.fault.StepFault.{StepFault}
+use Rattle.stk_host.specs.declared.fault.StepFault.TheVariants as of_step
+use Rattle.stk_host.specs.Operations.{opening, closing, host_fault, signature_checked}
+use Rattle.stk_host.specs.Steps.{StepOutcome}
+use Rattle.stk_emu.proofs.Answers.Commands.{settled_idle}
+use Rattle.stk_emu.specs.Device.{device}
+use Rattle.stk_emu.specs.Effect.{Memories, Item, effects, memories_of}
+use Rattle.stk_emu.specs.WriteOperations.{steps_of_items, ItemsFit}
+use Rattle.stk_emu.specs.Programmer.{Programmer}
+use Rattle.stk_emu.specs.Settled.{HasMemories, Settled, FitsPart}
+use Rattle.avr_tool.proofs.OverFaultyLink.FirstSteps.{Rests, rests_here, rests_before, rests_all, rests_behind, effects_sizes}
+use Rattle.avr_tool.proofs.Given.Comparisons.{signature_taken}
+use Rattle.avr_tool.proofs.Hosts.AnyExchange.{Keeps}
+use Rattle.avr_tool.proofs.Hosts.Operations.{AfterCall, operation_goes, beginning_goes}
+use Rattle.avr_tool.proofs.Hosts.OneLink.{Spot, Runs}
+use Rattle.avr_tool.proofs.Hosts.Outputs.{AllTrue, Prints, stops, prints_reported, prints_then, prints_wider}
+use Rattle.avr_tool.proofs.Leads.{Reached, AfterBeginning}
+use Rattle.avr_tool.proofs.Plans.Calls.{Outcome, outcome_of, call_of, outcome_says, outcome_expected, dialog_is, expected_is, IsOperation, is_operation}
+use Rattle.avr_tool.proofs.Plans.Fits.{FitsAction, AllFitActions, action_items_fit}
+use Rattle.avr_tool.proofs.Plans.Standings.{after_fault, faulty_fine, over_fine}
+use Rattle.avr_tool.specs.ExpectedRun.{Expected, then_from, ◌then◌, action_expected, actions_expected}
+use Rattle.avr_tool.specs.ExpectedOutput.{FirstActionsOutput, OutputToFault}
+use Rattle.avr_tool.specs.Items.{action_items, actions_items}
+
+-- ---- the calls
+
+abbrev pub RestsIn : Part → List Item → Memories → Spot → Type 0
+RestsIn part items m z = Rests part (steps_of_items part items) m z.0
+
+module _ (part : Part) (s : Switches) (At : Memories → Spot → Type 0) (Fails : Type 0) where
+  -- After the call of an action: its own outcome and the memories of its items. If steps may fail, also a step's fault.
+  abbrev pub Came : (action : Action) → Memories → Result (Outcome action) HostFault → Spot → Type 0
+  Came action m got z =
+      ((got ≡ outcome_of part action m) × At (effects part (action_items action) m) z)
+      ⊎ (Fails × ((fault : StepFault) × (got ≡ Err (host_fault fault))
+      × RestsIn part (action_items action) m z))
+
+  abbrev pub Comes : Action → Memories → Spot → Type 0
+  Comes action m z = Runs device (λ y. RestsIn part (action_items action) m y) (Came action m) (call_of part s action) z
+
+  -- as the expected run: its state, its output and its memories
+  pub record Own (c : Expected) (at : Standing) (said : List OutputEvent) (z : Spot) : Type 0 where
+    pub stands : c.standing ≡ at
+    pub output_events_are : said ≡ c.emits
+    pub left : At c.memories z
+
+  -- a step failed, and its line was printed last
+  pub record Broken (actions : List Action) (m : Memories) (at : Standing) (said : List OutputEvent) : Type 0 where
+    pub fails : Fails
+    pub faulty : at ≡ NoFault → ⊥
+    pub line : OutputToFault part s actions m said
+
+  -- at each question of these actions; then after them
+  abbrev pub Now : List Action → Memories → List OutputEvent → Spot → Type 0
+  Now actions m said z = RestsIn part (actions_items actions) m z × FirstActionsOutput part s actions m said
+
+  abbrev pub After : List Action → Memories → Standing → List OutputEvent → Spot → Type 0
+  After actions m at said z = RestsIn part (actions_items actions) m z
+      × (Own (actions_expected part s actions m) at said z ⊎ Broken actions m at said)
+
+  -- after the first of them
+  abbrev pub AfterOne : Action → List Action → Memories → Standing → List OutputEvent → Spot → Type 0
+  AfterOne action rest m at said z = RestsIn part (action_items action) m z
+      × (Own (outcome_expected part s action m) at said z ⊎ Broken (action ∷ rest) m at said)
+
+  -- What the calls do between such conditions. Each action has its outcome, and the closing keeps the memories. A fault
+  -- comes only if steps may fail.
+  pub record Passes : Type 0 where
+    pub idle : (m : Memories) (z : Spot) → At m z → HasMemories part m z.0
+    pub calls : (action : Action) (m : Memories) (z : Spot) → FitsAction part action → FitsPart part m → At m z
+        → Comes action m z
+    pub closes : (m : Memories) (z : Spot) → At m z → Runs device (λ y. HasMemories part m y.0) (λ r y. HasMemories part m y.0
+        × ((r ≡ Ok tt) ⊎ (Fails × ((fault : StepFault) × (r ≡ Err (host_fault fault)))))) closing z
+
+module _ (part : Part) (sound : IsPart part) (s : Switches) where
+  -- the outcomes of a call over any link
+  abbrev AnyOutcome : (action : Action) → Memories → Result (Outcome action) HostFault → Programmer → Type 0
+  AnyOutcome action m got q = Came part s (λ m z. Settled part m z.0) ⊤ action m got (q, [])
+
+  abbrev pub ComesAnyhow : Action → Memories → Programmer → Type 0
+  ComesAnyhow action m p = Keeps device (Rests part (steps_of_items part (action_items action)) m) (AnyOutcome action m)
+      (call_of part s action) p
+
+  -- an action that is a run of steps and the check of their data
+  pub operation_comes : (action : Action) (m : Memories) → FitsAction part action → FitsPart part m → (p : Programmer)
+      → Settled part m p → ComesAnyhow action m p
+  operation_comes action m fits f p settled =
+      subst (λ d. Keeps device (Rests part (steps_of_items part (action_items action)) m) (AnyOutcome action m) d p)
+      o.call_is
+      (wider (λ bytes q r. rests q r) (λ e q x. x) came
+      (operation_goes part sound (action_steps part action) m o.judge p o.are f settled))
+    where
+      o : IsOperation part s action m
+      o = is_operation part s sound m f action fits
+
+      rests : (q : Programmer) → Reached part (action_steps part action) m q
+          → Rests part (steps_of_items part (action_items action)) m q
+      rests q r = record {
+        count = r.count;
+        stands = subst (λ z. HasMemories part z q) (o.some r.count) (settled_idle part _ q r.stands);
+      }
+
+      came : (got : Result (Outcome action) HostFault) (q : Programmer)
+          → AfterCall part sound (action_steps part action) m o.judge got q → AnyOutcome action m got q
+      came got q (inl made) = inl (made.1 ∙ o.gives, subst (λ z. Settled part z q) o.all made.0)
+      came got q (inr broke) = inr (tt, (broke.0, broke.1, rests q broke.2))
+
+  -- the opening, with the part's own signature
+  pub opening_comes : (m : Memories) → FitsPart part m → (p : Programmer) → HasMemories part m p → ComesAnyhow OpenSession m p
+  unfolding opening
+  opening_comes m f p idle =
+      told (signature_checked part.signature s.force)
+      (wider (λ bytes q i. rests_here part [] m q i) (λ e q x. x) (λ o q x. x)
+      (beginning_goes part sound m p f idle)) came
+    where
+      came : (o : StepOutcome) (q : Programmer) → AfterBeginning part m o q
+          → AnyOutcome OpenSession m (signature_checked part.signature s.force o) q
+      came (Ok found) q a = inl (
+        subst (λ x. signature_checked part.signature s.force (Ok x) ≡ Ok part.signature) (sym a.1)
+            (signature_taken part.signature s.force),
+        a.0,
+      )
+      came (Err fault) q i = inr (tt, (fault, refl, rests_here part [] m q i))
+
+-- ---- their output
+
+abbrev pub fault_output : Part → StepFault → List OutputEvent
+fault_output part fault = PrintsLine (fault_line part (host_fault fault)) ∷ []
+
+module _ (part : Part) (s : Switches) where
+  fault_says : (action : Action) (fault : StepFault)
+      → outcome_says part s action (Err (host_fault fault)) ≡ fault_output part fault
+  fault_says OpenSession of_step.NoAnswer = refl
+  fault_says action fault = search rules
+
+  -- the output of an action is true
+  module _ (True : OutputEvent → Programmer → Type 0) where
+    abbrev pub ActionTrue : Action → Memories → Type 0
+    ActionTrue action m = (q : Programmer) → memories_of q.chip ≡ effects part (action_items action) m
+        → AllTrue True (outcome_says part s action (outcome_of part action m)) q
+
+    abbrev pub ActionsTrue : List Action → Memories → Type 0
+    ActionsTrue [] m = ⊤
+    ActionsTrue (action ∷ actions) m =
+        ActionTrue action m × ActionsTrue actions (effects part (action_items action) m)
+
+module _ (part : Part) (sound : IsPart part) (s : Switches) (True : OutputEvent → Programmer → Type 0)
+    (fault_true : (fault : StepFault) (q : Programmer) → AllTrue True (fault_output part fault) q)
+    (At : Memories → Spot → Type 0) (Fails : Type 0) (pass : Passes part s At Fails) where
+  none_done : (actions : List Action) (m : Memories) → FirstActionsOutput part s actions m []
+  none_done actions m = record { done = []; more = actions; actions_are = refl; fine = refl; output_events_are = refl }
+
+  abbrev pub Goes : List Action → Memories → Spot → Type 0
+  Goes actions m z =
+      Prints True (Now part s At Fails actions m) (After part s At Fails actions m) (actions_dialog part s actions) z
+
+  module _ (action : Action) (rest : List Action) (m : Memories) (fits : ItemsFit part (action_items action))
+      (f : FitsPart part m) where
+    abbrev items : List Item
+    items = action_items action
+
+    abbrev c : Expected
+    c = outcome_expected part s action m
+
+    pub action_prints : (z : Spot) → ActionTrue part s True action m → Comes part s At Fails action m z
+        → Prints True (λ said y. RestsIn part items m y × FirstActionsOutput part s (action ∷ rest) m said)
+        (AfterOne part s At Fails action rest m) (action_dialog part s action) z
+    action_prints z holds comes =
+        subst (λ d. Prints True (λ said y. RestsIn part items m y × FirstActionsOutput part s (action ∷ rest) m said)
+        (AfterOne part s At Fails action rest m) d z) (dialog_is part s action)
+        (prints_reported True (outcome_says part s action) comes (λ y r. (r, none_done (action ∷ rest) m)) each)
+      where
+        each : (got : Result (Outcome action) HostFault) (y : Spot) → Came part s At Fails action m got y
+            → AllTrue True (outcome_says part s action got) y.0
+            × AfterOne part s At Fails action rest m (standing got) (outcome_says part s action got) y
+        each got y (inl made) =
+            subst (λ x. AllTrue True (outcome_says part s action x) y.0
+            × AfterOne part s At Fails action rest m (standing x) (outcome_says part s action x) y) (sym made.0) (
+              holds y.0 (pass.idle _ y made.1).memories,
+              (
+                rests_all part sound items m y.0 fits f (pass.idle _ y made.1),
+                inl (record { stands = refl; output_events_are = refl; left = made.1 }),
+              ),
+            )
+        each got y (inr broke) =
+            let fault = broke.1.0 in
+            let line : outcome_says part s action got ≡ fault_output part fault =
+            ap (outcome_says part s action) broke.1.1 ∙ fault_says part s action fault in (
+              subst (λ x. AllTrue True x y.0) (sym line) (fault_true fault y.0),
+              (
+                broke.1.2,
+                inr (record {
+                  fails = broke.0;
+                  faulty = subst (λ x. standing x ≡ NoFault → ⊥) (sym broke.1.1)
+                      (after_fault (Outcome action) (λ at. at ≡ NoFault → ⊥) (host_fault fault) faulty_fine over_fine);
+                  line = record { told = []; first = none_done (action ∷ rest) m; fault = fault; output_events_are = line };
+                }),
+              ),
+            )
+
+    -- ---- an action, then the next ones unless there was a fault
+
+    goes_as : (next : Memories → Expected) (at : Standing) → c.standing ≡ at
+        → (action_expected part s action m then next) ≡ then_from c at next
+    goes_as next at e = ap (λ x. x then next) (expected_is part s action m) ∙ ap (λ x. then_from c x next) e
+
+    module _ (said : List OutputEvent) (is : said ≡ c.emits) (fine : c.standing ≡ NoFault) where
+      first_behind : (x : List OutputEvent) → FirstActionsOutput part s rest c.memories x
+          → FirstActionsOutput part s (action ∷ rest) m (said ++ x)
+      first_behind x first =
+          let on = goes_as (actions_expected part s first.done) NoFault fine in
+          record {
+            done = action ∷ first.done;
+            more = first.more;
+            actions_are = ap (λ xs. action ∷ xs) first.actions_are;
+            fine = ap (λ y. y.standing) on ∙ first.fine;
+            output_events_are = ap₂ ◌++◌ is first.output_events_are ∙ sym (ap (λ y. y.emits) on);
+          }
+
+      rests_later : (y : Spot) → RestsIn part (actions_items rest) c.memories y
+          → RestsIn part (actions_items (action ∷ rest)) m y
+      rests_later y r = rests_behind part sound items (actions_items rest) m y.0 fits f r
+
+      after_behind : (at : Standing) (x : List OutputEvent) (y : Spot) → After part s At Fails rest c.memories at x y
+          → After part s At Fails (action ∷ rest) m at (said ++ x) y
+      after_behind at x y (rests, inl own) =
+          search (rules, rests_later y rests, goes_as (actions_expected part s rest) NoFault fine)
+      after_behind at x y (rests, inr broken) =
+          let line = broken.line in (
+            rests_later y rests,
+            inr (record {
+              fails = broken.fails;
+              faulty = broken.faulty;
+              line = record {
+                told = said ++ line.told;
+                first = first_behind line.told line.first;
+                fault = line.fault;
+                output_events_are = ap (λ y. said ++ y) line.output_events_are
+                    ∙ sym (append_assoc said line.told (fault_output part line.fault));
+              };
+            }),
+          )
+
+    before : (y : Spot) → RestsIn part items m y → RestsIn part (actions_items (action ∷ rest)) m y
+    before y r = rests_before part items (actions_items rest) m y.0 r
+
+    pub goes_cons : (z : Spot) → ActionTrue part s True action m → Comes part s At Fails action m z
+        → ((y : Spot) → At c.memories y → Goes rest c.memories y) → Goes (action ∷ rest) m z
+    goes_cons z holds comes more =
+        prints_then True (λ said y x. (before y x.0, x.1)) (action_prints z holds comes) on
+      where
+        on : (at : Standing) (said : List OutputEvent) (y : Spot) → AfterOne part s At Fails action rest m at said y
+            → Prints True (λ x. Now part s At Fails (action ∷ rest) m (said ++ x))
+            (λ b x. After part s At Fails (action ∷ rest) m b (said ++ x))
+            (unless_fault (actions_dialog part s rest) at) y
+        on NoFault said y (r, inl own) =
+            prints_wider True
+            (λ x v now. (
+              rests_later said own.output_events_are own.stands v now.0,
+              first_behind said own.output_events_are own.stands x now.1,
+            ))
+            (after_behind said own.output_events_are own.stands) (more y own.left)
+        on NoFault said y (r, inr broken) = absurd (broken.faulty refl)
+        on at said y (r, inl own) =
+            stops True (After part s At Fails (action ∷ rest) m) at said y (
+              before y r,
+              inl (subst (λ x. Own part s At Fails x at said y)
+                  (sym (goes_as (actions_expected part s rest) at own.stands)) own),
+            )
+        on at said y (r, inr broken) =
+            stops True (After part s At Fails (action ∷ rest) m) at said y (before y r, inr broken)
+
+  -- the actions after the opening
+  pub goes_actions : (actions : List Action) (m : Memories) (z : Spot) → AllFitActions part actions → FitsPart part m
+      → ActionsTrue part s True actions m → At m z → Goes actions m z
+  goes_actions [] m z fits f holds at = search rules
+  goes_actions (action ∷ rest) m z fits f holds at =
+      goes_cons action rest m (action_items_fit part action fits.0) f z holds.0 (pass.calls action m z fits.0 f at)
+      (λ y there. goes_actions rest (effects part (action_items action) m) y fits.1
+      (effects_sizes part sound (action_items action) m f) holds.1 there)

@@ -1,0 +1,57 @@
+-- Every body that a session asks fits a frame: if each other body weighs 1, all that it asks weighs 0.
+use Rattle.std.proofs.Common.{◌≡◌, ℕ, ◌-◌, ◌≤◌, List, [], ◌∷◌, map, length, subst, arith, rules}
+use Rattle.std.proofs.lemmas.Bool.Decides.{nat_tests}
+use Rattle.std.specs.Prelude.{All, nat_le, ◌&&◌, if◌then◌else◌}
+use Rattle.avr_part.specs.Part.{Part, IsPart}
+use Rattle.avr_plan.specs.Plan.{Plan, IsFitted}
+use Rattle.stk_frame.specs.Commands.{body}
+use Rattle.stk_frame.specs.declared.command.Command.{Command}
+use Rattle.stk_host.specs.Dialog.{Dialog, Done, Emit, Ask}
+use Rattle.stk_emu.specs.DialogOverExchanges.{SendsValidBodies}
+use Rattle.stk_emu.specs.Lawful.{IsFrameBody}
+use Rattle.avr_tool.proofs.Each.{each_on}
+use Rattle.avr_tool.proofs.Hosts.FrameSizes.{AreSendable, EachSendable, all_sendable}
+use Rattle.avr_tool.proofs.WriteOperations.Items.{write_are_steps, read_are_steps}
+use Rattle.avr_session.specs.Actions.{Action}
+use Rattle.avr_session.specs.Session.{session}
+use Rattle.avr_tool.specs.OverFaultyLink.{Weight, total_weight, bodies_in}
+use Rattle.avr_session.specs.PlanSteps.{action_steps, actions_steps}
+use Rattle.avr_tool.proofs.Plans.Fits.{FitsAction, AllFitActions, work_fits}
+use Rattle.avr_tool.proofs.Bounds.Weights.{WeighsAtMost, weighed_append, session_weighs}
+
+abbrev unsendable : Weight
+unsendable bytes = if nat_le 1 (length bytes) && nat_le (length bytes) 275 then 0 else 1
+
+sendable : (bytes : List ℕ) → unsendable bytes ≤ 0 → IsFrameBody bytes
+sendable bytes le = record { some = grind (arith, nat_tests); few = grind (arith, nat_tests) }
+
+asks_light : {E R : Type 0} (d : Dialog E R) → WeighsAtMost unsendable 0 d → SendsValidBodies d
+asks_light (Done r) f = tt
+asks_light (Emit e d) f = asks_light d f.1
+asks_light (Ask asked answered) f = (
+  sendable asked f.0,
+  λ reading.
+      let none : 0 - unsendable asked ≡ 0 = omega arith in
+      asks_light (answered reading) (subst (λ n. WeighsAtMost unsendable n (answered reading)) none (f.1 reading)),
+)
+
+commands_light : (commands : List Command) → AreSendable commands → total_weight unsendable (map body commands) ≡ 0
+commands_light [] s = omega arith
+commands_light (command ∷ commands) s = search (rules, nat_tests, commands_light commands s.1)
+
+steps_light : (steps : List (List Command)) → EachSendable steps → total_weight unsendable (bodies_in steps) ≡ 0
+steps_light [] s = omega arith
+steps_light (commands ∷ steps) s = search (rules, commands_light, weighed_append, steps_light steps s.1)
+
+module _ (part : Part) (sound : IsPart part) where
+  action_sendable : (action : Action) → FitsAction part action → EachSendable (action_steps part action)
+  action_sendable action fits = search (rules, all_sendable, write_are_steps, read_are_steps)
+
+  actions_sendable : (actions : List Action) → AllFitActions part actions → EachSendable (actions_steps part actions)
+  actions_sendable [] fits = tt
+  actions_sendable (action ∷ actions) fits = search (rules, each_on, action_sendable, actions_sendable actions fits.1)
+
+-- every question of a session
+pub session_asks : (plan : Plan) → IsPart plan.part → All (IsFitted plan.part) plan.tasks → SendsValidBodies (session plan)
+session_asks plan sound fitted =
+    search (rules, steps_light, each_on, actions_sendable, work_fits, asks_light, session_weighs)

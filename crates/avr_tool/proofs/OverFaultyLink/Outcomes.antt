@@ -1,0 +1,67 @@
+-- What a session leaves over any link, and that with status 0 it is its expected run.
+use Rattle.std.proofs.Common.{◌≡◌, ℕ, List, [], ◌∷◌, sym, ◌∙◌, arith, inl, inr, Ok}
+use Rattle.std.specs.Prelude.{All, ⊤}
+use Rattle.avr_part.specs.Part.{IsPart}
+use Rattle.avr_plan.specs.Plan.{Plan, IsFitted}
+use Rattle.avr_session.specs.Actions.{Action, OpenSession}
+use Rattle.avr_session.specs.Session.{closing_output, session}
+use Rattle.stk_host.specs.Dialog.{Done}
+use Rattle.stk_emu.specs.Exchange.{Exchange}
+use Rattle.stk_emu.specs.DialogOverExchanges.{state_after, outputs_after}
+use Rattle.stk_emu.specs.Device.{device}
+use Rattle.stk_emu.specs.Effect.{Memories, effects, memories_of}
+use Rattle.stk_emu.specs.Programmer.{Programmer}
+use Rattle.stk_emu.specs.Settled.{HasMemories, Settled, FitsPart}
+use Rattle.avr_tool.proofs.OverFaultyLink.EachAction.{Comes, Passes, ActionsTrue, fault_output, opening_comes}
+use Rattle.avr_tool.proofs.OverFaultyLink.Sessions.{AtMoment, AtEnd, at_last, anyhow, session_prints}
+use Rattle.avr_tool.proofs.Hosts.OneLink.{Spot, on_link}
+use Rattle.avr_tool.proofs.Hosts.Outputs.{Anything, Prints, Printed, any_outputs, at_moment}
+use Rattle.avr_tool.proofs.Leads.{Leads}
+use Rattle.avr_tool.proofs.Memories.ExpectedAgrees.{expected_status, expected_memories}
+use Rattle.avr_tool.proofs.Plans.Calls.{outcome_of, outcome_says}
+use Rattle.avr_tool.proofs.Plans.Fits.{work}
+use Rattle.avr_tool.specs.Items.{action_items}
+use Rattle.avr_tool.specs.Outcome.{HasFirstOperations, IsDone, IsExpectedRun}
+
+module _ (plan : Plan) (sound : IsPart plan.part) (m0 : Memories) (f0 : FitsPart plan.part m0)
+    (fitted : All (IsFitted plan.part) plan.tasks) where
+  anything : (actions : List Action) (m : Memories) → ActionsTrue plan.part plan.switches Anything actions m
+  anything [] m = tt
+  anything (action ∷ actions) m =
+      (λ q is. any_outputs (outcome_says plan.part plan.switches action (outcome_of plan.part action m)) q, anything actions (effects plan.part (action_items action) m))
+
+  -- over any link, or if no step fails
+  pub session_passes : (At : Memories → Spot → Type 0) (Fails : Type 0) → Passes plan.part plan.switches At Fails
+      → (z : Spot) → Comes plan.part plan.switches At Fails OpenSession m0 z
+      → Prints Anything (AtMoment plan m0) (AtEnd plan m0 Fails) (session plan) z
+  session_passes At Fails pass z opened =
+      session_prints plan sound fitted Anything (λ fault q. any_outputs (fault_output plan.part fault) q)
+      (λ q. any_outputs (closing_output plan.switches.quiet plan.part (Ok tt)) q) At Fails pass m0 f0
+      (λ q is. any_outputs (outcome_says plan.part plan.switches OpenSession (outcome_of plan.part OpenSession m0)) q)
+      (anything (work plan) m0) z opened
+
+  module _ (p : Programmer) (exchanges : List Exchange) (idle : HasMemories plan.part m0 p) where
+    pub session_along : (k : ℕ) → Printed (AtMoment plan m0) (AtEnd plan m0 ⊤) k (session plan) (p, exchanges)
+    session_along k =
+        at_moment Anything (at_last plan m0 ⊤) k
+        (session_passes (λ m z. Settled plan.part m z.0) ⊤ (anyhow plan.part sound plan.switches) (p, exchanges)
+        (on_link device (opening_comes plan.part sound plan.switches m0 f0 p idle)))
+
+    -- with status 0 it is its expected run
+    pub session_succeeds : (k status : ℕ) → (state_after device k (session plan) p exchanges).dialog ≡ Done status → status ≡ 0
+        → IsExpectedRun plan m0 (memories_of (state_after device k (session plan) p exchanges).programmer.chip)
+        (outputs_after device k (session plan) p exchanges) status
+    session_succeeds k status e zero = elim ((session_along k).after status e).1 [
+      | inl own ↦ own
+      | inr broke ↦ let one = broke.1.1 in absurd (omega (arith, zero, one))
+    ]
+
+    pub session_leaves : Leads device (session plan) p exchanges (λ q. HasFirstOperations plan m0 (memories_of q.chip))
+        (λ status q. status ≡ 0 → IsDone plan m0 (memories_of q.chip))
+    session_leaves = record {
+      during = λ k. (session_along k).now.0;
+      after = λ k status e zero.
+          let run = session_succeeds k status e zero in
+          let agrees = (expected_status plan m0).0 (sym run.status_is ∙ zero) in
+          record { memories = run.memories ∙ expected_memories plan m0 agrees; agrees = agrees };
+    }

@@ -1,0 +1,207 @@
+-- The actions of a session, by the write operations that they make one after another.
+use Rattle.std.proofs.lemmas.Grind.{common_steps}
+use Rattle.std.proofs.Common.{◌≡◌, ℕ, zero, suc, ◌+◌, ◌-◌, ◌≤◌, List, [], ◌∷◌, ◌++◌, length, refl, sym, ap, ◌∙◌, subst, arith, inl, inr, Result, rules}
+use Rattle.std.proofs.lemmas.List.{length-append}
+use Rattle.std.specs.Prelude.{min}
+use Rattle.avr_desk.specs.OutputEvents.{OutputEvent}
+use Rattle.avr_part.specs.Part.{Part, IsPart}
+use Rattle.stk_frame.specs.declared.command.Command.{Command}
+use Rattle.stk_host.specs.declared.fault.HostFault.{HostFault}
+use Rattle.stk_host.specs.Dialog.{Dialog, Done, ◌>>=◌}
+use Rattle.stk_host.specs.Steps.{step, play}
+use Rattle.stk_host.specs.Operations.{operation}
+use Rattle.stk_emu.specs.Exchange.{Exchange}
+use Rattle.stk_emu.specs.Programmer.{Programmer}
+use Rattle.stk_emu.specs.Device.{device}
+use Rattle.stk_emu.specs.DialogOverExchanges.{state_after}
+use Rattle.avr_tool.proofs.Leads.{Leads, GoesOn}
+use Rattle.stk_emu.specs.Effect.{Memories, Item, effects}
+use Rattle.stk_emu.specs.Settled.{HasMemories, Settled, FitsPart}
+use Rattle.stk_emu.specs.WriteOperations.{memories_after_steps, steps_of_items, AreSteps, ItemsFit}
+use Rattle.avr_tool.specs.Tallies.{Count, with_next, then_count, Tallies}
+use Rattle.avr_tool.proofs.Hosts.Attempts.{along_bind, along_next_dialog}
+use Rattle.avr_tool.proofs.Hosts.AnyExchange.{done_is}
+use Rattle.avr_tool.proofs.WriteOperations.Conditions.{along_before}
+use Rattle.stk_emu.proofs.Answers.Commands.{settled_idle}
+use Rattle.avr_tool.proofs.WriteOperations.Counts.{tallies_none, tallies_as, tallies_bind, steps_all, tallies_play, none_left}
+use Rattle.avr_session.specs.Standing.{Standing, NoFault}
+use Rattle.avr_session.specs.Session.{reported, unless_fault}
+use Rattle.avr_tool.specs.Made.{none_made, made_unless_fault, steps_completed}
+use Rattle.avr_tool.proofs.OverFaultyLink.FirstSteps.{Rests, changed_min, changed_prefix, changed_behind, all_on, all_changed}
+use Rattle.avr_tool.proofs.OverFaultyLink.Calls.{told_programmer, told_fine}
+
+-- the memories after `j` first steps of these items
+pub record Changed (part : Part) (items : List Item) (m : Memories) (j : ℕ) (q : Programmer) : Type 0 where
+  pub few : j ≤ length (steps_of_items part items)
+  pub stands : HasMemories part (memories_after_steps part j (steps_of_items part items) m) q
+
+-- an action that makes the write operations of these items in order; if it is fine, all were completed
+pub record Makes (part : Part) (m : Memories) (items : List Item) (d : Dialog OutputEvent Standing)
+    (made : Count Programmer)
+    (p : Programmer) (exchanges : List Exchange) : Type 0 where
+  pub tally : Tallies device d made (Changed part items m) p exchanges
+  pub complete : (k : ℕ) → (state_after device k d p exchanges).dialog ≡ Done NoFault
+      → made k p exchanges ≡ length (steps_of_items part items)
+
+-- nothing is made if the memories stay
+pub makes_none : (part : Part) (m : Memories) (d : Dialog OutputEvent Standing) (p : Programmer) (exchanges : List Exchange)
+    (After : Standing → Programmer → Type 0)
+    → Leads device d p exchanges (Rests part [] m) After → Makes part m [] d none_made p exchanges
+makes_none part m d p exchanges After l = record {
+  tally = tallies_none device d (Changed part [] m) p exchanges (λ k.
+      let r = l.during k in
+      record {
+        few = omega arith;
+        stands = search rules;
+      });
+  complete = λ k e. refl;
+}
+
+steps_most : (steps : List (List Command)) (k : ℕ) (p : Programmer) (exchanges : List Exchange)
+    → steps_completed device steps k p exchanges ≤ length steps
+steps_most [] k p exchanges = omega arith
+steps_most (commands ∷ steps) k p exchanges =
+    let s = state_after device k (step commands) p exchanges in search (rules, steps_most steps s.left s.programmer s.exchanges)
+
+module _ (part : Part) (sound : IsPart part) where
+  module _ {A : Type 0} (m : Memories) (items : List Item) (judge : List ℕ → Result A HostFault)
+      (outcome_says : Result A HostFault → List OutputEvent) (p : Programmer) (exchanges : List Exchange)
+      (are : AreSteps part (steps_of_items part items)) (settled : Settled part m p) where
+    abbrev steps : List (List Command)
+    steps = steps_of_items part items
+
+    abbrev told : Dialog OutputEvent Standing
+    told = reported (operation steps judge) outcome_says
+
+    played : Tallies device (play steps []) (steps_completed device steps) (λ j. Settled part (memories_after_steps part j steps m)) p
+        exchanges
+    played = (tallies_play part steps m [] p exchanges sound are settled).0
+
+    moved : (k : ℕ) → (state_after device k (play steps []) p exchanges).programmer ≡ (state_after device k told p exchanges).programmer
+    unfolding operation
+    moved k = sym (told_programmer device judge outcome_says k (play steps []) p exchanges)
+
+    stands : (k : ℕ) (q : Programmer) → Settled part (memories_after_steps part (played.count k) steps m) q
+        → Changed part items m (min (played.count k) (length steps)) q
+    stands k q at = search (rules, changed_min, settled_idle)
+
+    told_tally : Tallies device told (steps_completed device steps) (Changed part items m) p exchanges
+    told_tally = record {
+      count = λ k. min (played.count k) (length steps);
+      none = let e = played.none in omega (arith, e);
+      at_least = λ k. let l = played.at_least k in let most = steps_most steps k p exchanges in omega (arith, l, most);
+      at_most = λ k. let l = played.at_most k in omega (arith, l);
+      stands = λ k. subst (Changed part items m (min (played.count k) (length steps))) (moved k)
+          (stands k (state_after device k (play steps []) p exchanges).programmer (played.stands k));
+    }
+
+    all_done : (k : ℕ) → (state_after device k told p exchanges).dialog ≡ Done NoFault
+        → steps_completed device steps k p exchanges ≡ length steps
+    unfolding operation
+    all_done k e =
+        let got = told_fine device judge outcome_says k (play steps []) p exchanges e in search (rules, steps_all)
+
+    pub makes_items : Makes part m items told (steps_completed device steps) p exchanges
+    makes_items = record { tally = told_tally; complete = λ k e. all_done k e }
+
+  size_on : (xs ys : List Item) → length (steps_of_items part (xs ++ ys))
+      ≡ length (steps_of_items part xs) + length (steps_of_items part ys)
+  size_on xs ys = ap length (all_on part xs ys) ∙ length-append (steps_of_items part xs) (steps_of_items part ys)
+
+  changed_first : (xs ys : List Item) (m : Memories) (j : ℕ) (q : Programmer) → Changed part xs m j q
+      → Changed part (xs ++ ys) m j q
+  changed_first xs ys m j q s = search (rules, size_on, all_on, changed_prefix)
+
+  changed_next : (xs ys : List Item) (m : Memories) (made j : ℕ) (q : Programmer) → ItemsFit part xs
+      → FitsPart part m
+      → made ≡ length (steps_of_items part xs)
+      → Changed part ys (effects part xs m) j q
+      → Changed part (xs ++ ys) m (made + j) q
+  changed_next xs ys m made j q fits f whole s =
+      let size = size_on xs ys in
+      let steps = steps_of_items part xs in
+      let past : made + j ≡ j + length steps = omega (arith, whole) in
+      search (rules, all_on, changed_behind, all_changed)
+
+  module _ (m : Memories) (xs ys : List Item) (d next : Dialog OutputEvent Standing)
+      (made later : Count Programmer) (p : Programmer) (exchanges : List Exchange)
+      (fits : ItemsFit part xs) (f : FitsPart part m)
+      (leads : Leads device d p exchanges (Rests part (steps_of_items part xs) m)
+      (λ s q. s ≡ NoFault → Settled part (effects part xs m) q))
+      (first : Makes part m xs d made p exchanges)
+      (more : (q : Programmer) (fs : List Exchange) → Settled part (effects part xs m) q
+      → Makes part (effects part xs m) ys next later q fs) where
+    abbrev after : Standing → Count Programmer
+    after = made_unless_fault later
+
+    abbrev At : ℕ → Programmer → Type 0
+    At = Changed part (xs ++ ys) m
+
+    -- if it is fine, it made all its write operations before the last question of what follows
+    whole : (k : ℕ) → (state_after device k d p exchanges).dialog ≡ Done NoFault → first.tally.count k ≡ length (steps_of_items part xs)
+    whole k e = search rules
+
+    sharp : (k l : ℕ) → (state_after device k d p exchanges).dialog ≡ Done NoFault → (state_after device k d p exchanges).left ≡ suc l
+        → first.tally.count k ≤ made (k - 1) p exchanges
+    sharp zero l e n = absurd (let z = none_left device d p exchanges in omega (arith, z, n))
+    sharp (suc k) l e n = search (rules, along_before device k l d p exchanges NoFault e n)
+
+    abbrev GoesFrom : ℕ → Standing → Type 0
+    GoesFrom k s = GoesOn device At (state_after device k d p exchanges) (first.tally.count k) (made (k - 1) p exchanges)
+        (unless_fault next s) (after s)
+
+    goes_fine : (k : ℕ) → (state_after device k d p exchanges).dialog ≡ Done NoFault
+        → Settled part (effects part xs m) (state_after device k d p exchanges).programmer → GoesFrom k NoFault
+    goes_fine k e settled =
+        let s = state_after device k d p exchanges in
+        record {
+          rest = tallies_as device next next later later (Changed part ys (effects part xs m))
+              (λ j. At (first.tally.count k + j)) s.programmer s.exchanges (λ i. refl)
+              (λ i j changed. changed_next xs ys m (first.tally.count k) j _ fits f (whole k e) changed)
+              (more s.programmer s.exchanges settled).tally;
+          sharp = inl (λ l n. sharp k l e n);
+        }
+
+    goes_on : (k : ℕ) (s : Standing) → (state_after device k d p exchanges).dialog ≡ Done s → GoesFrom k s
+    goes_on k NoFault e = goes_fine k e (leads.after k NoFault e refl)
+    goes_on k at e =
+        let s = state_after device k d p exchanges in
+        record {
+          rest = tallies_none device (unless_fault next at) (λ j. At (first.tally.count k + j)) s.programmer s.exchanges
+              (λ l. subst (λ i. At i s.programmer)
+              (let e : first.tally.count k ≡ first.tally.count k + 0 = omega arith in e)
+              (changed_first xs ys m (first.tally.count k) s.programmer (first.tally.stands k)));
+          sharp = inr (λ l. refl);
+        }
+
+    -- the write operations of the second action, as the first ones of both
+    abbrev among : Tallies device d made At p exchanges
+    among = tallies_as device d d made made (Changed part xs m) At p exchanges (λ k. refl)
+        (λ k j changed. changed_first xs ys m j (state_after device k d p exchanges).programmer changed) first.tally
+
+    tally : Tallies device (d >>= unless_fault next) (then_count device d made after) At p exchanges
+    tally = tallies_bind device d (unless_fault next) made after At p exchanges among
+        goes_on
+
+    abbrev Ends : ℕ → Dialog OutputEvent Standing → Type 0
+    Ends k x = let s = state_after device k d p exchanges in
+        (along_next_dialog device (unless_fault next) s.left s.exchanges s.programmer x).dialog ≡ Done NoFault
+        → with_next x (made k p exchanges) (λ a. after a s.left s.programmer s.exchanges) ≡ length (steps_of_items part (xs ++ ys))
+
+    complete_fine : (k : ℕ) (s : Standing) → (state_after device k d p exchanges).dialog ≡ Done s → Ends k (Done s)
+    complete_fine k NoFault e = λ done.
+        let t = state_after device k d p exchanges in
+        let all = first.complete k e in
+        let rest = (more t.programmer t.exchanges (leads.after k NoFault e refl)).complete t.left done in
+        search (rules, size_on)
+    complete_fine k at e = λ done. let same : at ≡ NoFault = done_is _ _ done in absurd (cc)
+
+    complete_from : (k : ℕ) (x : Dialog OutputEvent Standing) → (state_after device k d p exchanges).dialog ≡ x → Ends k x
+    complete_from k x e = grind (arith, common_steps, complete_fine)
+
+    pub makes_then : Makes part m (xs ++ ys) (d >>= unless_fault next) (then_count device d made after) p exchanges
+    makes_then = record {
+      tally = tally;
+      complete = λ k e. complete_from k (state_after device k d p exchanges).dialog refl
+          (sym (ap (λ z. z.dialog) (along_bind device k d (unless_fault next) p exchanges)) ∙ e);
+    }

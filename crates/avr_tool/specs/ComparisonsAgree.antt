@@ -1,0 +1,27 @@
+-- Whether the memories hold what a plan compares them with.
+use Rattle.std.specs.Prelude.{List, [], ◌∷◌, ⊤}
+use Rattle.avr_part.specs.Part.{Part}
+use Rattle.avr_part.specs.declared.part.Mem.{Mem}
+use Rattle.avr_plan.specs.Plan.{Plan}
+use Rattle.avr_session.specs.Actions.{Action, CompareImage, actions}
+use Rattle.stk_emu.specs.Effect.{Image, Memories, effects, memory_in}
+use Rattle.stk_emu.specs.Given.{HoldsImage}
+use Rattle.avr_tool.specs.Items.{action_items}
+
+-- The memory holds the image's byte at every address of the image.
+abbrev pub MemoryHoldsImage : Part → Mem → Image → Memories → Type 0
+MemoryHoldsImage part mem image m = HoldsImage image (memory_in part mem m)
+
+abbrev pub ComparisonAgrees : Part → Action → Memories → Type 0
+ComparisonAgrees part (CompareImage mem image) m = MemoryHoldsImage part mem image m
+ComparisonAgrees part action m = ⊤
+
+-- Each action in order, over the memories that those before it leave.
+abbrev pub EachComparisonAgrees : Part → List Action → Memories → Type 0
+EachComparisonAgrees part [] m = ⊤
+EachComparisonAgrees part (action ∷ actions) m =
+    ComparisonAgrees part action m × EachComparisonAgrees part actions (effects part (action_items action) m)
+
+-- The comparisons of a plan agree, if the chip has these memories before the run.
+abbrev pub ComparisonsAgree : Plan → Memories → Type 0
+ComparisonsAgree plan m = EachComparisonAgrees plan.part (actions plan) m

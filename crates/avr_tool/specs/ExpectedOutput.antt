@@ -1,0 +1,44 @@
+-- The output of a session, whatever the link does: that of the expected run, or that of the actions that ended and
+-- then the line of a failed step.
+use Rattle.std.specs.Prelude.{ℕ, ◌≡◌, ◌⊎◌, List, [], ◌∷◌, ◌++◌}
+use Rattle.avr_cli.specs.declared.settings.Switches.{Switches}
+use Rattle.avr_desk.specs.OutputEvents.{OutputEvent, PrintsLine}
+use Rattle.avr_part.specs.Part.{Part}
+use Rattle.avr_plan.specs.Plan.{Plan}
+use Rattle.stk_host.specs.Operations.{host_fault}
+use Rattle.stk_host.specs.declared.fault.StepFault.{StepFault}
+use Rattle.stk_emu.specs.Effect.{Memories}
+use Rattle.avr_session.specs.Standing.{NoFault}
+use Rattle.avr_session.specs.Actions.{Action, actions}
+use Rattle.avr_session.specs.Lines.{fault_line}
+use Rattle.avr_tool.specs.ExpectedRun.{actions_expected, expected_run}
+
+-- The output of some first actions, which ended without a fault in the expected run.
+pub record FirstActionsOutput (part : Part) (s : Switches) (actions : List Action) (m : Memories)
+    (emits : List OutputEvent) : Type 0 where
+  pub done : List Action
+  pub more : List Action
+  pub actions_are : actions ≡ done ++ more
+  pub fine : (actions_expected part s done m).standing ≡ NoFault
+  pub output_events_are : emits ≡ (actions_expected part s done m).emits
+
+-- After this output the line of a failed step follows: of the next action, or of the closing after all of them.
+pub record OutputToFault (part : Part) (s : Switches) (actions : List Action) (m : Memories)
+    (emits : List OutputEvent) : Type 0 where
+  pub told : List OutputEvent
+  pub first : FirstActionsOutput part s actions m told
+  pub fault : StepFault
+  pub output_events_are : emits ≡ told ++ PrintsLine (fault_line part (host_fault fault)) ∷ []
+
+-- The output at any moment of a session.
+abbrev pub IsExpectedOutput : Plan → Memories → List OutputEvent → Type 0
+IsExpectedOutput plan m emits =
+    (emits ≡ (expected_run plan m).emits)
+    ⊎ (FirstActionsOutput plan.part plan.switches (actions plan) m emits
+    ⊎ OutputToFault plan.part plan.switches (actions plan) m emits)
+
+-- The output and the status of a session at its end: those of the expected run, or status 1 after a failed step.
+abbrev pub EndsAsExpected : Plan → Memories → List OutputEvent → ℕ → Type 0
+EndsAsExpected plan m emits status =
+    ((emits ≡ (expected_run plan m).emits) × (status ≡ (expected_run plan m).status))
+    ⊎ (OutputToFault plan.part plan.switches (actions plan) m emits × (status ≡ 1))

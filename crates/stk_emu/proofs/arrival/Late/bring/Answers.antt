@@ -1,6 +1,0 @@
-use Rattle.std.proofs.Common.{rules}
-use Rattle.stk_emu.proofs.Wires.Waiting.{three_put}
-use Rattle.stk_emu.proofs.arrival.Late.bring.Goals as goal
-
-pub returns-clause-tape : goal.returns-clause-tape
-returns-clause-tape c = search (rules, three_put)
