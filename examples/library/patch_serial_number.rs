@@ -31,7 +31,7 @@ pub fn put_serial_number(
     at: u32,
     serial: &[u8],
 ) -> std::result::Result<(), ImageFault>
-    ensures judged { result ≡ (if fits at serial.now (length image.old) then Ok tt
+    ensures verdict { result ≡ (if fits at serial.now (length image.old) then Ok tt
         else Err (ImageFault.OutOfRange (max at (length image.old)))) }
     ensures inside { OnOk result ((place : ℕ) → place < length serial.now
         → byte_at image.new (at + place) ≡ Some (slice_index_or serial.now place 0)) }

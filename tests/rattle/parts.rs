@@ -217,8 +217,8 @@ fn faults_have_numbers_and_texts(rt: HostRuntime) -> Result<(), Fail> {
         (PartFault::Memory, 7, "out of memory"),
     ] {
         assert_eq!(rt; fault.number(), number);
-        let told = format!(in rt.alloc(); "{fault}")?;
-        assert_eq!(rt; told.as_str(), text);
+        let notice = format!(in rt.alloc(); "{fault}")?;
+        assert_eq!(rt; notice.as_str(), text);
     }
     Ok(())
 }

@@ -15,7 +15,7 @@ use std::test::Fail;
 const CUTS: [usize; 6] = [1, 2, 3, 5, 280, 281];
 
 /// What a file holds: its bytes at their addresses and how it ends, or its fault.
-type Says<'a> = Result<(&'a [(u32, u8)], Ending), RecordFault>;
+type EmitsAll<'a> = Result<(&'a [(u32, u8)], Ending), RecordFault>;
 
 /// Reads a file that is fed in pieces of this length.
 fn read_cut(
@@ -38,7 +38,7 @@ fn read_cut(
 }
 
 /// Checks what a file holds, in pieces of each length.
-fn says(rt: &impl Abort, alloc: Global, kind: Kind, size: u32, text: &[u8], want: Says<'_>) {
+fn emits(rt: &impl Abort, alloc: Global, kind: Kind, size: u32, text: &[u8], want: EmitsAll<'_>) {
     for cut in CUTS {
         match (read_cut(alloc, kind, size, text, cut), want) {
             (Ok((image, ending)), Ok((bytes, want_ending))) => {
@@ -64,7 +64,7 @@ fn reads_ihex(rt: HostRuntime) {
     let two: &[(u32, u8)] = &[(0, 0xAA), (1, 0xBB)];
     let high: &[(u32, u8)] = &[(0x20000, 0x55)];
     let later: &[(u32, u8)] = &[(0, 2), (1, 1)];
-    let rows: [(u32, &[u8], Says<'_>); 17] = [
+    let rows: [(u32, &[u8], EmitsAll<'_>); 17] = [
         (
             4,
             b":0400000001020304F2\n:00000001FF",
@@ -128,7 +128,7 @@ fn reads_ihex(rt: HostRuntime) {
         ),
     ];
     for (size, text, want) in rows {
-        says(&rt, alloc, Kind::Ihex, size, text, want);
+        emits(&rt, alloc, Kind::Ihex, size, text, want);
     }
 }
 
@@ -137,7 +137,7 @@ fn reads_srec(rt: HostRuntime) {
     let alloc = rt.alloc();
     let four: &[(u32, u8)] = &[(0, 1), (1, 2), (2, 3), (3, 4)];
     let high: &[(u32, u8)] = &[(0x10000, 0xAA)];
-    let rows: [(u32, &[u8], Says<'_>); 11] = [
+    let rows: [(u32, &[u8], EmitsAll<'_>); 11] = [
         (
             4,
             b"S107000001020304EE\nS9030000FC\n",
@@ -187,7 +187,7 @@ fn reads_srec(rt: HostRuntime) {
         ),
     ];
     for (size, text, want) in rows {
-        says(&rt, alloc, Kind::Srec, size, text, want);
+        emits(&rt, alloc, Kind::Srec, size, text, want);
     }
 }
 
@@ -198,14 +198,14 @@ fn reads_what_is_cut_short(rt: HostRuntime) {
     let text = b":0400000001020304F2\n:00000001FF\n";
     let four: &[(u32, u8)] = &[(0, 1), (1, 2), (2, 3), (3, 4)];
     for k in 0..text.len() + 1 {
-        let want: Says<'_> = match k {
+        let want: EmitsAll<'_> = match k {
             0 => Ok((&[], Ending::NoEnd)),
             1..=18 => Err(RecordFault::BadLength(1)),
             19 | 20 => Ok((four, Ending::NoEnd)),
             21..=30 => Err(RecordFault::BadLength(2)),
             _ => Ok((four, Ending::Ended)),
         };
-        says(&rt, alloc, Kind::Ihex, 4, &text[..k], want);
+        emits(&rt, alloc, Kind::Ihex, 4, &text[..k], want);
     }
 }
 
@@ -224,14 +224,14 @@ fn reads_long_lines(rt: HostRuntime) -> Result<(), Fail> {
             text.push(b' ')?;
         }
         text.push(b'\n')?;
-        says(&rt, alloc, Kind::Ihex, 4, text.as_slice(), want);
+        emits(&rt, alloc, Kind::Ihex, 4, text.as_slice(), want);
     }
     // lines after an end record are not read
     let mut text = b":00000001FF\n".to_vec(alloc)?;
     for _ in 0..601 {
         text.push(b' ')?;
     }
-    says(&rt, alloc, Kind::Ihex, 1, text.as_slice(), Ok((&[], Ending::Ended)));
+    emits(&rt, alloc, Kind::Ihex, 1, text.as_slice(), Ok((&[], Ending::Ended)));
     Ok(())
 }
 

@@ -123,17 +123,17 @@ fn a_bad_cursor_is_told(rt: HostRuntime) -> Result<(), Fail> {
 
 #[test]
 fn a_length_is_told(rt: HostRuntime) -> Result<(), Fail> {
-    let told = avr_records_length(2, &[0xFF, 0x0A, 0x0B], &[0b110]);
+    let notice = avr_records_length(2, &[0xFF, 0x0A, 0x0B], &[0b110]);
     assert_eq!(rt;
-        told,
+        notice,
         Piece {
             length: 26,
             fault: 0
         }
     );
-    let told = avr_records_length(3, &[], &[]);
+    let notice = avr_records_length(3, &[], &[]);
     assert_eq!(rt;
-        told,
+        notice,
         Piece {
             length: 0,
             fault: 11

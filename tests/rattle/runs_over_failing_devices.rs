@@ -30,7 +30,7 @@ struct SoundRun {
     /// A call for each message, each write to standard output, and each opening and reading of a file.
     desk_calls: u64,
     /// The calls of the desk whose failure is reported, with the report. A call that prints has none.
-    told: &'static [(u64, &'static [&'static str])],
+    notice: &'static [(u64, &'static [&'static str])],
 }
 
 type OverFailing = Over<FailingDesk<MemDesk>, FailingLink<Wired>>;
@@ -48,7 +48,7 @@ const SESSION: SoundRun = SoundRun {
     is_late: false,
     link_calls: 12,
     desk_calls: 2,
-    told: &[],
+    notice: &[],
 };
 
 /// Writes an empty file to flash: five frames open the session, then come the erase, 256 frames of verifying, and LEAVE.
@@ -70,7 +70,7 @@ const EMPTY_FLASH: SoundRun = SoundRun {
     is_late: false,
     link_calls: 2 * 263,
     desk_calls: 2 + 5,
-    told: &[
+    notice: &[
         (1, &["error: e.bin: cannot be opened"]),
         (2, &["error: e.bin: cannot be read"]),
     ],
@@ -95,7 +95,7 @@ const FUSE: SoundRun = SoundRun {
     is_late: false,
     link_calls: 18,
     desk_calls: 3 + 1 + 2,
-    told: &[(4, &["error: -: cannot be written"])],
+    notice: &[(4, &["error: -: cannot be written"])],
 };
 
 /// Writes the whole EEPROM, over a wire on which the reply to frame 255 is late.
@@ -115,7 +115,7 @@ const EEPROM: SoundRun = SoundRun {
     is_late: true,
     link_calls: 2 * 520,
     desk_calls: 3 + 3,
-    told: &[
+    notice: &[
         (1, &["error: e.bin: cannot be opened"]),
         (2, &["error: e.bin: cannot be read"]),
         (3, &["error: e.bin: cannot be read"]),
@@ -158,14 +158,14 @@ fn failing(alloc: Global, run: &SoundRun, desk_call: u64, cut: usize) -> Result<
     run_on(alloc, run.row.words, desk, link)
 }
 
-/// Returns whether the messages `said` are a proper prefix of those of a good run, followed by the report `told` on a
+/// Returns whether the messages `emitted` are a proper prefix of those of a good run, followed by the report `notice` on a
 /// line of its own.
-fn is_prefix(said: &[u8], sound: &[u8], told: &[u8]) -> bool {
-    match said.strip_suffix(told) {
+fn is_prefix(emitted: &[u8], sound: &[u8], notice: &[u8]) -> bool {
+    match emitted.strip_suffix(notice) {
         Some(prefix) => {
             prefix.len() < sound.len()
                 && sound.starts_with(prefix)
-                && (told.is_empty() || prefix.is_empty() || prefix.ends_with(b"\n"))
+                && (notice.is_empty() || prefix.is_empty() || prefix.ends_with(b"\n"))
         }
         None => false,
     }
@@ -178,16 +178,16 @@ fn broke_off(
     alloc: Global,
     sound: &Over<MemDesk, Wired>,
     broken: (&MemDesk, &Wired, u8),
-    told: &[&str],
+    notice: &[&str],
     n: u64,
 ) -> Result<(), Fail> {
-    let told = printed(alloc, told)?;
+    let notice = printed(alloc, notice)?;
     let (desk, wire, status) = broken;
     assert!(rt; status == 1, "call {n}");
     assert!(rt; sound.link.sent().starts_with(wire.sent()), "call {n}");
     assert!(rt; sound.desk.output().starts_with(desk.output()), "call {n}");
     assert!(rt;
-        is_prefix(desk.messages(), sound.desk.messages(), told.as_slice()),
+        is_prefix(desk.messages(), sound.desk.messages(), notice.as_slice()),
         "call {n}"
     );
     Ok(())
@@ -218,13 +218,13 @@ fn fail_each_link_call(rt: &impl Abort, alloc: Global, run: &SoundRun) -> Result
         }
         failures = failures.wrapping_add(1);
         let sends = n % 2 == 1;
-        let told = if sends {
+        let notice = if sends {
             "error: link cannot be written"
         } else {
             "error: link cannot be read"
         };
         let wire = link.inner();
-        broke_off(rt, alloc, &sound, (&desk, wire, status), &[told], n)?;
+        broke_off(rt, alloc, &sound, (&desk, wire, status), &[notice], n)?;
         assert!(rt;
             sends == (wire.sent().len() == sent) && sent <= wire.sent().len(),
             "call {n}"
@@ -253,7 +253,7 @@ fn each_call_of_the_link_fails_over_the_whole_eeprom(rt: HostRuntime) -> Result<
 
 /// Returns the report of a failure of this call of the desk.
 fn told_of(run: &SoundRun, n: u64) -> &'static [&'static str] {
-    for (call, lines) in run.told {
+    for (call, lines) in run.notice {
         if *call == n {
             return *lines;
         }

@@ -99,7 +99,7 @@ fn run_settings(
     matches: &ArgMatches<'_>,
 ) -> Result<Settings, SettingsFault>
     ensures gives { GivesUnlessOutOfMemory (run_settings part.now (entries_of (rows_of (found_of matches.now)))) result }
-    ensures tells { ReportsAnyway (run_settings part.now (entries_of (rows_of (found_of matches.now)))) result }
+    ensures is_reported { ReportsAnyway (run_settings part.now (entries_of (rows_of (found_of matches.now)))) result }
 {
     check_programmer(alloc, text_of(matches, "programmer"))?;
     let port = port_given(alloc, text_of(matches, "port"))?;
@@ -122,7 +122,7 @@ fn serve_settings(
     given: &ArgMatches<'_>,
 ) -> Result<Settings, SettingsFault>
     ensures gives { GivesUnlessOutOfMemory (serve_settings part.now at.now (entries_of (rows_of (found_of given.now)))) result }
-    ensures tells { ReportsAnyway (serve_settings part.now at.now (entries_of (rows_of (found_of given.now)))) result }
+    ensures is_reported { ReportsAnyway (serve_settings part.now at.now (entries_of (rows_of (found_of given.now)))) result }
 {
     let parts = text_of(given, "parts");
     let chip = text_of(given, "chip");
@@ -156,7 +156,7 @@ fn serve_settings(
 /// ```
 pub fn read_settings(alloc: Global, matches: &ArgMatches<'_>) -> Result<Settings, SettingsFault>
     ensures gives { GivesUnlessOutOfMemory (settings_of (entries_of (rows_of (found_of matches.now)))) result }
-    ensures tells { ReportsAnyway (settings_of (entries_of (rows_of (found_of matches.now)))) result }
+    ensures is_reported { ReportsAnyway (settings_of (entries_of (rows_of (found_of matches.now)))) result }
 {
     let part = text_of(matches, "part").ok_or(SettingsFault::NoPart)?;
     match text_of(matches, "serve") {

@@ -73,7 +73,7 @@ fn port_of(alloc: Global, text: &str) -> Result<Port, SettingsFault>
 
 pub(crate) fn port_given(alloc: Global, text: Option<&str>) -> Result<Port, SettingsFault>
     ensures gives { GivesUnlessOutOfMemory (port_of_option (option_map (λ s. s.now) text.entry)) result }
-    ensures tells { ReportsAnyway (port_of_option (option_map (λ s. s.now) text.entry)) result }
+    ensures is_reported { ReportsAnyway (port_of_option (option_map (λ s. s.now) text.entry)) result }
 {
     match text {
         Some(text) => port_of(alloc, text),
@@ -84,7 +84,7 @@ pub(crate) fn port_given(alloc: Global, text: Option<&str>) -> Result<Port, Sett
 /// Reads the port of `--serve` and the file of `--chip`. A bad number is reported before a missing file.
 pub(crate) fn served(alloc: Global, at: &str, chip: Option<&str>) -> Result<Port, SettingsFault>
     ensures gives { GivesUnlessOutOfMemory (port_to_serve at.now (port_number at.now) (option_map (λ s. s.now) chip.entry)) result }
-    ensures tells { ReportsAnyway (port_to_serve at.now (port_number at.now) (option_map (λ s. s.now) chip.entry)) result }
+    ensures is_reported { ReportsAnyway (port_to_serve at.now (port_number at.now) (option_map (λ s. s.now) chip.entry)) result }
 {
     if port_number(at).is_none() {
         return Err(bad_port(alloc, at));

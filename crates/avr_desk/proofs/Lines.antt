@@ -3,4 +3,4 @@ pub mod SentBytes
 pub mod FailureCounts
 pub mod Digits
 pub mod Pieces
-pub mod Told
+pub mod ReportedAs

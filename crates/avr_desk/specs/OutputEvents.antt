@@ -49,23 +49,23 @@ abbrev pub IsPrinted : {T Fault : Type 0} → DeskState → DeskState → Bytes 
 IsPrinted old new bytes (Ok done) = ChangesRecord (after_err bytes) old new
 IsPrinted old new bytes (Err fault) = SendsPart Messages old new bytes
 
--- Of the line, `told` was reported: all of it if no call failed, a prefix if a write to the messages failed.
+-- Of the line, `notice` was reported: all of it if no call failed, a prefix if a write to the messages failed.
 abbrev pub ReportsLineAs : Bytes → Bytes → DeskState → DeskState → Type 0
-ReportsLineAs line told old new =
-    ((told ≡ line) × HasSameCounts old new) ⊎ (IsPrefixOf told line × HasFailedToReport old new)
+ReportsLineAs line notice old new =
+    ((notice ≡ line) × HasSameCounts old new) ⊎ (IsPrefixOf notice line × HasFailedToReport old new)
 
 -- The line was reported as far as the desk took it, and nothing else happened. Contracts of refusals cite it.
 pub record ReportsLine (old new : DeskState) (line : Bytes) : Type 0 where
-  pub told : Bytes
-  pub tells : ReportsLineAs line told old new
-  pub kept : ChangesRecord (after_err told) old new
+  pub notice : Bytes
+  pub is_reported : ReportsLineAs line notice old new
+  pub kept : ChangesRecord (after_err notice) old new
   pub follows : CountsNeverFall old new
 
 -- A call for a file or the output failed, in the state `between`. After that the line about it was reported as
--- `told`.
-pub record ReportsFailureAs (line told : Bytes) (old new : DeskState) : Type 0 where
+-- `notice`.
+pub record ReportsFailureAs (line notice : Bytes) (old new : DeskState) : Type 0 where
   pub between : DeskState
   pub failed : HasFailedAt File old between
-  pub tells : ReportsLineAs line told between new
+  pub is_reported : ReportsLineAs line notice between new
   pub since : CountsNeverFall old between
   pub until : CountsNeverFall between new

@@ -30,11 +30,11 @@ pub data BreakCause : Type 0 where
 abbrev pub opened_and_read_in_part : Bytes → Bytes → OutputEvent
 opened_and_read_in_part name bytes = Opens (Found (record { name = name; bytes = bytes; ended = false }))
 
--- the last events of a stage that broke off; `told` was reported about the break
+-- the last events of a stage that broke off; `notice` was reported about the break
 abbrev pub events_of_break : BreakCause → Bytes → List OutputEvent
-events_of_break (NotRead name bytes) told = opened_and_read_in_part name bytes ∷ PrintsLine told ∷ []
-events_of_break (NoMemoryForFile reading) told = Opens (Found reading) ∷ PrintsLine told ∷ []
-events_of_break break told = PrintsLine told ∷ []
+events_of_break (NotRead name bytes) notice = opened_and_read_in_part name bytes ∷ PrintsLine notice ∷ []
+events_of_break (NoMemoryForFile reading) notice = Opens (Found reading) ∷ PrintsLine notice ∷ []
+events_of_break break notice = PrintsLine notice ∷ []
 
 abbrev pub IsNextEvent : OutputEvent → List OutputEvent → Type 0
 IsNextEvent output later = (behind : List OutputEvent) × (later ≡ output ∷ behind)
@@ -54,20 +54,20 @@ AllocationPoints = List Opening → List OutputEvent → Type 0
 
 -- only before any event, and only if `takes`
 abbrev pub OnlyAtStart : Bool → AllocationPoints
-OnlyAtStart takes passed said = (takes ≡ true) × (passed ≡ []) × (said ≡ [])
+OnlyAtStart takes passed emitted = (takes ≡ true) × (passed ≡ []) × (emitted ≡ [])
 
 abbrev pub AllocatesThere : AllocationPoints → BreakCause → List Opening → List OutputEvent → Type 0
-AllocatesThere taking NoMemory passed said = taking passed said
-AllocatesThere taking break passed said = Unit {0}
+AllocatesThere taking NoMemory passed emitted = taking passed emitted
+AllocatesThere taking break passed emitted = Unit {0}
 
 -- The desk failed at a file or allocation failed, and the line about that was reported. Or a line couldn't be
 -- printed: a prefix of it was printed, a write to the messages failed, and nothing else is reported.
 abbrev pub ReportsBreakAs : BreakCause → Bytes → DeskState → DeskState → Type 0
-ReportsBreakAs (LineNotPrinted line) told old new = IsPrefixOf told line × HasFailedToReport old new
-ReportsBreakAs (NotOpened name) told old new = ReportsFailureAs (not_opened_line name) told old new
-ReportsBreakAs (NotRead name bytes) told old new = ReportsFailureAs (not_read_line name) told old new
-ReportsBreakAs NoMemory told old new = ReportsLineAs memory_line told old new
-ReportsBreakAs (NoMemoryForFile reading) told old new = ReportsLineAs memory_line told old new
+ReportsBreakAs (LineNotPrinted line) notice old new = IsPrefixOf notice line × HasFailedToReport old new
+ReportsBreakAs (NotOpened name) notice old new = ReportsFailureAs (not_opened_line name) notice old new
+ReportsBreakAs (NotRead name bytes) notice old new = ReportsFailureAs (not_read_line name) notice old new
+ReportsBreakAs NoMemory notice old new = ReportsLineAs memory_line notice old new
+ReportsBreakAs (NoMemoryForFile reading) notice old new = ReportsLineAs memory_line notice old new
 
 -- The events that a break left out, for some openings. No break follows the line of a refusal, because it is last.
 pub record RestOfStage {A : Type 0} (played : StageResult A) (whole : List OutputEvent) (break : BreakCause)
@@ -82,11 +82,11 @@ pub record StageBrokeOff {A : Type 0} (taking : AllocationPoints) (stage : Stage
   pub passed : List Opening
   pub whole : List OutputEvent
   pub break : BreakCause
-  pub told : Bytes
+  pub notice : Bytes
   pub rest : (more : List Opening) → RestOfStage (stage (passed ++ more)) whole break more
   pub taken : AllocatesThere taking break passed whole
-  pub tells : ReportsBreakAs break told old new
-  pub kept : ChangesRecord (after_events (whole ++ events_of_break break told)) old new
+  pub is_reported : ReportsBreakAs break notice old new
+  pub kept : ChangesRecord (after_events (whole ++ events_of_break break notice)) old new
   pub follows : CountsNeverFall old new
 
 -- the stage ran to its refusal, which was reported last

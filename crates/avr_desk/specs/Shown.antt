@@ -76,9 +76,9 @@ has_dash = list_any (λ file. is_dash file.name)
 -- the output stays among the files.
 pub record IsTrueSince {S F I H O E : Type 0} (system : Ghosts S F I H) (reads : Reads F) (writes : Writes F)
     (input : Reads I) (output_of : Writes O) (messages_of : Writes E) (old new : Shown S F H I O E) : Type 0 where
-  pub said : Bytes
-  pub messages : new.kept.messages ≡ old.kept.messages ++ said
-  pub told : Appends (messages_of.contents old.messages) (messages_of.contents new.messages) said
+  pub emitted : Bytes
+  pub messages : new.kept.messages ≡ old.kept.messages ++ emitted
+  pub notice : Appends (messages_of.contents old.messages) (messages_of.contents new.messages) emitted
   pub put : Bytes
   pub output : new.kept.output ≡ old.kept.output ++ put
   pub dashes : has_dash (all_files new.kept) ≡ false → has_dash (all_files old.kept) ≡ false

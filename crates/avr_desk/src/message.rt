@@ -76,7 +76,7 @@ impl<'a> Message<'a> {
 /// Prints the message as an error line, as far as the desk takes it. Returns the status of a refusal, 1.
 pub fn refuse<D: Desk>(desk: &mut D, message: &Message<'_>) -> u8
     ensures status { result ≡ 1 }
-    ensures told { ReportsLine (D.view desk.old) (D.view desk.new) (error message.now) }
+    ensures notice { ReportsLine (D.view desk.old) (D.view desk.new) (error message.now) }
     ensures stays { Preserves D.started_as desk.old desk.new }
 {
     let _ = print_error(desk, message.pieces());

@@ -75,7 +75,7 @@ impl<D: Desk, W: WatchDesk> Desk for WatchedDesk<D, W> {
         ensures kept { ChangesRecord (after_open name.now result) (D.view self.old.desk) (D.view self.new.desk) }
         ensures counts { CountsFailure File (D.view self.old.desk) (D.view self.new.desk) result }
         ensures stays { Preserves D.started_as self.old.desk self.new.desk }
-        ensures told { W.after (Opened name.now result) self.old.watcher self.new.watcher }
+        ensures notice { W.after (Opened name.now result) self.old.watcher self.new.watcher }
     {
         let answer = self.desk.open(name);
         self.watcher.on_call(&DeskCall::Opened(name, answer));
@@ -85,7 +85,7 @@ impl<D: Desk, W: WatchDesk> Desk for WatchedDesk<D, W> {
     fn create(&mut self, name: &str) -> Result<(), DeskFault>
         ensures kept { ChangesRecord (after_create name.now result) (D.view self.old.desk) (D.view self.new.desk) }
         ensures call { IsCall D.view D.started_as (CountsFailure File) self.old.desk self.new.desk result }
-        ensures told { W.after (Created name.now result) self.old.watcher self.new.watcher }
+        ensures notice { W.after (Created name.now result) self.old.watcher self.new.watcher }
     {
         let answer = self.desk.create(name);
         self.watcher.on_call(&DeskCall::Created(name, answer));
@@ -97,7 +97,7 @@ impl<D: Desk, W: WatchDesk> Desk for WatchedDesk<D, W> {
         ensures kept { ChangesRecord (after_read buf.new result) (D.view self.old.desk) (D.view self.new.desk) }
         ensures has_file { HasOpen is_to_read (D.view self.old.desk) result }
         ensures call { IsCall D.view D.started_as (CountsFailure File) self.old.desk self.new.desk result }
-        ensures told { W.after (Read buf.new result) self.old.watcher self.new.watcher }
+        ensures notice { W.after (Read buf.new result) self.old.watcher self.new.watcher }
     {
         let answer = self.desk.read(buf);
         self.watcher.on_call(&DeskCall::Read(buf, answer));
@@ -107,7 +107,7 @@ impl<D: Desk, W: WatchDesk> Desk for WatchedDesk<D, W> {
     fn write(&mut self, bytes: &[u8]) -> Result<usize, DeskFault>
         ensures write { IsWrite D.view D.started_as File bytes.now self.old.desk self.new.desk result }
         ensures has_file { HasOpen is_to_write (D.view self.old.desk) result }
-        ensures told { W.after (Wrote File bytes.now result) self.old.watcher self.new.watcher }
+        ensures notice { W.after (Wrote File bytes.now result) self.old.watcher self.new.watcher }
     {
         let answer = self.desk.write(bytes);
         self.watcher
@@ -117,7 +117,7 @@ impl<D: Desk, W: WatchDesk> Desk for WatchedDesk<D, W> {
 
     fn out(&mut self, bytes: &[u8]) -> Result<usize, DeskFault>
         ensures write { IsWrite D.view D.started_as Output bytes.now self.old.desk self.new.desk result }
-        ensures told { W.after (Wrote Output bytes.now result) self.old.watcher self.new.watcher }
+        ensures notice { W.after (Wrote Output bytes.now result) self.old.watcher self.new.watcher }
     {
         let answer = self.desk.out(bytes);
         self.watcher
@@ -127,7 +127,7 @@ impl<D: Desk, W: WatchDesk> Desk for WatchedDesk<D, W> {
 
     fn err(&mut self, bytes: &[u8]) -> Result<usize, DeskFault>
         ensures write { IsWrite D.view D.started_as Messages bytes.now self.old.desk self.new.desk result }
-        ensures told { W.after (Wrote Messages bytes.now result) self.old.watcher self.new.watcher }
+        ensures notice { W.after (Wrote Messages bytes.now result) self.old.watcher self.new.watcher }
     {
         let answer = self.desk.err(bytes);
         self.watcher
@@ -140,7 +140,7 @@ impl<D: ChipDesk, W: WatchDesk> ChipDesk for WatchedDesk<D, W> {
     fn hold(&mut self, name: &str) -> Result<bool, DeskFault>
         ensures kept { ChangesRecord (after_hold name.now result) (D.view self.old.desk) (D.view self.new.desk) }
         ensures call { IsCall D.view D.started_as (CountsFailure File) self.old.desk self.new.desk result }
-        ensures told { W.after (Held name.now result) self.old.watcher self.new.watcher }
+        ensures notice { W.after (Held name.now result) self.old.watcher self.new.watcher }
     {
         let answer = self.desk.hold(name);
         self.watcher.on_call(&DeskCall::Held(name, answer));
@@ -150,7 +150,7 @@ impl<D: ChipDesk, W: WatchDesk> ChipDesk for WatchedDesk<D, W> {
     fn release(&mut self)
         ensures released { D.view self.new.desk ≡ released (D.view self.old.desk) }
         ensures stays { Preserves D.started_as self.old.desk self.new.desk }
-        ensures told { W.after Released self.old.watcher self.new.watcher }
+        ensures notice { W.after Released self.old.watcher self.new.watcher }
     {
         self.desk.release();
         self.watcher.on_call(&DeskCall::Released);
@@ -159,7 +159,7 @@ impl<D: ChipDesk, W: WatchDesk> ChipDesk for WatchedDesk<D, W> {
     fn replace(&mut self, name: &str, bytes: &[u8]) -> Result<(), DeskFault>
         ensures kept { Replaces name.now bytes.now result (D.view self.old.desk) (D.view self.new.desk) }
         ensures call { IsCall D.view D.started_as (CountsFailure File) self.old.desk self.new.desk result }
-        ensures told { W.after (Replaced name.now bytes.now result) self.old.watcher self.new.watcher }
+        ensures notice { W.after (Replaced name.now bytes.now result) self.old.watcher self.new.watcher }
     {
         let answer = self.desk.replace(name, bytes);
         self.watcher

@@ -223,7 +223,7 @@ impl Image {
     /// assert_eq!(rt; image.put(64, 0x12), Err(ImageFault::OutOfRange(64)));
     /// ```
     pub fn put(&mut self, addr: u32, byte: u8) -> Result<(), ImageFault>
-        ensures judged { result ≡ (if nat_lt addr (length self.old) then Ok tt else Err (ImageFault.OutOfRange addr)) }
+        ensures verdict { result ≡ (if nat_lt addr (length self.old) then Ok tt else Err (ImageFault.OutOfRange addr)) }
         ensures laid { OnOk result (self.new ≡ with_byte self.old addr byte) }
         ensures same { OnErr result (self.new ≡ self.old) }
         ensures size { length self.new ≡ length self.old }
@@ -274,7 +274,7 @@ impl Image {
     /// assert_eq!(rt; image.get(63), Some(0x34));
     /// ```
     pub fn put_slice(&mut self, addr: u32, bytes: &[u8]) -> Result<u32, ImageFault>
-        ensures judged { result ≡ (if fits addr bytes.now (length self.old) then Ok (addr + length bytes.now)
+        ensures verdict { result ≡ (if fits addr bytes.now (length self.old) then Ok (addr + length bytes.now)
             else Err (ImageFault.OutOfRange (max addr (length self.old)))) }
         ensures laid { OnOk result (self.new ≡ with_bytes_at self.old (enumerate_from addr bytes.now)) }
         ensures same { OnErr result (self.new ≡ self.old) }
@@ -310,7 +310,7 @@ impl Image {
     /// assert_eq!(rt; image.lay_over(&Image::new(alloc, 8)?), Err(ImageFault::OtherSize));
     /// ```
     pub fn lay_over(&mut self, other: &Image) -> Result<(), ImageFault>
-        ensures judged { result ≡ (if length other.now == length self.old then Ok tt else Err ImageFault.OtherSize) }
+        ensures verdict { result ≡ (if length other.now == length self.old then Ok tt else Err ImageFault.OtherSize) }
         ensures laid { OnOk result (self.new ≡ over self.old other.now) }
         ensures same { OnErr result (self.new ≡ self.old) }
         ensures size { length self.new ≡ length self.old }

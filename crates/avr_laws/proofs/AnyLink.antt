@@ -13,7 +13,7 @@ use Rattle.stk_host.specs.Play.{IsBytePrefixOf}
 use Rattle.stk_host.specs.Transcript.{Transcript, sent, heard}
 use Rattle.stk_host.specs.Tape.{Tape}
 use Rattle.stk_emu.specs.DialogOverExchanges.{state_after, outputs_after, SendsValidBodies}
-use Rattle.avr_laws.specs.AnyTape.{GoesAlongExchanges, ReceivedSentFrames, after_received_bytes, after_sent_frames, turns_heard}
+use Rattle.avr_laws.specs.AnyTape.{GoesAlongExchanges, ReceivedSentFrames, after_received_bytes, after_sent_frames, exchanges_heard}
 use Rattle.avr_tool.specs.Authentic.{RepliesAreAuthentic}
 use Rattle.avr_laws.specs.NoForgedFrame.{ForgesNoFrame}
 use Rattle.avr_laws.proofs.Lines.NoForgedFrame.{no_forged_frame_authentic}
@@ -22,7 +22,7 @@ use Rattle.stk_emu.specs.Device.{device}
 use Rattle.stk_emu.specs.Programmer.{Programmer}
 use Rattle.avr_tool.proofs.Lines.InTurn.{sends_whole, frames_prefix, frames_sent}
 use Rattle.avr_laws.proofs.Lines.AnyTape.{goes_as, through_after}
-use Rattle.avr_laws.specs.AnyLink.{ReportsOverExchanges, WholeOverTurns}
+use Rattle.avr_laws.specs.AnyLink.{ReportsOverExchanges, WholeSessionOverExchanges}
 use Rattle.avr_tool.proofs.OverExchanges.{asks}
 use Rattle.avr_tool.proofs.WirePlays.{sent_first}
 use Rattle.avr_laws.proofs.ReportsOverExchanges.{ends_and_reports_over_exchanges, reports_over_exchanges}
@@ -33,15 +33,15 @@ module _ (plan : Plan) (begun : Programmer) (is_sound : IsSoundChip begun.chip) 
   asks_bodies : SendsValidBodies (session plan)
   asks_bodies = asks plan begun is_sound part_is fitted
 
-  module _ (tape : Tape) (executions : List Execution) (honest : RepliesAreAuthentic device (session plan) 1 tape begun executions) where
+  module _ (tape : Tape) (executions : List Execution) (is_authentic : RepliesAreAuthentic device (session plan) 1 tape begun executions) where
     abbrev exchanges : List Exchange
-    exchanges = turns_heard (session plan) 1 tape executions
+    exchanges = exchanges_heard (session plan) 1 tape executions
 
     abbrev events_played : List (Event OutputEvent)
     events_played = (played (session plan) 1 tape).events
 
     goes : GoesAlongExchanges device (session plan) 1 tape begun executions
-    goes = goes_as device (session plan) 1 tape begun executions asks_bodies honest
+    goes = goes_as device (session plan) 1 tape begun executions asks_bodies is_authentic
 
     -- however it ends: after the frames of any prefix of the bytes that it sends
     module _ (bytes : List ℕ) (prefix : IsBytePrefixOf bytes (bytes_sent events_played)) where
@@ -78,25 +78,25 @@ module _ (plan : Plan) (begun : Programmer) (is_sound : IsSoundChip begun.chip) 
       comes : (state_after device (length (frames bytes)) (session plan) begun exchanges).dialog ≡ Done status
       comes = search (rules, same, goes)
 
-      said : outputs events ≡ outputs_after device (length (frames bytes)) (session plan) begun exchanges
-      said = search (rules, same, goes)
+      emitted : outputs events ≡ outputs_after device (length (frames bytes)) (session plan) begun exchanges
+      emitted = search (rules, same, goes)
 
-      pub over_any_line : WholeOverTurns plan begun (after_sent_frames device (frames bytes) executions begun) exchanges bytes
+      pub over_any_line : WholeSessionOverExchanges plan begun (after_sent_frames device (frames bytes) executions begun) exchanges bytes
           events
           status
       over_any_line = (
         subst (ReportsOverExchanges plan begun (after_sent_frames device (frames bytes) executions begun) exchanges bytes)
             (ap (λ p. p.events) is) (over_any_end bytes all_sent),
         ends_and_reports_over_exchanges plan begun is_sound part_is fitted exchanges (after_sent_frames device (frames bytes) executions begun)
-            bytes (stands bytes all_sent) (outputs events) status comes said,
+            bytes (stands bytes all_sent) (outputs events) status comes emitted,
       )
 
   -- over a link that forges no frame, from the bytes that the programmer got
   module _ (got bytes : List ℕ) (later : List (List ℕ)) (executions : List Execution) (tape : Tape)
       (came : ReceivedSentFrames got later (frames bytes) executions)
       (none : ForgesNoFrame device (session plan) 1 tape begun executions []) where
-    honest_bytes : RepliesAreAuthentic device (session plan) 1 tape begun executions
-    honest_bytes = no_forged_frame_authentic device (session plan) 1 tape begun executions [] tt none
+    authentic_bytes : RepliesAreAuthentic device (session plan) 1 tape begun executions
+    authentic_bytes = no_forged_frame_authentic device (session plan) 1 tape begun executions [] tt none
 
     left_bytes : after_sent_frames device (frames bytes) executions begun ≡ after_received_bytes device got later begun
     left_bytes = sym (through_after device got later (frames bytes) executions begun came)
@@ -104,21 +104,21 @@ module _ (plan : Plan) (begun : Programmer) (is_sound : IsSoundChip begun.chip) 
     pub over_bytes : (left : Tape) (events : List (Event OutputEvent)) (status next : ℕ)
         → played (session plan) 1 tape ≡ record { events = events; outcome = Some (status, next, left) }
         → bytes_sent events ≡ bytes
-        → WholeOverTurns plan begun (after_received_bytes device got later begun)
-        (turns_heard (session plan) 1 tape executions) bytes events status
+        → WholeSessionOverExchanges plan begun (after_received_bytes device got later begun)
+        (exchanges_heard (session plan) 1 tape executions) bytes events status
     over_bytes left events status next is sent_is =
-        subst (λ q. WholeOverTurns plan begun q (turns_heard (session plan) 1 tape executions) bytes events
+        subst (λ q. WholeSessionOverExchanges plan begun q (exchanges_heard (session plan) 1 tape executions) bytes events
         status) left_bytes
-        (over_any_line tape executions honest_bytes bytes left events status next is sent_is)
+        (over_any_line tape executions authentic_bytes bytes left events status next is sent_is)
 
     pub end_bytes : IsBytePrefixOf bytes (bytes_sent (played (session plan) 1 tape).events)
         → ReportsOverExchanges plan begun (after_received_bytes device got later begun)
-        (turns_heard (session plan) 1 tape executions) bytes
+        (exchanges_heard (session plan) 1 tape executions) bytes
         (played (session plan) 1 tape).events
     end_bytes prefix =
-        subst (λ q. ReportsOverExchanges plan begun q (turns_heard (session plan) 1 tape executions) bytes
+        subst (λ q. ReportsOverExchanges plan begun q (exchanges_heard (session plan) 1 tape executions) bytes
         (played (session plan) 1 tape).events) left_bytes
-        (over_any_end tape executions honest_bytes bytes prefix)
+        (over_any_end tape executions authentic_bytes bytes prefix)
 
   -- whatever the outcome of a call over a new link
   module _ (got : List ℕ) (later : List (List ℕ)) (executions : List Execution) (old new : Devices) (status : ℕ)
@@ -130,7 +130,7 @@ module _ (plan : Plan) (begun : Programmer) (is_sound : IsSoundChip begun.chip) 
         → ReceivedSentFrames got later (frames (sent transcript)) executions
         → ForgesNoFrame device (session plan) 1 (heard transcript) begun executions []
         → ReportsOverExchanges plan begun (after_received_bytes device got later begun)
-        (turns_heard (session plan) 1 (heard transcript) executions) (sent transcript)
+        (exchanges_heard (session plan) 1 (heard transcript) executions) (sent transcript)
         (played (session plan) 1 (heard transcript)).events
     over_any_run runs came none =
         end_bytes got (sent transcript) later executions (heard transcript) came none

@@ -47,7 +47,7 @@ authentic_heard d n p fates w asks lawful keeps exchanges prefix =
     let brings = keeps.brings (never_idle d n p fates w.transcript asks lawful exchanges) in
     authentic_prefix device d n (heard w.transcript) w.waits p executions
     (subst (λ (t : Tape). RepliesAreAuthentic device d n t p executions) brings
-    ((goes_along d n p fates w asks lawful keeps exchanges prefix).honest (length (frames_in events)) le))
+    ((goes_along d n p fates w asks lawful keeps exchanges prefix).is_authentic (length (frames_in events)) le))
 
 module _ (plan : Plan) (w v : WiredState) (fresh : IsFresh w) (stays : Preserves ComesOf w v)
     (is_sound : IsSoundChip w.wire.programmer.chip)
@@ -80,7 +80,7 @@ module _ (plan : Plan) (w v : WiredState) (fresh : IsFresh w) (stays : Preserves
         line = reports (inl whole);
         end = inl (
           ends_and_reports_over_exchanges plan (fresh_programmer w.wire.programmer.chip) is_sound part_is fitted exchanges v.wire.programmer
-              (sent v.transcript) stood (outputs (events_over plan v)) status c.done c.said,
+              (sent v.transcript) stood (outputs (events_over plan v)) status c.done c.emitted,
           c.kept,
         );
       }
@@ -99,11 +99,11 @@ one_no e = cc
 
 -- a session with status 0, and one that sent no frame
 module _ (plan : Plan) (w v : WiredState) (d e : DeskState) (status : ℕ) (over : SessionOverWire plan w v d e status) where
-  abbrev said : List OutputEvent
-  said = outputs (events_over plan v)
+  abbrev emitted : List OutputEvent
+  emitted = outputs (events_over plan v)
 
-  pub came_to : status ≡ 0 → EndsOverExchanges plan (memories w) (memories v) (exchanges_of_fates w.wire.fates) said status
-      × ChangesRecord (after_events said) d e
+  pub came_to : status ≡ 0 → EndsOverExchanges plan (memories w) (memories v) (exchanges_of_fates w.wire.fates) emitted status
+      × ChangesRecord (after_events emitted) d e
   came_to zero = elim over.end [ inl came ↦ came | inr broke ↦ absurd (one_no (sym broke.1 ∙ zero)) ]
 
   pub untouched : frames (sent v.transcript) ≡ [] → memories v ≡ memories w

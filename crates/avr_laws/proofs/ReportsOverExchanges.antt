@@ -18,12 +18,12 @@ use Rattle.stk_emu.specs.Exchange.{Exchange, Execution}
 use Rattle.avr_tool.specs.ExpectedOutput.{EndsAsExpected}
 use Rattle.avr_tool.specs.Outcome.{IsExpectedRun}
 use Rattle.avr_tool.proofs.OverExchanges.{asks, ends_over_exchanges, has_expected, is_idle, its_part, its_sizes, over_exchanges}
-use Rattle.avr_laws.specs.AnyLink.{EndsOverTurns, ReportsOverExchanges}
+use Rattle.avr_laws.specs.AnyLink.{EndsAndReportsOverExchanges, ReportsOverExchanges}
 use Rattle.avr_tool.specs.Authentic.{RepliesAreAuthentic}
 use Rattle.avr_laws.specs.FewBadFrames.{AtMostThreeBadOfSeven}
 use Rattle.avr_laws.proofs.FewBad.Sessions.{few_session_ends}
-use Rattle.avr_laws.proofs.Reports.OverTape.{ByExchanges, told_any}
-use Rattle.avr_laws.proofs.Reports.Truth.{session_tells}
+use Rattle.avr_laws.proofs.Reports.OverTape.{ByExchanges, reported_any}
+use Rattle.avr_laws.proofs.Reports.Truth.{session_reports}
 use Rattle.avr_laws.proofs.Reports.UpToFault.{foretold_end, foretold_on_tape}
 use Rattle.avr_laws.proofs.SecondRun.Status.{succeeds}
 
@@ -48,10 +48,10 @@ module _ (plan : Plan) (begun : Programmer) (is_sound : IsSoundChip begun.chip) 
         → RepliesAreAuthentic device (session plan) 1 tape begun executions
         → ByExchanges (length (frames_in (played (session plan) 1 tape).events)) executions exchanges
         → ReportsOverExchanges plan begun q exchanges bytes (played (session plan) 1 tape).events
-    reports_over_exchanges tape executions prefix honest same = record {
+    reports_over_exchanges tape executions prefix is_authentic same = record {
       leaves = over_exchanges plan begun is_sound part_is fitted exchanges q bytes stands tape prefix;
-      reports_are_true = search (rules, told_any, asks, session_tells, sound, sizes, idle);
-      foretold = foretold_on_tape plan sound fitted before sizes begun tape executions idle honest;
+      reports_are_true = search (rules, reported_any, asks, session_reports, sound, sizes, idle);
+      foretold = foretold_on_tape plan sound fitted before sizes begun tape executions idle is_authentic;
     }
 
     -- and the session has come to a status there
@@ -63,10 +63,10 @@ module _ (plan : Plan) (begun : Programmer) (is_sound : IsSoundChip begun.chip) 
           has_expected plan begun is_sound part_is fitted exchanges q bytes stands emits status comes output_events_are
           (few_session_ends plan sound fitted before begun exchanges sizes idle few (length (frames bytes)) status comes)
 
-      pub ends_and_reports_over_exchanges : EndsOverTurns plan before (memories_of q.chip) exchanges emits status
+      pub ends_and_reports_over_exchanges : EndsAndReportsOverExchanges plan before (memories_of q.chip) exchanges emits status
       ends_and_reports_over_exchanges = record {
         comes = ends_over_exchanges plan begun is_sound part_is fitted exchanges q bytes stands emits status comes output_events_are;
-        said = subst (λ x. EndsAsExpected plan before x status) (sym output_events_are)
+        emitted = subst (λ x. EndsAsExpected plan before x status) (sym output_events_are)
             (foretold_end plan sound fitted before sizes (length (frames bytes)) status begun exchanges idle comes);
         if_few_bad = its_expected;
         again = λ few erases both. succeeds plan before status sizes erases both (its_expected few).status_is;

@@ -36,26 +36,26 @@ pub record ReportsOverExchanges (plan : Plan) (p q : Programmer) (exchanges : Li
   pub foretold : IsExpectedOutput plan (memories_of p.chip) (outputs events)
 
 -- What holds besides for a session with this status.
-pub record EndsOverTurns (plan : Plan) (before after : Memories) (exchanges : List Exchange) (emits : List OutputEvent)
+pub record EndsAndReportsOverExchanges (plan : Plan) (before after : Memories) (exchanges : List Exchange) (emits : List OutputEvent)
     (status : ℕ) : Type 0 where
   pub comes : EndsOverExchanges plan before after exchanges emits status
   -- with the line of a failed step the status is 1
-  pub said : EndsAsExpected plan before emits status
+  pub emitted : EndsAsExpected plan before emits status
   -- few bad frames change nothing
   pub if_few_bad : AtMostThreeBadOfSeven exchanges → IsExpectedRun plan before after emits status
   -- then some plans succeed, whatever the chip held
   pub again : AtMostThreeBadOfSeven exchanges → has_erase (items plan) ≡ true → AgreesOnTwoChips plan → status ≡ 0
 
 -- What holds of a session that ran whole.
-abbrev pub WholeOverTurns : Plan → Programmer → Programmer → List Exchange → List ℕ → List (Event OutputEvent) → ℕ → Type 0
-WholeOverTurns plan p q exchanges bytes events status =
+abbrev pub WholeSessionOverExchanges : Plan → Programmer → Programmer → List Exchange → List ℕ → List (Event OutputEvent) → ℕ → Type 0
+WholeSessionOverExchanges plan p q exchanges bytes events status =
     ReportsOverExchanges plan p q exchanges bytes events
-    × EndsOverTurns plan (memories_of p.chip) (memories_of q.chip) exchanges (outputs events) status
+    × EndsAndReportsOverExchanges plan (memories_of p.chip) (memories_of q.chip) exchanges (outputs events) status
 
 -- What a session did between these states of a wire: what avr_tool's `SessionOverWire` states, and all of this.
 pub record OverAnyWire (plan : Plan) (before after : WiredState) (old now : DeskState) (status : ℕ) : Type 0 where
   pub line : ReportsOverExchanges plan (fresh_programmer before.wire.programmer.chip) after.wire.programmer
       (exchanges_of_fates before.wire.fates) (sent after.transcript) (events_over plan after)
-  pub end : (EndsOverTurns plan (memories before) (memories after) (exchanges_of_fates before.wire.fates)
+  pub end : (EndsAndReportsOverExchanges plan (memories before) (memories after) (exchanges_of_fates before.wire.fates)
       (outputs (events_over plan after)) status × ChangesRecord (after_events (outputs (events_over plan after))) old now)
       ⊎ (SessionStopped plan before after old now × (status ≡ 1))

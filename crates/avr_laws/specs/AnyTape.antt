@@ -20,45 +20,45 @@ abbrev pub answered_exchange : Execution → List ℕ → Exchange
 answered_exchange Executed body = if bytes_eq body refusal then Disturbed Executed Refusal else AsIntended
 answered_exchange execution body = Disturbed execution Refusal
 
-abbrev pub turn_by : Execution → Reading → Exchange
-turn_by execution (Answered body) = answered_exchange execution body
-turn_by execution Silent = Disturbed execution NoReply
-turn_by execution Ended = Disturbed execution Ending
-turn_by execution Babbled = Disturbed execution Babble
+abbrev pub exchange_by : Execution → Reading → Exchange
+exchange_by execution (Answered body) = answered_exchange execution body
+exchange_by execution Silent = Disturbed execution NoReply
+exchange_by execution Ended = Disturbed execution Ending
+exchange_by execution Babbled = Disturbed execution Babble
 
 -- If the reply is still awaited, nothing was read.
-abbrev pub turns_from : Execution → (Reading → Tape → List Exchange) → Option (Reading × Tape) → List Exchange
-turns_from execution more None = Disturbed execution NoReply ∷ []
-turns_from execution more (Some (reading, tape)) = turn_by execution reading ∷ more reading tape
+abbrev pub exchanges_from : Execution → (Reading → Tape → List Exchange) → Option (Reading × Tape) → List Exchange
+exchanges_from execution more None = Disturbed execution NoReply ∷ []
+exchanges_from execution more (Some (reading, tape)) = exchange_by execution reading ∷ more reading tape
 
 -- THE EXCHANGES of a run over this tape, one for each frame sent.
-abbrev pub turns_heard : {E R : Type 0} → Dialog E R → ℕ → Tape → List Execution → List Exchange
-turns_heard (Done r) n tape executions = []
-turns_heard (Emit e dialog) n tape executions = turns_heard dialog n tape executions
-turns_heard (Ask bytes go_on) n tape executions =
-    turns_from (first_execution executions)
-    (λ reading left. turns_heard (go_on reading) (next n) left (later_executions executions)) (answer n tape)
+abbrev pub exchanges_heard : {E R : Type 0} → Dialog E R → ℕ → Tape → List Execution → List Exchange
+exchanges_heard (Done r) n tape executions = []
+exchanges_heard (Emit e dialog) n tape executions = exchanges_heard dialog n tape executions
+exchanges_heard (Ask bytes go_on) n tape executions =
+    exchanges_from (first_execution executions)
+    (λ reading left. exchanges_heard (go_on reading) (next n) left (later_executions executions)) (answer n tape)
 
 -- A run that waits for a reply: its output is that along the exchanges of all questions but the last.
 pub record WaitsAlongExchanges {E R P : Type 0} (m : Device P) (d : Dialog E R) (p : P) (exchanges : List Exchange)
     (sent : List (List ℕ)) (emits : List E) : Type 0 where
   pub answered : ℕ
   pub one_more : length sent ≡ suc answered
-  pub said : emits ≡ outputs_after m answered d p exchanges
+  pub emitted : emits ≡ outputs_after m answered d p exchanges
 
 -- The run of a dialog over a tape goes along its exchanges. After any first frames the programmer is the one along
 -- them. If the run is done, so is the dialog along them, with the same result and output.
 pub record GoesAlongExchanges {E R P : Type 0} (m : Device P) (d : Dialog E R) (n : ℕ) (tape : Tape) (p : P)
     (executions : List Execution) : Type 0 where
   pub programmer : (k : ℕ) → k ≤ length (frames_in (played d n tape).events)
-      → (state_after m k d p (turns_heard d n tape executions)).programmer
+      → (state_after m k d p (exchanges_heard d n tape executions)).programmer
       ≡ after_sent_frames m (take k (frames_in (played d n tape).events)) executions p
   pub outcome : (r : R) (seq : ℕ) (left : Tape) → (played d n tape).outcome ≡ Some (r, seq, left)
-      → ((state_after m (length (frames_in (played d n tape).events)) d p (turns_heard d n tape executions)).dialog ≡ Done r)
+      → ((state_after m (length (frames_in (played d n tape).events)) d p (exchanges_heard d n tape executions)).dialog ≡ Done r)
       × (outputs (played d n tape).events
-      ≡ outputs_after m (length (frames_in (played d n tape).events)) d p (turns_heard d n tape executions))
+      ≡ outputs_after m (length (frames_in (played d n tape).events)) d p (exchanges_heard d n tape executions))
   pub waits : (played d n tape).outcome ≡ None
-      → WaitsAlongExchanges m d p (turns_heard d n tape executions) (frames_in (played d n tape).events)
+      → WaitsAlongExchanges m d p (exchanges_heard d n tape executions) (frames_in (played d n tape).events)
       (outputs (played d n tape).events)
 
 -- Frames that the programmer receives: those up to its first restart, and those after each restart.

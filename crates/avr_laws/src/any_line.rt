@@ -21,7 +21,7 @@ ghost use Rattle.stk_emu.specs.Wired.{WiredState, ComesOf, IsFresh, wired_link};
 ghost use Rattle.avr_tool.specs.Emulated.{RunsOverEmulator, new_wire};
 ghost use Rattle.ghosts.specs.Preserves.{Preserves};
 ghost use Rattle.stk_emu.specs.Exchange.{Exchange, Execution};
-ghost use Rattle.avr_laws.specs.AnyTape.{ReceivedSentFrames, after_received_bytes, after_sent_frames, turns_heard};
+ghost use Rattle.avr_laws.specs.AnyTape.{ReceivedSentFrames, after_received_bytes, after_sent_frames, exchanges_heard};
 ghost use Rattle.avr_tool.specs.Authentic.{RepliesAreAuthentic};
 ghost use Rattle.avr_laws.specs.NoForgedFrame.{ForgesNoFrame};
 ghost use Rattle.avr_part.specs.Sound.{IsSoundChip};
@@ -34,7 +34,7 @@ ghost use Rattle.stk_host.specs.Tape.{Tape};
 ghost use Rattle.stk_host.specs.Dialog.{Done, Event, played, bytes_sent};
 ghost use Rattle.stk_host.specs.Bound.{SendsAtMost, commands_in};
 ghost use Rattle.avr_tool.specs.OverFaultyLink.{SessionStopped};
-ghost use Rattle.avr_laws.specs.AnyLink.{OverAnyWire, ReportsOverExchanges, WholeOverTurns, ReportsWereTrue};
+ghost use Rattle.avr_laws.specs.AnyLink.{OverAnyWire, ReportsOverExchanges, WholeSessionOverExchanges, ReportsWereTrue};
 ghost use Rattle.avr_session.specs.PlanSteps.{run_steps};
 ghost use Rattle.avr_laws.specs.Bound.{ListensAtMost};
 ghost use Rattle.avr_tool.specs.ExpectedRun.{expected_run};
@@ -142,22 +142,22 @@ pub fn a_session_over_any_link()
         → RepliesAreAuthentic device (session plan) 1 tape p executions
         → played (session plan) 1 tape ≡ record { events = events; outcome = Some (status, next, left) }
         → bytes_sent events ≡ bytes
-        → WholeOverTurns plan p (after_sent_frames device (frames bytes) executions p)
-        (turns_heard (session plan) 1 tape executions) bytes events status }
+        → WholeSessionOverExchanges plan p (after_sent_frames device (frames bytes) executions p)
+        (exchanges_heard (session plan) 1 tape executions) bytes events status }
     ensures bytes { (plan : Plan) (p : Programmer) (got bytes : List ℕ) (later : List (List ℕ)) (executions : List Execution)
         (tape left : Tape) (events : List (Event OutputEvent)) (status next : ℕ)
         → IsSoundChip p.chip → p.chip.part ≡ plan.part → All (IsFitted plan.part) plan.tasks
         → ReceivedSentFrames got later (frames bytes) executions → ForgesNoFrame device (session plan) 1 tape p executions []
         → played (session plan) 1 tape ≡ record { events = events; outcome = Some (status, next, left) }
         → bytes_sent events ≡ bytes
-        → WholeOverTurns plan p (after_received_bytes device got later p)
-        (turns_heard (session plan) 1 tape executions) bytes events status }
+        → WholeSessionOverExchanges plan p (after_received_bytes device got later p)
+        (exchanges_heard (session plan) 1 tape executions) bytes events status }
     ensures end { (plan : Plan) (p : Programmer) (executions : List Execution) (bytes : List ℕ) (tape : Tape)
         → IsSoundChip p.chip → p.chip.part ≡ plan.part → All (IsFitted plan.part) plan.tasks
         → RepliesAreAuthentic device (session plan) 1 tape p executions
         → IsBytePrefixOf bytes (bytes_sent (played (session plan) 1 tape).events)
         → ReportsOverExchanges plan p (after_sent_frames device (frames bytes) executions p)
-        (turns_heard (session plan) 1 tape executions) bytes (played (session plan) 1 tape).events }
+        (exchanges_heard (session plan) 1 tape executions) bytes (played (session plan) 1 tape).events }
 {}
 
 /// States what a session leaves over a new link that forges no frame, whether it ran whole or broke off. The memories
@@ -172,6 +172,6 @@ pub fn whatever_becomes_of_a_session_its_first_page_writes_were_made()
         → ReceivedSentFrames got later (frames (sent new.link.transcript)) executions
         → ForgesNoFrame device (session plan) 1 (heard new.link.transcript) p executions []
         → ReportsOverExchanges plan p (after_received_bytes device got later p)
-        (turns_heard (session plan) 1 (heard new.link.transcript) executions) (sent new.link.transcript)
+        (exchanges_heard (session plan) 1 (heard new.link.transcript) executions) (sent new.link.transcript)
         (played (session plan) 1 (heard new.link.transcript)).events }
 {}

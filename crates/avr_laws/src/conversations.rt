@@ -57,7 +57,7 @@ pub fn few_bad_fates_bring_all_data()
 /// States that a conversation over any tape goes along exchanges, one for each frame sent, if the link forges no
 /// frame. It has the same output and result as along them. The programmer has the same state, if the good frames that
 /// it received are some of those sent, in order.
-pub fn over_any_tape_a_conversation_goes_along_turns<E, R>()
+pub fn over_any_tape_a_conversation_follows_its_exchanges<E, R>()
     ensures goes { (d : Dialog E R) (n : ℕ) (tape : Tape) (p : Programmer) (executions : List Execution)
         → SendsValidBodies d → RepliesAreAuthentic device d n tape p executions → GoesAlongExchanges device d n tape p executions }
     ensures got { (got : List ℕ) (later sent : List (List ℕ)) (executions : List Execution) (p : Programmer)
@@ -93,7 +93,7 @@ pub fn a_conversation_in_turn_is_never_idle<E, R>()
 /// States that a conversation over a wire goes along the exchanges of its fates, one for each frame sent. A whole
 /// conversation has the same result and output as along them. The programmer has the same state, also if the
 /// conversation broke off.
-pub fn over_a_wire_a_conversation_goes_along_turns<E, R>()
+pub fn over_a_wire_a_conversation_follows_its_exchanges<E, R>()
     ensures programmer { (d : Dialog E R) (n : ℕ) (p : Programmer) (fates : List Fate) (w : WiredState)
         → SendsValidBodies d → AreLawful fates → FollowsFates p fates w → InTurn d (progress_at n []) w.transcript
         → IsBytePrefixOf (sent w.transcript) (bytes_sent (played d n (heard w.transcript)).events)

@@ -38,7 +38,7 @@ pub use chip_file::{
 pub use conversations::{
     a_conversation_in_turn_is_never_idle, a_link_that_forges_no_frame_is_authentic,
     a_wire_is_an_authentic_link, few_bad_fates_bring_all_data,
-    over_a_wire_a_conversation_goes_along_turns, over_any_tape_a_conversation_goes_along_turns,
+    over_a_wire_a_conversation_follows_its_exchanges, over_any_tape_a_conversation_follows_its_exchanges,
 };
 pub use crashes::{
     a_crash_leaves_the_old_chip_or_the_new_one, a_crash_leaves_the_old_chip_or_the_served_one,
@@ -62,7 +62,7 @@ pub use runs::{
 pub use two_processes::{
     a_prompt_link_brings_the_expected_run, a_server_sends_the_answers_to_what_it_heard,
     a_session_and_a_server_are_one_run, an_unordered_link_is_refused, two_processes_have_a_run,
-    two_processes_never_both_wait, what_a_host_hears_of_a_server_is_authentic,
+    two_processes_never_both_wait, what_a_host_receives_of_a_server_is_authentic,
     whatever_becomes_of_both_some_page_writes_were_made,
 };
 pub use written::{

@@ -11,7 +11,7 @@ ghost use Rattle.avr_desk.specs.Stage.{Produced};
 ghost use Rattle.avr_desk.specs.Record.{DeskState, ChangesRecord, Record};
 ghost use Rattle.avr_laws.specs.Again.{AgreesOnTwoChips, ItemsKeepEeprom};
 ghost use Rattle.avr_tool.specs.OverFaultyLink.{SessionStopped, SessionOverWire, OverExchanges, Weight, total_weight, bodies_in, memories, events_over, wire_and_desk};
-ghost use Rattle.avr_laws.specs.AnyLink.{OverAnyWire, WholeOverTurns};
+ghost use Rattle.avr_laws.specs.AnyLink.{OverAnyWire, WholeSessionOverExchanges};
 ghost use Rattle.avr_session.specs.PlanSteps.{run_steps};
 ghost use Rattle.avr_tool.specs.ExpectedRun.{expected_run};
 ghost use Rattle.avr_tool.specs.Items.{items, asked_items, has_erase};
@@ -164,7 +164,7 @@ pub fn a_further_run_repairs()
         → has_erase (items plan) ≡ true → AgreesOnTwoChips plan
         → (erase_keeps_eeprom plan.part (memories_of p.chip) ≡ true → ItemsKeepEeprom plan.part (items plan))
         → OverExchanges plan p q exchanges bytes
-        → memories_of x.chip ≡ memories_of q.chip → AtMostThreeBadOfSeven more → WholeOverTurns plan x y more others events further
+        → memories_of x.chip ≡ memories_of q.chip → AtMostThreeBadOfSeven more → WholeSessionOverExchanges plan x y more others events further
         → (further ≡ 0) × IsDone plan (memories_of p.chip) (memories_of y.chip) }
 {}
 
@@ -224,7 +224,7 @@ pub fn a_run_in_memory_has_one_outcome()
 pub fn a_forged_frame_voids_the_promise()
     ensures ends { (played (session fuse_plan) 1 forged_replies).outcome ≡ Some (0, 8, []) }
     ensures void { (p q : Programmer) (exchanges : List Exchange) (bytes : List ℕ) (events : List (Event OutputEvent))
-        → (p.chip.lfuse ≡ 0xE2 → ⊥) → WholeOverTurns fuse_plan p q exchanges bytes events 0 → ⊥ }
+        → (p.chip.lfuse ≡ 0xE2 → ⊥) → WholeSessionOverExchanges fuse_plan p q exchanges bytes events 0 → ⊥ }
     ensures made { (s : Chip) (got : List ℕ) (later : List (List ℕ)) (executions : List Execution)
         → IsSoundChip s → s.part ≡ fuse_plan.part → (s.lfuse ≡ 0xE2 → ⊥)
         → ReceivedSentFrames got later (frames (bytes_sent (played (session fuse_plan) 1 forged_replies).events)) executions

@@ -2,7 +2,7 @@
 
 ghost use Rattle.std.specs.Prelude.{◌≡◌, ◌++◌, ℕ, length, List, [], All, ◌∷◌, Ok};
 ghost use Rattle.avr_desk.specs.Record.{Bytes};
-ghost use Rattle.avr_laws.specs.AnyLink.{ReportsOverExchanges, WholeOverTurns};
+ghost use Rattle.avr_laws.specs.AnyLink.{ReportsOverExchanges, WholeSessionOverExchanges};
 ghost use Rattle.avr_tool.specs.ExpectedRun.{expected_run};
 ghost use Rattle.avr_desk.specs.OutputEvents.{OutputEvent};
 ghost use Rattle.avr_part.specs.Sound.{IsSoundChip};
@@ -22,7 +22,7 @@ ghost use Rattle.stk_emu.specs.Emulator.{EmulatorState};
 ghost use Rattle.stk_emu.specs.Effect.{memories_of};
 ghost use Rattle.stk_emu.specs.Programmer.{Programmer, fresh_programmer};
 ghost use Rattle.stk_frame.specs.Cut.{frames};
-ghost use Rattle.avr_laws.specs.AnyTape.{after_sent_frames, turns_heard};
+ghost use Rattle.avr_laws.specs.AnyTape.{after_sent_frames, exchanges_heard};
 ghost use Rattle.avr_tool.specs.Authentic.{RepliesAreAuthentic};
 ghost use Rattle.avr_laws.specs.NoForgedFrame.{ForgesNoFrame};
 ghost use Rattle.stk_host.specs.Dialog.{Event, played, frames_in, bytes_sent, outputs};
@@ -45,8 +45,8 @@ pub fn a_server_sends_the_answers_to_what_it_heard()
 /// States that all a host reads from a server is authentic, over a link that keeps bytes in order and has timeouts
 /// only between replies. The frames that the server took were obeyed, and the others never arrived; the server's
 /// programmer is as they left it. This holds at any moment of a session, however it ends.
-pub fn what_a_host_hears_of_a_server_is_authentic()
-    ensures honest { (plan : Plan) (s : Chip) (left : Programmer) (host server : Transcript)
+pub fn what_a_host_receives_of_a_server_is_authentic()
+    ensures is_authentic { (plan : Plan) (s : Chip) (left : Programmer) (host server : Transcript)
         → IsSoundChip s → s.part ≡ plan.part → All (IsFitted plan.part) plan.tasks
         → (serves : HasServed (fresh_programmer s) server left) → IsJoined host server
         → HasNoEnd (heard host) → TimesOutBetweenReplies (heard host)
@@ -88,8 +88,8 @@ pub fn a_session_and_a_server_are_one_run()
         → (ran : RanWhole (session plan) start old new status after)
         → (serves : ServesChip s file most server_old server_new served_status)
         → (served : HasServed (fresh_programmer s) (server_transcript calls) serves.left.programmer)
-        × WholeOverTurns plan (fresh_programmer s) serves.left.programmer
-        (turns_heard (session plan) 1 (heard (host_transcript calls)) (all_executed (length (frames served.used))))
+        × WholeSessionOverExchanges plan (fresh_programmer s) serves.left.programmer
+        (exchanges_heard (session plan) 1 (heard (host_transcript calls)) (all_executed (length (frames served.used))))
         (sent (host_transcript calls)) ran.events status }
     ensures anywhere { (plan : Plan) (s : Chip) (left : Programmer) (host server : Transcript)
         (events : List (Event OutputEvent))
@@ -99,8 +99,8 @@ pub fn a_session_and_a_server_are_one_run()
         → Plays (session plan) start host events status after
         → ForgesNoFrame device (session plan) 1 (heard host) (fresh_programmer s)
         (all_executed (length (frames serves.used))) []
-        → WholeOverTurns plan (fresh_programmer s) left
-        (turns_heard (session plan) 1 (heard host) (all_executed (length (frames serves.used)))) (sent host) events status }
+        → WholeSessionOverExchanges plan (fresh_programmer s) left
+        (exchanges_heard (session plan) 1 (heard host) (all_executed (length (frames serves.used)))) (sent host) events status }
     ensures saved { (s : Chip) (file : Bytes) (most : ℕ) (old new : Devices) (status : ℕ)
         → (serves : ServesChip s file most old new status) → status ≡ 0
         → SavesChip serves.reported_desk new.desk file (chip_file serves.left.programmer.chip) (Ok tt) }
@@ -143,7 +143,7 @@ pub fn whatever_becomes_of_both_some_page_writes_were_made()
         → (serves : ServesChip s file most server_old server_new served_status)
         → (served : HasServed (fresh_programmer s) (server_transcript calls) serves.left.programmer)
         × ReportsOverExchanges plan (fresh_programmer s) serves.left.programmer
-        (turns_heard (session plan) 1 (heard (host_transcript calls)) (all_executed (length (frames served.used))))
+        (exchanges_heard (session plan) 1 (heard (host_transcript calls)) (all_executed (length (frames served.used))))
         (sent (host_transcript calls)) (played (session plan) 1 (heard (host_transcript calls))).events }
 {}
 

@@ -18,12 +18,12 @@ pub onto-next : (ps : List Part) (p : Part) (r : Result (List Part) NamedFault)
     → onto ps (r >>= (λ qs. Ok (p ∷ qs))) ≡ onto (ps ++ p ∷ []) r
 onto-next ps p r = search (rules, append_assoc)
 
-pub judged_next : (all : Result (List Part) NamedFault) (ps : List Part) (left next : List (String Global × Value))
+pub checked_next : (all : Result (List Part) NamedFault) (ps : List Part) (left next : List (String Global × Value))
     (k : String Global) (v : Value) (p : Part)
     → left ≡ (k, v) ∷ next → all ≡ onto ps (parts_in (members_view left))
     → Ok p ≡ in_part (string_bytes k) (part_of (string_bytes k) (view v))
     → all ≡ onto (ps ++ p ∷ []) (parts_in (members_view next))
-judged_next all ps left next k v p split so_far is = search (rules, onto-next)
+checked_next all ps left next k v p split so_far is = search (rules, onto-next)
 
 -- bytes that are text, and bytes that aren't
 pub text_is_text : (bytes : Bytes) → IsUtf8 bytes → utf8_text bytes ≡ Some bytes

@@ -1,6 +1,6 @@
 -- Planning, stage by stage.
 pub mod Images
-pub mod Told
+pub mod ReportedAs
 pub mod Parts
 pub mod Values
 pub mod Tasks

@@ -28,7 +28,7 @@ op_allocates u op.Read = true
 
 -- The next update, `due`, allocates without a file. The openings and events so far are those of the plan of the
 -- updates before it. Contracts of `plan` give it as the only point of a failed allocation without a file.
-pub record AtAllocatingUpdate (s : Settings) (passed : List Opening) (said : List OutputEvent) : Type 0 where
+pub record AtAllocatingUpdate (s : Settings) (passed : List Opening) (emitted : List OutputEvent) : Type 0 where
   pub done : List Update
   pub due : Update
   pub more : List Update
@@ -36,15 +36,15 @@ pub record AtAllocatingUpdate (s : Settings) (passed : List Opening) (said : Lis
   pub takes : op_allocates due due.op ≡ true
   pub plan : Plan
   pub is_planned : planned (record s { updates = done }) passed
-      ≡ record { emits = said; stage_outcome = Produced plan; openings_left = [] }
+      ≡ record { emits = emitted; stage_outcome = Produced plan; openings_left = [] }
 
 -- inside: the same for some updates whose tasks follow others
 pub record AtAllocatingTask (switches : Switches) (part : Part) (tasks : List Task) (updates : List Update)
-    (passed : List Opening) (said : List OutputEvent) : Type 0 where
+    (passed : List Opening) (emitted : List OutputEvent) : Type 0 where
   pub done : List Update
   pub due : Update
   pub more : List Update
   pub updates_are : updates ≡ done ++ due ∷ more
   pub takes : op_allocates due due.op ≡ true
   pub made : List Task
-  pub are_made : tasks_stage switches part tasks done passed ≡ record { emits = said; stage_outcome = Produced made; openings_left = [] }
+  pub are_made : tasks_stage switches part tasks done passed ≡ record { emits = emitted; stage_outcome = Produced made; openings_left = [] }

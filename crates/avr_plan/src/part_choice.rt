@@ -27,7 +27,7 @@ pub fn given_parts<D: Desk>(
 ) -> Result<Parts, PartsFault>
     ensures goes { RunsStage (OnlyAtStart false) (parts_stage file.now) (D.view desk.old) (D.view desk.new)
         (with_status result) }
-    ensures told { IfErr result (λ fault. ReportsPartsFault file.now (D.view desk.old) (D.view desk.new) fault) }
+    ensures notice { IfErr result (λ fault. ReportsPartsFault file.now (D.view desk.old) (D.view desk.new) fault) }
     ensures none { file.now ≡ None → (result ≡ Ok []) × (D.view desk.new ≡ D.view desk.old) }
     ensures stays { Preserves D.started_as desk.old desk.new }
 {

@@ -27,7 +27,7 @@ fn update_task<D: Desk>(
 ) -> Result<Task, TaskFault>
     ensures goes { RunsStage (OnlyAtStart (op_allocates update.now update.now.op)) (task_stage switches part.now update.now)
         (D.view desk.old) (D.view desk.new) (with_status result) }
-    ensures told { IfErr result (ReportsTaskFault update.now (D.view desk.old) (D.view desk.new)) }
+    ensures notice { IfErr result (ReportsTaskFault update.now (D.view desk.old) (D.view desk.new)) }
     ensures fitted { IfOk result (IsFitted part.now) }
     ensures same { tasks.new.items ≡ tasks.old.items }
     ensures room { OnOk result (vec_len tasks.new < vec_capacity tasks.new) }
@@ -73,7 +73,7 @@ fn update_tasks<D: Desk>(
 ) -> Result<Tasks, PlanFault>
     ensures goes { RunsStage (AtAllocatingTask switches part.now [] updates.now)
         (tasks_stage switches part.now [] updates.now) (D.view desk.old) (D.view desk.new) (with_status result) }
-    ensures told { IfErr result (ReportsTasksFault updates.now (D.view desk.old) (D.view desk.new)) }
+    ensures notice { IfErr result (ReportsTasksFault updates.now (D.view desk.old) (D.view desk.new)) }
     ensures fitted { IfOk result (All (IsFitted part.now)) }
     // Without updates nothing is allocated.
     ensures none { updates.now ≡ [] → IsOk result }
@@ -117,7 +117,7 @@ pub fn plan_or_fault<D: Desk>(
 ) -> Result<Plan, PlanFault>
     ensures goes { RunsStage (AtAllocatingUpdate settings.now) (planned settings.now) (D.view desk.old)
         (D.view desk.new) (with_status result) }
-    ensures told { IfErr result (ReportsPlanFault settings.now (D.view desk.old) (D.view desk.new)) }
+    ensures notice { IfErr result (ReportsPlanFault settings.now (D.view desk.old) (D.view desk.new)) }
     // Without a part file and updates nothing is read: the only fault is an unknown part.
     ensures bare { settings.now.parts ≡ None → settings.now.updates ≡ []
         → IfErr result (λ fault. LacksPart settings.now.part [] (D.view desk.old) (D.view desk.new)) }

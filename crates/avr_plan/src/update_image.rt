@@ -37,7 +37,7 @@ fn warn_of_ending<D: Desk>(
 ) -> Result<(), TaskFault>
     ensures goes { RunsStage (OnlyAtStart false) (output_stage (warning_events switches file.now ending))
         (D.view desk.old) (D.view desk.new) (with_status result) }
-    ensures told { (update : AnyUpdate) → IfErr result (ReportsTaskFault update (D.view desk.old) (D.view desk.new)) }
+    ensures notice { (update : AnyUpdate) → IfErr result (ReportsTaskFault update (D.view desk.old) (D.view desk.new)) }
     ensures stays { Preserves D.started_as desk.old desk.new }
 {
     let warns = is_warned(switches, ending);
@@ -62,7 +62,7 @@ fn file_image<D: Desk>(
 ) -> Result<Image, TaskFault>
     ensures goes { RunsStage (OnlyAtStart false) (file_image_stage switches file.now format size)
         (D.view desk.old) (D.view desk.new) (with_status result) }
-    ensures told { (update : AnyUpdate) → update.file ≡ file.now
+    ensures notice { (update : AnyUpdate) → update.file ≡ file.now
         → IfErr result (ReportsTaskFault update (D.view desk.old) (D.view desk.new)) }
     ensures sized { IfOk result (λ image. length image ≡ size) }
     ensures same { tasks.new.items ≡ tasks.old.items }
@@ -99,7 +99,7 @@ pub(crate) fn update_image<D: Desk>(
 ) -> Result<Image, TaskFault>
     ensures goes { RunsStage (OnlyAtStart (has_immediate_values update.now.format))
         (update_image_stage switches part.now update.now) (D.view desk.old) (D.view desk.new) (with_status result) }
-    ensures told { IfErr result (ReportsTaskFault update.now (D.view desk.old) (D.view desk.new)) }
+    ensures notice { IfErr result (ReportsTaskFault update.now (D.view desk.old) (D.view desk.new)) }
     ensures sized { IfOk result (λ image. length image ≡ size_of update.now.memory part.now) }
     ensures same { tasks.new.items ≡ tasks.old.items }
     ensures room { OnOk result (vec_len tasks.new < vec_capacity tasks.new) }

@@ -12,7 +12,7 @@ ghost use Rattle.avr_records_c.specs.Writing.{WroteFile, file_start};
 
 /// A bit of an image's bitmap is 1 exactly if its address holds a byte.
 #[tactic(auto, using(crate::proofs::Bits::there_where_held))]
-pub fn a_bitmap_says_what_is_there()
+pub fn a_bitmap_marks_what_is_there()
     ensures { (image : List (Option ℕ)) (n addr : ℕ) → addr < n * 8
         → is_marked (bitmap image n) addr ≡ is_some (byte_at image addr) }
 {}

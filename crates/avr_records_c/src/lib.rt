@@ -20,7 +20,7 @@ mod writing;
 pub use cursor::Cursor;
 pub use detecting::avr_records_detect;
 pub use fault_text::avr_records_fault_text;
-pub use laws::{a_bitmap_says_what_is_there, pieces_join, what_is_written_reads_back};
+pub use laws::{a_bitmap_marks_what_is_there, pieces_join, what_is_written_reads_back};
 pub use outcome::Outcome;
 pub use piece::Piece;
 pub use reading::avr_records_read;

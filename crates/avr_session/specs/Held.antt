@@ -28,7 +28,7 @@ pub record RunsSessionPart {D L : Type 0} (link : Links L) (desk : Desks D) (Par
   pub same_desk : new.desk.ghost_name ≡ old.desk.ghost_name
   pub comes : Preserves link.started_as old.link.now new.link.now
   pub stays : Preserves desk.started_as old.desk.now new.desk.now
-  pub told : EndsWithFaultLine new.plan.now.part (desk.view new.desk.now) result
+  pub notice : EndsWithFaultLine new.plan.now.part (desk.view new.desk.now) result
 
 -- These actions of the plan were done in order, up to the first fault.
 abbrev pub Does : {D L : Type 0} → Links L → Desks D → List Action → Session D L → Session D L → Result ⊤ End → Type 0

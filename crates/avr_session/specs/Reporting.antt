@@ -32,9 +32,9 @@ pub record OutputsPrefixAndReports (By : DeskState → DeskState → Cause → B
   pub between : DeskState
   pub cause : Cause
   pub prefix : OutputsPrefix cause old between outputs
-  pub told : Bytes
-  pub stops : By old new cause told
-  pub kept : ChangesRecord (after_err told) between new
+  pub notice : Bytes
+  pub stops : By old new cause notice
+  pub kept : ChangesRecord (after_err notice) between new
 
 -- All output events were done and no call failed, or a prefix of them was done.
 abbrev pub OutputsOrStops : (DeskState → DeskState → Cause → Bytes → Type 0) → DeskState → DeskState → List OutputEvent
@@ -44,13 +44,13 @@ OutputsOrStops By old new outputs (Err _) = OutputsPrefixAndReports By old new o
 
 pub record Reports (By : DeskState → DeskState → Cause → Bytes → Type 0) (old new : DeskState)
     (outputs : List OutputEvent) (result : Result ⊤ DeskFault) : Type 0 where
-  pub says : OutputsOrStops By old new outputs result
+  pub emits : OutputsOrStops By old new outputs result
   pub follows : CountsNeverFall old new
 
 -- A write to the messages failed; nothing reports this.
 abbrev pub PrintStops : DeskState → DeskState → Cause → Bytes → Type 0
-PrintStops old new PrintingFailed told = desk.HasFailedToReport old new × (told ≡ [])
-PrintStops old new cause told = ⊥
+PrintStops old new PrintingFailed notice = desk.HasFailedToReport old new × (notice ≡ [])
+PrintStops old new cause notice = ⊥
 
 -- These output events were done at a desk, or a cause that `By` allows stopped them.
 pub record Outputs {D : Type 0} (desk : Ghosts D) (By : DeskState → DeskState → Cause → Bytes → Type 0)
@@ -63,11 +63,11 @@ Prints desk outputs old new result = Outputs desk PrintStops outputs old new res
 
 -- The desk failed at a file, and this was reported.
 abbrev pub FileStops : DeskState → DeskState → Bytes → FileTrouble → Bytes → Type 0
-FileStops old new file trouble told = ReportsFailureAs (cause_line (FileFailed file trouble)) told old new
+FileStops old new file trouble notice = ReportsFailureAs (cause_line (FileFailed file trouble)) notice old new
 
 abbrev pub DeskStops : DeskState → DeskState → Cause → Bytes → Type 0
-DeskStops old new (FileFailed file trouble) told = FileStops old new file trouble told
-DeskStops old new cause told = PrintStops old new cause told
+DeskStops old new (FileFailed file trouble) notice = FileStops old new file trouble notice
+DeskStops old new cause notice = PrintStops old new cause notice
 
 -- The desk can fail at a file only after a read without a fault, because nothing else is saved.
 abbrev pub ReadStops : {A Fault : Type 0} → Result A Fault → DeskState → DeskState → Cause → Bytes → Type 0

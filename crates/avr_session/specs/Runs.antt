@@ -115,11 +115,11 @@ CauseOccurred takes old then cause = HasFailedAt File old.desk then.desk × (the
 -- The cause's line was reported. After a fault's line only the link or the printing can fail, and nothing more is
 -- reported.
 abbrev pub ReportsCause : Bool → Cause → Bytes → DeskState → DeskState → Type 0
-ReportsCause false cause told old new = ReportsLineAs (cause_line cause) told old new
-ReportsCause true SendingFailed told old new = told ≡ []
-ReportsCause true ReceivingFailed told old new = told ≡ []
-ReportsCause true PrintingFailed told old new = told ≡ []
-ReportsCause true cause told old new = ⊥
+ReportsCause false cause notice old new = ReportsLineAs (cause_line cause) notice old new
+ReportsCause true SendingFailed notice old new = notice ≡ []
+ReportsCause true ReceivingFailed notice old new = notice ≡ []
+ReportsCause true PrintingFailed notice old new = notice ≡ []
+ReportsCause true cause notice old new = ⊥
 
 -- The terms of a run: whether it allocates, and whether a fault was reported before.
 pub record Terms : Type 0 where
@@ -135,11 +135,11 @@ MayAllocate = Progress → Transcript → List (Event OutputEvent) → Type 0
 
 -- Why a run stops after this output, and what is reported: the cause occurred by `between`, and was reported from
 -- there on.
-pub record StopsAfterOutput (terms : Terms) (old new : Devices) (said : List OutputEvent) (cause : Cause)
-    (told : Bytes) : Type 0 where
+pub record StopsAfterOutput (terms : Terms) (old new : Devices) (emitted : List OutputEvent) (cause : Cause)
+    (notice : Bytes) : Type 0 where
   pub between : DeskState
   pub cause_occurred : CauseOccurred terms.takes old (devices new.link between) cause
-  pub tells : ReportsCause (terms.has_reported || reports_fault said) cause told between new.desk
+  pub is_reported : ReportsCause (terms.has_reported || reports_fault emitted) cause notice between new.desk
   pub since : CountsNeverFall old.desk between
   pub until : CountsNeverFall between new.desk
 
@@ -163,14 +163,14 @@ pub record BrokeOff {R : Type 0} (dialog : Dialog OutputEvent R) (before : Progr
   pub during : Transcript
   pub shown : List (Event OutputEvent)
   pub cause : Cause
-  pub told : Bytes
+  pub notice : Bytes
   pub grows : Grows old.link.transcript during new.link.transcript
   pub breaks : Breaks IsPartOfEvent dialog before during shown
   pub place : StopsAt cause during breaks.prefix.whole breaks.prefix.begun breaks.prefix.later
   pub listens : Listens cause (played dialog before.next (on_tape before.unread ++ heard during)).outcome
-  pub stops : StopsAfterOutput terms old new (outputs shown) cause told
+  pub stops : StopsAfterOutput terms old new (outputs shown) cause notice
   pub lacks : cause ≡ AllocationFailed → Lacks before during shown
-  pub kept : ChangesRecord (λ r. after_err told (after_events (outputs shown) r)) old.desk new.desk
+  pub kept : ChangesRecord (λ r. after_err notice (after_events (outputs shown) r)) old.desk new.desk
 
 -- The dialog ran whole to its status, or it broke off with status 1.
 abbrev pub RunsWholeOrStops : Dialog OutputEvent ℕ → Devices → Devices → Bool → MayAllocate → ℕ → Type 0

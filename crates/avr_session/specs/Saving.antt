@@ -22,17 +22,17 @@ pub record SendsText {D : Type 0} (desk : Ghosts D) (stream : Stream) (text : By
 
 -- The desk failed at creating or writing this file, and this was reported.
 abbrev pub SaveStops : Bytes → DeskState → DeskState → Cause → Bytes → Type 0
-SaveStops file old new (FileFailed named NotCreated) told = (named ≡ file) × FileStops old new named NotCreated told
-SaveStops file old new (FileFailed named NotWritten) told = (named ≡ file) × FileStops old new named NotWritten told
-SaveStops file old new cause told = ⊥
+SaveStops file old new (FileFailed named NotCreated) notice = (named ≡ file) × FileStops old new named NotCreated notice
+SaveStops file old new (FileFailed named NotWritten) notice = (named ≡ file) × FileStops old new named NotWritten notice
+SaveStops file old new cause notice = ⊥
 
 -- A prefix of the bytes was written. Then the desk failed, and this was reported for this file.
 pub record WritesSome (stream : Stream) (file : Bytes) (old new : DeskState) (bytes : Bytes) : Type 0 where
   pub between : DeskState
   pub part : SendsPart stream old between bytes
-  pub told : Bytes
-  pub stops : FileStops old new file NotWritten told
-  pub kept : ChangesRecord (after_err told) between new
+  pub notice : Bytes
+  pub stops : FileStops old new file NotWritten notice
+  pub kept : ChangesRecord (after_err notice) between new
 
 -- All bytes were written and no call failed, or a prefix of them was written.
 abbrev pub WritesAll : Stream → Bytes → DeskState → DeskState → Bytes → Result ⊤ DeskFault → Type 0

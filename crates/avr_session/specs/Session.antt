@@ -26,9 +26,9 @@ use Rattle.avr_session.specs.Lines.{informs, warns, other_signature, fault_line}
 -- ---- dialogs
 
 -- The output events in order, and then the dialog.
-abbrev pub says : {R : Type 0} → List OutputEvent → Dialog OutputEvent R → Dialog OutputEvent R
-says [] dialog = dialog
-says (output ∷ outputs) dialog = Emit output (says outputs dialog)
+abbrev pub emits : {R : Type 0} → List OutputEvent → Dialog OutputEvent R → Dialog OutputEvent R
+emits [] dialog = dialog
+emits (output ∷ outputs) dialog = Emit output (emits outputs dialog)
 
 -- The state of a session after an operation of the host.
 abbrev pub standing : {A : Type 0} → Result A HostFault → Standing
@@ -39,7 +39,7 @@ standing (Err fault) = Faulty
 -- An operation of the host, and the output for its outcome.
 abbrev pub reported : {A : Type 0} → Dialog ⊥ (Result A HostFault) → (Result A HostFault → List OutputEvent)
     → Dialog OutputEvent Standing
-reported operation outcome_says = lifted operation >>= λ outcome. says (outcome_says outcome) (Done (standing outcome))
+reported operation outcome_output = lifted operation >>= λ outcome. emits (outcome_output outcome) (Done (standing outcome))
 
 -- The next action of a session, which a fault skips.
 abbrev pub unless_fault : Dialog OutputEvent Standing → Standing → Dialog OutputEvent Standing
@@ -117,7 +117,7 @@ action_dialog part s (CompareImage mem image) = reported (verifying part mem ima
     (verified_output s.quiet part mem image)
 action_dialog part s (SaveMemory mem format file) = reported (reading part mem)
     (fault_line_or part (read_output s mem format file))
-action_dialog part s (SkipAction what) = says (skipped_output s.quiet what) (Done NoFault)
+action_dialog part s (SkipAction what) = emits (skipped_output s.quiet what) (Done NoFault)
 
 abbrev pub actions_dialog : Part → Switches → List Action → Dialog OutputEvent Standing
 actions_dialog part s [] = Done NoFault

@@ -154,7 +154,7 @@ fn settings_message<'a>(fault: &'a SettingsFault) -> Message<'a>
 #[tactic(auto, unfolding(crate::specs::Refusal::refusal_line))]
 pub fn refuse<D: Desk>(fault: &SettingsFault, desk: &mut D) -> u8
     ensures status { result ≡ 1 }
-    ensures told { ReportsLine (D.view desk.old) (D.view desk.new) (refusal_line fault.now) }
+    ensures notice { ReportsLine (D.view desk.old) (D.view desk.new) (refusal_line fault.now) }
     ensures stays { Preserves D.started_as desk.old desk.new }
 {
     avr_desk::refuse(desk, &settings_message(fault))

@@ -129,8 +129,8 @@ impl<'a, D: Desk, L: Link> Session<'a, D, L> {
     {
         if self.plan.switches().dry {
             let quiet = self.plan.switches().quiet;
-            let said = report_bytes(self.desk, quiet, mem, image.len(), Done::NotWritten);
-            return conclude(&Ok(()), said);
+            let emitted = report_bytes(self.desk, quiet, mem, image.len(), Done::NotWritten);
+            return conclude(&Ok(()), emitted);
         }
         self.write(mem, image)?;
         if self.plan.switches().no_verify {

@@ -51,16 +51,16 @@ pub goes_wrong_length : (part : Part) (file bytes : Bytes) (n : ℕ) (old new : 
     → GivesPartUnlessOutOfMemory (chip_from_file part bytes) (Err (BadChipFile n)) → status ≡ 1
     → ReportsLine old new (length_line file (length bytes) (chip_file_size part))
     → RunsStage (OnlyAtStart true) (result_stage (chip_or_line part file bytes)) old new (Err status)
-goes_wrong_length part file bytes n old new status (inl gives) one told =
+goes_wrong_length part file bytes n old new status (inl gives) one notice =
     let wrong = none_is _ (state_from_file part bytes) (length bytes) (BadChipFile n) (sym gives) in
-    goes_unsettled (OnlyAtStart true) (chip_or_line part file bytes) _ old new status (rw wrong refl) one told
-goes_wrong_length part file bytes n old new status (inr memory) one told = cc
+    goes_unsettled (OnlyAtStart true) (chip_or_line part file bytes) _ old new status (rw wrong refl) one notice
+goes_wrong_length part file bytes n old new status (inr memory) one notice = cc
 
 -- ---- the chip of a file that was read
 
-pub opened_at : (opening : Opening) (passed : List Opening) (said : List OutputEvent) → OnlyAtStart true passed said
-    → AtOpened (opening ∷ passed) (Opens opening ∷ said)
-opened_at opening passed said takes = search rules
+pub opened_at : (opening : Opening) (passed : List Opening) (emitted : List OutputEvent) → OnlyAtStart true passed emitted
+    → AtOpened (opening ∷ passed) (Opens opening ∷ emitted)
+opened_at opening passed emitted takes = search rules
 
 -- the check of the file's bytes
 goes_whole : (part : Part) (file bytes : Bytes) (ended : Bool) (old mid new : DeskState) (result : Result ChipState ℕ)
@@ -91,8 +91,8 @@ pub goes_past : (part : Part) (file bytes : Bytes) (ended : Bool) (old mid new :
     → ended ≡ false → HasSameCounts old mid
     → status ≡ 1 → ReportsLine mid new (too_long_line file LARGEST_CHIP_FILE)
     → RunsStage AtOpened (chip_stage part file) old new (Err status)
-goes_past part file bytes true old mid new status kept whole is rose one told = cc
-goes_past part file bytes false old mid new status kept whole is rose one told =
+goes_past part file bytes true old mid new status kept whole is rose one notice = cc
+goes_past part file bytes false old mid new status kept whole is rose one notice =
     let more = whole.0 in
     let long : nat_le (length bytes) LARGEST_CHIP_FILE ≡ false = grind (arith, nat_tests, more) in
     let given : checked_chip part file bytes ≡ Err (too_long_line file LARGEST_CHIP_FILE) = rw long refl in

@@ -27,9 +27,9 @@ leaves_more : (served : Served) (p : Programmer) (text : List ℕ) (x y : Transc
 leaves_more served p text x y mid now first then =
     search (rules, breaks_transcript, breaks_prefix, sent_append, all_more, heard_append, bytes_of_append)
 
-hears_more : (served : Served) (most_reads : ℕ) (x y : Transcript) → ReceivesUntil TooManyReads most_reads x → ReceivesUntil served 1 y
+receives_more : (served : Served) (most_reads : ℕ) (x y : Transcript) → ReceivesUntil TooManyReads most_reads x → ReceivesUntil served 1 y
     → ReceivesUntil served (most_reads + 1) (x ++ y)
-hears_more served most_reads x y first then = search (rules, no_end_append, heard_append, append_assoc, reads_append)
+receives_more served most_reads x y first then = search (rules, no_end_append, heard_append, append_assoc, reads_append)
 
 sends_more : (served : Served) (x y : Transcript) → NoneTaken x → NoSendFailed served y
     → NoSendFailed served (x ++ y)
@@ -42,7 +42,7 @@ pub serves_more : (served : Served) (most_reads : ℕ) (old mid now : EmulatorSt
     → Serves old most_reads TooManyReads a b mid → Serves mid 1 served b c now
     → Serves old (most_reads + 1) served a c now
 serves_more served most_reads old mid now a b c first then =
-    search (rules, grows_on, hears_more, sends_more, in_turn_append, leaves_more)
+    search (rules, grows_on, receives_more, sends_more, in_turn_append, leaves_more)
 
 pub serves_within : (served : Served) (few many : ℕ) (old now : EmulatorState) (a b : LinkState) → served ≢ TooManyReads
     → few ≤ many → Serves old few served a b now → Serves old many served a b now
@@ -54,12 +54,12 @@ pub read_answered : (piece : List ℕ) (old now : EmulatorState) (a b c : LinkSt
     → Grows a.transcript (Got (on_tape piece) ∷ []) b.transcript → SendsAllReplies old piece b c now
     → Serves old 1 TooManyReads a c now
 read_answered piece old now a b c g r =
-    let transcript : Transcript = r.says.during in
+    let transcript : Transcript = r.emits.during in
     record {
       during = Got (on_tape piece) ∷ transcript;
-      grows = grows_on a.transcript b.transcript c.transcript (Got (on_tape piece) ∷ []) transcript g r.says.grows;
-      hears = search (rules, heard_quiet, append-nil, no_end_on_tape, reads_quiet);
-      sends = r.says.none_taken;
+      grows = grows_on a.transcript b.transcript c.transcript (Got (on_tape piece) ∷ []) transcript g r.emits.grows;
+      receives_next = search (rules, heard_quiet, append-nil, no_end_on_tape, reads_quiet);
+      sends = r.emits.none_taken;
       in_turn = search (rules, in_turn_quiet);
       leaves = search (rules, bytes_of_on_tape, heard_quiet, append-nil);
     }
@@ -72,7 +72,7 @@ read_broken piece old now a b c g r =
     record {
       during = Got (on_tape piece) ∷ transcript;
       grows = grows_on a.transcript b.transcript c.transcript (Got (on_tape piece) ∷ []) transcript g r.grows;
-      hears = search (rules, heard_quiet, append-nil, no_end_on_tape, reads_quiet);
+      receives_next = search (rules, heard_quiet, append-nil, no_end_on_tape, reads_quiet);
       sends = tt;
       in_turn = search (rules, in_turn_quiet);
       leaves = search (rules, bytes_of_on_tape, heard_quiet, append-nil, breaks_prefix, breaks_heard);

@@ -19,7 +19,7 @@ pub goes_with_parts : (s : Settings) (id : Bytes) (old mid new : DeskState) (par
     → RunsStage (OnlyAtStart false) (settings_part s) old new result
 goes_with_parts s id old mid new parts result same went goes =
     runs_then (OnlyAtStart false) (OnlyAtStart false) _ (λ parts. part_stage s.part parts) old mid new parts result went
-    (λ passed said never. absurd (never_allocates passed said never)) (rw same at goes)
+    (λ passed emitted never. absurd (never_allocates passed emitted never)) (rw same at goes)
 
 pub is_fresh : (chip : chips.ChipState) (machine : EmulatorState) → machine.held ≡ []
     → machine.programmer ≡ fresh_programmer chip → machine ≡ fresh_machine chip

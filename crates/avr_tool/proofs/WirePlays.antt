@@ -21,7 +21,7 @@ use Rattle.stk_emu.specs.Exchange.{Exchange}
 use Rattle.stk_emu.specs.Wire.{exchanges_of_fates}
 use Rattle.stk_emu.specs.Wired.{WiredState, FollowsFates, ComesOf, IsFresh, wired_link}
 use Rattle.avr_tool.specs.OverFaultyLink.{memories, events_over, OverExchanges, EndsOverExchanges, SessionOverWire}
-use Rattle.avr_tool.proofs.Lines.InTurn.{shown_prefix, stands_along, whole_said, whole_done}
+use Rattle.avr_tool.proofs.Lines.InTurn.{shown_prefix, stands_along, whole_emitted, whole_done}
 use Rattle.avr_tool.proofs.OverExchanges.{asks, over_exchanges, ends_over_exchanges}
 
 -- the transcript of a session is in turn, and the bytes sent are a prefix of what it sends over what was received
@@ -92,7 +92,7 @@ module _ (plan : Plan) (w v : WiredState) (fresh : IsFresh w) (stays : Preserves
   -- if it ran whole, it has come to its status there, and all its output was done
   pub record ComesWhole : Type 0 where
     pub done : (state_after device (length (frames (sent v.transcript))) (session plan) begun exchanges).dialog ≡ Done status
-    pub said : outputs (events_over plan v)
+    pub emitted : outputs (events_over plan v)
         ≡ outputs_after device (length (frames (sent v.transcript))) (session plan) begun exchanges
     pub kept : ChangesRecord (after_events (outputs (events_over plan v))) old now
 
@@ -106,7 +106,7 @@ module _ (plan : Plan) (w v : WiredState) (fresh : IsFresh w) (stays : Preserves
       ∙ ap (λ x. x.events) (plays.plays [])) in
       let prefix = (first (inl whole)).1 in record {
         done = search (rules, whole_done, asks_bodies, keeps);
-        said = ap outputs (sym same) ∙ whole_said (session plan) 1 begun w.wire.fates v asks_bodies fresh.lawful keeps
+        emitted = ap outputs (sym same) ∙ whole_emitted (session plan) 1 begun w.wire.fates v asks_bodies fresh.lawful keeps
             plays.in_turn whole.1.events status whole.0 plays prefix;
         kept = whole.1.kept ∙ ap (λ events. after_events (outputs events) old.kept) same;
       }
@@ -117,7 +117,7 @@ module _ (plan : Plan) (w v : WiredState) (fresh : IsFresh w) (stays : Preserves
   came whole =
       let c = whole_comes whole in (
         ends_over_exchanges plan begun is_sound part_is fitted exchanges v.wire.programmer (sent v.transcript)
-            (stands (inl whole)) (outputs (events_over plan v)) status c.done c.said,
+            (stands (inl whole)) (outputs (events_over plan v)) status c.done c.emitted,
         c.kept,
       )
 

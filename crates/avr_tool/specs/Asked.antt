@@ -19,7 +19,7 @@ pub record IsRefused (words : List Bytes) (old new : DeskState) (status : ℕ) :
   pub fault : SettingsFault
   pub is : GivesUnlessOutOfMemory (settings_from_arguments words) (Err fault)
   pub anyway : ReportsAnyway (settings_from_arguments words) (Err fault)
-  pub told : ReportsLine old new (refusal_line fault)
+  pub notice : ReportsLine old new (refusal_line fault)
   pub status_is : status ≡ 1
 
 -- The contract of `asked`. With settings, the command takes the command line, which asks for these settings. With a

@@ -23,8 +23,8 @@ fine emits m = record { emits = emits; standing = NoFault; memories = m }
 -- An operation with this outcome, which leaves these memories.
 abbrev pub reported_expected : {A : Type 0} → (Result A HostFault → List OutputEvent) → Result A HostFault → Memories
     → Expected
-reported_expected outcome_says outcome m = record {
-  emits = outcome_says outcome;
+reported_expected outcome_output outcome m = record {
+  emits = outcome_output outcome;
   standing = standing outcome;
   memories = m;
 }
@@ -62,9 +62,9 @@ abbrev pub working_expected : Plan → Memories → Expected
 working_expected plan m = actions_expected plan.part plan.switches (actions plan) m
 
 -- The output at the end of a session: nothing after a fault, because a second fault is not reported.
-abbrev pub ending_says : Plan → Standing → List OutputEvent
-ending_says plan NoFault = closing_output plan.switches.quiet plan.part (Ok tt)
-ending_says plan _ = []
+abbrev pub ending_output : Plan → Standing → List OutputEvent
+ending_output plan NoFault = closing_output plan.switches.quiet plan.part (Ok tt)
+ending_output plan _ = []
 
 pub record ExpectedRun : Type 0 where
   pub emits : List OutputEvent
@@ -74,7 +74,7 @@ pub record ExpectedRun : Type 0 where
 -- The run of a plan over a perfect link to a chip with these memories.
 abbrev pub expected_run : Plan → Memories → ExpectedRun
 expected_run plan m = record {
-  emits = (working_expected plan m).emits ++ ending_says plan (working_expected plan m).standing;
+  emits = (working_expected plan m).emits ++ ending_output plan (working_expected plan m).standing;
   status = status_of (working_expected plan m).standing;
   memories = (working_expected plan m).memories;
 }

@@ -116,14 +116,14 @@ pub record IsPrefixOfRun (settings : Settings) (before now : Devices) : Type 0 w
   pub during : Transcript
   pub shown : List (Event OutputEvent)
   pub reason : Reason
-  pub told : Bytes
+  pub notice : Bytes
   pub prefix : (later : List Opening) → IsPrefixOfEvents IsPartOfEvent shown
       (run settings (openings ++ later) (heard during)).events
   pub in_turn : (later : List Opening) → IsInTurn (planned settings (openings ++ later)).stage_outcome during
   pub all_sent : bytes_sent shown ≡ sent during
   pub grows : Grows before.link.transcript during now.link.transcript
-  pub reported_part : IsPrefixOf told (stop_line reason)
-  pub kept : ChangesRecord (λ r. after_err told (after_events (outputs shown ++ opened_at reason) r)) before.desk now.desk
+  pub reported_part : IsPrefixOf notice (stop_line reason)
+  pub kept : ChangesRecord (λ r. after_err notice (after_events (outputs shown ++ opened_at reason) r)) before.desk now.desk
 
 -- ---- 4. From settings to the bytes of the chip, over a fresh wire (stk_emu's `IsFresh`)
 

@@ -23,15 +23,15 @@ denied_by file NotReplaceable r = r
 
 -- The file is in use, or the desk failed at it; the line for this was reported.
 abbrev pub ReportsLockTrouble : Bytes → LockTrouble → Bytes → DeskState → DeskState → Type 0
-ReportsLockTrouble file InUse told old new = ReportsLineAs (in_use_line file) told old new
-ReportsLockTrouble file NotReplaceable told old new = ReportsFailureAs (not_written_line file) told old new
+ReportsLockTrouble file InUse notice old new = ReportsLineAs (in_use_line file) notice old new
+ReportsLockTrouble file NotReplaceable notice old new = ReportsFailureAs (not_written_line file) notice old new
 
 -- The lock failed, and this was reported. Nothing else was done.
 pub record LockFailed (old new : DeskState) (file : Bytes) : Type 0 where
   pub trouble : LockTrouble
-  pub told : Bytes
-  pub tells : ReportsLockTrouble file trouble told old new
-  pub kept : ChangesRecord (λ r. after_err told (denied_by file trouble r)) old new
+  pub notice : Bytes
+  pub is_reported : ReportsLockTrouble file trouble notice old new
+  pub kept : ChangesRecord (λ r. after_err notice (denied_by file trouble r)) old new
 
 -- The file is locked and no call of the desk failed, or it isn't locked and the status is 1.
 abbrev pub LocksFile : DeskState → DeskState → Bytes → Result ⊤ ℕ → Type 0

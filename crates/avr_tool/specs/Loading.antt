@@ -35,4 +35,4 @@ chip_stage part file = open_stage file >>= chip_given part file
 
 -- Allocation can fail after the file was opened or found missing.
 abbrev pub AtOpened : AllocationPoints
-AtOpened passed said = (opening : Opening) × (passed ≡ opening ∷ []) × (said ≡ Opens opening ∷ [])
+AtOpened passed emitted = (opening : Opening) × (passed ≡ opening ∷ []) × (emitted ≡ Opens opening ∷ [])

@@ -38,6 +38,6 @@ pub record IsDone (plan : Plan) (before after : Memories) : Type 0 where
 
 -- The output, the status and the memories are those of the expected run.
 pub record IsExpectedRun (plan : Plan) (before after : Memories) (emits : List OutputEvent) (status : ℕ) : Type 0 where
-  pub said : emits ≡ (expected_run plan before).emits
+  pub emitted : emits ≡ (expected_run plan before).emits
   pub status_is : status ≡ (expected_run plan before).status
   pub memories : after ≡ (expected_run plan before).memories

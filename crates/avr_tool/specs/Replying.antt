@@ -9,7 +9,7 @@ use Rattle.avr_tool.specs.Serving.{RepliesToAll, LastReplyFailed}
 -- The emulator was fed these bytes, and all replies to them were sent.
 pub record SendsAllReplies (old : EmulatorState) (bytes : List ℕ) (before after : LinkState) (now : EmulatorState) : Type 0 where
   pub out : List ℕ
-  pub says : SendsExactly out before.transcript after.transcript
+  pub emits : SendsExactly out before.transcript after.transcript
   pub answers : (p : Programmer) (text : List ℕ) → WasFedText p text old → RepliesToAll p text bytes out now
 
 -- The emulator was fed a prefix of these bytes, and sending the last reply failed.

@@ -13,8 +13,8 @@ pub data SavingTrouble : Type 0 where
 
 -- Allocation failed, or the desk failed at the file; the line for this was reported.
 abbrev pub ReportsSavingTrouble : Bytes → SavingTrouble → Bytes → DeskState → DeskState → Type 0
-ReportsSavingTrouble file NoMemory told old new = ReportsLineAs memory_line told old new
-ReportsSavingTrouble file trouble told old new = ReportsFailureAs (not_written_line file) told old new
+ReportsSavingTrouble file NoMemory notice old new = ReportsLineAs memory_line notice old new
+ReportsSavingTrouble file trouble notice old new = ReportsFailureAs (not_written_line file) notice old new
 
 -- The desk's record: only an attempt may have replaced the file.
 abbrev pub tried_by : Bytes → Bytes → SavingTrouble → Record → Record
@@ -24,9 +24,9 @@ tried_by file bytes trouble r = r
 -- Saving failed, and this was reported. Nothing else was done, and nothing is locked.
 pub record SavingFailed (old new : DeskState) (file bytes : Bytes) : Type 0 where
   pub trouble : SavingTrouble
-  pub told : Bytes
-  pub tells : ReportsSavingTrouble file trouble told old new
-  pub kept : ChangesRecord (λ r. after_err told (tried_by file bytes trouble r)) (released old) new
+  pub notice : Bytes
+  pub is_reported : ReportsSavingTrouble file trouble notice old new
+  pub kept : ChangesRecord (λ r. after_err notice (tried_by file bytes trouble r)) (released old) new
 
 -- The file was replaced by these bytes and no call of the desk failed, or saving failed and the status is 1.
 abbrev pub SavesChip : DeskState → DeskState → Bytes → Bytes → Result ⊤ ℕ → Type 0

@@ -24,6 +24,6 @@ ServesOn over part port file old new status =
 abbrev pub ServesNet : Type 0 → (Option LinkState → Type 0) → Settings → Bytes → Bytes → DeskState → DeskState → ℕ
     → Type 0
 ServesNet unused over settings port file old new status =
-    ((part : Part) × (judged : DeskState) × ChecksPart settings file old judged (Ok part)
-    × ServesOn over part port file judged new status)
+    ((part : Part) × (verdict : DeskState) × ChecksPart settings file old verdict (Ok part)
+    × ServesOn over part port file verdict new status)
     ⊎ (ChecksPart settings file old new (Err status) × unused)

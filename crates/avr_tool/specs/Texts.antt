@@ -48,9 +48,9 @@ pub record PrintsText (has : Parts) (stream : Stream) (old new : DeskState) (pri
 
 -- An error was reported by its text and LF, in part if a write to the messages failed. Nothing else happened.
 pub record ReportsText (has : Parts) (old new : DeskState) : Type 0 where
-  pub told : Bytes
-  pub kept : ChangesRecord (after_err told) old new
-  pub tells : ((text : Bytes) × IsText has text × (told ≡ codes "avrstk: error: " ++ (text ++ 10 ∷ [])))
+  pub notice : Bytes
+  pub kept : ChangesRecord (after_err notice) old new
+  pub is_reported : ((text : Bytes) × IsText has text × (notice ≡ codes "avrstk: error: " ++ (text ++ 10 ∷ [])))
       ⊎ HasFailedToReport old new
   pub follows : CountsNeverFall old new
 

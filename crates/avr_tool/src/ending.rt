@@ -20,7 +20,7 @@ fn end_message(served: Served) -> Option<Message<'static>>
 
 /// Reports how serving ended, unless the link ended.
 pub(crate) fn report_end<D: Desk>(desk: &mut D, served: Served)
-    ensures told { ReportsEnd served (D.view desk.old) (D.view desk.new) }
+    ensures notice { ReportsEnd served (D.view desk.old) (D.view desk.new) }
     ensures follows { CountsNeverFall (D.view desk.old) (D.view desk.new) }
     ensures stays { Preserves D.started_as desk.old desk.new }
 {

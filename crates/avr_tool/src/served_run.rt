@@ -48,15 +48,15 @@ fn find_part<D: Desk>(alloc: Global, desk: &mut D, settings: &Settings) -> Resul
 /// reason was printed, as far as the desk takes it.
 pub fn check_part<D: ChipDesk>(alloc: Global, settings: &Settings, desk: &mut D) -> Result<Part, u8>
     requires port { HasChip settings.now.port }
-    ensures judges { ChecksPart settings.now (chip_file_of settings.now.port) (D.view desk.old) (D.view desk.new) result }
+    ensures checks_out { ChecksPart settings.now (chip_file_of settings.now.port) (D.view desk.old) (D.view desk.new) result }
     ensures stays { Preserves D.started_as desk.old desk.new }
 {
     let part = match find_part(alloc, desk, settings) {
         Ok(part) => part,
         Err(status) => return Err(status),
     };
-    let _judged = match hold_chip(alloc, &part, chip_file(&settings.port), desk) {
-        Ok(judged) => judged,
+    let _verdict = match hold_chip(alloc, &part, chip_file(&settings.port), desk) {
+        Ok(verdict) => verdict,
         Err(status) => return Err(status),
     };
     desk.release();

@@ -33,7 +33,7 @@ pub(crate) fn refuse(reader: &FrameReader, out: &mut Frame)
 /// Makes `out` the reply to the frame in the reader, which is executed if it is good, and refused otherwise.
 pub(crate) fn answer(reader: &FrameReader, good: bool, programmer: &mut Programmer, out: &mut Frame)
     requires holds { HoldsFrame reader.now }
-    requires tells { is_good reader.now ≡ good }
+    requires is_reported { is_good reader.now ≡ good }
     ensures answer { out.new.items ≡ reply_frame device reader.now programmer.old }
     ensures after { programmer.new ≡ after_frame device reader.now programmer.old }
 {

@@ -55,7 +55,7 @@ fn pass_with(
     requires room { HasRoom out.old }
     requires lawful { IsLawfulFate fate.now }
     requires holds { HoldsFrame reader.now }
-    requires tells { is_good reader.now ≡ good }
+    requires is_reported { is_good reader.now ≡ good }
     ensures tape { out.new.tape ≡ out.old.tape ++ (on_tape (released_replies fate.now late.old)
         ++ brought_by_fate fate.now (reply_frame device reader.now programmer.old) (frame (seq_of reader.now) refusal)) }
     ensures programmer { programmer.new ≡ after_exchange (exchange_of_fate fate.now) (after_frame device reader.now programmer.old)
@@ -125,7 +125,7 @@ impl Wire {
     /// Passes the frame that the event reports, if it reports one.
     pub fn pass_frame(&mut self, reader: &FrameReader, event: Event, out: &mut Arrivals)
         requires room { HasRoom out.old }
-        requires tells { EventMatchesHeld event reader.now }
+        requires is_reported { EventMatchesHeld event reader.now }
         ensures tape { out.new.tape ≡ out.old.tape ++ tape_of device (frames_of_event event reader.now) self.old }
         ensures wire { self.new ≡ wire_after_frames device (frames_of_event event reader.now) self.old }
     {

@@ -16,11 +16,11 @@ read_back c fits = search rules
 
 -- What was read is a command of exactly this body.
 pub record Sound (code : ℕ) (fields : List ℕ) (read : Option Command) : Type 0 where
-  pub says : MatchOption read (Unit {0}) (λ c. (body c ≡ code ∷ fields) × FieldsFit c)
+  pub emits : MatchOption read (Unit {0}) (λ c. (body c ≡ code ∷ fields) × FieldsFit c)
 
 -- What was read has exactly these fields.
 record Back {F : Type 0} (encoded : F → List ℕ) (Fit : F → Type 0) (fields : List ℕ) (read : Option F) : Type 0 where
-  says : MatchOption read (Unit {0}) (λ f. (encoded f ≡ fields) × Fit f)
+  emits : MatchOption read (Unit {0}) (λ f. (encoded f ≡ fields) × Fit f)
 
 made : {F : Type 0} {encoded : F → List ℕ} {Fit : F → Type 0} (code : ℕ) (fields : List ℕ) (make : F → Command)
     (read : Option F) → ((f : F) → Fit f → (body (make f) ≡ code ∷ encoded f) × FieldsFit (make f))
@@ -46,7 +46,7 @@ get_parameter_sound fields = search rules
 load_address_sound : (fields : List ℕ) → Below fields → Sound 0x06 fields (load_address_of fields)
 load_address_sound (a ∷ b ∷ c ∷ d ∷ []) below =
     search (rules, four_back a b c d (below 0) (below 1) (below 2) (below 3))
-load_address_sound _ below = record { says = tt }
+load_address_sound _ below = record { emits = tt }
 
 enter_progmode_sound : (fields : List ℕ) → Sound 0x10 fields (enter_progmode_of fields)
 enter_progmode_sound fields = search rules
@@ -60,12 +60,12 @@ chip_erase_sound fields = search rules
 program_block_back : (fields : List ℕ) → Below fields
     → Back program_block_fields (λ f. f.count < 65536) fields (program_block_of fields)
 program_block_back (h ∷ l ∷ m ∷ d ∷ x ∷ y ∷ z ∷ p ∷ q ∷ bytes) below = search (rules, pair_back h l (below 0) (below 1))
-program_block_back _ below = record { says = tt }
+program_block_back _ below = record { emits = tt }
 
 read_block_back : (fields : List ℕ) → Below fields
     → Back read_block_fields (λ f. f.count < 65536) fields (read_block_of fields)
 read_block_back (h ∷ l ∷ x ∷ []) below = search (rules, pair_back h l (below 0) (below 1))
-read_block_back _ below = record { says = tt }
+read_block_back _ below = record { emits = tt }
 
 instruction_back : (fields : List ℕ) → Back (λ bytes. bytes) (λ bytes. length bytes ≡ 4) fields (instruction fields)
 instruction_back fields = search rules
@@ -99,7 +99,7 @@ with_fields_sound code fields below =
 pub only_body : (bytes : List ℕ) → Below bytes
     → MatchOption (command_of bytes) (Unit {0}) (λ c. (body c ≡ bytes) × FieldsFit c)
 only_body [] below = tt
-only_body (code ∷ fields) below = (with_fields_sound code fields (λ i. below (suc i))).says
+only_body (code ∷ fields) below = (with_fields_sound code fields (λ i. below (suc i))).emits
 
 -- These bytes are read as exactly the command whose body they are.
 pub is_read : (bytes : List ℕ) → Below bytes → (c : Command) → FieldsFit c

@@ -23,26 +23,26 @@ pub unknown_unread : command_of (0x04 ∷ []) ≡ None
 unknown_unread = refl
 
 -- replies that are refused
-pub short_name_judged : judge SignOn (0x01 ∷ 0x00 ∷ 0x03 ∷ 0x41 ∷ 0x42 ∷ []) ≡ Err WrongLength
-short_name_judged = refl
+pub short_name_checked : judge SignOn (0x01 ∷ 0x00 ∷ 0x03 ∷ 0x41 ∷ 0x42 ∷ []) ≡ Err WrongLength
+short_name_checked = refl
 
-pub longer_checksum_judged : judge enter (0xB0 ∷ 0xC1 ∷ 0x00 ∷ []) ≡ Err WrongCommand
-longer_checksum_judged = refl
+pub longer_checksum_checked : judge enter (0xB0 ∷ 0xC1 ∷ 0x00 ∷ []) ≡ Err WrongCommand
+longer_checksum_checked = refl
 
-pub other_command_judged : judge enter (0x11 ∷ 0xC0 ∷ []) ≡ Err WrongCommand
-other_command_judged = refl
+pub other_command_checked : judge enter (0x11 ∷ 0xC0 ∷ []) ≡ Err WrongCommand
+other_command_checked = refl
 
-pub lone_byte_judged : judge enter (0x10 ∷ []) ≡ Err WrongLength
-lone_byte_judged = refl
+pub lone_byte_checked : judge enter (0x10 ∷ []) ≡ Err WrongLength
+lone_byte_checked = refl
 
 pub status_before_length : judge (read_signature 0) (0x1B ∷ 0xC0 ∷ []) ≡ Err (Status 0xC0)
 status_before_length = refl
 
-pub longer_judged : judge enter (0x10 ∷ 0x00 ∷ 0x00 ∷ []) ≡ Err WrongLength
-longer_judged = refl
+pub longer_checked : judge enter (0x10 ∷ 0x00 ∷ 0x00 ∷ []) ≡ Err WrongLength
+longer_checked = refl
 
-pub last_status_judged : judge (read_signature 0) (0x1B ∷ 0x00 ∷ 0x1E ∷ 0x80 ∷ []) ≡ Err (Status 0x80)
-last_status_judged = refl
+pub last_status_checked : judge (read_signature 0) (0x1B ∷ 0x00 ∷ 0x1E ∷ 0x80 ∷ []) ≡ Err (Status 0x80)
+last_status_checked = refl
 
 -- bytes without a name
 pub no_command_unnamed : name_in command_names 0x04 ≡ None

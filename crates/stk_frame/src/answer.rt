@@ -116,7 +116,7 @@ impl Shape {
     /// assert!(rt; Shape::Closed(1).data_in(&[0x62, 0xC0]).err() == Some(FrameFault::Status(0xC0)));
     /// ```
     pub fn data_in<'a>(&self, more: &'a [u8]) -> Result<&'a [u8], FrameFault>
-        ensures judged { MatchResult result (λ found. data_in_shape self.now more.now ≡ Ok found.now)
+        ensures verdict { MatchResult result (λ found. data_in_shape self.now more.now ≡ Ok found.now)
             (λ fault. data_in_shape self.now more.now ≡ Err fault) }
         ensures fits { IfOk result (λ found. length found.now ≤ length more.now) }
         ensures sized { IfOk result (λ found. FitsShape self.now found.now) }
@@ -165,7 +165,7 @@ impl<'a> Answer<'a> {
     /// assert!(rt; refusal.err() == Some(FrameFault::CheckSum));
     /// ```
     pub fn read(command: &Command<'_>, body: &'a [u8]) -> Result<Answer<'a>, FrameFault>
-        ensures judged { MatchResult result (λ answer. judge command.now body.now ≡ Ok answer.data.now)
+        ensures verdict { MatchResult result (λ answer. judge command.now body.now ≡ Ok answer.data.now)
             (λ fault. judge command.now body.now ≡ Err fault) }
         ensures fits { IfOk result (λ answer. length answer.data.now ≤ length body.now) }
         ensures sized { IfOk result (λ answer. FitsShape (shape command.now) answer.data.now) }

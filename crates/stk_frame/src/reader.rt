@@ -151,7 +151,7 @@ impl FrameReader {
         ensures within { result.0 ≤ length bytes.now }
         ensures progress { 0 < result.0 }
         ensures fed { Fed self.old (take result.0 bytes.now) self.new (frames_of_event result.1 self.new) }
-        ensures tells { EventMatchesHeld result.1 self.new }
+        ensures is_reported { EventMatchesHeld result.1 self.new }
     {
         // A frame that had ended was kept until now.
         if size_of_piece(self.held.as_slice()) == self.held.len() {
@@ -193,7 +193,7 @@ impl FrameReader {
         ensures all { result.1 ≡ Event.More → result.0 ≡ length piece.now }
         ensures progress { 0 < length piece.now → 0 < result.0 }
         ensures fed { Fed self.old (take result.0 piece.now) self.new (frames_of_event result.1 self.new) }
-        ensures tells { EventMatchesHeld result.1 self.new }
+        ensures is_reported { EventMatchesHeld result.1 self.new }
     {
         let mut used = 0;
         while used < piece.len() {

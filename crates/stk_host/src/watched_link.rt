@@ -63,7 +63,7 @@ impl<L: Link, W: WatchLink> Link for WatchedLink<L, W> {
     fn send(&mut self, bytes: &[u8]) -> Result<usize, LinkFault>
         ensures sends { Sends bytes.now (L.view self.old.link) (L.view self.new.link) result }
         ensures comes { Preserves L.started_as self.old.link self.new.link }
-        ensures told { W.after (Sent bytes.now result) self.old.watcher self.new.watcher }
+        ensures notice { W.after (Sent bytes.now result) self.old.watcher self.new.watcher }
     {
         let answer = self.link.send(bytes);
         self.watcher.on_call(&LinkCall::Sent(bytes, answer));
@@ -74,7 +74,7 @@ impl<L: Link, W: WatchLink> Link for WatchedLink<L, W> {
         requires { 0 < length buffer.old }
         ensures receives { Receives buffer.new (L.view self.old.link) (L.view self.new.link) result }
         ensures comes { Preserves L.started_as self.old.link self.new.link }
-        ensures told { W.after (Listened buffer.new result) self.old.watcher self.new.watcher }
+        ensures notice { W.after (Listened buffer.new result) self.old.watcher self.new.watcher }
     {
         let answer = self.link.recv(buffer);
         self.watcher.on_call(&LinkCall::Listened(buffer, answer));

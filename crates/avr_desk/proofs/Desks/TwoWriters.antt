@@ -203,7 +203,7 @@ module _ {S F I H O E : Type 0} (system : Ghosts S F I H) (reads : Reads F) (wri
       → (has_dash (all_files k) ≡ false → has_dash (all_files b.kept) ≡ false)
       → (has_dash (all_files k) ≡ false → writes_to_output b ≡ false → is_output o ≡ false)
       → (Files b.system b.opened b.hold b.kept → Files s o h k) → Since b (Next b s f u e o h k)
-  quiet {b = b} put said dashes elsewhere files = search (rules, append-nil b.kept.messages)
+  quiet {b = b} put emitted dashes elsewhere files = search (rules, append-nil b.kept.messages)
 
   pub true_now : (a : Desk) → Since a a
   true_now a = quiet refl refl (λ none. none) (λ none was. was) (λ are. are)
@@ -421,9 +421,9 @@ module _ {S F I H O E : Type 0} (system : Ghosts S F I H) (reads : Reads F) (wri
   pub write_out_true : {b : Desk} {w : O} {f u : ℕ} {e : Option ErrorKind} {k : Record} (bytes : Bytes)
       → b.opened ≡ open_file.Output → k ≡ after_write bytes b.kept → Since b (Put b w f u e k)
   write_out_true {b = b} bytes was kept = rw kept (record {
-    said = [];
+    emitted = [];
     messages = sym (append-nil b.kept.messages);
-    told = Appends-nil (messages_of.contents b.messages);
+    notice = Appends-nil (messages_of.contents b.messages);
     put = [];
     output = sym (append-nil b.kept.output);
     dashes = λ none. sym (written_dashes bytes b.kept) ∙ none;
@@ -437,12 +437,12 @@ module _ {S F I H O E : Type 0} (system : Ghosts S F I H) (reads : Reads F) (wri
   out_true {b = b} bytes kept took = search (rules, append-nil b.kept.messages)
 
   -- a desk after a call that sent to the messages
-  abbrev Told : Desk → E → ℕ → ℕ → Option ErrorKind → Record → Desk
-  Told b w f u e k = record b { messages = w; failures = f; message_failures = u; last_error = e; kept = k }
+  abbrev ReportedAs : Desk → E → ℕ → ℕ → Option ErrorKind → Record → Desk
+  ReportedAs b w f u e k = record b { messages = w; failures = f; message_failures = u; last_error = e; kept = k }
 
   pub err_true : {b : Desk} {w : E} {f u : ℕ} {e : Option ErrorKind} {k : Record} (bytes : Bytes)
       → k ≡ record b.kept { messages = b.kept.messages ++ bytes }
-      → Appends (messages_of.contents b.messages) (messages_of.contents w) bytes → Since b (Told b w f u e k)
+      → Appends (messages_of.contents b.messages) (messages_of.contents w) bytes → Since b (ReportedAs b w f u e k)
   err_true {b = b} bytes kept took = grind (arith, nat_tests, append-nil)
 
 -- ---- a new desk
@@ -456,9 +456,9 @@ module _ {S F I H : Type 0} (system : Ghosts S F I H) (reads : Reads F) (writes 
 -- the record of a desk that was new
 module _ {S F I H O E : Type 0} (system : Ghosts S F I H) (reads : Reads F) (writes : Writes F) (input : Reads I)
     (output_of : Writes O) (messages_of : Writes E) where
-  pub told_all : {old new : Shown S F H I O E}
+  pub reported_all : {old new : Shown S F H I O E}
       → Preserves (IsTrueSince system reads writes input output_of messages_of) old new
       → RecordsAll system reads writes input old new
-  told_all {old = old} stays is =
+  reported_all {old = old} stays is =
       (stays old (true_now system reads writes input output_of messages_of old)).files
       (rw (is.opened, is.hold, is.kept) (none_kept_true system reads writes input old.system is.fresh is.unheld))

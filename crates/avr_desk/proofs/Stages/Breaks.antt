@@ -14,7 +14,7 @@ use Rattle.avr_desk.proofs.Stages.Outputs.{after_append}
 use Rattle.avr_desk.proofs.FileUses.Uses.{openings_append}
 use Rattle.avr_desk.specs.Playing.{BreakCause, NoMemory, NoMemoryForFile, events_of_break, BreakFitsNext, AllocationPoints, AllocatesThere, ReportsBreakAs, StageRefused, RunsStage}
 use Rattle.avr_desk.specs.Stage.{Stage, Refused, StageResult, events_with_refusal, ◌>>=◌, next_opening, file_stage}
-use Rattle.avr_desk.proofs.Stages.Played.{says_more}
+use Rattle.avr_desk.proofs.Stages.Played.{output_more}
 
 -- ---- if the desk didn't fail
 
@@ -62,43 +62,43 @@ Begins name stage = (openings : List Opening)
 pub begins_then : {A B : Type 0} (name : Bytes) (stage : Stage A) (go_on : A → Stage B) → Begins name stage
     → Begins name (stage >>= go_on)
 begins_then name stage go_on begins openings =
-    let p = stage openings in grind (arith, nat_tests, says_more p.emits p.openings_left go_on p.stage_outcome, begins openings)
+    let p = stage openings in grind (arith, nat_tests, output_more p.emits p.openings_left go_on p.stage_outcome, begins openings)
 
 pub begins_file : {A : Type 0} (name : Bytes) (limit : ℕ) (judge : Bytes → Result A Bytes)
     → Begins name (file_stage name limit judge)
 begins_file name limit judge openings = grind (arith, nat_tests)
 
 -- only this line was reported since
-only_told : (r : Record) (told line : Bytes) → after_err told r ≡ after_err line r → told ≡ line
-only_told r told line kept = grind (arith, nat_tests, append_cancel_left)
+only_reported : (r : Record) (notice line : Bytes) → after_err notice r ≡ after_err line r → notice ≡ line
+only_reported r notice line kept = grind (arith, nat_tests, append_cancel_left)
 
 -- A stage that begins like this, at a desk that shows no opening. Either the file could not be opened, and that was
 -- reported; or an allocation before any output failed, and that was reported.
-module _ {A : Type 0} (taking : AllocationPoints) (name told : Bytes) (stage : Stage A) (begins : Begins name stage) (r : Record)
+module _ {A : Type 0} (taking : AllocationPoints) (name notice : Bytes) (stage : Stage A) (begins : Begins name stage) (r : Record)
     (k l m n : ℕ) where
   abbrev Old : DeskState
   Old = showing r k m
 
   abbrev New : DeskState
-  New = showing (after_err told r) l n
+  New = showing (after_err notice r) l n
 
-  abbrev Told : Type 0
-  Told = ReportsFailureAs (not_opened_line name) told Old New
-      ⊎ (ReportsLineAs memory_line told Old New × ((passed : List Opening) × taking passed []))
+  abbrev ReportedAs : Type 0
+  ReportedAs = ReportsFailureAs (not_opened_line name) notice Old New
+      ⊎ (ReportsLineAs memory_line notice Old New × ((passed : List Opening) × taking passed []))
 
-  none_opened : (outputs : List OutputEvent) → after_err told r ≡ after_events outputs r → [] ≡ openings_in outputs
-  none_opened outputs kept = same_openings (PrintsLine told ∷ []) outputs r kept
+  none_opened : (outputs : List OutputEvent) → after_err notice r ≡ after_events outputs r → [] ≡ openings_in outputs
+  none_opened outputs kept = same_openings (PrintsLine notice ∷ []) outputs r kept
 
   -- a break before the file was opened, or while it was; a later one shows the opening
   by_break : (passed openings : List Opening) (p : StageResult A) (whole later : List OutputEvent) (break : BreakCause)
       (line : Bytes) → (extra : List OutputEvent) × (p.emits ≡ Opens (next_opening name openings) ∷ extra)
       → p.emits ≡ whole ++ later → BreakFitsNext break [] (events_with_refusal later p.stage_outcome) → AllocatesThere taking break passed whole
-      → ReportsBreakAs break line Old New → after_err told r ≡ after_events (whole ++ events_of_break break line) r → Told
-  by_break passed openings p [] later NoMemory line begun are is taken tells kept = search (rules, only_told)
-  by_break passed openings p x later break line begun are is taken tells kept =
-      let none = none_opened (x ++ events_of_break break line) kept in search (rules, only_told, nat_tests)
+      → ReportsBreakAs break line Old New → after_err notice r ≡ after_events (whole ++ events_of_break break line) r → ReportedAs
+  by_break passed openings p [] later NoMemory line begun are is taken is_reported kept = search (rules, only_reported)
+  by_break passed openings p x later break line begun are is taken is_reported kept =
+      let none = none_opened (x ++ events_of_break break line) kept in search (rules, only_reported, nat_tests)
 
-  pub unopened : (status : ℕ) → RunsStage taking stage Old New (Err status) → Told
+  pub unopened : (status : ℕ) → RunsStage taking stage Old New (Err status) → ReportedAs
   unopened status (one, inl (line, went)) =
       let none = none_opened (went.emits ++ PrintsLine line ∷ []) went.kept in
       search (rules, begins (went.passed ++ []))
@@ -107,13 +107,13 @@ module _ {A : Type 0} (taking : AllocationPoints) (name told : Bytes) (stage : S
 -- ---- a file that was opened and is good
 
 -- it was read to its end, and this is its outcome
-module _ {A : Type 0} (name : Bytes) (limit : ℕ) (judge : Bytes → Result A Bytes) (bytes told : Bytes) (good : A)
+module _ {A : Type 0} (name : Bytes) (limit : ℕ) (judge : Bytes → Result A Bytes) (bytes notice : Bytes) (good : A)
     (given : judge bytes ≡ Ok good) (taking : AllocationPoints) (r : Record) (k l m n : ℕ) where
   abbrev reading : Reading
   reading = record { name = name; bytes = bytes; ended = true }
 
   abbrev done : List OutputEvent
-  done = Opens (Found reading) ∷ PrintsLine told ∷ []
+  done = Opens (Found reading) ∷ PrintsLine notice ∷ []
 
   abbrev Before : DeskState
   Before = showing r k m
@@ -126,23 +126,23 @@ module _ {A : Type 0} (name : Bytes) (limit : ℕ) (judge : Bytes → Result A B
       → (file_stage name limit judge openings).emits ≡ whole ++ later
       → BreakFitsNext break [] (events_with_refusal later (file_stage name limit judge openings).stage_outcome)
       → ReportsBreakAs break line Before After → after_events done r ≡ after_events (whole ++ events_of_break break line) r
-      → ReportsLineAs memory_line told Before After
-  by_prefix openings (first ∷ []) later NoMemory line emits is tells kept =
+      → ReportsLineAs memory_line notice Before After
+  by_prefix openings (first ∷ []) later NoMemory line emits is is_reported kept =
       search (rules, same_openings, begins_file, nat_tests, append_cancel_left)
-  by_prefix openings [] later (NoMemoryForFile x) line emits is tells kept = search (rules, nat_tests, append_cancel_left)
-  by_prefix openings x later break line emits is tells kept = grind (arith, common_steps)
+  by_prefix openings [] later (NoMemoryForFile x) line emits is is_reported kept = search (rules, nat_tests, append_cancel_left)
+  by_prefix openings x later break line emits is is_reported kept = grind (arith, common_steps)
 
   -- So the desk showed its opening, read to the end, and what was reported is the line of memory.
-  pub opened_is_told : (status : ℕ) → RunsStage taking (file_stage name limit judge) Before After (Err status)
-      → ReportsLineAs memory_line told Before After
-  opened_is_told status (one, inl (line, went)) = search (rules, begins_file name limit judge (went.passed ++ []))
-  opened_is_told status (one, inr b) = let rest = b.rest [] in search (rules, by_prefix)
+  pub opened_is_reported : (status : ℕ) → RunsStage taking (file_stage name limit judge) Before After (Err status)
+      → ReportsLineAs memory_line notice Before After
+  opened_is_reported status (one, inl (line, went)) = search (rules, begins_file name limit judge (went.passed ++ []))
+  opened_is_reported status (one, inr b) = let rest = b.rest [] in search (rules, by_prefix)
 
 -- ---- a stage that is refused at once
 
 -- Whatever files give, the stage is refused by this line, with no output before it. So either that line was reported,
 -- or a failed allocation, if the stage allocates there.
-module _ {A : Type 0} (line told : Bytes) (stage : Stage A)
+module _ {A : Type 0} (line notice : Bytes) (stage : Stage A)
     (refuses : (openings : List Opening) → stage openings
     ≡ record { emits = []; stage_outcome = Refused line; openings_left = openings })
     (taking : AllocationPoints) (r : Record) (k l m n : ℕ) where
@@ -150,20 +150,20 @@ module _ {A : Type 0} (line told : Bytes) (stage : Stage A)
   Here = showing r k m
 
   abbrev There : DeskState
-  There = showing (after_err told r) l n
+  There = showing (after_err notice r) l n
 
-  abbrev pub TellsOne : Type 0
-  TellsOne = ReportsLineAs line told Here There
-      ⊎ (ReportsLineAs memory_line told Here There × ((passed : List Opening) × taking passed []))
+  abbrev pub ReportsOne : Type 0
+  ReportsOne = ReportsLineAs line notice Here There
+      ⊎ (ReportsLineAs memory_line notice Here There × ((passed : List Opening) × taking passed []))
 
   at_once : (passed : List Opening) (whole later : List OutputEvent) (break : BreakCause) (some : Bytes)
       → [] ≡ whole ++ later → BreakFitsNext break [] (events_with_refusal {A = A} later (Refused line))
       → AllocatesThere taking break passed whole → ReportsBreakAs break some Here There
-      → after_err told r ≡ after_events (whole ++ events_of_break break some) r → TellsOne
-  at_once passed [] [] NoMemory some emits is taken tells kept = search (rules, only_told)
-  at_once passed x y break some emits is taken tells kept = search (rules, only_told)
+      → after_err notice r ≡ after_events (whole ++ events_of_break break some) r → ReportsOne
+  at_once passed [] [] NoMemory some emits is taken is_reported kept = search (rules, only_reported)
+  at_once passed x y break some emits is taken is_reported kept = search (rules, only_reported)
 
-  pub refused_once : (status : ℕ) → RunsStage taking stage Here There (Err status) → TellsOne
+  pub refused_once : (status : ℕ) → RunsStage taking stage Here There (Err status) → ReportsOne
   refused_once status (one, inl (other, went)) =
-      let comes = went.comes [] in grind (arith, nat_tests, only_told)
+      let comes = went.comes [] in grind (arith, nat_tests, only_reported)
   refused_once status (one, inr b) = let rest = b.rest [] in search (rules, at_once)

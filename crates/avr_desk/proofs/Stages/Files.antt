@@ -16,8 +16,8 @@ use Rattle.avr_desk.specs.Playing.{AllocationPoints, OnlyAtStart, RunsStage, Sta
 use Rattle.avr_desk.specs.Stage.{Produced, result_stage, content_stage, file_stage}
 
 -- nothing is allocated
-pub never_allocates : (passed : List Opening) (said : List OutputEvent) → OnlyAtStart false passed said → ⊥
-never_allocates passed said never = let clash : false ≡ true = never.0 in cc
+pub never_allocates : (passed : List Opening) (emitted : List OutputEvent) → OnlyAtStart false passed emitted → ⊥
+never_allocates passed emitted never = let clash : false ≡ true = never.0 in cc
 
 module _ {A : Type 0} (taking : AllocationPoints) (name : Bytes) (limit : ℕ) (judge : Bytes → Result A Bytes) where
   -- the check of the file's bytes
@@ -29,7 +29,7 @@ module _ {A : Type 0} (taking : AllocationPoints) (name : Bytes) (limit : ℕ) (
   goes_whole bytes ended old mid new result kept whole same goes =
       let reading : Reading = record { name = name; bytes = bytes; ended = ended } in
       runs_open (OnlyAtStart false) taking name (content_stage name limit judge) (Found reading) old mid new result refl
-      kept same (λ passed said never. absurd (never_allocates passed said never))
+      kept same (λ passed emitted never. absurd (never_allocates passed emitted never))
       (runs_content (OnlyAtStart false) name limit judge reading mid new result whole goes)
 
   pub went_whole : (bytes : Bytes) (ended : Bool) (old mid : DeskState) (a : A)
@@ -44,16 +44,16 @@ module _ {A : Type 0} (taking : AllocationPoints) (name : Bytes) (limit : ℕ) (
       → FileBreaks name old mid fault → CountsNeverFall old mid → CountsFileFault old mid fault → status ≡ 1
       → ReportsLine mid new (file_fault_line name fault)
       → RunsStage taking (file_stage name limit judge) old new (Err status)
-  goes_file_fault file_fault.Absent old mid new status breaks rose counted one told =
+  goes_file_fault file_fault.Absent old mid new status breaks rose counted one notice =
       runs_open (OnlyAtStart false) taking name (content_stage name limit judge) (Absent name) old mid new (Err status)
-      refl breaks counted (λ passed said never. absurd (never_allocates passed said never))
-      (runs_to_refusal {A = A} (OnlyAtStart false) mid new (not_opened_line name) status one told)
-  goes_file_fault file_fault.NotOpened old mid new status breaks rose counted one told =
+      refl breaks counted (λ passed emitted never. absurd (never_allocates passed emitted never))
+      (runs_to_refusal {A = A} (OnlyAtStart false) mid new (not_opened_line name) status one notice)
+  goes_file_fault file_fault.NotOpened old mid new status breaks rose counted one notice =
       runs_until_break taking name (content_stage name limit judge) file_fault.NotOpened old mid new status (λ e. cc) breaks
-      rose counted one told
-  goes_file_fault file_fault.NotRead old mid new status breaks rose counted one told =
+      rose counted one notice
+  goes_file_fault file_fault.NotRead old mid new status breaks rose counted one notice =
       runs_until_break taking name (content_stage name limit judge) file_fault.NotRead old mid new status (λ e. cc) breaks
-      rose counted one told
-  goes_file_fault file_fault.Memory old mid new status breaks rose counted one told =
+      rose counted one notice
+  goes_file_fault file_fault.Memory old mid new status breaks rose counted one notice =
       runs_until_break taking name (content_stage name limit judge) file_fault.Memory old mid new status (λ e. cc) breaks
-      rose counted one told
+      rose counted one notice

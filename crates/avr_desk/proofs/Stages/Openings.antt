@@ -11,7 +11,7 @@ use Rattle.avr_desk.specs.declared.record.Opening.TheVariants.{Found}
 use Rattle.avr_desk.specs.declared.record.Reading.{Reading}
 use Rattle.avr_desk.specs.declared.stream.Stream.TheVariants.{File}
 use Rattle.avr_desk.proofs.Stages.Outputs.{kept_append}
-use Rattle.avr_desk.proofs.Lines.Told.{failure_reported, follows_on, follows_same}
+use Rattle.avr_desk.proofs.Lines.ReportedAs.{failure_reported, follows_on, follows_same}
 use Rattle.avr_desk.specs.Lines.{file_fault_line, memory_line, not_opened_line, not_read_line}
 use Rattle.avr_desk.specs.OutputEvents.{OutputEvent, Opens, PrintsLine, ReportsLine, after_events}
 use Rattle.avr_desk.proofs.Stages.Played.{runs_then}
@@ -27,8 +27,8 @@ after_opening more opening = record { emits = Opens opening ∷ []; stage_outcom
 pub runs_open : {A : Type 0} (inner taking : AllocationPoints) (name : Bytes) (next : Opening → Stage A) (opening : Opening)
     (old mid new : DeskState) (result : Result A ℕ)
     → renamed_opening name opening ≡ opening → ChangesRecord (after_events (Opens opening ∷ [])) old mid → HasSameCounts old mid
-    → ((passed : List Opening) (said : List OutputEvent) → inner passed said
-    → taking (opening ∷ passed) (Opens opening ∷ said))
+    → ((passed : List Opening) (emitted : List OutputEvent) → inner passed emitted
+    → taking (opening ∷ passed) (Opens opening ∷ emitted))
     → RunsStage inner (next opening) mid new result → RunsStage taking (open_stage name >>= next) old new result
 runs_open inner taking name next opening old mid new result is kept same behind goes =
     runs_then inner taking (open_stage name) next old mid new opening result
@@ -51,14 +51,14 @@ runs_content taking name limit judge reading old new result whole goes = grind (
 
 -- ---- the opening broke off
 
-broke_opening : {A : Type 0} (taking : AllocationPoints) (name : Bytes) (next : Opening → Stage A) (break : BreakCause) (told : Bytes)
+broke_opening : {A : Type 0} (taking : AllocationPoints) (name : Bytes) (next : Opening → Stage A) (break : BreakCause) (notice : Bytes)
     (old new : DeskState) (status : ℕ)
     → AllocatesThere taking break [] [] → status ≡ 1
     → ((more : List Opening) → BreakFitsNext break more (Opens (next_opening name more) ∷ []))
-    → ReportsBreakAs break told old new
-    → ChangesRecord (after_events (events_of_break break told)) old new → CountsNeverFall old new
+    → ReportsBreakAs break notice old new
+    → ChangesRecord (after_events (events_of_break break notice)) old new → CountsNeverFall old new
     → RunsStage taking (open_stage name >>= next) old new (Err status)
-broke_opening taking name next break told old new status taken one is tells kept follows = grind (arith, nat_tests)
+broke_opening taking name next break notice old new status taken one is is_reported kept follows = grind (arith, nat_tests)
 
 -- the file could not be opened
 goes_unopened : {A : Type 0} (taking : AllocationPoints) (name : Bytes) (next : Opening → Stage A) (old mid new : DeskState)
@@ -66,22 +66,22 @@ goes_unopened : {A : Type 0} (taking : AllocationPoints) (name : Bytes) (next : 
     → mid.kept ≡ old.kept → CountsNeverFall old mid → HasFailedAt File old mid → status ≡ 1
     → ReportsLine mid new (not_opened_line name)
     → RunsStage taking (open_stage name >>= next) old new (Err status)
-goes_unopened taking name next old mid new status same rose failed one told =
-    broke_opening taking name next (NotOpened name) told.told old new status tt one (λ more. ([], refl))
-    (failure_reported old mid new (not_opened_line name) rose failed told)
-    (subst (λ (kept : Record). new.kept ≡ after_err told.told kept) same told.kept)
-    (follows_on old mid new rose told.follows)
+goes_unopened taking name next old mid new status same rose failed one notice =
+    broke_opening taking name next (NotOpened name) notice.notice old new status tt one (λ more. ([], refl))
+    (failure_reported old mid new (not_opened_line name) rose failed notice)
+    (subst (λ (kept : Record). new.kept ≡ after_err notice.notice kept) same notice.kept)
+    (follows_on old mid new rose notice.follows)
 
 -- or could not be read to its end
 goes_unread : {A : Type 0} (taking : AllocationPoints) (name bytes : Bytes) (next : Opening → Stage A) (old mid new : DeskState)
     (status : ℕ)
     → ChangesRecord (with_read name bytes false) old mid → CountsNeverFall old mid → HasFailedAt File old mid → status ≡ 1
     → ReportsLine mid new (not_read_line name) → RunsStage taking (open_stage name >>= next) old new (Err status)
-goes_unread taking name bytes next old mid new status kept rose failed one told =
-    broke_opening taking name next (NotRead name bytes) told.told old new status tt one (λ more. ([], refl))
-    (failure_reported old mid new (not_read_line name) rose failed told)
-    (kept_append (opened_and_read_in_part name bytes ∷ []) (PrintsLine told.told ∷ []) old.kept mid.kept new.kept kept told.kept)
-    (follows_on old mid new rose told.follows)
+goes_unread taking name bytes next old mid new status kept rose failed one notice =
+    broke_opening taking name next (NotRead name bytes) notice.notice old new status tt one (λ more. ([], refl))
+    (failure_reported old mid new (not_read_line name) rose failed notice)
+    (kept_append (opened_and_read_in_part name bytes ∷ []) (PrintsLine notice.notice ∷ []) old.kept mid.kept new.kept kept notice.kept)
+    (follows_on old mid new rose notice.follows)
 
 -- or allocation failed for it
 goes_unheld : {A : Type 0} (taking : AllocationPoints) (name bytes : Bytes) (ended : Bool) (next : Opening → Stage A)
@@ -89,12 +89,12 @@ goes_unheld : {A : Type 0} (taking : AllocationPoints) (name bytes : Bytes) (end
     (status : ℕ)
     → ChangesRecord (with_read name bytes ended) old mid → HasSameCounts old mid → status ≡ 1 → ReportsLine mid new memory_line
     → RunsStage taking (open_stage name >>= next) old new (Err status)
-goes_unheld taking name bytes ended next old mid new status kept same one told =
+goes_unheld taking name bytes ended next old mid new status kept same one notice =
     let reading : Reading = record { name = name; bytes = bytes; ended = ended } in
-    broke_opening taking name next (NoMemoryForFile reading) told.told old new status tt one (λ more. ([], refl))
+    broke_opening taking name next (NoMemoryForFile reading) notice.notice old new status tt one (λ more. ([], refl))
     (search rules)
-    (kept_append (Opens (Found reading) ∷ []) (PrintsLine told.told ∷ []) old.kept mid.kept new.kept kept told.kept)
-    (follows_on old mid new (follows_same old mid same) told.follows)
+    (kept_append (Opens (Found reading) ∷ []) (PrintsLine notice.notice ∷ []) old.kept mid.kept new.kept kept notice.kept)
+    (follows_on old mid new (follows_same old mid same) notice.follows)
 
 -- any fault of the file except that it doesn't exist
 pub runs_until_break : {A : Type 0} (taking : AllocationPoints) (name : Bytes) (next : Opening → Stage A) (fault : FileFault)
@@ -103,8 +103,8 @@ pub runs_until_break : {A : Type 0} (taking : AllocationPoints) (name : Bytes) (
     → (fault ≡ file_fault.Absent → ⊥) → FileBreaks name old mid fault → CountsNeverFall old mid → CountsFileFault old mid fault
     → status ≡ 1 → ReportsLine mid new (file_fault_line name fault)
     → RunsStage taking (open_stage name >>= next) old new (Err status)
-runs_until_break taking name next file_fault.Absent old mid new status there breaks rose counted one told = search rules
-runs_until_break taking name next fault old mid new status there breaks rose counted one told =
+runs_until_break taking name next file_fault.Absent old mid new status there breaks rose counted one notice = search rules
+runs_until_break taking name next fault old mid new status there breaks rose counted one notice =
     search (rules, goes_unopened, goes_unread, goes_unheld)
 
 -- ---- a whole file in memory

@@ -11,30 +11,30 @@ use Rattle.avr_desk.specs.declared.stream.Stream.TheVariants.{Messages}
 use Rattle.avr_desk.specs.declared.record.Opening.{Opening}
 use Rattle.avr_desk.specs.OutputEvents.{OutputEvent, PrintsLine, ReportsLineAs, ReportsLine, after_events}
 use Rattle.avr_desk.proofs.Stages.Outputs.{kept_none, kept_append}
-use Rattle.avr_desk.proofs.Lines.Told.{follows_on, follows_same, same_here, same_on}
+use Rattle.avr_desk.proofs.Lines.ReportedAs.{follows_on, follows_same, same_here, same_on}
 use Rattle.avr_desk.specs.Lines.{memory_line}
 use Rattle.avr_desk.specs.Playing.{StageCompleted, BreakCause, LineNotPrinted, NoMemory, events_of_break, BreakFitsNext, ReportsBreakAs, RestOfStage, AllocationPoints, AllocatesThere, StageBrokeOff, RunsStage}
 use Rattle.avr_desk.specs.Stage.{Stage, StageOutcome, Produced, Refused, StageResult, events_with_refusal, continued_stage, ◌>>=◌, result_stage, output_stage}
 
 -- ---- counts
 
-break_since : (break : BreakCause) (told : List ℕ) (first old new : DeskState) → HasSameCounts first old
-    → ReportsBreakAs break told old new → ReportsBreakAs break told first new
-break_since break told first old new same tells = search (rules, nat_tests)
+break_since : (break : BreakCause) (notice : List ℕ) (first old new : DeskState) → HasSameCounts first old
+    → ReportsBreakAs break notice old new → ReportsBreakAs break notice first new
+break_since break notice first old new same is_reported = search (rules, nat_tests)
 
 -- ---- a stage after another one
 
 -- the output of the next stage comes after this one's
-pub says_more : {A B : Type 0} (emits : List OutputEvent) (openings_left : List Opening) (go_on : A
+pub output_more : {A B : Type 0} (emits : List OutputEvent) (openings_left : List Opening) (go_on : A
     → Stage B) (stage_outcome : StageOutcome A)
     → (extra : List OutputEvent) × ((continued_stage emits openings_left go_on stage_outcome).emits ≡ emits ++ extra)
-says_more emits openings_left go_on (Produced a) = ((go_on a openings_left).emits, refl)
-says_more emits openings_left go_on x = ([], sym (append-nil emits))
+output_more emits openings_left go_on (Produced a) = ((go_on a openings_left).emits, refl)
+output_more emits openings_left go_on x = ([], sym (append-nil emits))
 
 -- the line of a refusal comes after both
-pub told_append : {A : Type 0} (first second : List OutputEvent) (stage_outcome : StageOutcome A)
+pub reported_append : {A : Type 0} (first second : List OutputEvent) (stage_outcome : StageOutcome A)
     → events_with_refusal (first ++ second) stage_outcome ≡ first ++ events_with_refusal second stage_outcome
-told_append first second stage_outcome = search (rules, append_assoc)
+reported_append first second stage_outcome = search (rules, append_assoc)
 
 rest_more : {A B : Type 0} (p : StageResult A) (go_on : A → Stage B) (whole : List OutputEvent) (break : BreakCause)
     (more : List Opening)
@@ -50,15 +50,15 @@ completed_then stage go_on old mid new a stage_outcome first then = record {
   passed = first.passed ++ then.passed;
   emits = first.emits ++ then.emits;
   comes = grind (arith, nat_tests, append_assoc);
-  kept = grind (arith, nat_tests, told_append, kept_append);
+  kept = grind (arith, nat_tests, reported_append, kept_append);
   sound = same_on old mid new first.sound then.sound;
 }
 
 -- allocation points after a stage that succeeded
 abbrev pub TakesBehind : {A : Type 0} (inner taking : AllocationPoints) (stage : Stage A) (old mid : DeskState) (a : A)
     → StageCompleted stage old mid (Produced a) → Type 0
-TakesBehind inner taking stage old mid a first = (passed : List Opening) (said : List OutputEvent) → inner passed said
-    → taking (first.passed ++ passed) (first.emits ++ said)
+TakesBehind inner taking stage old mid a first = (passed : List Opening) (emitted : List OutputEvent) → inner passed emitted
+    → taking (first.passed ++ passed) (first.emits ++ emitted)
 
 went_broke : {A B : Type 0} (inner taking : AllocationPoints) (stage : Stage A) (go_on : A → Stage B) (old mid new : DeskState)
     (a : A) (first : StageCompleted stage old mid (Produced a))
@@ -70,8 +70,8 @@ went_broke inner taking stage go_on old mid new a first behind then = record {
   break = then.break;
   rest = grind (arith, nat_tests, append_assoc);
   taken = grind (arith, nat_tests);
-  told = then.told;
-  tells = break_since then.break then.told old mid new first.sound then.tells;
+  notice = then.notice;
+  is_reported = break_since then.break then.notice old mid new first.sound then.is_reported;
   kept = grind (arith, nat_tests, subst, append_assoc, kept_append);
   follows = follows_on old mid new (follows_same old mid first.sound) then.follows;
 }
@@ -94,7 +94,7 @@ runs_first_only taking stage go_on old new status (one, inr broke) = grind (arit
 
 -- more allocation points
 pub goes_within : {A : Type 0} (inner taking : AllocationPoints) (stage : Stage A) (old new : DeskState) (result : Result A ℕ)
-    → ((passed : List Opening) (said : List OutputEvent) → inner passed said → taking passed said)
+    → ((passed : List Opening) (emitted : List OutputEvent) → inner passed emitted → taking passed emitted)
     → RunsStage inner stage old new result → RunsStage taking stage old new result
 goes_within inner taking stage old new result within went = search (rules, nat_tests)
 
@@ -105,48 +105,48 @@ pub completed_without_events : {A : Type 0} (d : DeskState) (a : A) → StageCom
 completed_without_events d a = record { passed = []; emits = []; comes = λ more. refl; kept = kept_none d.kept; sound = same_here d }
 
 -- a line was printed whole
-told_whole : {A : Type 0} (old new : DeskState) (line : List ℕ) → ChangesRecord (after_events (PrintsLine line ∷ [])) old new
+reported_whole : {A : Type 0} (old new : DeskState) (line : List ℕ) → ChangesRecord (after_events (PrintsLine line ∷ [])) old new
     → HasSameCounts old new
     → StageCompleted {A = A} (result_stage (Err line)) old new (Refused line)
-told_whole old new line kept same =
+reported_whole old new line kept same =
     record { passed = []; emits = []; comes = λ more. refl; kept = kept; sound = same }
 
 -- or it broke off there
-broke_here : {A : Type 0} (taking : AllocationPoints) (stage : Stage A) (old new : DeskState) (break : BreakCause) (told : List ℕ)
+broke_here : {A : Type 0} (taking : AllocationPoints) (stage : Stage A) (old new : DeskState) (break : BreakCause) (notice : List ℕ)
     → AllocatesThere taking break [] []
     → ((more : List Opening) → BreakFitsNext break more (events_with_refusal (stage more).emits (stage more).stage_outcome))
-    → ReportsBreakAs break told old new
-    → ChangesRecord (after_events (events_of_break break told)) old new → CountsNeverFall old new → StageBrokeOff taking stage old new
-broke_here taking stage old new break told taken is tells kept follows = grind (arith, nat_tests)
+    → ReportsBreakAs break notice old new
+    → ChangesRecord (after_events (events_of_break break notice)) old new → CountsNeverFall old new → StageBrokeOff taking stage old new
+broke_here taking stage old new break notice taken is is_reported kept follows = grind (arith, nat_tests)
 
 -- a refusal that was reported, or a prefix of its line
-refused_by : {A : Type 0} (taking : AllocationPoints) (old new : DeskState) (line told : List ℕ) → ReportsLineAs line told old new
-    → ChangesRecord (after_events (PrintsLine told ∷ [])) old new → CountsNeverFall old new
+refused_by : {A : Type 0} (taking : AllocationPoints) (old new : DeskState) (line notice : List ℕ) → ReportsLineAs line notice old new
+    → ChangesRecord (after_events (PrintsLine notice ∷ [])) old new → CountsNeverFall old new
     → RunsStage {A = A} taking (result_stage (Err line)) old new (Err 1)
-refused_by {A} taking old new line told (inl whole) kept follows = (
+refused_by {A} taking old new line notice (inl whole) kept follows = (
   refl,
   inl (
     line,
-    told_whole {A = A} old new line
+    reported_whole {A = A} old new line
         (subst (λ bytes. ChangesRecord (after_events (PrintsLine bytes ∷ [])) old new) whole.0 kept) whole.1,
   ),
 )
-refused_by {A} taking old new line told (inr part) kept follows = (
+refused_by {A} taking old new line notice (inr part) kept follows = (
   refl,
-  inr (broke_here taking (result_stage {A = A} (Err line)) old new (LineNotPrinted line) told tt (λ more. ([], refl)) part
+  inr (broke_here taking (result_stage {A = A} (Err line)) old new (LineNotPrinted line) notice tt (λ more. ([], refl)) part
       kept follows),
 )
 
 pub runs_to_refusal : {A : Type 0} (taking : AllocationPoints) (old new : DeskState) (line : List ℕ) (status : ℕ) → status ≡ 1
     → ReportsLine old new line → RunsStage {A = A} taking (result_stage (Err line)) old new (Err status)
-runs_to_refusal {A} taking old new line status one told =
-    (one, (refused_by {A = A} taking old new line told.told told.tells told.kept told.follows).1)
+runs_to_refusal {A} taking old new line status one notice =
+    (one, (refused_by {A = A} taking old new line notice.notice notice.is_reported notice.kept notice.follows).1)
 
 -- a failed allocation
 pub runs_without_memory : {A : Type 0} (taking : AllocationPoints) (stage : Stage A) (old new : DeskState) (status : ℕ)
     → taking [] [] → status ≡ 1 → ReportsLine old new memory_line → RunsStage taking stage old new (Err status)
-runs_without_memory taking stage old new status takes one told =
-    (one, inr (broke_here taking stage old new NoMemory told.told takes (λ more. tt) told.tells told.kept told.follows))
+runs_without_memory taking stage old new status takes one notice =
+    (one, inr (broke_here taking stage old new NoMemory notice.notice takes (λ more. tt) notice.is_reported notice.kept notice.follows))
 
 -- ---- results and output
 
@@ -156,9 +156,9 @@ went_settled r a d is = subst (λ x. StageCompleted (result_stage x) d d (Produc
 
 pub goes_unsettled : {A : Type 0} (taking : AllocationPoints) (r : Result A (List ℕ)) (line : List ℕ) (old new : DeskState)
     (status : ℕ) → r ≡ Err line → status ≡ 1 → ReportsLine old new line → RunsStage taking (result_stage r) old new (Err status)
-goes_unsettled taking r line old new status is one told =
+goes_unsettled taking r line old new status is one notice =
     subst (λ x. RunsStage taking (result_stage x) old new (Err status)) (sym is)
-    (runs_to_refusal taking old new line status one told)
+    (runs_to_refusal taking old new line status one notice)
 
 pub completed_silently : (d : DeskState) → StageCompleted (output_stage []) d d (Produced tt)
 completed_silently d = record { passed = []; emits = []; comes = λ more. refl; kept = kept_none d.kept; sound = same_here d }

@@ -15,5 +15,5 @@ pub stands-fed : (image after : List (Option ℕ)) (fed end : ℕ) (failed : Boo
     (cond (fits fed piece (length image)) (Ok (fed + length piece)) (Err fault))
     → after ≡ with_bytes_at image (enumerate_from fed piece)
     → HoldsText (record { image = after; fed = end; failed = failed }) (text ++ piece)
-stands-fed image after fed end failed text piece fault stands judged laid =
+stands-fed image after fed end failed text piece fault stands verdict laid =
     grind (arith, nat_tests, length-with_bytes_at, length-append, from_zero-laid)

@@ -127,7 +127,7 @@ list-reads-back base [] size some room all = absurd (omega (arith, some))
 list-reads-back base (b ∷ bytes) size some room all =
     let are = are_bytes (b ∷ bytes) all in
     let cut = pieces-line base b bytes are.0 are.1 in
-    let judged_are = all-good base size 0 (b ∷ bytes) are (omega (arith, room)) in
+    let checked_are = all-good base size 0 (b ∷ bytes) are (omega (arith, room)) in
     let some : eqb (length (map (number_text base) (b ∷ bytes))) 0 ≡ false = grind (arith, nat_tests) in search rules
 
 pub none-reads-back : (base : Base) (size : ℕ) → image_of_values (list_line base []) size ≡ Err (BadNumber 1)

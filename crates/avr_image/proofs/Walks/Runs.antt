@@ -245,7 +245,7 @@ some-held addr place (Some b ∷ image) some = count-least 1 image
 
 pub empty-held : (image : List (Option ℕ)) (found : Option ℕ) (none : Bool) → found ≡ first_from image 0
     → is_some found ≡ not none → none ≡ (byte_count image == 0)
-empty-held image found none is told = search (rules, nat_tests, none-held, some-held)
+empty-held image found none is notice = search (rules, nat_tests, none-held, some-held)
 
 -- ---- the runs are the longest
 

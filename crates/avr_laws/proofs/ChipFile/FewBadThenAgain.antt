@@ -15,7 +15,7 @@ use Rattle.stk_emu.specs.Exchange.{Exchange}
 use Rattle.stk_emu.specs.Wired.{WiredState}
 use Rattle.avr_laws.specs.Again.{ItemsKeepEeprom, AgreesOnTwoChips}
 use Rattle.avr_tool.specs.OverFaultyLink.{SessionStopped, SessionOverWire, OverExchanges, memories, events_over, wire_and_desk}
-use Rattle.avr_laws.specs.AnyLink.{OverAnyWire, WholeOverTurns}
+use Rattle.avr_laws.specs.AnyLink.{OverAnyWire, WholeSessionOverExchanges}
 use Rattle.avr_tool.specs.Items.{items, asked_items, has_erase}
 use Rattle.avr_tool.specs.Outcome.{HasFirstOperations, IsDone, IsExpectedRun}
 use Rattle.avr_tool.specs.Written.{IsWritten}
@@ -79,7 +79,7 @@ pub further_repairs_over_link : (plan : Plan) (p q x y : Programmer) (exchanges 
     → has_erase (items plan) ≡ true → AgreesOnTwoChips plan
     → (erase_keeps_eeprom plan.part (memories_of p.chip) ≡ true → ItemsKeepEeprom plan.part (items plan))
     → OverExchanges plan p q exchanges bytes
-    → memories_of x.chip ≡ memories_of q.chip → AtMostThreeBadOfSeven more → WholeOverTurns plan x y more others events further
+    → memories_of x.chip ≡ memories_of q.chip → AtMostThreeBadOfSeven more → WholeSessionOverExchanges plan x y more others events further
     → (further ≡ 0) × IsDone plan (memories_of p.chip) (memories_of y.chip)
 further_repairs_over_link plan p q x y exchanges more bytes others events further sound fitted fits erases both kept first
     same few second =

@@ -15,9 +15,9 @@ use Rattle.avr_laws.specs.Killed.{chip_file_of_service}
 use Rattle.stk_host.specs.Transcript.{LinkState}
 
 -- checking a part and a chip file replaces nothing
-judged_tried : (settings : Settings) (file : Bytes) (old new : DeskState) (part : Part)
+checked_tried : (settings : Settings) (file : Bytes) (old new : DeskState) (part : Part)
     → ChecksPart settings file old new (Ok part) → tried_at new ≡ tried_at old
-judged_tried settings file old new part with =
+checked_tried settings file old new part with =
     search (rules, tried_loaded, tried_went, with.then_is.1.released_is, with.then_is.1.loaded)
 
 refused_tried : (settings : Settings) (file : Bytes) (old new : DeskState) (status : ℕ)
@@ -30,10 +30,10 @@ service_tries : (unused : Type 0) (over : Option LinkState → Type 0) (settings
     (old new : DeskState) (status : ℕ) → (s : ServesNet unused over settings port file old new status)
     → tried_at old ≡ []
     → TriesOnly file (chip_file_of_service unused over settings port file old new status s) (tried_at new)
-service_tries unused over settings port file old new status (inl (part, judged, is, inl (link, on, serves))) none =
-    part_tries part file 16777216 _ _ status serves (judged_tried settings file old judged part is ∙ none)
-service_tries unused over settings port file old new status (inl (part, judged, is, inr (on, told, one))) none =
-    ap (λ (r : Record). r.tried) told.kept ∙ judged_tried settings file old judged part is ∙ none
+service_tries unused over settings port file old new status (inl (part, verdict, is, inl (link, on, serves))) none =
+    part_tries part file 16777216 _ _ status serves (checked_tried settings file old verdict part is ∙ none)
+service_tries unused over settings port file old new status (inl (part, verdict, is, inr (on, notice, one))) none =
+    ap (λ (r : Record). r.tried) notice.kept ∙ checked_tried settings file old verdict part is ∙ none
 service_tries unused over settings port file old new status (inr (refused, left)) none =
     refused_tried settings file old new status refused ∙ none
 
@@ -44,6 +44,6 @@ pub service_killed : {S F I H O E : Type 0} (system : Ghosts S F I H) (reads : R
     → (s : ServesNet unused over settings port file (system_desk_view old) (system_desk_view new) status)
     → LeavesOldOrNew system new.system file
     (chip_file_of_service unused over settings port file (system_desk_view old) (system_desk_view new) status s)
-service_killed system reads writes input old new fresh tells unused over settings port file status s =
-    left_old_or_new system reads writes input old new fresh tells file _
+service_killed system reads writes input old new fresh is_reported unused over settings port file status s =
+    left_old_or_new system reads writes input old new fresh is_reported file _
     (search (rules, service_tries))

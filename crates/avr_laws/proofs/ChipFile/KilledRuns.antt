@@ -36,9 +36,9 @@ pub tried_loaded : (part : Part) (file : Bytes) (old new : DeskState) (chip : ch
     → LockedAndLoaded part file old new chip → tried_at new ≡ tried_at old
 tried_loaded part file old new chip loaded = cc (tried_went _ _ _ _ loaded.loaded, loaded.held.0)
 
-tried_told : (pieces : Option (List Bytes)) (old new : DeskState) → ReportsIfAny pieces old new
+tried_reported : (pieces : Option (List Bytes)) (old new : DeskState) → ReportsIfAny pieces old new
     → tried_at new ≡ tried_at old
-tried_told pieces old new told = grind arith
+tried_reported pieces old new notice = grind arith
 
 pub tried_goes : {A : Type 0} (taking : AllocationPoints) (stage : Stage A) (old new : DeskState) (status : ℕ)
     → RunsStage taking stage old new (Err status) → tried_at new ≡ tried_at old
@@ -69,7 +69,7 @@ pub part_tries : (part : Part) (file : Bytes) (most_reads : ℕ) (old new : Devi
     → (s : ServesPart part file most_reads old new status) → tried_at old.desk ≡ []
     → TriesOnly file (chip_file_of_part part file most_reads old new status s) (tried_at new.desk)
 part_tries part file most_reads old new status (inl s) none =
-    search (rules, tried_told (end_pieces s.serves.served) _ _ s.serves.told, tried_loaded _ _ _ _ _ s.loaded)
+    search (rules, tried_reported (end_pieces s.serves.served) _ _ s.serves.notice, tried_loaded _ _ _ _ _ s.loaded)
 part_tries part file most_reads old new status (inr (unloaded, same)) none = tried_unloaded _ _ _ _ _ unloaded ∙ none
 
 server_tries : (settings : Settings) (file : Bytes) (most_reads : ℕ) (old new : Devices) (status : ℕ)
@@ -82,11 +82,11 @@ server_tries settings file most_reads old new status (inr no_part) none = tried_
 -- ---- so a crash leaves these, or what was there
 
 module _ {S F I H O E : Type 0} (system : Ghosts S F I H) (reads : Reads F) (writes : Writes F) (input : Reads I)
-    (old new : Shown S F H I O E) (fresh : IsNewDesk system old) (tells : RecordsAll system reads writes input old new)
+    (old new : Shown S F H I O E) (fresh : IsNewDesk system old) (is_reported : RecordsAll system reads writes input old new)
     (file : Bytes) where
   pub left_old_or_new : (chip : Option Bytes) → TriesOnly file chip new.kept.tried
       → LeavesOldOrNew system new.system file chip
-  left_old_or_new chip only found left = search (rules, (tells fresh).crash)
+  left_old_or_new chip only found left = search (rules, (is_reported fresh).crash)
 
   pub run_killed : (settings : Settings) (status : ℕ)
       → (r : RunsEmulator settings file (system_desk_view old) (system_desk_view new) status)

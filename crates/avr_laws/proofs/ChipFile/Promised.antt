@@ -35,10 +35,10 @@ module _ (settings : Settings) (file : Bytes) (stock : Stock) (old new : MemDesk
     (r : RunsOverEmulator settings file (memory_state old) (memory_state new) 0) where
   asked : IsAsked settings (FileHolds (content_of_name stock [])) r.plan
   asked =
-      let judged : ◌≡◌ {A = StageOutcome Plan} (Produced r.plan) NotReadToEnd → ⊥ = λ e. cc in
+      let verdict : ◌≡◌ {A = StageOutcome Plan} (Produced r.plan) NotReadToEnd → ⊥ = λ e. cc in
       let emits : AreTrueOpenings stock r.made.emits =
       seen settings stock (memory_state old) r.planned_desk (Produced r.plan) unused
-      (planned_true settings file stock old new 0 holds r) judged r.made in
+      (planned_true settings file stock old new 0 holds r) verdict r.made in
       seen_asked stock settings (r.made.passed ++ []) r.plan
       (subst (λ (p : StageResult Plan). AreTrueOpenings stock p.emits) (sym (r.made.comes [])) emits)
       (ap (λ (p : StageResult Plan). p.stage_outcome) (r.made.comes []))
@@ -60,7 +60,7 @@ module _ (settings : Settings) (file : Bytes) (stock : Stock) (old new : MemDesk
 
   written : FilesAreSaved files r.loaded_desk r.played_desk
   written = these_saved (outputs (events_over r.plan r.after)) files r.loaded_desk r.played_desk
-      (subst (λ (emits : List OutputEvent). WritesFiles emits files) (sym expected.said)
+      (subst (λ (emits : List OutputEvent). WritesFiles emits files) (sym expected.emitted)
       (expected_writes r.plan (memories_of r.chip) (sym expected.status_is ∙ zero))) came.1
 
   created : all_files r.played_desk.kept ≡ named_files files

@@ -76,5 +76,5 @@ words_kept line peers old new status (inl (words, are, inl (inr refuses))) zero 
     absurd (no_one (sym zero ∙ refuses.status_is))
 words_kept line peers old new status (inl (words, are, inr usage)) zero silent =
     (words, are, λ taken. absurd (usage.leaves.not_taken taken))
-words_kept line peers old new status (inr (unread, one, told, same, unused)) zero silent =
+words_kept line peers old new status (inr (unread, one, notice, same, unused)) zero silent =
     absurd (no_one (sym zero ∙ one))

@@ -105,8 +105,8 @@ module _ (settings : Settings) (file : Bytes) (old new : DeskState) (r : RunsOve
   abbrev before : Memories
   before = memories_of r.chip
 
-  abbrev said : List OutputEvent
-  said = outputs (events_over r.plan r.after)
+  abbrev emitted : List OutputEvent
+  emitted = outputs (events_over r.plan r.after)
 
   abbrev files : List Writing
   files = saved_files r.plan before
@@ -114,11 +114,11 @@ module _ (settings : Settings) (file : Bytes) (old new : DeskState) (r : RunsOve
   zero : r.ran ≡ 0
   zero = search rules
 
-  came : EndsOverExchanges r.plan before (memories_of left) (exchanges_of_fates []) said r.ran
-      × ChangesRecord (after_events said) r.loaded_desk r.played_desk
+  came : EndsOverExchanges r.plan before (memories_of left) (exchanges_of_fates []) emitted r.ran
+      × ChangesRecord (after_events emitted) r.loaded_desk r.played_desk
   came = came_to r.plan (new_wire r.chip []) r.after r.loaded_desk r.played_desk r.ran r.line zero
 
-  expected : IsExpectedRun r.plan before (memories_of left) said r.ran
+  expected : IsExpectedRun r.plan before (memories_of left) emitted r.ran
   expected = came.0.success zero
 
   replaced : ChangesRecord (with_replaced file (chip_file left)) r.played_desk new
@@ -137,7 +137,7 @@ module _ (settings : Settings) (file : Bytes) (old new : DeskState) (r : RunsOve
   loads : r.loaded_desk.kept ≡ after_events (Opens opening ∷ []) r.loaded.held_desk.kept
   loads = found_kept r.plan.part file r.loaded.held_desk r.loaded_desk r.chip r.loaded.loaded
 
-  none : openings_in said ≡ []
+  none : openings_in emitted ≡ []
   none = none_opened r.plan before (events_over r.plan r.after) (exchanges_of_fates []) (fresh_programmer r.chip)
       (emulated_wire r).line.reports_are_true
 
@@ -146,7 +146,7 @@ module _ (settings : Settings) (file : Bytes) (old new : DeskState) (r : RunsOve
       ap all_openings replaced
       ∙ (openings_replaced file (chip_file left) r.played_desk.kept
       ∙ (ap all_openings came.1
-      ∙ (openings_shown said r.loaded_desk.kept
+      ∙ (openings_shown emitted r.loaded_desk.kept
       ∙ (ap (λ (os : List Opening). all_openings r.loaded_desk.kept ++ os) none
       ∙ (append-nil (all_openings r.loaded_desk.kept)
       ∙ (ap all_openings loads
@@ -170,8 +170,8 @@ module _ (settings : Settings) (file : Bytes) (old new : DeskState) (r : RunsOve
       )
 
   session_saved : FilesAreSaved files r.loaded_desk r.played_desk
-  session_saved = these_saved said files r.loaded_desk r.played_desk
-      (subst (λ (emits : List OutputEvent). WritesFiles emits files) (sym expected.said)
+  session_saved = these_saved emitted files r.loaded_desk r.played_desk
+      (subst (λ (emits : List OutputEvent). WritesFiles emits files) (sym expected.emitted)
       (expected_writes r.plan before (sym expected.status_is ∙ zero))) came.1
 
   saved : FilesAreSaved files old r.played_desk

@@ -11,7 +11,7 @@ use Rattle.stk_frame.specs.Frame.{frame}
 use Rattle.stk_host.specs.Dialog.{Dialog, Done, Emit, Ask, Event, Frame, Emitted, played, prepend_events, continue_with_reading, next, bytes_sent, outputs}
 use Rattle.stk_host.specs.Tape.{Tape, Reading, answer}
 use Rattle.stk_host.specs.declared.link.Item.TheVariants.{End}
-use Rattle.avr_laws.proofs.Outcomes.Refused.{answered_due, sent_due, said_due}
+use Rattle.avr_laws.proofs.Outcomes.Refused.{answered_due, sent_due, emitted_due}
 use Rattle.avr_tool.specs.Headline.{run}
 use Rattle.avr_laws.proofs.KnownFiles.RunsInMemory.{left_by}
 use Rattle.avr_laws.specs.InMemory.{RunOutcome, run_outcome, run_over_files, LeavesOutcome}
@@ -35,7 +35,7 @@ ended_more : {E R : Type 0} (d : Dialog E R) (seq : ℕ) (t u : Tape) (r : R) (n
     → (played d seq t).outcome ≡ Some (r, n, left)
     → played d seq (t ++ u) ≡ record { events = (played d seq t).events; outcome = Some (r, n, left ++ u) }
 ended_more (Done a) seq t u r n left is = search rules
-ended_more (Emit said d) seq t u r n left is = ap (prepend_events (Emitted said ∷ [])) (ended_more d seq t u r n left is)
+ended_more (Emit emitted d) seq t u r n left is = ap (prepend_events (Emitted emitted ∷ [])) (ended_more d seq t u r n left is)
 ended_more {E = E} {R = R} (Ask body answered) seq t u r n left is =
     by_reading (answer seq t) (λ reading rest ended. ended_more (answered reading) (next seq) rest u r n left ended)
     refl is
@@ -75,7 +75,7 @@ worked_over : (stock : Stock) (more : Tape)
     → run_outcome (run_over_files worked_settings stock (worked_replies ++ more)) ≡ Some worked_outcome
 worked_over stock more =
     ap run_outcome (run_more worked_settings [] worked_replies more 0 7 [] (answered_due []))
-    ∙ ap (λ (o : RunOutcome). Some o) (search (rules, worked_left, sent_due, said_due))
+    ∙ ap (λ (o : RunOutcome). Some o) (search (rules, worked_left, sent_due, emitted_due))
 
 pub worked_leaves : (stock : Stock) → LeavesOutcome worked_settings stock worked_replies worked_outcome
 worked_leaves stock = record {

@@ -30,7 +30,7 @@ use Rattle.avr_session.specs.Stopping.{RanToStatus}
 use Rattle.stk_host.specs.Dialog.{Event, Emitted, bytes_sent, outputs}
 use Rattle.stk_host.specs.Links.{ConsumesTape, IsTrueSince, StreamState, TapeState, stream_state, tape_state}
 use Rattle.stk_host.specs.Transcript.{LinkState, Transcript, heard, sent}
-use Rattle.avr_tool.proofs.Runs.Joined.{said_outputs, said_bytes}
+use Rattle.avr_tool.proofs.Runs.Joined.{emitted_outputs, emitted_bytes}
 use Rattle.avr_tool.specs.Headline.{IsStopped}
 use Rattle.avr_laws.specs.InMemory.{RunOutcome, outcome_shown, AreUnused, RunLeaves, LeavesOutcome, LeavesOverStreams}
 
@@ -95,21 +95,21 @@ abbrev joined : List Bytes → Bytes
 joined [] = []
 joined (line ∷ lines) = line ++ joined lines
 
-abbrev told_left : Bytes → Bytes → Left
-told_left messages output = record { messages = messages; output = output; files = []; file = [] }
+abbrev reported_left : Bytes → Bytes → Left
+reported_left messages output = record { messages = messages; output = output; files = []; file = [] }
 
-only_told : (emits : List OutputEvent) (messages output : Bytes) → OnlyReads emits
-    → left_after_all emits (told_left messages output) ≡ told_left (messages ++ joined (lines_in emits)) output
-only_told [] messages output reads = ap (λ (m : Bytes). told_left m output) (sym (append-nil messages))
-only_told (Opens opening ∷ emits) messages output reads = only_told emits messages output reads
-only_told (PrintsLine bytes ∷ emits) messages output reads = only_told emits (messages ++ bytes) output reads
-    ∙ ap (λ (m : Bytes). told_left m output) (append_assoc messages bytes (joined (lines_in emits)))
-only_told (event ∷ emits) messages output reads = absurd reads
+only_reported : (emits : List OutputEvent) (messages output : Bytes) → OnlyReads emits
+    → left_after_all emits (reported_left messages output) ≡ reported_left (messages ++ joined (lines_in emits)) output
+only_reported [] messages output reads = ap (λ (m : Bytes). reported_left m output) (sym (append-nil messages))
+only_reported (Opens opening ∷ emits) messages output reads = only_reported emits messages output reads
+only_reported (PrintsLine bytes ∷ emits) messages output reads = only_reported emits (messages ++ bytes) output reads
+    ∙ ap (λ (m : Bytes). reported_left m output) (append_assoc messages bytes (joined (lines_in emits)))
+only_reported (event ∷ emits) messages output reads = absurd reads
 
 -- so what planning leaves is the lines that it prints
 planning_left : (emits : List OutputEvent) → OnlyReads emits
-    → left_in (after_events emits nothing_kept) ≡ told_left (joined (lines_in emits)) []
-planning_left emits reads = left_all emits nothing_kept ∙ only_told emits [] [] reads
+    → left_in (after_events emits nothing_kept) ≡ reported_left (joined (lines_in emits)) []
+planning_left emits reads = left_all emits nothing_kept ∙ only_reported emits [] [] reads
 
 -- ---- planning
 
@@ -121,27 +121,27 @@ seen_before stock emits stage_outcome seen = search (rules, seen_first)
 
 module _ (settings : Settings) (stock : Stock) (old m : DeskState) (stage_outcome : StageOutcome Plan)
     (unused : old.kept ≡ nothing_kept) (are : OpeningsAreTrue stock [] (all_uses m.kept))
-    (judged : stage_outcome ≡ NotReadToEnd → ⊥) (went : StageCompleted (planned settings) old m stage_outcome) where
+    (verdict : stage_outcome ≡ NotReadToEnd → ⊥) (went : StageCompleted (planned settings) old m stage_outcome) where
   planned_is : planned settings (went.passed ++ []) ≡ record { emits = went.emits; stage_outcome = stage_outcome; openings_left = [] }
   planned_is = went.comes []
 
-  abbrev told : List OutputEvent
-  told = events_with_refusal went.emits stage_outcome
+  abbrev notice : List OutputEvent
+  notice = events_with_refusal went.emits stage_outcome
 
-  only_read : OnlyReads told
+  only_read : OnlyReads notice
   only_read = search (rules, only_reads settings (went.passed ++ []))
 
-  kept_is : m.kept ≡ after_events told nothing_kept
-  kept_is = went.kept ∙ ap (after_events told) unused
+  kept_is : m.kept ≡ after_events notice nothing_kept
+  kept_is = went.kept ∙ ap (after_events notice) unused
 
   no_files : all_files m.kept ≡ []
-  no_files = ap all_files kept_is ∙ ap all_left (planning_left told only_read)
+  no_files = ap all_files kept_is ∙ ap all_left (planning_left notice only_read)
 
-  opened : all_openings m.kept ≡ openings_in told
-  opened = ap all_openings kept_is ∙ openings_shown told nothing_kept
+  opened : all_openings m.kept ≡ openings_in notice
+  opened = ap all_openings kept_is ∙ openings_shown notice nothing_kept
 
-  pub seen : AreTrueOpenings stock told
-  seen = seen_outputs stock told (subst (AreOpened stock) (openings_used m.kept ∙ opened)
+  pub seen : AreTrueOpenings stock notice
+  seen = seen_outputs stock notice (subst (AreOpened stock) (openings_used m.kept ∙ opened)
       (opened_uses stock (all_uses m.kept) (files_used m.kept ∙ no_files) are))
 
   both : ((planned_from_files settings stock).stage_outcome ≡ (planned settings (went.passed ++ [])).stage_outcome)
@@ -173,7 +173,7 @@ left_is : (status : ℕ) (emits : List OutputEvent) (events : List (Event Output
     → bytes_sent events ≡ sent transcript
     → left_by (map Emitted emits ++ events) status ≡ outcome_shown status (sent transcript) kept
 left_is status emits events between kept transcript alike then frames =
-    search (rules, said_outputs, after_append, left_all, said_bytes)
+    search (rules, emitted_outputs, after_append, left_all, emitted_bytes)
 
 module _ (settings : Settings) (old new : MemDeskState) (before after : LinkState) (status : ℕ)
     (unused : AreUnused old before) where
@@ -191,12 +191,12 @@ module _ (settings : Settings) (old new : MemDeskState) (before after : LinkStat
   whole between plan holds went played_whole more =
       let ran = played_whole.1 in
       let p = planned_from_files settings stock in
-      let judged : ◌≡◌ {A = StageOutcome Plan} (Produced plan) NotReadToEnd → ⊥ = λ e. cc in
+      let verdict : ◌≡◌ {A = StageOutcome Plan} (Produced plan) NotReadToEnd → ⊥ = λ e. cc in
       let are = all_true stock between holds in
       let stage_outcome : p.stage_outcome ≡ Produced plan =
-      same_answer settings stock (memory_state old) (memory_state between) (Produced plan) unused.desk_is are judged went in
+      same_answer settings stock (memory_state old) (memory_state between) (Produced plan) unused.desk_is are verdict went in
       let alike = same_left settings stock (memory_state old) (memory_state between) (Produced plan) unused.desk_is are
-      judged went in
+      verdict went in
       let during : after.transcript ≡ ran.during =
       ran.grows ∙ ap (λ transcript. transcript ++ ran.during) silent_before in
       let left : left_by (map Emitted p.emits ++ ran.events) status ≡ outcome_shown status (sent after.transcript) new.kept =
@@ -209,12 +209,12 @@ module _ (settings : Settings) (old new : MemDeskState) (before after : LinkStat
       → RunLeaves settings stock (heard after.transcript) (outcome_shown 1 (sent after.transcript) new.kept)
   refused holds silent (line, went) more =
       let p = planned_from_files settings stock in
-      let judged : ◌≡◌ {A = StageOutcome Plan} (Refused line) NotReadToEnd → ⊥ = λ e. cc in
+      let verdict : ◌≡◌ {A = StageOutcome Plan} (Refused line) NotReadToEnd → ⊥ = λ e. cc in
       let are = all_true stock new holds in
       let stage_outcome : p.stage_outcome ≡ Refused line =
-      same_answer settings stock (memory_state old) (memory_state new) (Refused line) unused.desk_is are judged went in
+      same_answer settings stock (memory_state old) (memory_state new) (Refused line) unused.desk_is are verdict went in
       let alike = same_left settings stock (memory_state old) (memory_state new) (Refused line) unused.desk_is are
-      judged went in
+      verdict went in
       let events : map Emitted (p.emits ++ PrintsLine line ∷ []) ++ [] ≡ map Emitted p.emits ++ Emitted (PrintsLine line) ∷ [] =
       append-nil (map Emitted (p.emits ++ PrintsLine line ∷ [])) ∙ map-append Emitted p.emits (PrintsLine line ∷ []) in
       let left : left_by (map Emitted p.emits ++ Emitted (PrintsLine line) ∷ []) 1 ≡ outcome_shown 1 (sent after.transcript) new.kept =

@@ -13,10 +13,10 @@ use Rattle.stk_emu.specs.Device.{Device, after_frame, after_frames}
 use Rattle.stk_emu.specs.Lawful.{IsFrameBody}
 use Rattle.stk_emu.specs.Exchange.{Execution, NotExecuted, Executed, ThenRestarted, NoReply, Exchange, Disturbed, after_execution, after_exchange, reading_of_exchange, IsAuthentic}
 use Rattle.stk_emu.specs.DialogOverExchanges.{state_after, SendsValidBodies}
-use Rattle.avr_laws.specs.AnyTape.{after_sent_frames, turn_by, turns_from, turns_heard, GoesAlongExchanges, FramesByRestart, adding_received, received_frames, good_frames, after_received_bytes, ReceivedSentFrames}
+use Rattle.avr_laws.specs.AnyTape.{after_sent_frames, exchange_by, exchanges_from, exchanges_heard, GoesAlongExchanges, FramesByRestart, adding_received, received_frames, good_frames, after_received_bytes, ReceivedSentFrames}
 use Rattle.avr_tool.specs.Authentic.{first_execution, later_executions, on_reading, RepliesAreAuthentic}
 use Rattle.avr_tool.proofs.Given.LaterAnswers.{answer_extends}
-use Rattle.avr_tool.proofs.Lines.Plays.{played_along, said_played, done_played, waits_played}
+use Rattle.avr_tool.proofs.Lines.Plays.{played_along, emitted_played, done_played, waits_played}
 
 -- every authentic reading is an exchange
 abbrev IsExchangeOf : {P : Type 0} → Device P → List ℕ → P → Execution → Reading → Exchange → Type 0
@@ -28,7 +28,7 @@ not_anew : (execution : Execution) → ◌≡◌ {A = Execution} (ThenRestarted 
 not_anew execution e = cc
 
 pub authentic_exchange : {P : Type 0} (m : Device P) (bytes : List ℕ) (p : P) (execution : Execution) (reading : Reading)
-    → IsAuthentic m bytes p execution reading → IsExchangeOf m bytes p execution reading (turn_by execution reading)
+    → IsAuthentic m bytes p execution reading → IsExchangeOf m bytes p execution reading (exchange_by execution reading)
 authentic_exchange m bytes p execution reading h = search (rules, bytes_eq-Decides, not_anew)
 
 -- without a further question the programmer stays as it is
@@ -96,16 +96,16 @@ module _ {P : Type 0} (m : Device P) where
     asked : (o : Option (Reading × Tape)) → answer n tape ≡ o
         → ((reading : Reading) (left : Tape) → RepliesAreAuthentic m (go_on reading) (next n) left on_time (later_executions executions)
         → HeardAs m (go_on reading) (next n) left on_time (later_executions executions)
-        (turns_heard (go_on reading) (next n) left (later_executions executions)))
+        (exchanges_heard (go_on reading) (next n) left (later_executions executions)))
         → on_reading (λ reading left. IsAuthentic m bytes p execution reading
         × RepliesAreAuthentic m (go_on reading) (next n) left on_time (later_executions executions)) o
         → HeardAs m (Ask bytes go_on) n tape p executions
-        (turns_from execution (λ reading left. turns_heard (go_on reading) (next n) left (later_executions executions)) o)
+        (exchanges_from execution (λ reading left. exchanges_heard (go_on reading) (next n) left (later_executions executions)) o)
     asked o e each h = search (rules, waiting, authentic_exchange, by_exchange)
 
   heard_as : {E R : Type 0} (d : Dialog E R) (n : ℕ) (tape : Tape) (p : P) (executions : List Execution) → SendsValidBodies d
       → RepliesAreAuthentic m d n tape p executions
-      → HeardAs m d n tape p executions (turns_heard d n tape executions)
+      → HeardAs m d n tape p executions (exchanges_heard d n tape executions)
   heard_as (Done r) n tape p executions asks h =
       record { answered = 0; left = tape; play = refl; all = λ q seq rest o. refl; programmer = none_sent }
     where
@@ -121,7 +121,7 @@ module _ {P : Type 0} (m : Device P) where
   -- THE LAW
   pub goes_as : {E R : Type 0} (d : Dialog E R) (n : ℕ) (tape : Tape) (p : P) (executions : List Execution) → SendsValidBodies d
       → RepliesAreAuthentic m d n tape p executions → GoesAlongExchanges m d n tape p executions
-  goes_as {R = R} d n tape p executions asks h = search (rules, heard_as, said_played, done_played, waits_played)
+  goes_as {R = R} d n tape p executions asks h = search (rules, heard_as, emitted_played, done_played, waits_played)
 
 -- ---- the first readings of an authentic tape
 

@@ -17,7 +17,7 @@ use Rattle.avr_laws.specs.NoForgedFrame.{ForgesNoFrame}
 use Rattle.stk_emu.specs.Programmer.{Programmer, fresh_programmer}
 use Rattle.stk_emu.specs.Exchange.{Execution, Exchange}
 use Rattle.avr_laws.specs.Worked.{fuse_plan, forged_replies}
-use Rattle.avr_laws.specs.AnyLink.{WholeOverTurns}
+use Rattle.avr_laws.specs.AnyLink.{WholeSessionOverExchanges}
 use Rattle.avr_laws.proofs.AnyLink.{over_bytes}
 
 pub forged_run_succeeds : (played (session fuse_plan) 1 forged_replies).outcome ≡ Some (0, 8, [])
@@ -25,7 +25,7 @@ unfolding session opening handshake operation closing play attempts_or_fault att
 forged_run_succeeds = refl
 
 pub promise_void : (p q : Programmer) (exchanges : List Exchange) (bytes : List ℕ) (events : List (Event OutputEvent))
-    → (p.chip.lfuse ≡ 0xE2 → ⊥) → WholeOverTurns fuse_plan p q exchanges bytes events 0 → ⊥
+    → (p.chip.lfuse ≡ 0xE2 → ⊥) → WholeSessionOverExchanges fuse_plan p q exchanges bytes events 0 → ⊥
 promise_void p q exchanges bytes events other over = other ((over.1.comes.done refl).agrees.1.0 0 0xE2 refl (omega arith))
 
 -- So such a frame was forged: with a chip whose fuse differs, no link that forges none brings this tape.

@@ -11,8 +11,8 @@ use Rattle.avr_plan.specs.Planning.{planned}
 use Rattle.avr_laws.proofs.Plans.Fitted.{plan_fitted}
 use Rattle.avr_session.specs.Runs.{Devices}
 use Rattle.avr_session.specs.Session.{session}
-use Rattle.avr_laws.specs.AnyLink.{WholeOverTurns}
-use Rattle.avr_laws.specs.AnyTape.{ReceivedSentFrames, after_received_bytes, turns_heard}
+use Rattle.avr_laws.specs.AnyLink.{WholeSessionOverExchanges}
+use Rattle.avr_laws.specs.AnyTape.{ReceivedSentFrames, after_received_bytes, exchanges_heard}
 use Rattle.avr_tool.specs.ExpectedRun.{expected_run}
 use Rattle.avr_laws.specs.NoForgedFrame.{ForgesNoFrame}
 use Rattle.avr_laws.proofs.AnyLink.{over_bytes}
@@ -25,7 +25,7 @@ use Rattle.stk_host.specs.Dialog.{Event, Played, Emitted, prepend_events, bytes_
 use Rattle.stk_host.specs.Tape.{Tape, on_tape}
 use Rattle.stk_host.specs.Transcript.{Transcript, heard, sent}
 use Rattle.avr_tool.specs.Headline.{run_after_planning, IsRun}
-use Rattle.avr_tool.proofs.Runs.Joined.{said_bytes, said_outputs}
+use Rattle.avr_tool.proofs.Runs.Joined.{emitted_bytes, emitted_outputs}
 use Rattle.avr_laws.specs.AskedPlan.{FileGave, IsAsked}
 use Rattle.avr_laws.specs.Kept.{FilesAreSaved, Keeps, saved_files}
 use Rattle.avr_laws.specs.OnlyReading.{OnlyReads}
@@ -66,11 +66,11 @@ module _ (s : Settings) (x y : Devices) (r : IsRun s x y 0) where
     played_is = ap (λ (p : Played OutputEvent ℕ). record { events = done; outcome = p.outcome }) over_plan
 
     pub sent_is : bytes_sent done ≡ sent r.during
-    sent_is = search (rules, said_bytes, over_plan)
+    sent_is = search (rules, emitted_bytes, over_plan)
 
     outputs_are : outputs r.events ≡ (planned s r.openings).emits ++ outputs done
     outputs_are = ap (λ (p : Played OutputEvent ℕ). outputs p.events) (sym over_plan)
-        ∙ said_outputs (planned s r.openings).emits done
+        ∙ emitted_outputs (planned s r.openings).emits done
 
     only_read : OnlyReads (planned s r.openings).emits
     only_read = subst (λ (stage_outcome : StageOutcome Plan). OnlyReads (events_with_refusal (planned s r.openings).emits stage_outcome)) made_is
@@ -78,11 +78,11 @@ module _ (s : Settings) (x y : Devices) (r : IsRun s x y 0) where
 
     keeps_files : (m : Memories) → (expected_run plan m).status ≡ 0 → outputs done ≡ (expected_run plan m).emits
         → FilesAreSaved (saved_files plan m) x.desk y.desk
-    keeps_files m zero said =
+    keeps_files m zero emitted =
         these_saved ((planned s r.openings).emits ++ outputs done) (saved_files plan m) x.desk y.desk
         (both (planned s r.openings).emits (outputs done) [] (saved_files plan m)
         (reading_writes (planned s r.openings).emits only_read)
-        (subst (λ (emits : List OutputEvent). WritesFiles emits (saved_files plan m)) (sym said)
+        (subst (λ (emits : List OutputEvent). WritesFiles emits (saved_files plan m)) (sym emitted)
         (expected_writes plan m zero)))
         (subst (λ (emits : List OutputEvent). ChangesRecord (after_events emits) x.desk y.desk) outputs_are r.kept)
 
@@ -96,8 +96,8 @@ module _ (s : Settings) (x y : Devices) (r : IsRun s x y 0) where
         → ForgesNoFrame device (session plan) 1 (heard y.link.transcript) p executions []
         → Keeps plan (memories_of p.chip) (memories_of (after_received_bytes device got later p).chip) x.desk y.desk
     promise p got later executions sound part_is came none =
-        let whole : WholeOverTurns plan p (after_received_bytes device got later p)
-        (turns_heard (session plan) 1 tape executions) (sent r.during) done 0 =
+        let whole : WholeSessionOverExchanges plan p (after_received_bytes device got later p)
+        (exchanges_heard (session plan) 1 tape executions) (sent r.during) done 0 =
         over_bytes plan p sound part_is (plan_fitted s r.openings plan made_is) got (sent r.during) later executions tape
         (subst (λ (t : Transcript). ReceivedSentFrames got later (frames (sent t)) executions) same came)
         (subst (λ (t : Transcript). ForgesNoFrame device (session plan) 1 (heard t) p executions []) same none)
@@ -106,5 +106,5 @@ module _ (s : Settings) (x y : Devices) (r : IsRun s x y 0) where
         let expected = come.success refl in record {
           done = come.done refl;
           images = come.images refl;
-          saved = keeps_files (memories_of p.chip) (sym expected.status_is) expected.said;
+          saved = keeps_files (memories_of p.chip) (sym expected.status_is) expected.emitted;
         }

@@ -54,9 +54,9 @@ pub sent_due : (openings : List Opening) → bytes_sent (run worked_settings ope
 unfolding session opening handshake operation closing play attempts_or_fault attempt exchange answer
 sent_due openings = refl
 
-pub said_due : (openings : List Opening) → outputs (run worked_settings openings worked_replies).events ≡ worked_lines
+pub emitted_due : (openings : List Opening) → outputs (run worked_settings openings worked_replies).events ≡ worked_lines
 unfolding session opening handshake operation closing play attempts_or_fault attempt exchange answer
-said_due openings = refl
+emitted_due openings = refl
 
 module _ (transcript : Transcript) (a b : ℕ) (d e : DeskState) (status : ℕ) (all : heard transcript ≡ worked_replies)
     (x : IsRun worked_settings (devices (link_state [] a) d) (devices (link_state transcript b) e) status) where
@@ -77,8 +77,8 @@ module _ (transcript : Transcript) (a b : ℕ) (d e : DeskState) (status : ℕ) 
   worked_sent = ap sent (sym passed) ∙ (sym x.all_sent
       ∙ (sym (ap (λ p. bytes_sent p.events) played_over) ∙ sent_due (x.openings ++ [])))
 
-  worked_said : outputs x.events ≡ worked_lines
-  worked_said = sym (ap (λ p. outputs p.events) played_over) ∙ said_due (x.openings ++ [])
+  worked_emitted : outputs x.events ≡ worked_lines
+  worked_emitted = sym (ap (λ p. outputs p.events) played_over) ∙ emitted_due (x.openings ++ [])
 
 pub another_status : (transcript : Transcript) (a b : ℕ) (d e : DeskState) → heard transcript ≡ worked_replies
     → IsRun worked_settings (devices (link_state [] a) d) (devices (link_state transcript b) e) 1 → ⊥
@@ -98,4 +98,4 @@ pub another_line : (transcript : Transcript) (a b : ℕ) (d e : DeskState) (stat
     → heard transcript ≡ worked_replies
     → (ChangesRecord (after_events worked_lines) d e → ⊥)
     → IsRun worked_settings (devices (link_state [] a) d) (devices (link_state transcript b) e) status → ⊥
-another_line transcript a b d e status all other x = search (rules, worked_said, x.kept)
+another_line transcript a b d e status all other x = search (rules, worked_emitted, x.kept)

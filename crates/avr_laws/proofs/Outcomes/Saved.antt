@@ -21,7 +21,7 @@ use Rattle.avr_session.specs.Session.{fault_line_or, saving_output, status_of}
 use Rattle.avr_session.specs.Standing.{Standing, NoFault, Faulty, Over}
 use Rattle.stk_host.specs.declared.fault.HostFault.{HostFault}
 use Rattle.stk_emu.specs.Effect.{Memories, effects}
-use Rattle.avr_tool.specs.ExpectedRun.{Expected, action_expected, actions_expected, ending_says, expected_run, then_from}
+use Rattle.avr_tool.specs.ExpectedRun.{Expected, action_expected, actions_expected, ending_output, expected_run, then_from}
 use Rattle.avr_tool.specs.Items.{action_items}
 use Rattle.avr_laws.specs.Kept.{FilesAreSaved, action_files, actions_files, named_files, dash_output, saved_files}
 use Rattle.avr_laws.specs.OnlyReading.{OnlyReads}
@@ -97,10 +97,10 @@ saved_then file text quiet pieces =
     (saved_as (is_dash file) file text refl) (informed quiet pieces)
 
 -- of an outcome without files
-told : {A : Type 0} (part : Part) (good : A → List OutputEvent) (outcome : Result A HostFault)
+notice : {A : Type 0} (part : Part) (good : A → List OutputEvent) (outcome : Result A HostFault)
     → ((a : A) → WritesFiles (good a) []) → WritesFiles (fault_line_or part good outcome) []
-told part good (Ok a) each = each a
-told part good (Err fault) each = line _
+notice part good (Ok a) each = each a
+notice part good (Err fault) each = line _
 
 same_signature : (b : Bool) (emits : List OutputEvent) → WritesFiles emits [] → WritesFiles (if b then [] else emits) []
 same_signature true emits writes = none
@@ -111,7 +111,7 @@ module _ (part : Part) (s : Switches) where
   of_action OpenSession m = search (rules, both, informed, warned, same_signature)
   of_action EraseChip m = search (rules, informed)
   of_action (WriteImage mem image) m = search (rules, informed)
-  of_action (CompareImage mem image) m = search (rules, told, informed)
+  of_action (CompareImage mem image) m = search (rules, notice, informed)
   of_action (SaveMemory mem format file) m = search (rules, saved_then)
   of_action (SkipAction SkippedErase) m = search (rules, warned)
   of_action (SkipAction (SkippedWrite mem image)) m = search (rules, informed)
@@ -155,9 +155,9 @@ expected_writes plan m zero =
     let working = actions_expected plan.part plan.switches (actions plan) m in
     let fine : working.standing ≡ NoFault = fine_by working.standing zero in
     subst (λ (files : List Writing). WritesFiles (expected_run plan m).emits files) (append-nil (saved_files plan m))
-    (both working.emits (ending_says plan working.standing) (saved_files plan m) []
+    (both working.emits (ending_output plan working.standing) (saved_files plan m) []
     (of_actions plan.part plan.switches (actions plan) m fine)
-    (subst (λ (standing : Standing). WritesFiles (ending_says plan standing) []) (sym fine)
+    (subst (λ (standing : Standing). WritesFiles (ending_output plan standing) []) (sym fine)
     (informed plan.switches.quiet (codes "done" ∷ []))))
 
 -- ---- a whole run

@@ -87,9 +87,9 @@ module _ (Gives : GivesText) where
       → image_within LARGEST_IMAGE_FILE kind text size ≡ Ok made → IsWithin kind text size made
   within kind text size made is = search (rules, nat_tests)
 
-  within_judged : (name : Bytes) (kind : Format) (size : ℕ) (text : Bytes) (made : Image × Ending)
+  within_checked : (name : Bytes) (kind : Format) (size : ℕ) (text : Bytes) (made : Image × Ending)
       → checked_image name kind size text ≡ Ok made → IsWithin kind text size made
-  within_judged name kind size text made is =
+  within_checked name kind size text made is =
       within kind text size made (given name (image_within LARGEST_IMAGE_FILE kind text size) made is)
 
   -- ---- the plan
@@ -103,10 +103,10 @@ module _ (Gives : GivesText) where
       let first = saw_first (file_stage name LARGEST_IMAGE_FILE judge)
       (λ (g : Image × Ending). output_stage (warning_events switches name g.1) >>= λ ok. result_stage (Ok g.0))
       openings image saw in
-      let file = file_saw name LARGEST_IMAGE_FILE judge (λ text made is. (within_judged name kind size text made is).0)
+      let file = file_saw name LARGEST_IMAGE_FILE judge (λ text made is. (within_checked name kind size text made is).0)
       openings first.0 first.1.0 in
       let same : first.0.0 ≡ image = cc in
-      let is = within_judged name kind size file.0 first.0 file.1.1 in
+      let is = within_checked name kind size file.0 first.0 file.1.1 in
       (file.0, first.0.1, file.1.0, is.0, is.1 ∙ ap (λ (i : Image). Ok (i, first.0.1)) same)
 
   image : (switches : Switches) (memory : Mem) (size : ℕ) (name : Bytes) (kind : Format) (openings : List Opening)

@@ -59,8 +59,8 @@ module _ (stock : Stock) where
   settled_fixed : {A : Type 0} (result : Result A Bytes) → Sees (result_stage result) []
   settled_fixed result openings rest seen read = same_verdict result result openings rest refl
 
-  says_fixed : (emits : List OutputEvent) → Sees (output_stage emits) []
-  says_fixed emits openings rest seen read = record { stage_outcome = refl; lines = refl; openings_left = λ made is. refl }
+  output_fixed : (emits : List OutputEvent) → Sees (output_stage emits) []
+  output_fixed emits openings rest seen read = record { stage_outcome = refl; lines = refl; openings_left = λ made is. refl }
 
   onward : {A B : Type 0} (stage : Stage A) (go_on : A → Stage B) (prefix back : List Bytes) → Sees stage prefix
       → ((a : A) → Sees (go_on a) back)
@@ -135,7 +135,7 @@ module _ (stock : Stock) where
 
   plan_sees : (s : Settings) → Sees (planned s) (files_read s)
   plan_sees = whole_plan (λ A stage names. Sees {A = A} stage names) (λ A result. settled_fixed result)
-      (λ s name ending. says_fixed (warning_events s name ending))
+      (λ s name ending. output_fixed (warning_events s name ending))
       (λ name. file name LARGEST_PART_FILE (checked_parts name) (limited_parts name))
       (λ name kind size. file name LARGEST_IMAGE_FILE (checked_image name kind size) (limited_image name kind size))
       (λ A B stage go_on first back f g. onward stage go_on first back f g)

@@ -11,7 +11,7 @@ use Rattle.stk_emu.specs.Lawful.{IsFrameBody}
 use Rattle.stk_emu.specs.DialogOverExchanges.{SendsValidBodies}
 use Rattle.stk_emu.specs.Exchange.{Exchange, Execution, execution_in, after_execution, after_exchange, first_exchange, later_exchanges, IsAuthentic}
 use Rattle.stk_emu.specs.Wire.{exchanges_of_fates, executions_of_fates}
-use Rattle.avr_laws.specs.AnyTape.{turn_by, turns_from, turns_heard}
+use Rattle.avr_laws.specs.AnyTape.{exchange_by, exchanges_from, exchanges_heard}
 use Rattle.avr_tool.specs.Authentic.{first_execution, later_executions, on_reading, RepliesAreAuthentic}
 use Rattle.avr_laws.proofs.Lines.AnyTape.{authentic_exchange}
 use Rattle.avr_laws.specs.TrueReports.{ReportsTrue, EmittedTrue}
@@ -28,23 +28,23 @@ by_fates zero fates = tt
 by_fates (suc k) [] = (refl, by_fates k [])
 by_fates (suc k) (fate ∷ fates) = (refl, by_fates k fates)
 
-by_reading : (execution : Execution) (reading : Reading) → execution ≡ execution_in (turn_by execution reading)
+by_reading : (execution : Execution) (reading : Reading) → execution ≡ execution_in (exchange_by execution reading)
 by_reading execution reading = search rules
 
 by_answered : {E R : Type 0} (executions : List Execution) (go_on : Reading → Tape → Played E R)
     (more : Reading → Tape → List Exchange) (o : Option (Reading × Tape))
     → ((reading : Reading) (left : Tape)
     → ByExchanges (length (frames_in (go_on reading left).events)) (later_executions executions) (more reading left))
-    → ByExchanges (suc (length (frames_in (continue_with_reading go_on o).events))) executions (turns_from (first_execution executions) more o)
+    → ByExchanges (suc (length (frames_in (continue_with_reading go_on o).events))) executions (exchanges_from (first_execution executions) more o)
 by_answered executions go_on more o each = search (rules, by_reading)
 
 pub by_tape : {E R : Type 0} (d : Dialog E R) (n : ℕ) (tape : Tape) (executions : List Execution)
-    → ByExchanges (length (frames_in (played d n tape).events)) executions (turns_heard d n tape executions)
+    → ByExchanges (length (frames_in (played d n tape).events)) executions (exchanges_heard d n tape executions)
 by_tape (Done r) n tape executions = tt
 by_tape (Emit e d) n tape executions = by_tape d n tape executions
 by_tape (Ask bytes go_on) n tape executions =
     by_answered executions (λ reading. played (go_on reading) (next n))
-    (λ reading left. turns_heard (go_on reading) (next n) left (later_executions executions)) (answer n tape)
+    (λ reading left. exchanges_heard (go_on reading) (next n) left (later_executions executions)) (answer n tape)
     (λ reading left. by_tape (go_on reading) (next n) left (later_executions executions))
 
 module _ {P : Type 0} (m : Device P) where
@@ -67,27 +67,27 @@ module _ {P : Type 0} (m : Device P) where
       → ByExchanges (suc (length (frames_in (continue_with_reading (λ reading. played (go_on reading) (next n)) o).events))) executions
       exchanges
       → EmittedTrue m T (Frame (frame n bytes) ∷ (continue_with_reading (λ reading. played (go_on reading) (next n)) o).events) exchanges p
-  asked T bytes go_on n tape p executions exchanges None e b tells each h same = tt
-  asked T bytes go_on n tape p executions exchanges (Some (reading, left)) e b tells each h same =
+  asked T bytes go_on n tape p executions exchanges None e b is_reported each h same = tt
+  asked T bytes go_on n tape p executions exchanges (Some (reading, left)) e b is_reported each h same =
       let execution = first_execution executions in
       let q = after_execution execution (m.after bytes p) p m.reset in
       let t = authentic_exchange m bytes p execution reading h.0 in
       let inner : AlwaysTrue T (go_on reading) q =
       λ k exchanges. subst (λ r. ReportsTrue m T k (go_on reading) r exchanges) t.1
-      (subst (λ x. ReportsTrue m T k (go_on x) (after_exchange (turn_by execution reading) (m.after bytes p) p m.reset) exchanges)
-      t.0 (tells (suc k) (turn_by execution reading ∷ exchanges))) in search (rules, cond-true, frame_is_good, body_of_frame)
+      (subst (λ x. ReportsTrue m T k (go_on x) (after_exchange (exchange_by execution reading) (m.after bytes p) p m.reset) exchanges)
+      t.0 (is_reported (suc k) (exchange_by execution reading ∷ exchanges))) in search (rules, cond-true, frame_is_good, body_of_frame)
 
-  pub told_any : {E R : Type 0} (T : P → E → Type 0) (d : Dialog E R) (n : ℕ) (tape : Tape) (p : P)
+  pub reported_any : {E R : Type 0} (T : P → E → Type 0) (d : Dialog E R) (n : ℕ) (tape : Tape) (p : P)
       (executions : List Execution) (exchanges : List Exchange) → SendsValidBodies d → AlwaysTrue T d p
       → RepliesAreAuthentic m d n tape p executions → ByExchanges (length (frames_in (played d n tape).events)) executions exchanges
       → EmittedTrue m T (played d n tape).events exchanges p
-  told_any T (Done r) n tape p executions exchanges asks tells h same = tt
-  told_any T (Emit e d) n tape p executions exchanges asks tells h same =
-      ((tells 0 []).0, told_any T d n tape p executions exchanges asks (λ k exchanges. (tells k exchanges).1) h same)
-  told_any T (Ask bytes go_on) n tape p executions exchanges asks tells h same =
-      asked T bytes go_on n tape p executions exchanges (answer n tape) refl asks.0 tells
-      (λ reading left q inner honest alike. told_any T (go_on reading) (next n) left q (later_executions executions)
-      (later_exchanges exchanges) (asks.1 reading) inner honest alike) h same
+  reported_any T (Done r) n tape p executions exchanges asks is_reported h same = tt
+  reported_any T (Emit e d) n tape p executions exchanges asks is_reported h same =
+      ((is_reported 0 []).0, reported_any T d n tape p executions exchanges asks (λ k exchanges. (is_reported k exchanges).1) h same)
+  reported_any T (Ask bytes go_on) n tape p executions exchanges asks is_reported h same =
+      asked T bytes go_on n tape p executions exchanges (answer n tape) refl asks.0 is_reported
+      (λ reading left q inner is_authentic alike. reported_any T (go_on reading) (next n) left q (later_executions executions)
+      (later_exchanges exchanges) (asks.1 reading) inner is_authentic alike) h same
 
   -- so of a prefix of the events
   pub results_prefix : {E : Type 0} (T : P → E → Type 0) (x y : List (Event E)) (exchanges : List Exchange) (p : P)

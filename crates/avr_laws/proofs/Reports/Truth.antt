@@ -192,9 +192,9 @@ module _ (plan : Plan) (sound : IsPart plan.part) (m0 : Memories) (f0 : FitsPart
       session_prints_true fitted (λ m z. Settled plan.part m z.0) ⊤ (anyhow plan.part sound plan.switches) (p, exchanges)
       (on_link device (opening_comes plan.part sound plan.switches m0 f0 p idle))
 
-  pub session_tells : All (IsFitted plan.part) plan.tasks → (k : ℕ) (p : Programmer) (exchanges : List Exchange)
+  pub session_reports : All (IsFitted plan.part) plan.tasks → (k : ℕ) (p : Programmer) (exchanges : List Exchange)
       → HasMemories plan.part m0 p
       → ReportsTrue device (λ q output. IsTrueReport plan m0 (memories_of q.chip) output) k (session plan) p exchanges
-  session_tells fitted k p exchanges idle =
+  session_reports fitted k p exchanges idle =
       all_true T (AtMoment plan m0) (AtEnd plan m0 ⊤) k (session plan) (p, exchanges)
       (session_goes fitted p exchanges idle).holds

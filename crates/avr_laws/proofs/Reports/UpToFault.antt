@@ -20,7 +20,7 @@ use Rattle.avr_laws.proofs.Lines.AnyTape.{goes_as}
 use Rattle.avr_tool.proofs.OverFaultyLink.Outcomes.{session_along}
 use Rattle.avr_laws.specs.AnyTape.{GoesAlongExchanges}
 use Rattle.avr_tool.specs.Authentic.{RepliesAreAuthentic}
-use Rattle.avr_tool.specs.ExpectedRun.{Expected, then_from, ◌then◌, action_expected, actions_expected, working_expected, ending_says, expected_run}
+use Rattle.avr_tool.specs.ExpectedRun.{Expected, then_from, ◌then◌, action_expected, actions_expected, working_expected, ending_output, expected_run}
 use Rattle.avr_tool.specs.ExpectedOutput.{FirstActionsOutput, IsExpectedOutput, EndsAsExpected}
 
 module _ (plan : Plan) (sound : IsPart plan.part) (fitted : All (IsFitted plan.part) plan.tasks) (m : Memories)
@@ -39,10 +39,10 @@ module _ (plan : Plan) (sound : IsPart plan.part) (fitted : All (IsFitted plan.p
   pub foretold_on_tape : (p : Programmer) (tape : Tape) (executions : List Execution) → HasMemories plan.part m p
       → RepliesAreAuthentic device (session plan) 1 tape p executions
       → IsExpectedOutput plan m (outputs (played (session plan) 1 tape).events)
-  foretold_on_tape p tape executions idle honest = by_outcome (played (session plan) 1 tape).outcome refl
+  foretold_on_tape p tape executions idle is_authentic = by_outcome (played (session plan) 1 tape).outcome refl
     where
       goes : GoesAlongExchanges device (session plan) 1 tape p executions
-      goes = goes_as device (session plan) 1 tape p executions (session_asks plan sound fitted) honest
+      goes = goes_as device (session plan) 1 tape p executions (session_asks plan sound fitted) is_authentic
 
       by_outcome : (o : Option (ℕ × ℕ × Tape)) → (played (session plan) 1 tape).outcome ≡ o
           → IsExpectedOutput plan m (outputs (played (session plan) 1 tape).events)
@@ -80,7 +80,7 @@ pub first_prefix : (plan : Plan) (m : Memories) (emits : List OutputEvent)
     → (later : List OutputEvent) × ((expected_run plan m).emits ≡ emits ++ later)
 first_prefix plan m emits first =
     let prefix = actions_prefix plan.part plan.switches first.done first.more m first.fine in
-    let ending = ending_says plan (working_expected plan m).standing in (
+    let ending = ending_output plan (working_expected plan m).standing in (
       prefix.0 ++ ending,
       ap (λ xs. xs ++ ending) (search rules)
           ∙ append_assoc emits prefix.0 ending,

@@ -6,7 +6,7 @@ use Rattle.stk_host.specs.Dialog.{Dialog, Done, Ask}
 use Rattle.stk_emu.specs.Device.{device}
 use Rattle.stk_emu.specs.Exchange.{NotExecuted, Executed}
 use Rattle.avr_tool.specs.Authentic.{RepliesAreAuthentic}
-use Rattle.stk_emu.proofs.Rows.Answers.{start, told}
+use Rattle.stk_emu.proofs.Rows.Answers.{start, notice}
 
 -- one question, of a command that no programmer knows, whatever is read
 abbrev asks : Dialog ⊥ ℕ
@@ -18,6 +18,6 @@ unfolding answer
 forged a' = search rules
 
 -- and the programmer's own reply to a question that it didn't obey now, as a reply kept from before under the number
-pub unseen : RepliesAreAuthentic device asks 1 (on_tape (told 1)) start (NotExecuted ∷ []) → ⊥
+pub unseen : RepliesAreAuthentic device asks 1 (on_tape (notice 1)) start (NotExecuted ∷ []) → ⊥
 unfolding answer
 unseen a' = search rules

@@ -27,7 +27,7 @@ use Rattle.avr_desk.specs.Playing.{OnlyAtStart, RunsStage}
 use Rattle.avr_desk.specs.Stage.{Stage, Produced, Refused, result_stage, file_stage, ◌>>=◌}
 use Rattle.avr_plan.specs.declared.planned.Task.{Task}
 use Rattle.avr_plan.specs.declared.planned.Task.TheVariants.{Write}
-use Rattle.avr_desk.proofs.Stages.Breaks.{Begins, begins_then, begins_file, unopened, opened_is_told, TellsOne, refused_once}
+use Rattle.avr_desk.proofs.Stages.Breaks.{Begins, begins_then, begins_file, unopened, opened_is_reported, ReportsOne, refused_once}
 
 limits : (LARGEST_IMAGE_FILE ≡ 4194304) × (LARGEST_PART_FILE ≡ 65536)
 limits = (refl, refl)
@@ -70,11 +70,11 @@ begins =
     (begins_then file task (λ first. result_stage (Ok (first ∷ []))) (search (rules, begins_then, begins_file)))
 
 -- a line and a text that differ at this place
-differs : (place : ℕ) (line told : Bytes) (old new : DeskState)
-    → ((back : Bytes) → get_or (told ++ back) place 0 ≡ get_or line place 0 → ⊥) → ReportsLineAs line told old new → ⊥
-differs place line told old new apart (inl whole) =
-    apart [] (ap (λ (bytes : Bytes). get_or bytes place 0) (append-nil told ∙ whole.0))
-differs place line told old new apart (inr part) = search rules
+differs : (place : ℕ) (line notice : Bytes) (old new : DeskState)
+    → ((back : Bytes) → get_or (notice ++ back) place 0 ≡ get_or line place 0 → ⊥) → ReportsLineAs line notice old new → ⊥
+differs place line notice old new apart (inl whole) =
+    apart [] (ap (λ (bytes : Bytes). get_or bytes place 0) (append-nil notice ∙ whole.0))
+differs place line notice old new apart (inr part) = search rules
 
 -- ---- when it allocates with no file open
 
@@ -87,19 +87,19 @@ only_due u due (x ∷ y ∷ done) more is = let none : [] ≡ y ∷ (done ++ due
 abbrev mixed : Settings
 mixed = record wanted { updates = of_values ∷ of_file ∷ [] }
 
-begins_mixed : (passed : List Opening) (said : List OutputEvent) (done : List Update) (due : Update)
+begins_mixed : (passed : List Opening) (emitted : List OutputEvent) (done : List Update) (due : Update)
     (more : List Update)
     (made : Plan)
     → of_values ∷ of_file ∷ [] ≡ done ++ due ∷ more → op_allocates due due.op ≡ true
-    → planned (record mixed { updates = done }) passed ≡ record { emits = said; stage_outcome = Produced made; openings_left = [] }
-    → (passed ≡ []) × (said ≡ [])
-begins_mixed passed said [] due more made is takes planned_so = search rules
-begins_mixed passed said (x ∷ done) due more made is takes planned_so = search (rules, only_due)
+    → planned (record mixed { updates = done }) passed ≡ record { emits = emitted; stage_outcome = Produced made; openings_left = [] }
+    → (passed ≡ []) × (emitted ≡ [])
+begins_mixed passed emitted [] due more made is takes planned_so = search rules
+begins_mixed passed emitted (x ∷ done) due more made is takes planned_so = search (rules, only_due)
 
-takes_first : (passed : List Opening) (said : List OutputEvent) → AtAllocatingUpdate mixed passed said → (passed ≡ [])
-    × (said ≡ [])
-takes_first passed said at =
-    begins_mixed passed said at.done at.due at.more at.plan at.updates_are at.takes at.is_planned
+takes_first : (passed : List Opening) (emitted : List OutputEvent) → AtAllocatingUpdate mixed passed emitted → (passed ≡ [])
+    × (emitted ≡ [])
+takes_first passed emitted at =
+    begins_mixed passed emitted at.done at.due at.more at.plan at.updates_are at.takes at.is_planned
 
 -- values alone, and a part file: not before that was opened
 abbrev parted : Settings
@@ -111,48 +111,48 @@ takes_behind_parts passed at = search rules
 module _ (r : Record) (k l m n status : ℕ) where
   -- the messages grew by this, and the status is that of a refusal
   abbrev Ends : Bytes → Type 0
-  Ends told = RunsStage (AtAllocatingUpdate wanted) (planned wanted) (showing r k m) (showing (after_err told r) l n) (Err status)
+  Ends notice = RunsStage (AtAllocatingUpdate wanted) (planned wanted) (showing r k m) (showing (after_err notice r) l n) (Err status)
 
-  abbrev Told : Bytes → Type 0
-  Told told = ReportsFailureAs (not_opened_line file) told (showing r k m) (showing (after_err told r) l n)
+  abbrev ReportedAs : Bytes → Type 0
+  ReportedAs notice = ReportsFailureAs (not_opened_line file) notice (showing r k m) (showing (after_err notice r) l n)
 
-  told_by : (told : Bytes) → Ends told → Told told
-  told_by told ends = of_file_alone (unopened (AtAllocatingUpdate wanted) file told (planned wanted) begins r k l m n status ends)
+  notice_by : (notice : Bytes) → Ends notice → ReportedAs notice
+  notice_by notice ends = of_file_alone (unopened (AtAllocatingUpdate wanted) file notice (planned wanted) begins r k l m n status ends)
     where
-      of_file_alone : Told told ⊎ (ReportsLineAs memory_line told (showing r k m) (showing (after_err told r) l n)
+      of_file_alone : ReportedAs notice ⊎ (ReportsLineAs memory_line notice (showing r k m) (showing (after_err notice r) l n)
           × ((passed : List Opening) × AtAllocatingUpdate wanted passed []))
-          → Told told
+          → ReportedAs notice
       of_file_alone (inl failure) = failure
       of_file_alone (inr memory) = absurd (search (rules, only_due))
 
   -- a failed allocation, before the file was opened
   memory_first : Ends memory_line → ⊥
-  memory_first ends = search (rules, told_by)
+  memory_first ends = search (rules, notice_by)
 
   -- the line of another file, whatever failed
   another_file : Ends (not_opened_line other) → ⊥
-  another_file ends = search (rules, told_by)
+  another_file ends = search (rules, notice_by)
 
   -- a second line after its own
   second_line : Ends (not_opened_line file ++ memory_line) → ⊥
-  second_line ends = search (rules, told_by)
+  second_line ends = search (rules, notice_by)
 
   half_a_line : l ≡ k + 1 → l < 2 ^ 64 - 1 → Ends half → ⊥
-  half_a_line one few ends = search (rules, told_by)
+  half_a_line one few ends = search (rules, notice_by)
 
   -- no message, if the desk has not failed
-  told_silence : RunsStage (AtAllocatingUpdate wanted) (planned wanted) (showing r k m) (showing r l n) (Err status) → Told []
-  told_silence ends = search (rules, told_by)
+  reported_silence : RunsStage (AtAllocatingUpdate wanted) (planned wanted) (showing r k m) (showing r l n) (Err status) → ReportedAs []
+  reported_silence ends = search (rules, notice_by)
 
   silence : NoFailureCounted k l → RunsStage (AtAllocatingUpdate wanted) (planned wanted) (showing r k m) (showing r l n) (Err status) → ⊥
-  silence sound ends = search (rules, told_silence)
+  silence sound ends = search (rules, reported_silence)
 
   silence_behind_a_file : NoFailureCounted m n → RunsStage (AtAllocatingUpdate wanted) (planned wanted) (showing r k m) (showing r l n)
       (Err status) → ⊥
-  silence_behind_a_file sound ends = search (rules, told_silence)
+  silence_behind_a_file sound ends = search (rules, reported_silence)
 
   half_behind_a_file : NoFailureCounted m n → Ends half → ⊥
-  half_behind_a_file sound ends = search (rules, told_by)
+  half_behind_a_file sound ends = search (rules, notice_by)
 
   -- the line of a file that was opened, read to its end and good
   opened_well : (bytes : Bytes) (good : List (Option ℕ) × Ending) → checked_image file Ihex 32768 bytes ≡ Ok good
@@ -163,7 +163,7 @@ module _ (r : Record) (k l m n status : ℕ) where
   opened_well bytes good given ends =
       differs 15 memory_line (not_opened_line file) (showing r k m) (showing r l n)
       (λ back is. let e : ◌≡◌ {A = ℕ} 120 111 = is in omega (arith, e))
-      (search (rules, opened_is_told))
+      (search (rules, opened_is_reported))
 
 -- ---- a refusal is reported last
 
@@ -180,7 +180,7 @@ lacks openings = refl
 
 module _ (r : Record) (k l m n status : ℕ) where
   -- a failed allocation, after the line of the refusal
-  refused_twice : TellsOne refusal (refusal ++ memory_line) (planned lacking) lacks (AtAllocatingUpdate lacking) r k l m n → ⊥
+  refused_twice : ReportsOne refusal (refusal ++ memory_line) (planned lacking) lacks (AtAllocatingUpdate lacking) r k l m n → ⊥
   refused_twice x0 = search rules
 
   two_faults : RunsStage (AtAllocatingUpdate lacking) (planned lacking) (showing r k m)

@@ -27,14 +27,14 @@ abbrev pub SilentBetween : List ℕ → Tape → Type 0
 SilentBetween prefix tape = (before after : Tape) → tape ≡ before ++ Silence ∷ after
     → rest (prefix ++ bytes_on_tape before) ≡ []
 
-pub record InSlots (prefix : List ℕ) (tape : Tape) (pieces : List (List ℕ)) (unheard : List ℕ) : Type 0 where
+pub record InSlots (prefix : List ℕ) (tape : Tape) (pieces : List (List ℕ)) (unreceived : List ℕ) : Type 0 where
   pub slots : List Slot
   pub last : List ℕ
   pub more : List (List ℕ)
   pub stub : IsStub last
   pub tape_is : slots_tape slots last ≡ on_tape prefix ++ tape
   pub pieces_are : came slots ++ more ≡ pieces
-  pub complete : unheard ≡ [] → more ≡ []
+  pub complete : unreceived ≡ [] → more ≡ []
 
 -- bytes that begin with others
 begins : (x a y b : List ℕ) → length y ≤ length x → x ++ a ≡ y ++ b → x ≡ y ++ drop (length y) x
@@ -48,30 +48,30 @@ shorter : (prefix more piece later : List ℕ) → length prefix < piece_size pr
 shorter prefix more piece later part whole e = search rules
 
 -- if every byte was received, no piece is missing
-none_missing : (prefix unheard : List ℕ) (pieces : List (List ℕ)) → length prefix < piece_size prefix → AreShort pieces
-    → prefix ++ unheard ≡ concat pieces → unheard ≡ [] → pieces ≡ []
-none_missing prefix unheard [] part short e none = refl
-none_missing prefix unheard (piece ∷ pieces) part short e none = search (rules, length-append)
+none_missing : (prefix unreceived : List ℕ) (pieces : List (List ℕ)) → length prefix < piece_size prefix → AreShort pieces
+    → prefix ++ unreceived ≡ concat pieces → unreceived ≡ [] → pieces ≡ []
+none_missing prefix unreceived [] part short e none = refl
+none_missing prefix unreceived (piece ∷ pieces) part short e none = search (rules, length-append)
 
 one_more : (prefix : List ℕ) (b : ℕ) (tape : Tape)
     → on_tape (prefix ++ b ∷ []) ++ tape ≡ on_tape prefix ++ Byte b ∷ tape
 one_more prefix b tape = search (rules, on_tape_append, append_assoc)
 
-pub parted : (prefix : List ℕ) (tape : Tape) (pieces : List (List ℕ)) (unheard : List ℕ)
+pub parted : (prefix : List ℕ) (tape : Tape) (pieces : List (List ℕ)) (unreceived : List ℕ)
     → length prefix < piece_size prefix → AreShort pieces → HasNoEnd tape → SilentBetween prefix tape
-    → prefix ++ (bytes_on_tape tape ++ unheard) ≡ concat pieces → InSlots prefix tape pieces unheard
-parted prefix [] pieces unheard part short endless silent e = record {
+    → prefix ++ (bytes_on_tape tape ++ unreceived) ≡ concat pieces → InSlots prefix tape pieces unreceived
+parted prefix [] pieces unreceived part short endless silent e = record {
   slots = [];
   last = prefix;
   more = pieces;
   stub = search rules;
   tape_is = sym (append-nil (on_tape prefix));
   pieces_are = refl;
-  complete = none_missing prefix unheard pieces part short e;
+  complete = none_missing prefix unreceived pieces part short e;
 }
-parted prefix (End ∷ tape) pieces unheard part short endless silent e = absurd endless
-parted [] (Silence ∷ tape) pieces unheard part short endless silent e =
-    let inner = parted [] tape pieces unheard part short endless
+parted prefix (End ∷ tape) pieces unreceived part short endless silent e = absurd endless
+parted [] (Silence ∷ tape) pieces unreceived part short endless silent e =
+    let inner = parted [] tape pieces unreceived part short endless
     (λ before after at. silent (Silence ∷ before) after (ap (λ t. Silence ∷ t) at)) e in
     record {
       slots = Quiet ∷ inner.slots;
@@ -82,20 +82,20 @@ parted [] (Silence ∷ tape) pieces unheard part short endless silent e =
       pieces_are = inner.pieces_are;
       complete = inner.complete;
     }
-parted (b ∷ prefix) (Silence ∷ tape) pieces unheard part short endless silent e =
+parted (b ∷ prefix) (Silence ∷ tape) pieces unreceived part short endless silent e =
     absurd (cons_none b prefix (sym (sym (search (rules, rest_none, lt-leb))
     ∙ (ap rest (sym (append-nil (b ∷ prefix))) ∙ silent [] tape refl))))
-parted prefix (Byte b ∷ tape) [] unheard part short endless silent e = search (rules, length-append)
-parted prefix (Byte b ∷ tape) (piece ∷ pieces) unheard part short endless silent e =
+parted prefix (Byte b ∷ tape) [] unreceived part short endless silent e = search (rules, length-append)
+parted prefix (Byte b ∷ tape) (piece ∷ pieces) unreceived part short endless silent e =
     let now : List ℕ = prefix ++ b ∷ [] in
-    let left : List ℕ = bytes_on_tape tape ++ unheard in
+    let left : List ℕ = bytes_on_tape tape ++ unreceived in
     let whole = short.0.whole in
     let split : now ++ left ≡ piece ++ concat pieces = append_assoc prefix (b ∷ []) left ∙ e in
     let size : length now ≡ suc (length prefix) = omega (arith, length-append prefix (b ∷ [])) in
     let before_it : length prefix < length piece = shorter prefix (b ∷ left) piece (concat pieces) part whole e in
     elim (cases_lt (length now) (length piece)) [
       | inl lt ↦
-          let inner = parted now tape (piece ∷ pieces) unheard (search rules)
+          let inner = parted now tape (piece ∷ pieces) unreceived (search rules)
           short endless
           (λ before after at. ap rest (append_assoc prefix (b ∷ []) (bytes_on_tape before))
           ∙ silent (Byte b ∷ before) after (ap (λ t. Byte b ∷ t) at)) split in
@@ -117,7 +117,7 @@ parted prefix (Byte b ∷ tape) (piece ∷ pieces) unheard part short endless si
           ∙ (ap (λ z. rest (z ++ bytes_on_tape before)) (sym is)
           ∙ (ap rest (append_assoc prefix (b ∷ []) (bytes_on_tape before))
           ∙ silent (Byte b ∷ before) after (ap (λ t. Byte b ∷ t) at))) in
-          let inner = parted [] tape pieces unheard (omega arith) short.1 endless between rest_is in
+          let inner = parted [] tape pieces unreceived (omega arith) short.1 endless between rest_is in
           record {
             slots = Came piece ∷ inner.slots;
             last = inner.last;

@@ -100,13 +100,13 @@ module _ {E R : Type 0} (d : Dialog E R) (asks : SendsValidBodies d) (p left : P
 
   -- if it stalls between replies alone
   module _ (few : MissesFew 8 d) (endless : HasNoEnd (heard host)) (stalls : TimesOutBetweenReplies (heard host)) where
-    abbrev unheard : List ℕ
-    unheard = joined.down.0 ++ serves.unsent
+    abbrev unreceived : List ℕ
+    unreceived = joined.down.0 ++ serves.unsent
 
-    heard_are : bytes_on_tape (heard host) ++ unheard ≡ concat given
+    heard_are : bytes_on_tape (heard host) ++ unreceived ≡ concat given
     heard_are = search (rules, append_assoc, answers_joined, replies_fit_frames)
 
-    slots : InSlots [] (heard host) given unheard
+    slots : InSlots [] (heard host) given unreceived
     slots = search (rules, parted, answers_short, heard_are)
 
     brings : Brings device d 1 (heard host) p arrived 8 slots.more
@@ -117,7 +117,7 @@ module _ {E R : Type 0} (d : Dialog E R) (asks : SendsValidBodies d) (p left : P
     meet_authentic = in_order_authentic device replies_fit_frames d 1 (heard host) p arrived 8 slots.more brings few asks
 
     -- if all was received, the host doesn't wait
-    pub meet_ends : unheard ≡ [] → length (frames_in events) ≤ arrived → (played d 1 (heard host)).outcome ≡ None → ⊥
+    pub meet_ends : unreceived ≡ [] → length (frames_in events) ≤ arrived → (played d 1 (heard host)).outcome ≡ None → ⊥
     meet_ends none all waits =
         in_order_ends device replies_fit_frames d 1 (heard host) p arrived 8
         (subst (λ more. Brings device d 1 (heard host) p arrived 8 more) (slots.complete none) brings) few asks all

@@ -15,7 +15,7 @@ use Rattle.stk_host.specs.Steps.{exchange, Reply, Data, Again, Stop, attempt, St
 use Rattle.stk_host.specs.Operations.{handshake, opening, without_bytes, closing, checked_by, operation}
 use Rattle.avr_session.specs.Standing.{Standing, NoFault, Faulty, Over}
 use Rattle.avr_session.specs.Actions.{Action, actions}
-use Rattle.avr_session.specs.Session.{says, standing, reported, unless_fault, action_dialog, actions_dialog, ending, session_dialog, status_of, session}
+use Rattle.avr_session.specs.Session.{emits, standing, reported, unless_fault, action_dialog, actions_dialog, ending, session_dialog, status_of, session}
 use Rattle.avr_laws.proofs.TwoProcesses.InOrder.{MissesFew}
 
 -- how many more may get no reply now, and how many at the end
@@ -163,26 +163,26 @@ AfterAction k NoFault = k ≡ 8
 AfterAction k Faulty = Between 4 k
 AfterAction k Over = Between 4 k
 
-says_few : {R : Type 0} (Post : ℕ → R → Type 0) (k : ℕ) (outputs : List OutputEvent) (d : Dialog OutputEvent R)
+output_few : {R : Type 0} (Post : ℕ → R → Type 0) (k : ℕ) (outputs : List OutputEvent) (d : Dialog OutputEvent R)
     → Misses Post k d
-    → Misses Post k (says outputs d)
-says_few Post k [] d f = f
-says_few Post k (output ∷ outputs) d f = says_few Post k outputs d f
+    → Misses Post k (emits outputs d)
+output_few Post k [] d f = f
+output_few Post k (output ∷ outputs) d f = output_few Post k outputs d f
 
-reported_few : {A : Type 0} (call : Dialog ⊥ (Result A HostFault)) (tells : Result A HostFault → List OutputEvent)
-    → Misses AfterCall 8 call → Misses AfterAction 8 (reported call tells)
-reported_few call tells f =
-    bind AfterCall AfterAction 8 (lifted call) (λ outcome. says (tells outcome) (Done (standing outcome)))
+reported_few : {A : Type 0} (call : Dialog ⊥ (Result A HostFault)) (is_reported : Result A HostFault → List OutputEvent)
+    → Misses AfterCall 8 call → Misses AfterAction 8 (reported call is_reported)
+reported_few call is_reported f =
+    bind AfterCall AfterAction 8 (lifted call) (λ outcome. emits (is_reported outcome) (Done (standing outcome)))
     (lifts OutputEvent AfterCall 8 call f)
-    (λ j outcome post. says_few AfterAction j (tells outcome) (Done (standing outcome)) (search rules))
+    (λ j outcome post. output_few AfterAction j (is_reported outcome) (Done (standing outcome)) (search rules))
 
-any_reported : {A : Type 0} (k : ℕ) (call : Dialog ⊥ (Result A HostFault)) (tells : Result A HostFault
+any_reported : {A : Type 0} (k : ℕ) (call : Dialog ⊥ (Result A HostFault)) (is_reported : Result A HostFault
     → List OutputEvent)
-    → Misses Any k call → Misses Any k (reported call tells)
-any_reported k call tells f =
-    bind Any Any k (lifted call) (λ outcome. says (tells outcome) (Done (standing outcome)))
+    → Misses Any k call → Misses Any k (reported call is_reported)
+any_reported k call is_reported f =
+    bind Any Any k (lifted call) (λ outcome. emits (is_reported outcome) (Done (standing outcome)))
     (lifts OutputEvent Any k call f)
-    (λ j outcome post. says_few Any j (tells outcome) (Done (standing outcome)) tt)
+    (λ j outcome post. output_few Any j (is_reported outcome) (Done (standing outcome)) tt)
 
 module _ (part : Part) (s : Switches) where
   action_few : (action : Action) → Misses AfterAction 8 (action_dialog part s action)

@@ -48,24 +48,24 @@ calls_of (Ask bytes go_on) n p =
 
 -- at each moment what an end has received is a prefix of what the other has sent
 abbrev Joined : List ℕ → List ℕ → List ℕ → List ℕ → Type 0
-Joined said_up heard_up said_down heard_down = IsBytePrefixOf heard_up said_up × IsBytePrefixOf heard_down said_down
+Joined emitted_up heard_up emitted_down heard_down = IsBytePrefixOf heard_up emitted_up × IsBytePrefixOf heard_down emitted_down
 
 abbrev JoinedFrom : List ℕ → List ℕ → List ℕ → List ℕ → List EndCall → Type 0
-JoinedFrom said_up heard_up said_down heard_down [] = Joined said_up heard_up said_down heard_down
-JoinedFrom said_up heard_up said_down heard_down (HostSends bytes ∷ calls) =
-    Joined said_up heard_up said_down heard_down × JoinedFrom (said_up ++ bytes) heard_up said_down heard_down calls
-JoinedFrom said_up heard_up said_down heard_down (HostSendFails bytes ∷ calls) =
-    Joined said_up heard_up said_down heard_down × JoinedFrom (said_up ++ bytes) heard_up said_down heard_down calls
-JoinedFrom said_up heard_up said_down heard_down (HostReceives items ∷ calls) =
-    Joined said_up heard_up said_down heard_down
-    × JoinedFrom said_up heard_up said_down (heard_down ++ bytes_on_tape items) calls
-JoinedFrom said_up heard_up said_down heard_down (ServerSends bytes ∷ calls) =
-    Joined said_up heard_up said_down heard_down × JoinedFrom said_up heard_up (said_down ++ bytes) heard_down calls
-JoinedFrom said_up heard_up said_down heard_down (ServerSendFails bytes ∷ calls) =
-    Joined said_up heard_up said_down heard_down × JoinedFrom said_up heard_up (said_down ++ bytes) heard_down calls
-JoinedFrom said_up heard_up said_down heard_down (ServerReceives items ∷ calls) =
-    Joined said_up heard_up said_down heard_down
-    × JoinedFrom said_up (heard_up ++ bytes_on_tape items) said_down heard_down calls
+JoinedFrom emitted_up heard_up emitted_down heard_down [] = Joined emitted_up heard_up emitted_down heard_down
+JoinedFrom emitted_up heard_up emitted_down heard_down (HostSends bytes ∷ calls) =
+    Joined emitted_up heard_up emitted_down heard_down × JoinedFrom (emitted_up ++ bytes) heard_up emitted_down heard_down calls
+JoinedFrom emitted_up heard_up emitted_down heard_down (HostSendFails bytes ∷ calls) =
+    Joined emitted_up heard_up emitted_down heard_down × JoinedFrom (emitted_up ++ bytes) heard_up emitted_down heard_down calls
+JoinedFrom emitted_up heard_up emitted_down heard_down (HostReceives items ∷ calls) =
+    Joined emitted_up heard_up emitted_down heard_down
+    × JoinedFrom emitted_up heard_up emitted_down (heard_down ++ bytes_on_tape items) calls
+JoinedFrom emitted_up heard_up emitted_down heard_down (ServerSends bytes ∷ calls) =
+    Joined emitted_up heard_up emitted_down heard_down × JoinedFrom emitted_up heard_up (emitted_down ++ bytes) heard_down calls
+JoinedFrom emitted_up heard_up emitted_down heard_down (ServerSendFails bytes ∷ calls) =
+    Joined emitted_up heard_up emitted_down heard_down × JoinedFrom emitted_up heard_up (emitted_down ++ bytes) heard_down calls
+JoinedFrom emitted_up heard_up emitted_down heard_down (ServerReceives items ∷ calls) =
+    Joined emitted_up heard_up emitted_down heard_down
+    × JoinedFrom emitted_up (heard_up ++ bytes_on_tape items) emitted_down heard_down calls
 
 joined_now : (a b c d : List ℕ) (calls : List EndCall) → JoinedFrom a b c d calls → Joined a b c d
 joined_now a b c d [] j = j
@@ -228,13 +228,13 @@ host_in_turn (Ask bytes go_on) n p asks =
 -- ---- the server
 
 -- it was fed whole frames, and is as they left it
-record HasObeyed (p : Programmer) (text : List ℕ) (now : Programmer) : Type 0 where
+record HasExecuted (p : Programmer) (text : List ℕ) (now : Programmer) : Type 0 where
   whole : rest text ≡ []
   stands : now ≡ after_frames device (frames text) p
 
 -- one more frame
 module _ (p : Programmer) (text : List ℕ) (n : ℕ) (bytes : List ℕ) (body : IsFrameBody bytes) (now : Programmer)
-    (was : HasObeyed p text now) where
+    (was : HasExecuted p text now) where
   abbrev question : List ℕ
   question = frame n bytes
 
@@ -244,7 +244,7 @@ module _ (p : Programmer) (text : List ℕ) (n : ℕ) (bytes : List ℕ) (body :
       search (rules, cut_append, cut_whole, frame_is_piece) in
       grind (arith, common_steps)
 
-  fed_more : HasObeyed p (text ++ question) (device.after bytes now)
+  fed_more : HasExecuted p (text ++ question) (device.after bytes now)
   fed_more = record {
     whole = search (rules, rest_append, rest_whole, frame_is_piece);
     stands = sym (grind (arith, common_steps, one_more, after_more));
@@ -263,11 +263,11 @@ left_of (Ask bytes go_on) n p = left_of (go_on (Answered (device.answer bytes p)
 record ServesOn (p : Programmer) (text : List ℕ) (transcript : Transcript) (left : Programmer) : Type 0 where
   in_turn : RepliesInTurn p text (emulate p text) transcript
   none_taken : NoneTaken transcript
-  fed : HasObeyed p (text ++ bytes_on_tape (heard transcript)) left
+  fed : HasExecuted p (text ++ bytes_on_tape (heard transcript)) left
   answered : emulate p (text ++ bytes_on_tape (heard transcript)) ≡ emulate p text ++ sent transcript
 
 serves_on : {E R : Type 0} (d : Dialog E R) (n : ℕ) (now p : Programmer) (text : List ℕ) → SendsValidBodies d
-    → HasObeyed p text now
+    → HasExecuted p text now
     → ServesOn p text (server_transcript (calls_of d n now)) (left_of d n now)
 serves_on (Done r) n now p text asks was = search rules
 serves_on (Emit e d) n now p text asks was = serves_on d n now p text asks was
@@ -318,14 +318,14 @@ module _ (plan : Plan) (s : chips.ChipState) (file : Bytes) (asks : SendsValidBo
   whole : IsWhole (session plan) 1 host
   whole = host_plays (session plan) 1 (fresh_programmer s) asks
 
-  abbrev said_desk : DeskState
-  said_desk = showing (after_events (outputs whole.events) nothing_kept) 0 0
+  abbrev emitted_desk : DeskState
+  emitted_desk = showing (after_events (outputs whole.events) nothing_kept) 0 0
 
   abbrev saved_desk : DeskState
   saved_desk = showing (with_replaced file (chip_file left.programmer.chip) nothing_kept) 0 0
 
   runs : RanWhole (session plan) start (devices silent empty_desk)
-      (devices (record { transcript = host; failures = 0 }) said_desk)
+      (devices (record { transcript = host; failures = 0 }) emitted_desk)
       whole.result (record { next = whole.at; unread = [] })
   runs = search (rules, host_in_turn)
 
@@ -350,7 +350,7 @@ module _ (plan : Plan) (s : chips.ChipState) (file : Bytes) (asks : SendsValidBo
         serves = record {
           during = server;
           grows = refl;
-          hears = (last.0, last.1, last.2, omega arith);
+          receives_next = (last.0, last.1, last.2, omega arith);
           sends = (on (fresh_programmer s) [] fed_nothing).none_taken;
           in_turn = λ p text was. (on p text was).in_turn;
           leaves = answers_all;
@@ -358,7 +358,7 @@ module _ (plan : Plan) (s : chips.ChipState) (file : Bytes) (asks : SendsValidBo
         in_turn = (on (fresh_programmer s) [] fed_nothing).in_turn;
         leaves = answers_all (fresh_programmer s) [] fed_nothing;
         fails = refl;
-        told = refl;
+        notice = refl;
         rises = (omega arith, omega arith);
         saved = inl ((refl, (refl, refl)), refl);
         follows = (omega arith, omega arith);

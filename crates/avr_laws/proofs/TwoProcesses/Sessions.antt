@@ -23,7 +23,7 @@ use Rattle.stk_emu.specs.Settled.{HasMemories, FitsPart}
 use Rattle.avr_tool.proofs.Given.FirstSteps.{sound_idle, sound_fits}
 use Rattle.avr_tool.specs.ExpectedRun.{expected_run}
 use Rattle.avr_laws.proofs.FewBad.Sessions.{few_session_ends}
-use Rattle.avr_laws.specs.AnyTape.{after_sent_frames, turns_heard}
+use Rattle.avr_laws.specs.AnyTape.{after_sent_frames, exchanges_heard}
 use Rattle.avr_tool.specs.Authentic.{RepliesAreAuthentic}
 use Rattle.stk_emu.specs.Device.{device, after_frames}
 use Rattle.stk_emu.specs.Emulator.{emulate}
@@ -36,7 +36,7 @@ use Rattle.avr_tool.specs.Serving.{HasNoEnd, RepliesInTurn}
 use Rattle.avr_tool.specs.ServedRun.{ServesChip}
 use Rattle.avr_tool.specs.Saving.{SavesChip}
 use Rattle.avr_part.specs.ChipFile.{chip_file}
-use Rattle.avr_laws.specs.AnyLink.{ReportsOverExchanges, WholeOverTurns}
+use Rattle.avr_laws.specs.AnyLink.{ReportsOverExchanges, WholeSessionOverExchanges}
 use Rattle.avr_laws.specs.TwoProcesses.{EndCall, host_transcript, server_transcript, IsJoined, IsOrdered, HasNoTimeout, TimesOutBetweenReplies, HasServed, all_executed}
 use Rattle.avr_laws.proofs.TwoProcesses.Meeting.{meet_authentic, meet_leaves, meet_sent, meet_ends, meet_straight, has_served}
 use Rattle.avr_laws.proofs.TwoProcesses.NeverSilent.{prompt_stalls}
@@ -70,10 +70,10 @@ module _ (plan : Plan) (s : chips.ChipState) (is_sound : IsSoundChip s) (part_is
 
   module _ (host server : Transcript) (endless : HasNoEnd (heard host))
       (stalls : TimesOutBetweenReplies (heard host)) where
-    pub honest : (left : Programmer) (serves : HasServed (fresh_programmer s) server left) → IsJoined host server
+    pub is_authentic : (left : Programmer) (serves : HasServed (fresh_programmer s) server left) → IsJoined host server
         → IsBytePrefixOf (sent host) (bytes_sent (played (session plan) 1 (heard host)).events)
         → RepliesAreAuthentic device (session plan) 1 (heard host) (fresh_programmer s) (all_executed (length (frames serves.used)))
-    honest left serves joined plays = search (rules, meet_authentic, asks, session_few)
+    is_authentic left serves joined plays = search (rules, meet_authentic, asks, session_few)
 
     pub leaves : (left : Programmer) (serves : HasServed (fresh_programmer s) server left) → IsJoined host server
         → IsBytePrefixOf (sent host) (bytes_sent (played (session plan) 1 (heard host)).events)
@@ -107,21 +107,21 @@ module _ (plan : Plan) (s : chips.ChipState) (is_sound : IsSoundChip s) (part_is
     pub never_both : (host_items server_items : Tape) → InTurn (session plan) start (host ++ Got host_items ∷ [])
         → RepliesInTurn (fresh_programmer s) [] [] (server ++ Got server_items ∷ [])
         → bytes_on_tape (heard server) ≡ sent host → bytes_on_tape (heard host) ≡ sent server → ⊥
-    never_both host_items server_items host_turns server_turns up down =
+    never_both host_items server_items host_exchanges server_exchanges up down =
         search (rules, never_wait, answered_at, due_at)
 
     -- whatever happens to both
     pub touched : (left : Programmer) (serves : HasServed (fresh_programmer s) server left) → IsJoined host server
         → IsBytePrefixOf (sent host) (bytes_sent (played (session plan) 1 (heard host)).events)
         → ReportsOverExchanges plan (fresh_programmer s) left
-        (turns_heard (session plan) 1 (heard host) (all_executed (length (frames serves.used)))) (sent host)
+        (exchanges_heard (session plan) 1 (heard host) (all_executed (length (frames serves.used)))) (sent host)
         (played (session plan) 1 (heard host)).events
     touched left serves joined plays =
         let executions = all_executed (length (frames serves.used)) in
-        subst (λ q. ReportsOverExchanges plan (fresh_programmer s) q (turns_heard (session plan) 1 (heard host) executions)
+        subst (λ q. ReportsOverExchanges plan (fresh_programmer s) q (exchanges_heard (session plan) 1 (heard host) executions)
         (sent host) (played (session plan) 1 (heard host)).events)
         (meet_sent (fresh_programmer s) left host server serves joined)
-        (search (rules, over_any_end, honest))
+        (search (rules, over_any_end, is_authentic))
 
     -- a whole session
     module _ (events : List (Event OutputEvent)) (status : ℕ) (after : Progress)
@@ -134,16 +134,16 @@ module _ (plan : Plan) (s : chips.ChipState) (is_sound : IsSoundChip s) (part_is
       all_sent = ap (λ p. bytes_sent p.events) over ∙ plays.all_sent
 
       pub whole : (left : Programmer) (serves : HasServed (fresh_programmer s) server left) → IsJoined host server
-          → WholeOverTurns plan (fresh_programmer s) left
-          (turns_heard (session plan) 1 (heard host) (all_executed (length (frames serves.used)))) (sent host) events
+          → WholeSessionOverExchanges plan (fresh_programmer s) left
+          (exchanges_heard (session plan) 1 (heard host) (all_executed (length (frames serves.used)))) (sent host) events
           status
       whole left serves joined =
           let prefix : IsBytePrefixOf (sent host) (bytes_sent (played (session plan) 1 (heard host)).events) =
           ([], append-nil (sent host) ∙ sym all_sent) in
           let executions = all_executed (length (frames serves.used)) in
-          subst (λ q. WholeOverTurns plan (fresh_programmer s) q (turns_heard (session plan) 1 (heard host) executions)
+          subst (λ q. WholeSessionOverExchanges plan (fresh_programmer s) q (exchanges_heard (session plan) 1 (heard host) executions)
           (sent host) events status) (meet_sent (fresh_programmer s) left host server serves joined)
-          (search (rules, over_any_line, honest, over))
+          (search (rules, over_any_line, is_authentic, over))
 
       -- and one over a link without timeouts
       pub expected_of : (left : Programmer) → HasServed (fresh_programmer s) server left → IsJoined host server
@@ -172,14 +172,14 @@ module _ (plan : Plan) (s : chips.ChipState) (is_sound : IsSoundChip s) (part_is
       (serves : HasServed (fresh_programmer s) server left) → IsJoined host server
       → Plays (session plan) start host events status after
       → ForgesNoFrame device (session plan) 1 (heard host) (fresh_programmer s) (all_executed (length (frames serves.used))) []
-      → WholeOverTurns plan (fresh_programmer s) left
-      (turns_heard (session plan) 1 (heard host) (all_executed (length (frames serves.used)))) (sent host) events status
+      → WholeSessionOverExchanges plan (fresh_programmer s) left
+      (exchanges_heard (session plan) 1 (heard host) (all_executed (length (frames serves.used)))) (sent host) events status
   stalling left host server events status after serves joined plays made =
       let over : played (session plan) 1 (heard host)
       ≡ record { events = events; outcome = Some (status, after.next, on_tape after.unread ++ []) } =
       ap (played (session plan) 1) (sym (append-nil (heard host))) ∙ plays.plays [] in
       let executions = all_executed (length (frames serves.used)) in
-      subst (λ q. WholeOverTurns plan (fresh_programmer s) q (turns_heard (session plan) 1 (heard host) executions)
+      subst (λ q. WholeSessionOverExchanges plan (fresh_programmer s) q (exchanges_heard (session plan) 1 (heard host) executions)
       (sent host) events status) (meet_sent (fresh_programmer s) left host server serves joined)
       (search (rules, over_any_line, no_forged_frame_authentic))
 
@@ -188,7 +188,7 @@ module _ (plan : Plan) (s : chips.ChipState) (is_sound : IsSoundChip s) (part_is
       (left : Programmer) (serves : HasServed (fresh_programmer s) (server_transcript calls) left) where
     abbrev Ended : Type 0
     Ended = ReportsOverExchanges plan (fresh_programmer s) left
-        (turns_heard (session plan) 1 (heard (host_transcript calls)) (all_executed (length (frames serves.used))))
+        (exchanges_heard (session plan) 1 (heard (host_transcript calls)) (all_executed (length (frames serves.used))))
         (sent (host_transcript calls))
         (played (session plan) 1 (heard (host_transcript calls))).events
 
@@ -219,8 +219,8 @@ module _ (plan : Plan) (s : chips.ChipState) (is_sound : IsSoundChip s) (part_is
         → (ran : RanWhole (session plan) start old new status after)
         → (serves : ServesChip s file most server_old server_new served_status)
         → (served : HasServed (fresh_programmer s) (server_transcript calls) serves.left.programmer)
-        × WholeOverTurns plan (fresh_programmer s) serves.left.programmer
-        (turns_heard (session plan) 1 (heard (host_transcript calls)) (all_executed (length (frames served.used))))
+        × WholeSessionOverExchanges plan (fresh_programmer s) serves.left.programmer
+        (exchanges_heard (session plan) 1 (heard (host_transcript calls)) (all_executed (length (frames served.used))))
         (sent (host_transcript calls)) ran.events status
     one_run after ordered stalls host_old host_new server_none server_some ran serves =
         let served = served_all server_none server_some serves in (
@@ -251,7 +251,7 @@ module _ (plan : Plan) (s : chips.ChipState) (is_sound : IsSoundChip s) (part_is
         → RunsSession plan old new status → (serves : ServesChip s file most server_old server_new served_status)
         → (served : HasServed (fresh_programmer s) (server_transcript calls) serves.left.programmer)
         × ReportsOverExchanges plan (fresh_programmer s) serves.left.programmer
-        (turns_heard (session plan) 1 (heard (host_transcript calls)) (all_executed (length (frames served.used))))
+        (exchanges_heard (session plan) 1 (heard (host_transcript calls)) (all_executed (length (frames served.used))))
         (sent (host_transcript calls))
         (played (session plan) 1 (heard (host_transcript calls))).events
     any_run ordered stalls host_old host_new server_none server_some runs serves =

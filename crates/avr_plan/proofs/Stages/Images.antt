@@ -8,7 +8,7 @@ use Rattle.avr_desk.specs.declared.files.FileFault.TheVariants as file_fault
 use Rattle.avr_desk.specs.Record.{DeskState, Bytes}
 use Rattle.avr_desk.specs.OutputEvents.{ReportsLine}
 use Rattle.avr_records.specs.declared.kind.Ending.{Ending}
-use Rattle.avr_desk.proofs.Lines.Told.{follows_same}
+use Rattle.avr_desk.proofs.Lines.ReportedAs.{follows_same}
 use Rattle.avr_desk.proofs.Stages.Files.{goes_whole, went_whole, goes_file_fault, never_allocates}
 use Rattle.avr_desk.proofs.Stages.Played.{runs_then, runs_first_only, goes_unsettled, completed_then, went_settled}
 use Rattle.avr_plan.specs.declared.image_file.TheConstants.{LARGEST_IMAGE_FILE}
@@ -58,7 +58,7 @@ module _ (switches : Switches) (file : Bytes) (format : Format) (size : ℕ) whe
       runs_then (OnlyAtStart false) (OnlyAtStart false) (file_stage file LARGEST_IMAGE_FILE (checked_image file format size))
       (behind_file switches file) old mid new
       (image, ending) (Err status) (went_file file format size old mid image ending reads same)
-      (λ passed said never. absurd (never_allocates passed said never))
+      (λ passed emitted never. absurd (never_allocates passed emitted never))
       (search (rules, runs_first_only))
 
   -- a file that is no image
@@ -66,7 +66,7 @@ module _ (switches : Switches) (file : Bytes) (format : Format) (size : ℕ) whe
       → ReadsImage LARGEST_IMAGE_FILE format size file old mid (Err bad) → HasSameCounts old mid → status ≡ 1
       → ReportsLine mid new (bad_file_line file bad)
       → RunsStage (OnlyAtStart false) (file_image_stage switches file format size) old new (Err status)
-  goes_bad old mid new bad status reads same one told =
+  goes_bad old mid new bad status reads same one notice =
       let judge = checked_image file format size in
       let given : judge reads.bytes ≡ Err (bad_file_line file bad) = ap (image_or_line file) (sym reads.gives) in
       search (rules, runs_first_only, goes_whole, goes_unsettled)
@@ -82,10 +82,10 @@ module _ (switches : Switches) (file : Bytes) (format : Format) (size : ℕ) whe
       → ReadsImage LARGEST_IMAGE_FILE format size file old mid (Ok (image, ending)) → HasSameCounts old mid
       → status ≡ 1 → ReportsLine mid new memory_line
       → RunsStage (OnlyAtStart false) (file_image_stage switches file format size) old new (Err status)
-  goes_without_room old mid new image ending status reads same one told =
+  goes_without_room old mid new image ending status reads same one notice =
       goes_unread old new status
       (goes_file_fault (OnlyAtStart false) file LARGEST_IMAGE_FILE (checked_image file format size) file_fault.Memory old mid
-      new status (reads.bytes, reads.ended, reads.kept) (follows_same old mid same) same one told)
+      new status (reads.bytes, reads.ended, reads.kept) (follows_same old mid same) same one notice)
 
   -- the file gave no image
   pub goes_without_image : (old mid new : DeskState) (fault : ReadFault) (status : ℕ)
@@ -94,6 +94,6 @@ module _ (switches : Switches) (file : Bytes) (format : Format) (size : ℕ) whe
       → status ≡ 1
       → ReportsLine mid new (image_line file fault)
       → RunsStage (OnlyAtStart false) (file_image_stage switches file format size) old new (Err status)
-  goes_without_image old mid new (fault_of.File fault) status reads rose counted one told =
+  goes_without_image old mid new (fault_of.File fault) status reads rose counted one notice =
       search (rules, goes_unread, goes_file_fault)
-  goes_without_image old mid new (fault_of.Image bad) status reads rose counted one told = search (rules, goes_bad)
+  goes_without_image old mid new (fault_of.Image bad) status reads rose counted one notice = search (rules, goes_bad)

@@ -11,7 +11,7 @@ use Rattle.avr_part.specs.Part.{Part}
 use Rattle.avr_part.specs.PartFile.{NamedFault, ReadsUnlessOutOfMemory, of_file, parts_of}
 use Rattle.avr_part.specs.declared.fault.PartFault.TheVariants.{Memory}
 use Rattle.avr_desk.proofs.Stages.Files.{goes_whole, went_whole, goes_file_fault}
-use Rattle.avr_desk.proofs.Lines.Told.{follows_same}
+use Rattle.avr_desk.proofs.Lines.ReportedAs.{follows_same}
 use Rattle.avr_desk.proofs.Stages.Played.{went_settled, goes_unsettled}
 use Rattle.avr_plan.specs.declared.part_choice.TheConstants.{LARGEST_PART_FILE}
 use Rattle.avr_plan.specs.Lines.{part_file_line}
@@ -25,8 +25,8 @@ pub goes_long_parts : (file bytes : Bytes) (ended : Bool) (old mid new : DeskSta
     → status ≡ 1
     → ReportsLine mid new (too_long_line file LARGEST_PART_FILE)
     → RunsStage (OnlyAtStart false) (file_stage file LARGEST_PART_FILE (checked_parts file)) old new (Err status)
-goes_long_parts file bytes true old mid new status kept whole is same one told = cc
-goes_long_parts file bytes false old mid new status kept whole is same one told =
+goes_long_parts file bytes true old mid new status kept whole is same one notice = cc
+goes_long_parts file bytes false old mid new status kept whole is same one notice =
     let past : nat_le (length bytes) LARGEST_PART_FILE ≡ false = let more = whole.0 in grind (arith, nat_tests) in
     let given : checked_parts file bytes ≡ Err (too_long_line file LARGEST_PART_FILE) = rw past refl in
     search (rules, goes_whole, goes_unsettled)
@@ -49,12 +49,12 @@ pub goes_bad_parts : (file bytes : Bytes) (ended : Bool) (old mid new : DeskStat
     → ended ≡ true → HasSameCounts old mid
     → ReadsUnlessOutOfMemory (parts_of bytes) (Err refused) → status ≡ 1 → ReportsLine mid new (part_file_line file refused.fault)
     → RunsStage (OnlyAtStart false) (file_stage file LARGEST_PART_FILE (checked_parts file)) old new (Err status)
-goes_bad_parts file bytes false old mid new status refused kept whole is same gives one told = cc
-goes_bad_parts file bytes true old mid new status refused kept whole is same (inl gives) one told =
+goes_bad_parts file bytes false old mid new status refused kept whole is same gives one notice = cc
+goes_bad_parts file bytes true old mid new status refused kept whole is same (inl gives) one notice =
     let given : checked_parts file bytes ≡ Err (part_file_line file refused.fault) =
     (search rules) ∙ ap (parts_or_line file) (sym gives) in search (rules, goes_whole, goes_unsettled)
-goes_bad_parts file bytes true old mid new status refused kept whole is same (inr memory) one told =
+goes_bad_parts file bytes true old mid new status refused kept whole is same (inr memory) one notice =
     let memory_is : refused ≡ of_file Memory = cc in
-    let told_so = subst (λ r. ReportsLine mid new (part_file_line file r.fault)) memory_is told in
+    let reported_so = subst (λ r. ReportsLine mid new (part_file_line file r.fault)) memory_is notice in
     goes_file_fault (OnlyAtStart false) file LARGEST_PART_FILE (checked_parts file) file_fault.Memory old mid new status
-    (bytes, true, kept) (follows_same old mid same) same one told_so
+    (bytes, true, kept) (follows_same old mid same) same one reported_so

@@ -51,18 +51,18 @@ pub goes_read_only : (switches : Switches) (part : Part) (u : Update) (old new :
     → false ≡ is_writable u.memory
     → status ≡ 1 → ReportsLine old new (read_only_line u.memory)
     → RunsStage (OnlyAtStart (op_allocates u op.Write)) (write_stage switches part u) old new (Err status)
-goes_read_only switches part u old new status is one told =
+goes_read_only switches part u old new status is one notice =
     subst (λ b. RunsStage (OnlyAtStart (if b then has_immediate_values u.format else false))
     (if b then writes switches part u else result_stage (Err (read_only_line u.memory))) old new (Err status)) is
-    (runs_to_refusal (OnlyAtStart false) old new (read_only_line u.memory) status one told)
+    (runs_to_refusal (OnlyAtStart false) old new (read_only_line u.memory) status one notice)
 
 -- ---- one task after another
 
 module _ (switches : Switches) (part : Part) (tasks : List Task) (u : Update) (updates : List Update) where
   -- the update is due
-  at_first : (passed : List Opening) (said : List OutputEvent) → OnlyAtStart (op_allocates u u.op) passed said
-      → AtAllocatingTask switches part tasks (u ∷ updates) passed said
-  at_first passed said takes = record {
+  at_first : (passed : List Opening) (emitted : List OutputEvent) → OnlyAtStart (op_allocates u u.op) passed emitted
+      → AtAllocatingTask switches part tasks (u ∷ updates) passed emitted
+  at_first passed emitted takes = record {
     done = [];
     due = u;
     more = updates;
@@ -74,10 +74,10 @@ module _ (switches : Switches) (part : Part) (tasks : List Task) (u : Update) (u
 
   -- or a later update, whose task it is
   at_later : (old mid : DeskState) (task : Task) (went : StageCompleted (task_stage switches part u) old mid (Produced task))
-      (passed : List Opening) (said : List OutputEvent)
-      → AtAllocatingTask switches part (tasks ++ task ∷ []) updates passed said
-      → AtAllocatingTask switches part tasks (u ∷ updates) (went.passed ++ passed) (went.emits ++ said)
-  at_later old mid task went passed said later = record {
+      (passed : List Opening) (emitted : List OutputEvent)
+      → AtAllocatingTask switches part (tasks ++ task ∷ []) updates passed emitted
+      → AtAllocatingTask switches part tasks (u ∷ updates) (went.passed ++ passed) (went.emits ++ emitted)
+  at_later old mid task went passed emitted later = record {
     done = u ∷ later.done;
     due = later.due;
     more = later.more;

@@ -33,10 +33,10 @@ pub goes_bad_values : (switches : Switches) (memory : Mem) (size : ℕ) (text : 
     (fault : ImageFault)
     → OrOutOfMemory (Err fault) (image_of_values text size) → status ≡ 1 → ReportsLine old new (values_line memory fault)
     → RunsStage (OnlyAtStart true) (image_stage switches memory size text Immediate) old new (Err status)
-goes_bad_values switches memory size text old new status fault (inl is) one told =
+goes_bad_values switches memory size text old new status fault (inl is) one notice =
     goes_unsettled (OnlyAtStart true) (values_or_line memory (image_of_values text size)) (values_line memory fault) old new status
-    (ap (values_or_line memory) (sym is)) one told
-goes_bad_values switches memory size text old new status fault (inr refused) one told =
+    (ap (values_or_line memory) (sym is)) one notice
+goes_bad_values switches memory size text old new status fault (inr refused) one notice =
     search (rules, runs_without_memory)
 
 -- or there was no room for its task
@@ -44,4 +44,4 @@ pub goes_without_room : (switches : Switches) (memory : Mem) (size : ℕ) (text 
     (status : ℕ)
     → status ≡ 1 → ReportsLine old new memory_line
     → RunsStage (OnlyAtStart true) (image_stage switches memory size text Immediate) old new (Err status)
-goes_without_room switches memory size text old new status one told = search (rules, runs_without_memory)
+goes_without_room switches memory size text old new status one notice = search (rules, runs_without_memory)

@@ -52,9 +52,9 @@ take-again : (n : ℕ) (xs ys : List ℕ) → take n (take n xs ++ ys) ≡ take 
 take-again (suc n) (x ∷ xs) ys = ap (λ (zs : List ℕ). x ∷ zs) (take-again n xs ys)
 take-again x y ys = refl
 
-says-too_long : (kind : Kind) (line : List ℕ) → nat_lt longest (length line) ≡ true
+emits-too_long : (kind : Kind) (line : List ℕ) → nat_lt longest (length line) ≡ true
     → line_result kind line ≡ Err TooLong
-says-too_long x line is = grind (arith, nat_tests)
+emits-too_long x line is = grind (arith, nat_tests)
 
 -- the kept bytes of a line mean what the line means
 pub result-kept : (kind : Kind) (line : List ℕ) → line_result kind (kept line) ≡ line_result kind line
@@ -62,14 +62,14 @@ result-kept kind line =
     elim (cases_Bool (nat_lt longest (length line))) [
       | inl t ↦
           let len = length-take-le (longest + 1) line (grind (arith, nat_tests)) in
-          says-too_long kind (kept line) (grind (arith, nat_tests)) ∙ sym (says-too_long kind line t)
+          emits-too_long kind (kept line) (grind (arith, nat_tests)) ∙ sym (emits-too_long kind line t)
       | inr f ↦ ap (line_result kind) (take_all (longest + 1) line (grind (arith, nat_tests, f)))
     ]
 
 -- the kept bytes, continued, mean what the line continued means
-said-on : (kind : Kind) (part last rest : List ℕ) → part ≡ kept last
+emitted-on : (kind : Kind) (part last rest : List ℕ) → part ≡ kept last
     → line_result kind (part ++ rest) ≡ line_result kind (last ++ rest)
-said-on kind part last rest is =
+emitted-on kind part last rest is =
     search (rules, result-kept kind (part ++ rest), take-again (longest + 1) last rest, result-kept kind (last ++ rest))
 
 -- ---- a reader
@@ -116,7 +116,7 @@ line-step : (kind : Kind) (p : Progress) (part text rest : List ℕ) (r : ReadsL
     → next_progress p (line_result kind (r.last ++ rest)) ≡ next_progress p (line_result kind (part ++ rest))
 line-step kind p part text rest r = elim (cases_Bool p.extent.ended) [
   | inl done ↦ rw done refl
-  | inr on ↦ ap (next_progress p) (sym (said-on kind part r.last rest (r.keeps on)))
+  | inr on ↦ ap (next_progress p) (sym (emitted-on kind part r.last rest (r.keeps on)))
 ]
 
 -- a good line has ended
@@ -158,9 +158,9 @@ no_fault_so_far kind p size part text same r = search (rules, reads-sound kind p
 
 -- ---- the whole text
 
-whole-said : (kind : Kind) (text : List ℕ) (prefix : List (List ℕ)) (last : List ℕ) → lines text ≡ prefix ++ last ∷ []
+whole-emitted : (kind : Kind) (text : List ℕ) (prefix : List (List ℕ)) (last : List ℕ) → lines text ≡ prefix ++ last ∷ []
     → map (line_result kind) (lines text) ≡ map (line_result kind) prefix ++ line_result kind last ∷ []
-whole-said kind text prefix last cut = ap (map (line_result kind)) cut ∙ results-prefix kind prefix last
+whole-emitted kind text prefix last cut = ap (map (line_result kind)) cut ∙ results-prefix kind prefix last
 
 whole-next : (kind : Kind) (p new : Progress) (part text : List ℕ) (r : ReadsLines kind p part text)
     → image_size new ≡ image_size p → next_progress p (line_result kind r.last) ≡ Ok new
@@ -179,7 +179,7 @@ pub whole-bad : (kind : Kind) (p : Progress) (part text : List ℕ) (fault : Rec
     → next_progress p (line_result kind (part ++ [])) ≡ Err fault → ReadsLines kind p part text
     → image_in_text kind text (image_size p) ≡ Err fault
 whole-bad kind p part text fault is r =
-    ap (together (image_size p)) (whole-said kind text r.prefix r.last r.cut)
+    ap (together (image_size p)) (whole-emitted kind text r.prefix r.last r.cut)
     ∙ rw (holds-bad p _ [] (line_result kind r.last) fault r.holds
     (rw (append-nil r.last) at (line-step kind p part text [] r) ∙ is)) refl
 
@@ -195,10 +195,10 @@ pub whole-empty : (kind : Kind) (p : Progress) (part text : List ℕ) → part �
 whole-empty kind p part text empty r = elim (cases_Bool p.extent.ended) [
   | inl done ↦ whole-next kind p p part text r refl (rw done refl)
   | inr on ↦
-      let says : line_result kind r.last ≡ Ok Nothing =
+      let emits : line_result kind r.last ≡ Ok Nothing =
       rw (kept-nothing r.last (sym empty ∙ r.keeps on)) (result-nothing kind) in
       whole-next kind p (record p { extent = record p.extent { lines = p.extent.lines + 1 } }) part text r refl
-      (rw (says, on) refl)
+      (rw (emits, on) refl)
 ]
 
 -- ---- the pieces

@@ -21,51 +21,51 @@ use Rattle.avr_records.proofs.Readers.LaterLines.{with_lines_before-append, firs
 
 -- ---- one line after others
 
-fault-last : (size : ℕ) (said : List LineResult) (line : LineResult) → first_fault size (with_lines_before [] said) ≡ None
-    → fault_of_line size (said, line) ≡ None → first_fault size (with_lines_before [] (said ++ line ∷ [])) ≡ None
-fault-last size said line none sound = grind (arith, nat_tests, with_lines_before-append, first_fault-append)
+fault-last : (size : ℕ) (emitted : List LineResult) (line : LineResult) → first_fault size (with_lines_before [] emitted) ≡ None
+    → fault_of_line size (emitted, line) ≡ None → first_fault size (with_lines_before [] (emitted ++ line ∷ [])) ≡ None
+fault-last size emitted line none sound = grind (arith, nat_tests, with_lines_before-append, first_fault-append)
 
-end-last : (said : List LineResult) (line : LineResult)
-    → end_of_bytes (bytes_of_lines (said ++ line ∷ [])) ≡ end_after (end_of_bytes (bytes_of_lines said)) (bytes_of_line (said, line))
-end-last said line = grind (arith, nat_tests, with_lines_before-append, flat_map-append, fold-append)
+end-last : (emitted : List LineResult) (line : LineResult)
+    → end_of_bytes (bytes_of_lines (emitted ++ line ∷ [])) ≡ end_after (end_of_bytes (bytes_of_lines emitted)) (bytes_of_line (emitted, line))
+end-last emitted line = grind (arith, nat_tests, with_lines_before-append, flat_map-append, fold-append)
 
-count-last : (said : List LineResult) (line : LineResult) → count_by is_data_record (said ++ line ∷ [])
-    ≡ (if is_data_record line then count_by is_data_record said + 1 else count_by is_data_record said)
-count-last said line = grind (arith, nat_tests, sum_by-append)
+count-last : (emitted : List LineResult) (line : LineResult) → count_by is_data_record (emitted ++ line ∷ [])
+    ≡ (if is_data_record line then count_by is_data_record emitted + 1 else count_by is_data_record emitted)
+count-last emitted line = grind (arith, nat_tests, sum_by-append)
 
-any_end-last : (said : List LineResult) (line : LineResult)
-    → (if is_end_record line then true else list_any is_end_record said) ≡ list_any is_end_record (said ++ line ∷ [])
-any_end-last said line = grind (arith, nat_tests, list_any-append)
+any_end-last : (emitted : List LineResult) (line : LineResult)
+    → (if is_end_record line then true else list_any is_end_record emitted) ≡ list_any is_end_record (emitted ++ line ∷ [])
+any_end-last emitted line = grind (arith, nat_tests, list_any-append)
 
 -- ---- one more line
 
-extent-bad : (size : ℕ) (e : Extent) (said more : List LineResult) (line : LineResult) (fault : RecordFault)
-    → IsExtentOf size e said
-    → next_extent size e line ≡ Err fault → first_fault size (with_lines_before [] (said ++ line ∷ more)) ≡ Some fault
-extent-bad size e said more line fault m is = grind (arith, nat_tests, with_lines_before-append, first_fault-append)
+extent-bad : (size : ℕ) (e : Extent) (emitted more : List LineResult) (line : LineResult) (fault : RecordFault)
+    → IsExtentOf size e emitted
+    → next_extent size e line ≡ Err fault → first_fault size (with_lines_before [] (emitted ++ line ∷ more)) ≡ Some fault
+extent-bad size e emitted more line fault m is = grind (arith, nat_tests, with_lines_before-append, first_fault-append)
 
 -- ---- up to an end record
 
-upto-last : (said : List LineResult) (line : LineResult) → list_any is_end_record (up_to_end said) ≡ false
-    → up_to_end (said ++ line ∷ []) ≡ up_to_end said ++ line ∷ []
-upto-last said line none = grind (arith, nat_tests, up_to_end-open)
+upto-last : (emitted : List LineResult) (line : LineResult) → list_any is_end_record (up_to_end emitted) ≡ false
+    → up_to_end (emitted ++ line ∷ []) ≡ up_to_end emitted ++ line ∷ []
+upto-last emitted line none = grind (arith, nat_tests, up_to_end-open)
 
-pub counts-next : (size : ℕ) (e new : Extent) (said : List LineResult) (line : LineResult) → e.ended ≡ false
-    → IsExtentOf size e (up_to_end said) → next_extent size e line ≡ Ok new
-    → IsExtentOf size new (up_to_end (said ++ line ∷ []))
-counts-next size e new said line on m is =
+pub counts-next : (size : ℕ) (e new : Extent) (emitted : List LineResult) (line : LineResult) → e.ended ≡ false
+    → IsExtentOf size e (up_to_end emitted) → next_extent size e line ≡ Ok new
+    → IsExtentOf size new (up_to_end (emitted ++ line ∷ []))
+counts-next size e new emitted line on m is =
     search (rules, upto-last, fault-last, end-last, fold-append, count-last, length-append, any_end-last)
 
 -- nothing after an end record counts
-pub counts-more : (size : ℕ) (e : Extent) (said more : List LineResult) → e.ended ≡ true → IsExtentOf size e (up_to_end said)
-    → IsExtentOf size e (up_to_end (said ++ more))
-counts-more size e said more done m = grind (arith, nat_tests, up_to_end-done)
+pub counts-more : (size : ℕ) (e : Extent) (emitted more : List LineResult) → e.ended ≡ true → IsExtentOf size e (up_to_end emitted)
+    → IsExtentOf size e (up_to_end (emitted ++ more))
+counts-more size e emitted more done m = grind (arith, nat_tests, up_to_end-done)
 
 -- the first line with a fault decides, whatever follows it
-pub counts-bad : (size : ℕ) (e : Extent) (said more : List LineResult) (line : LineResult) (fault : RecordFault) → e.ended ≡ false
-    → IsExtentOf size e (up_to_end said) → next_extent size e line ≡ Err fault
-    → first_fault_among size (said ++ line ∷ more) ≡ Some fault
-counts-bad size e said more line fault on m is = grind (arith, nat_tests, up_to_end-open, extent-bad)
+pub counts-bad : (size : ℕ) (e : Extent) (emitted more : List LineResult) (line : LineResult) (fault : RecordFault) → e.ended ≡ false
+    → IsExtentOf size e (up_to_end emitted) → next_extent size e line ≡ Err fault
+    → first_fault_among size (emitted ++ line ∷ more) ≡ Some fault
+counts-bad size e emitted more line fault on m is = grind (arith, nat_tests, up_to_end-open, extent-bad)
 
 -- ---- with the image
 
@@ -77,17 +77,17 @@ with-good : (p new : Progress) (line : LineResult) (step : Result Extent RecordF
     → (step ≡ Ok new.extent) × (new.image ≡ with_bytes_at p.image (bytes_under_base p.extent.base line))
 with-good p new line step is = search (rules, nat_tests)
 
-pub holds-more : (p : Progress) (said more : List LineResult) → p.extent.ended ≡ true → HoldsLines p said → HoldsLines p (said ++ more)
-holds-more p said more done h = grind (arith, nat_tests, up_to_end-done)
+pub holds-more : (p : Progress) (emitted more : List LineResult) → p.extent.ended ≡ true → HoldsLines p emitted → HoldsLines p (emitted ++ more)
+holds-more p emitted more done h = grind (arith, nat_tests, up_to_end-done)
 
-holds-on : (p new : Progress) (said : List LineResult) (line : LineResult) → p.extent.ended ≡ false → HoldsLines p said
-    → next_progress p line ≡ Ok new → HoldsLines new (said ++ line ∷ [])
-holds-on p new said line on h is =
+holds-on : (p new : Progress) (emitted : List LineResult) (line : LineResult) → p.extent.ended ≡ false → HoldsLines p emitted
+    → next_progress p line ≡ Ok new → HoldsLines new (emitted ++ line ∷ [])
+holds-on p new emitted line on h is =
     let parts = with-good p new line (next_extent (image_size p) p.extent line)
     (sym (cond-false p.extent.ended _ _ on) ∙ is) in
     let size : image_size new ≡ image_size p =
     ap length parts.1 ∙ length-with_bytes_at (bytes_under_base p.extent.base line) p.image in
-    let extent = counts-next (image_size p) p.extent new.extent said line on h.extent parts.0 in
+    let extent = counts-next (image_size p) p.extent new.extent emitted line on h.extent parts.0 in
     search (rules, nat_tests, upto-last, with_lines_before-append, flat_map-append, fold-append)
 
 done-step : (p : Progress) (line : LineResult) (out : Result Progress RecordFault) → p.extent.ended ≡ true
@@ -95,21 +95,21 @@ done-step : (p : Progress) (line : LineResult) (out : Result Progress RecordFaul
 done-step p line out done is = sym (cond-true p.extent.ended (Ok p) _ done) ∙ is
 
 -- a good line changes the state as the definitions say
-pub holds-next : (p new : Progress) (said : List LineResult) (line : LineResult) → HoldsLines p said → next_progress p line ≡ Ok new
-    → HoldsLines new (said ++ line ∷ [])
-holds-next p new said line h is = elim (cases_Bool p.extent.ended) [
+pub holds-next : (p new : Progress) (emitted : List LineResult) (line : LineResult) → HoldsLines p emitted → next_progress p line ≡ Ok new
+    → HoldsLines new (emitted ++ line ∷ [])
+holds-next p new emitted line h is = elim (cases_Bool p.extent.ended) [
   | inl done ↦
       let same : p ≡ new = cc (done-step p line (Ok new) done is) in
-      subst (λ (q : Progress). HoldsLines q (said ++ line ∷ [])) same (holds-more p said (line ∷ []) done h)
-  | inr on ↦ holds-on p new said line on h is
+      subst (λ (q : Progress). HoldsLines q (emitted ++ line ∷ [])) same (holds-more p emitted (line ∷ []) done h)
+  | inr on ↦ holds-on p new emitted line on h is
 ]
 
 -- its fault is the fault of the file
-pub holds-bad : (p : Progress) (said more : List LineResult) (line : LineResult) (fault : RecordFault) → HoldsLines p said
-    → next_progress p line ≡ Err fault → first_fault_among (image_size p) (said ++ line ∷ more) ≡ Some fault
-holds-bad p said more line fault h is = grind (arith, nat_tests, counts-bad)
+pub holds-bad : (p : Progress) (emitted more : List LineResult) (line : LineResult) (fault : RecordFault) → HoldsLines p emitted
+    → next_progress p line ≡ Err fault → first_fault_among (image_size p) (emitted ++ line ∷ more) ≡ Some fault
+holds-bad p emitted more line fault h is = grind (arith, nat_tests, counts-bad)
 
 -- a file of such lines has this image and ending
-pub together-holds : (p : Progress) (said : List LineResult) → HoldsLines p said
-    → together (image_size p) said ≡ Ok (p.image, ending_of p.extent)
-together-holds p said h = grind (arith, nat_tests, up_to_end-any)
+pub together-holds : (p : Progress) (emitted : List LineResult) → HoldsLines p emitted
+    → together (image_size p) emitted ≡ Ok (p.image, ending_of p.extent)
+together-holds p emitted h = grind (arith, nat_tests, up_to_end-any)

@@ -40,9 +40,9 @@ fields-summed : (type offset : ℕ) (bytes : List ℕ) → offset < 65536
     → ihex_from_fields (with_sum_checksum (unsummed type offset bytes)) ≡ typed_ihex type offset bytes
 fields-summed type offset bytes below = grind (arith, common_steps, nat_tests)
 
-says-line : (type offset : ℕ) (bytes : List ℕ) → type < 256 → offset < 65536 → length bytes ≤ 32 → IsBytes bytes
+emits-line : (type offset : ℕ) (bytes : List ℕ) → type < 256 → offset < 65536 → length bytes ≤ 32 → IsBytes bytes
     → line_result Ihex (line_of type offset bytes) ≡ record_meaning Ihex (typed_ihex type offset bytes)
-says-line type offset bytes known below short all =
+emits-line type offset bytes known below short all =
     let prefix : List ℕ = unsummed type offset bytes in
     let check : ℕ = (256 - sum prefix % 256) % 256 in
     let width : length (line_of type offset bytes) ≤ 600 =
@@ -54,18 +54,18 @@ typed-upper : (upper : ℕ) → upper < 65536
 typed-upper upper below = ap (λ (n : ℕ). Ok (Rebase (Linear n))) (omega arith)
 
 -- what the record before a row means, if the upper 16 bits change there
-abbrev upper_said : ℕ → ℕ → List LineResult
-upper_said old new = if new == old then [] else Ok (Rebase (Linear new)) ∷ []
+abbrev upper_emitted : ℕ → ℕ → List LineResult
+upper_emitted old new = if new == old then [] else Ok (Rebase (Linear new)) ∷ []
 
 -- what the lines of the rows mean while these upper 16 bits are in force
 abbrev pub row_results : ℕ → List (ℕ × List ℕ) → List LineResult
 row_results upper [] = []
-row_results upper (row ∷ rows) = upper_said upper (row.0 / 65536) ++ Ok (Data (row.0 % 65536) row.1)
+row_results upper (row ∷ rows) = upper_emitted upper (row.0 / 65536) ++ Ok (Data (row.0 % 65536) row.1)
     ∷ row_results (row.0 / 65536) rows
 
 upper-lines : (old new : ℕ) (rest : List ℕ) → new < 65536
     → map (line_result Ihex) (lines (upper_record old new ++ rest))
-    ≡ upper_said old new ++ map (line_result Ihex) (lines rest)
+    ≡ upper_emitted old new ++ map (line_result Ihex) (lines rest)
 upper-lines old new rest below =
     elim (cases_eq new old) [
       | inl same ↦ let test : (new == old) ≡ true = grind (arith, nat_tests) in rw test refl
@@ -74,18 +74,18 @@ upper-lines old new rest below =
           let bytes = IsBytes-cons (new / 256 % 256) ((new % 256) ∷ []) (omega arith)
           (IsBytes-cons (new % 256) [] (omega arith) IsBytes-nil) in
           let plain = plain-line 4 0 (two_bytes new) (omega arith) (omega arith) bytes in
-          let said : line_result Ihex (line_of 4 0 (two_bytes new)) ≡ Ok (Rebase (Linear new)) =
-          says-line 4 0 (two_bytes new) (omega arith) (omega arith) (omega arith) bytes ∙ typed-upper new below in
+          let emitted : line_result Ihex (line_of 4 0 (two_bytes new)) ≡ Ok (Rebase (Linear new)) =
+          emits-line 4 0 (two_bytes new) (omega arith) (omega arith) (omega arith) bytes ∙ typed-upper new below in
           search (rules, lines-written)
     ]
 
 -- the lines of the text mean the rows and the end
 pub lines-results : (upper end : ℕ) (rows : List (ℕ × List ℕ)) → end ≤ 2 ^ 32 → Every (IsRow ihex_row_size end) rows
     → map (line_result Ihex) (lines (ihex_rows upper rows)) ≡ row_results upper rows ++ Ok End ∷ Ok Nothing ∷ []
-lines-results upper end [] fits all = search (rules, plain-line, lines-plain, says-line)
+lines-results upper end [] fits all = search (rules, plain-line, lines-plain, emits-line)
 lines-results upper end (row ∷ rows) fits all =
     let high : ℕ = row.0 / 65536 in
-    search (rules, plain-line, says-line, append_assoc, upper-lines, lines-written, lines-results high end rows fits all.1)
+    search (rules, plain-line, emits-line, append_assoc, upper-lines, lines-written, lines-results high end rows fits all.1)
 
 pub rows-go_on : (upper : ℕ) (cut : List (ℕ × List ℕ)) → AllGoOn (row_results upper cut)
 rows-go_on upper [] = tt

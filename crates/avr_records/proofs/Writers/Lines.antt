@@ -43,14 +43,14 @@ trimmed-plain : (line : List ℕ) → list_all is_plain line ≡ true → trimme
 trimmed-plain line plain =
     let all = AllPass-from_list_all is_plain line plain in search (rules, suffix_len_is, take_all)
 
-says-bare : (kind : Kind) (line : List ℕ) → line_result kind line ≡ unless_long (trimmed_line_result kind) line
-says-bare x line = grind (arith, nat_tests)
+emits-bare : (kind : Kind) (line : List ℕ) → line_result kind line ≡ unless_long (trimmed_line_result kind) line
+emits-bare x line = grind (arith, nat_tests)
 
 -- a line that isn't too long means what its record means
 pub result-plain : (kind : Kind) (c : ℕ) (cs : List ℕ) → list_all is_plain (c ∷ cs) ≡ true
     → length (c ∷ cs) ≤ 600 → line_result kind (c ∷ cs) ≡ record_meaning kind (trimmed_line_record kind (c ∷ cs))
 result-plain kind c cs plain short =
-    let bare : line_result kind (c ∷ cs) ≡ unless_long (trimmed_line_result kind) (c ∷ cs) = says-bare kind (c ∷ cs) in
+    let bare : line_result kind (c ∷ cs) ≡ unless_long (trimmed_line_result kind) (c ∷ cs) = emits-bare kind (c ∷ cs) in
     let test : nat_lt longest (length (c ∷ cs)) ≡ false = grind (arith, nat_tests) in
     bare
     ∙ ap (λ (long : Bool). if long then Err TooLong else trimmed_line_result kind (trimmed_line (c ∷ cs))) test

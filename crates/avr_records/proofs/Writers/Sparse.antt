@@ -137,7 +137,7 @@ reads-back Srec image more fits bytes =
     let last : ℕ = last_held 0 0 image in
     ap (together size) (srec.lines-results (address_size last) (last + 1) cut
     (omega (arith, srec.wide_enough last (last-below image fits))) (rows-are Srec image bytes))
-    ∙ together-laid size (image ++ empty more) (flat_map places_of (runs 0 image)) (map srec.said_of cut)
+    ∙ together-laid size (image ++ empty more) (flat_map places_of (runs 0 image)) (map srec.emitted_of cut)
     (Ok Nothing ∷ []) (srec.rows-go_on cut)
     (srec.rows-threaded cut ∙ rows_of-hold (row_size Srec) (runs 0 image) (wide_row Srec))
     (first_outside-image image more) (laid-padded image more)

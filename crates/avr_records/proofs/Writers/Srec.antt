@@ -53,9 +53,9 @@ fields-counted : (type : ℕ) (body : List ℕ)
     → srec_from_fields type (with_count_and_checksum body) ≡ typed_srec type body
 fields-counted type body = grind (arith, common_steps, nat_tests)
 
-says-line : (type : ℕ) (body : List ℕ) → type ≤ 9 → length body ≤ 36 → IsBytes body
+emits-line : (type : ℕ) (body : List ℕ) → type ≤ 9 → length body ≤ 36 → IsBytes body
     → line_result Srec (line_of type body) ≡ record_meaning Srec (typed_srec (48 + type) body)
-says-line type body digit short all =
+emits-line type body digit short all =
     let width : length (line_of type body) ≤ 600 =
     search (rules, length-encode_with, length-append) in
     let mark : is_ascii_digit (48 + type) ≡ true = grind (arith, nat_tests) in
@@ -85,20 +85,20 @@ meant-data : (size : AddressSize) (addr : ℕ) (row : List ℕ)
 meant-data x addr row = grind (arith, nat_tests)
 
 -- what the line of a row means
-abbrev pub said_of : ℕ × List ℕ → LineResult
-said_of row = Ok (Data row.0 row.1)
+abbrev pub emitted_of : ℕ × List ℕ → LineResult
+emitted_of row = Ok (Data row.0 row.1)
 
 -- the lines of the text mean the rows and the end
 pub lines-results : (size : AddressSize) (end : ℕ) (rows : List (ℕ × List ℕ)) → end ≤ 256 ^ width_of size
     → Every (IsRow (λ _. 32) end) rows
-    → map (line_result Srec) (lines (srec_rows size rows)) ≡ map said_of rows ++ Ok End ∷ Ok Nothing ∷ []
+    → map (line_result Srec) (lines (srec_rows size rows)) ≡ map emitted_of rows ++ Ok End ∷ Ok Nothing ∷ []
 lines-results size end [] fits all =
     let few = few_bytes size in
     let body : List ℕ = low_bytes (width_of size) 0 in
     let len = length_low_bytes (width_of size) 0 in
     let bytes = IsBytes-low_bytes (width_of size) 0 in
     let plain = plain-line (11 - width_of size) body (omega (arith, few.0)) (omega (arith, len, few.1)) bytes in
-    search (rules, lines-plain, says-line)
+    search (rules, lines-plain, emits-line)
 lines-results size end ((addr, row) ∷ rows) fits all =
     let few = few_bytes size in
     let is = all.0 in
@@ -112,17 +112,17 @@ lines-results size end ((addr, row) ∷ rows) fits all =
     let low : addr < 256 ^ width_of size = omega (arith, fits, is.some, is.below) in
     let digit : type ≤ 9 = omega (arith, few.1) in
     let plain = plain-line type body digit short bytes in
-    let said : line_result Srec (line_of type body) ≡ said_of (addr, row) =
-    says-line type body digit short bytes
+    let emitted : line_result Srec (line_of type body) ≡ emitted_of (addr, row) =
+    emits-line type body digit short bytes
     ∙ ap (record_meaning Srec) (typed-data size body ∙ addressed-low type (width_of size) addr row low)
     ∙ meant-data size addr row in search (rules, lines-written, lines-results size end rows fits all.1)
 
-pub rows-go_on : (rows : List (ℕ × List ℕ)) → AllGoOn (map said_of rows)
+pub rows-go_on : (rows : List (ℕ × List ℕ)) → AllGoOn (map emitted_of rows)
 rows-go_on [] = tt
 rows-go_on (row ∷ rows) = (tt, rows-go_on rows)
 
 pub rows-threaded : (rows : List (ℕ × List ℕ))
-    → threaded (Linear 0) (then_end (map said_of rows)) ≡ flat_map places_of rows
+    → threaded (Linear 0) (then_end (map emitted_of rows)) ≡ flat_map places_of rows
 rows-threaded [] = refl
 rows-threaded (row ∷ rows) = grind (arith, nat_tests, rows-threaded rows, places-linear)
 

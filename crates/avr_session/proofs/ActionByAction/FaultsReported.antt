@@ -19,7 +19,7 @@ use Rattle.avr_session.specs.Lines.{fault_line}
 use Rattle.avr_session.specs.Performing.{has_fault}
 use Rattle.avr_session.specs.Runs.{Devices, Cause, SendingFailed, reports_fault, RanWhole, StopsAt}
 use Rattle.avr_session.specs.Reporting.{OutputsPrefix}
-use Rattle.avr_session.specs.Session.{says, standing, reported, unless_fault, opening_output, bytes_output, read_output, skipped_output, action_dialog, actions_dialog}
+use Rattle.avr_session.specs.Session.{emits, standing, reported, unless_fault, opening_output, bytes_output, read_output, skipped_output, action_dialog, actions_dialog}
 use Rattle.avr_session.proofs.Runs.Stops.{outputs_by}
 
 -- ---- along every path of a dialog
@@ -27,39 +27,39 @@ use Rattle.avr_session.proofs.Runs.Stops.{outputs_by}
 -- whatever is read, this holds of the whole output and the result
 abbrev pub Along : {R : Type 0} → (List OutputEvent → R → Type 0) → Dialog OutputEvent R → Type 0
 Along P (Done r) = P [] r
-Along P (Emit e dialog) = Along (λ said r. P (e ∷ said) r) dialog
+Along P (Emit e dialog) = Along (λ emitted r. P (e ∷ emitted) r) dialog
 Along {R = R} P (Ask body answered) = (reading : Reading) → Along P (answered reading)
 
 pub along_bind : {A R : Type 0} (P : List OutputEvent → A → Type 0) (Q : List OutputEvent → R
     → Type 0) (dialog : Dialog OutputEvent A)
     (go_on : A → Dialog OutputEvent R)
-    → Along P dialog → ((said : List OutputEvent) (a : A) → P said a → Along (λ more r. Q (said ++ more) r) (go_on a))
+    → Along P dialog → ((emitted : List OutputEvent) (a : A) → P emitted a → Along (λ more r. Q (emitted ++ more) r) (go_on a))
     → Along Q (dialog >>= go_on)
 along_bind P Q (Done a) go_on f g = g [] a f
 along_bind P Q (Emit e dialog) go_on f g =
-    along_bind (λ said a. P (e ∷ said) a) (λ said r. Q (e ∷ said) r) dialog go_on f (λ said a p. g (e ∷ said) a p)
+    along_bind (λ emitted a. P (e ∷ emitted) a) (λ emitted r. Q (e ∷ emitted) r) dialog go_on f (λ emitted a p. g (e ∷ emitted) a p)
 along_bind P Q (Ask body answered) go_on f g = λ reading. along_bind P Q (answered reading) go_on (f reading) g
 
-pub along_lifted : {R : Type 0} (dialog : Dialog ⊥ R) → Along (λ said r. said ≡ []) (lifted dialog)
+pub along_lifted : {R : Type 0} (dialog : Dialog ⊥ R) → Along (λ emitted r. emitted ≡ []) (lifted dialog)
 along_lifted (Done r) = refl
 along_lifted (Emit e dialog) = absurd e
 along_lifted (Ask body answered) = λ reading. along_lifted (answered reading)
 
-pub along_says : {R : Type 0} (Q : List OutputEvent → R
+pub along_output : {R : Type 0} (Q : List OutputEvent → R
     → Type 0) (xs : List OutputEvent) (dialog : Dialog OutputEvent R)
-    → Along (λ more r. Q (xs ++ more) r) dialog → Along Q (says xs dialog)
-along_says Q [] dialog f = f
-along_says Q (x ∷ xs) dialog f = along_says (λ said r. Q (x ∷ said) r) xs dialog f
+    → Along (λ more r. Q (xs ++ more) r) dialog → Along Q (emits xs dialog)
+along_output Q [] dialog f = f
+along_output Q (x ∷ xs) dialog f = along_output (λ emitted r. Q (x ∷ emitted) r) xs dialog f
 
 -- a run follows one of the paths
 abbrev Ends : {R : Type 0} → (List OutputEvent → R → Type 0) → List OutputEvent → Option (R × ℕ × Tape) → Type 0
-Ends P said None = Unit {0}
-Ends P said (Some x) = P said x.0
+Ends P emitted None = Unit {0}
+Ends P emitted (Some x) = P emitted x.0
 
 along_play : {R : Type 0} (P : List OutputEvent → R → Type 0) (dialog : Dialog OutputEvent R) (seq : ℕ) (tape : Tape)
     → Along P dialog → Ends P (outputs (played dialog seq tape).events) (played dialog seq tape).outcome
 along_play P (Done r) seq tape f = f
-along_play P (Emit e dialog) seq tape f = search (rules, along_play (λ said r. P (e ∷ said) r) dialog seq tape f)
+along_play P (Emit e dialog) seq tape f = search (rules, along_play (λ emitted r. P (e ∷ emitted) r) dialog seq tape f)
 along_play {R = R} P (Ask body answered) seq tape f =
     elim (answer seq tape) as (λ o. Ends P (outputs (continue_with_reading (λ r. played (answered r) (next seq)) o).events)
     (continue_with_reading (λ r. played (answered r) (next seq)) o).outcome) [
@@ -70,7 +70,7 @@ along_play {R = R} P (Ask body answered) seq tape f =
 -- ---- the state of a session
 
 abbrev pub FaultAsInState : List OutputEvent → Standing → Type 0
-FaultAsInState said standing = reports_fault said ≡ has_fault standing
+FaultAsInState emitted standing = reports_fault emitted ≡ has_fault standing
 
 abbrev pub Foretells : Dialog OutputEvent Standing → Type 0
 Foretells dialog = Along FaultAsInState dialog
@@ -86,23 +86,23 @@ pub foretells_then : (first more : Dialog OutputEvent Standing) → Foretells fi
 foretells_then first more f g = search (rules, along_bind, list_any-append, append-nil)
 
 foretells_reported : {A : Type 0} (operation : Dialog ⊥ (Result A HostFault))
-    (outcome_says : Result A HostFault → List OutputEvent)
-    → ((outcome : Result A HostFault) → reports_fault (outcome_says outcome) ≡ has_fault (standing outcome))
-    → Foretells (reported operation outcome_says)
-foretells_reported operation outcome_says f =
-    along_bind (λ said outcome. said ≡ []) FaultAsInState (lifted operation)
-    (λ outcome. says (outcome_says outcome) (Done (standing outcome))) (along_lifted operation) λ said outcome none.
-    along_says (λ more after. FaultAsInState (said ++ more) after) (outcome_says outcome) (Done (standing outcome))
+    (outcome_output : Result A HostFault → List OutputEvent)
+    → ((outcome : Result A HostFault) → reports_fault (outcome_output outcome) ≡ has_fault (standing outcome))
+    → Foretells (reported operation outcome_output)
+foretells_reported operation outcome_output f =
+    along_bind (λ emitted outcome. emitted ≡ []) FaultAsInState (lifted operation)
+    (λ outcome. emits (outcome_output outcome) (Done (standing outcome))) (along_lifted operation) λ emitted outcome none.
+    along_output (λ more after. FaultAsInState (emitted ++ more) after) (outcome_output outcome) (Done (standing outcome))
     (search rules)
 
-foretells_says : (outputs : List OutputEvent) → reports_fault outputs ≡ false → Foretells (says outputs (Done NoFault))
-foretells_says outputs f = along_says FaultAsInState outputs (Done NoFault) (ap reports_fault (append-nil outputs) ∙ f)
+foretells_output : (outputs : List OutputEvent) → reports_fault outputs ≡ false → Foretells (emits outputs (Done NoFault))
+foretells_output outputs f = along_output FaultAsInState outputs (Done NoFault) (ap reports_fault (append-nil outputs) ∙ f)
 
 -- ---- lines that report no fault, and those that do
 
-fault_tells : (part : Part) (fault : HostFault) → reports_fault (PrintsLine (fault_line part fault) ∷ []) ≡ true
+fault_reports : (part : Part) (fault : HostFault) → reports_fault (PrintsLine (fault_line part fault) ∷ []) ≡ true
 unfolding fault_line
-fault_tells part fault = refl
+fault_reports part fault = refl
 
 bytes_none : (quiet : ℕ) (mem : Mem) (count : ℕ) (done : Bytes) → reports_fault (bytes_output quiet mem count done) ≡ false
 bytes_none quiet mem count done = search rules
@@ -111,9 +111,9 @@ pub read_none : (s : Switches) (mem : Mem) (format : Format) (file bytes : Bytes
     → reports_fault (read_output s mem format file bytes) ≡ false
 read_none s mem format file bytes = search rules
 
-opening_tells : (quiet : ℕ) (part : Part) (outcome : Result Bytes HostFault)
+opening_reports : (quiet : ℕ) (part : Part) (outcome : Result Bytes HostFault)
     → reports_fault (opening_output quiet part outcome) ≡ has_fault (standing outcome)
-opening_tells quiet part outcome = search (rules, list_any-append, fault_tells)
+opening_reports quiet part outcome = search (rules, list_any-append, fault_reports)
 
 left_out_none : (quiet : ℕ) (what : SkippedByDryRun) → reports_fault (skipped_output quiet what) ≡ false
 left_out_none quiet what = search (rules, bytes_none)
@@ -121,9 +121,9 @@ left_out_none quiet what = search (rules, bytes_none)
 -- ---- the actions of a session
 
 pub action_foretells : (part : Part) (s : Switches) (action : Action) → Foretells (action_dialog part s action)
-action_foretells part s OpenSession = search (rules, foretells_reported, opening_tells)
+action_foretells part s OpenSession = search (rules, foretells_reported, opening_reports)
 action_foretells part s action =
-    search (rules, foretells_reported, fault_tells, bytes_none, read_none, foretells_says, left_out_none)
+    search (rules, foretells_reported, fault_reports, bytes_none, read_none, foretells_output, left_out_none)
 
 pub actions_foretells : (part : Part) (s : Switches) (actions : List Action) → Foretells (actions_dialog part s actions)
 actions_foretells part s [] = refl
@@ -142,7 +142,7 @@ begun_none : (cause : Cause) (whole begun later : List OutputEvent)
 begun_none SendingFailed whole begun later x none = search (rules, quiet_by)
 begun_none cause whole begun later x none = search (rules, quiet_by, outputs_by, or_parts)
 
-pub prefix_tells_none : {cause : Cause} {old new : DeskState} {outputs : List OutputEvent}
+pub prefix_reports_none : {cause : Cause} {old new : DeskState} {outputs : List OutputEvent}
     (prefix : OutputsPrefix cause old new outputs) → reports_fault outputs ≡ false
     → reports_fault (prefix.whole ++ prefix.begun) ≡ false
-prefix_tells_none {cause = cause} prefix none = search (rules, or_parts, list_any-append, begun_none)
+prefix_reports_none {cause = cause} prefix none = search (rules, or_parts, list_any-append, begun_none)

@@ -13,14 +13,14 @@ use Rattle.stk_host.proofs.Dialogs.Lifted.{outputs_raised}
 use Rattle.avr_desk.specs.OutputEvents.{OutputEvent, PrintsLine, ReportsLine}
 use Rattle.avr_session.specs.Concluding.{after_outcome, conclusion, standing_after}
 use Rattle.avr_session.specs.Lines.{fault_line}
-use Rattle.avr_session.specs.Session.{says, standing, reported, opening_output}
+use Rattle.avr_session.specs.Session.{emits, standing, reported, opening_output}
 use Rattle.avr_session.specs.AllocationPoints.{AtStartOnly}
 use Rattle.avr_session.specs.Runs.{Cause, AllocationFailed, devices, Terms, cause_line, CauseOccurred}
 use Rattle.avr_session.specs.Performing.{Runs}
 use Rattle.avr_session.specs.Reporting.{PrintStops, OutputsOrStops, Reports}
-use Rattle.avr_desk.proofs.Lines.Told.{same_here}
-use Rattle.avr_session.proofs.ActionByAction.Reports.{told_some}
-use Rattle.avr_session.proofs.Runs.Calls.{came_lifted, came_said, came_on, ran_from, broke_quietly, broke_output, broke_operation, broke_lacking, broken_cause, StopsReport, ReportedBy}
+use Rattle.avr_desk.proofs.Lines.ReportedAs.{same_here}
+use Rattle.avr_session.proofs.ActionByAction.Reports.{reported_some}
+use Rattle.avr_session.proofs.Runs.Calls.{came_lifted, came_emitted, came_on, ran_from, broke_quietly, broke_output, broke_operation, broke_lacking, broken_cause, StopsReport, ReportedBy}
 
 -- Why an operation stops a run: the link failed during it, or allocation failed.
 pub data Stop : Type 0 where
@@ -57,11 +57,11 @@ unfolding cause_line fault_line
 line_at part stop = search rules
 
 -- a stop is reported, if the line of such a fault is the whole output for it
-pub cause_is_reported : {A : Type 0} (part : Part) (tells : Result A HostFault → List OutputEvent)
-    → ((stop : Stop) → tells (Err (fault_at stop)) ≡ PrintsLine (fault_line part (fault_at stop)) ∷ []) → {d e : DeskState}
-    {outcome : Result A HostFault} {said : Result (Unit {0}) DeskFault} → Reports PrintStops d e (tells outcome) said
+pub cause_is_reported : {A : Type 0} (part : Part) (is_reported : Result A HostFault → List OutputEvent)
+    → ((stop : Stop) → is_reported (Err (fault_at stop)) ≡ PrintsLine (fault_line part (fault_at stop)) ∷ []) → {d e : DeskState}
+    {outcome : Result A HostFault} {emitted : Result (Unit {0}) DeskFault} → Reports PrintStops d e (is_reported outcome) emitted
     → (stop : Stop) → StopsAs outcome stop → ReportsLine d e (cause_line (cause_at stop))
-cause_is_reported part tells line {d = d} {e = e} {said = said} reports stop is = search (rules, line_at, told_some)
+cause_is_reported part is_reported line {d = d} {e = e} {emitted = emitted} reports stop is = search (rules, line_at, reported_some)
 
 pub opening_line : (quiet : ℕ) (part : Part) (stop : Stop)
     → opening_output quiet part (Err (fault_at stop)) ≡ PrintsLine (fault_line part (fault_at stop)) ∷ []
@@ -74,25 +74,25 @@ stop_come takes dialog m o p d stop over = search (rules, same_here)
 
 -- An operation and its report are an action of a session.
 pub operation_runs : {A : Type 0} (operation : Dialog ⊥ (Result A HostFault))
-    (outcome_says : Result A HostFault → List OutputEvent) (m n : Progress) {o p : LinkState} {d e : DeskState}
-    (outcome : Result A HostFault) (said : Result (Unit {0}) DeskFault) (terms : Terms)
-    (By : DeskState → DeskState → Cause → List ℕ → Type 0) → StopsReport terms p d e (outcome_says outcome) By
+    (outcome_output : Result A HostFault → List OutputEvent) (m n : Progress) {o p : LinkState} {d e : DeskState}
+    (outcome : Result A HostFault) (emitted : Result (Unit {0}) DeskFault) (terms : Terms)
+    (By : DeskState → DeskState → Cause → List ℕ → Type 0) → StopsReport terms p d e (outcome_output outcome) By
     → Ended terms.takes operation m o p outcome n → length n.unread ≤ 281
-    → OutputsOrStops By d e (outcome_says outcome) said
+    → OutputsOrStops By d e (outcome_output outcome) emitted
     → ((stop : Stop) → StopsAs outcome stop → StopsOver terms.takes operation m o p stop
     → ReportedBy terms (cause_at stop) (devices o d) (devices p e))
-    → Runs (reported operation outcome_says) m (devices o d) (devices p e) terms (AtStartOnly terms.takes)
-    (standing_after (conclusion outcome said)) n
+    → Runs (reported operation outcome_output) m (devices o d) (devices p e) terms (AtStartOnly terms.takes)
+    (standing_after (conclusion outcome emitted)) n
 unfolding came_lifted
-operation_runs operation outcome_says m n {p = p} {d = d} outcome (Ok done) terms By why (inl played) few reports
-    told =
+operation_runs operation outcome_output m n {p = p} {d = d} outcome (Ok done) terms By why (inl played) few reports
+    notice =
     rw played.1
-    (ran_from (came_on (came_lifted (λ outcome. says (outcome_says outcome) (Done (standing outcome))) d played.0 few)
-    (came_said (outcome_says outcome) (Done (standing outcome)) n p reports)))
-operation_runs operation outcome_says m n {p = p} {d = d} outcome (Err _) terms By why (inl played) few reports
-    told =
-    broke_quietly (came_lifted (λ outcome. says (outcome_says outcome) (Done (standing outcome))) d played.0 few)
+    (ran_from (came_on (came_lifted (λ outcome. emits (outcome_output outcome) (Done (standing outcome))) d played.0 few)
+    (came_emitted (outcome_output outcome) (Done (standing outcome)) n p reports)))
+operation_runs operation outcome_output m n {p = p} {d = d} outcome (Err _) terms By why (inl played) few reports
+    notice =
+    broke_quietly (came_lifted (λ outcome. emits (outcome_output outcome) (Done (standing outcome))) d played.0 few)
     (outputs_raised played.0.events)
-    (broke_output (outcome_says outcome) (Done (standing outcome)) n p why reports)
-operation_runs operation outcome_says m n outcome said terms By why (inr stops) few reports told =
+    (broke_output (outcome_output outcome) (Done (standing outcome)) n p why reports)
+operation_runs operation outcome_output m n outcome emitted terms By why (inr stops) few reports notice =
     search (rules, broke_lacking, broke_operation)

@@ -11,39 +11,39 @@ use Rattle.avr_desk.specs.declared.stream.Stream.TheVariants.{File, Messages}
 use Rattle.stk_host.specs.Dialog.{outputs}
 use Rattle.avr_desk.specs.OutputEvents.{OutputEvent, PrintsLine, IsPrefixOf, IsPrinted, ReportsLine, after_events}
 use Rattle.avr_desk.proofs.Stages.Outputs.{kept_append}
-use Rattle.avr_desk.proofs.Lines.Told.{follows_on, same_on, message_failures_since}
+use Rattle.avr_desk.proofs.Lines.ReportedAs.{follows_on, same_on, message_failures_since}
 use Rattle.avr_session.specs.Runs.{cause_line, Cause, FileFailed, PrintingFailed, FileTrouble}
 use Rattle.avr_session.specs.Reporting.{OutputsPrefix, OutputsPrefixAndReports, OutputsOrStops, Reports, Outputs, PrintStops, Prints, FileStops, DeskStops}
 use Rattle.avr_session.specs.Saving.{SaveStops}
 use Rattle.avr_session.proofs.Runs.Stops.{outputs_by, line_part, prefix_behind, prefix_of}
 
 -- nothing more is printed after printing failed
-said_until : (old new : DeskState) (outputs : List OutputEvent) → OutputsPrefix PrintingFailed old new outputs
+emitted_until : (old new : DeskState) (outputs : List OutputEvent) → OutputsPrefix PrintingFailed old new outputs
     → HasFailedToReport old new → OutputsPrefixAndReports PrintStops old new outputs
-said_until old new outputs prefix failed = search rules
+emitted_until old new outputs prefix failed = search rules
 
 -- a line that was printed, or not
 pub reports_line : (old new : DeskState) (bytes : List ℕ) (printed : Result (Unit {0}) DeskFault)
     → IsPrinted old new bytes printed → CountsFailure Messages old new printed → IfErr printed (λ e. e ≡ Failed)
     → Reports PrintStops old new (PrintsLine bytes ∷ []) printed
-reports_line old new bytes printed is counts only = search (rules, said_until, line_part)
+reports_line old new bytes printed is counts only = search (rules, emitted_until, line_part)
 
 -- a cause that stops the line after a report stops both
-said_then : (By : DeskState → DeskState → Cause → List ℕ
+emitted_then : (By : DeskState → DeskState → Cause → List ℕ
     → Type 0) (old mid new : DeskState) (first more : List OutputEvent)
     (result : Result (Unit {0}) DeskFault)
-    → ((cause : Cause) (told : List ℕ) → PrintStops mid new cause told → By old new cause told)
+    → ((cause : Cause) (notice : List ℕ) → PrintStops mid new cause notice → By old new cause notice)
     → ChangesRecord (after_events first) old mid × HasSameCounts old mid → OutputsOrStops PrintStops mid new more result
     → OutputsOrStops By old new (first ++ more) result
-said_then By old mid new first more (Ok done) why was then = search (rules, kept_append, same_on)
-said_then By old mid new first more (Err _) why was then = search (rules, prefix_behind)
+emitted_then By old mid new first more (Ok done) why was then = search (rules, kept_append, same_on)
+emitted_then By old mid new first more (Err _) why was then = search (rules, prefix_behind)
 
 module _ {D : Type 0} (desk : Ghosts D) (first more : List OutputEvent) where
   pub reports_then : {old mid new : D} {done : Unit {0}} (result : Result (Unit {0}) DeskFault)
       → Prints desk first old mid (Ok done) → Prints desk more mid new result
       → Prints desk (first ++ more) old new result
   reports_then {old = old} {mid = mid} {new = new} result was then = record {
-    reports = search (rules, said_then, follows_on);
+    reports = search (rules, emitted_then, follows_on);
     stays = λ start of. then.stays start (was.stays start of);
   }
 
@@ -51,14 +51,14 @@ module _ {D : Type 0} (desk : Ghosts D) (first more : List OutputEvent) where
       → Outputs desk (SaveStops file) first old mid (Ok done) → Prints desk more mid new result
       → Outputs desk DeskStops (first ++ more) old new result
   saves_then {old = old} {mid = mid} {new = new} file result was then = record {
-    reports = search (rules, said_then, message_failures_since, follows_on);
+    reports = search (rules, emitted_then, message_failures_since, follows_on);
     stays = λ start of. then.stays start (was.stays start of);
   }
 
   -- the first report was the last
   pub reports_until : (By Then : DeskState → DeskState → Cause → List ℕ → Type 0) {old new : D} (fault : DeskFault)
-      → ((cause : Cause) (told : List ℕ) → By (desk.view old) (desk.view new) cause told
-      → Then (desk.view old) (desk.view new) cause told)
+      → ((cause : Cause) (notice : List ℕ) → By (desk.view old) (desk.view new) cause notice
+      → Then (desk.view old) (desk.view new) cause notice)
       → Outputs desk By first old new (Err fault) → Outputs desk Then (first ++ more) old new (Err fault)
   reports_until By Then fault why was =
       let reports = was.reports in
@@ -66,7 +66,7 @@ module _ {D : Type 0} (desk : Ghosts D) (first more : List OutputEvent) where
 
   pub prints_until : {old new : D} (fault : DeskFault) → Prints desk first old new (Err fault)
       → Prints desk (first ++ more) old new (Err fault)
-  prints_until fault was = reports_until PrintStops PrintStops fault (λ cause told stops. stops) was
+  prints_until fault was = reports_until PrintStops PrintStops fault (λ cause notice stops. stops) was
 
 -- a prefix of one line was printed
 
@@ -84,29 +84,29 @@ one_line {d = d} {e = e} l prefix =
     let later : prefix.later ≡ PrintsLine p.bytes ∷ outputs p.more = outputs_by prefix.later _ p.due in
     search (rules, one_only)
 
-told_line : (cause : Cause) (told l : List ℕ) (old new between : DeskState) → CountsNeverFall old new
-    → OutputsPrefix cause old between (PrintsLine l ∷ []) → PrintStops old new cause told → ChangesRecord (after_err told) between new
+reported_line : (cause : Cause) (notice l : List ℕ) (old new between : DeskState) → CountsNeverFall old new
+    → OutputsPrefix cause old between (PrintsLine l ∷ []) → PrintStops old new cause notice → ChangesRecord (after_err notice) between new
     → ReportsLine old new l
-told_line PrintingFailed told l old new between follows prefix stops kept = search (rules, one_line l prefix)
-told_line cause told l old new between follows prefix stops kept = absurd stops
+reported_line PrintingFailed notice l old new between follows prefix stops kept = search (rules, one_line l prefix)
+reported_line cause notice l old new between follows prefix stops kept = absurd stops
 
-some_told : (old new : DeskState) (l : List ℕ) (result : Result (Unit {0}) DeskFault) → CountsNeverFall old new
+some_reported : (old new : DeskState) (l : List ℕ) (result : Result (Unit {0}) DeskFault) → CountsNeverFall old new
     → OutputsOrStops PrintStops old new (PrintsLine l ∷ []) result → ReportsLine old new l
-some_told old new l (Ok done) follows said =
-    record { told = l; tells = inl (refl, said.1); kept = said.0; follows = follows }
-some_told old new l (Err _) follows some = search (rules, told_line)
+some_reported old new l (Ok done) follows emitted =
+    record { notice = l; is_reported = inl (refl, emitted.1); kept = emitted.0; follows = follows }
+some_reported old new l (Err _) follows some = search (rules, reported_line)
 
 -- the part of a reported line that was printed
-pub told_some : (old new : DeskState) (l : List ℕ) (result : Result (Unit {0}) DeskFault)
+pub reported_some : (old new : DeskState) (l : List ℕ) (result : Result (Unit {0}) DeskFault)
     → Reports PrintStops old new (PrintsLine l ∷ []) result → ReportsLine old new l
-told_some old new l result reports = some_told old new l result reports.follows reports.says
+reported_some old new l result reports = some_reported old new l result reports.follows reports.emits
 
 -- a file's fault is reported after the output so far
 pub file_stops : (By : DeskState → DeskState → Cause → List ℕ → Type 0) (old mid new : DeskState)
     (outputs : List OutputEvent)
     (file : List ℕ) (trouble : FileTrouble) → OutputsPrefix (FileFailed file trouble) old mid outputs
     → HasFailedAt File old mid → CountsNeverFall old mid
-    → ((told : List ℕ) → FileStops old new file trouble told → By old new (FileFailed file trouble) told)
+    → ((notice : List ℕ) → FileStops old new file trouble notice → By old new (FileFailed file trouble) notice)
     → ReportsLine mid new (cause_line (FileFailed file trouble)) → OutputsPrefixAndReports By old new outputs
 file_stops By old mid new outputs file trouble prefix failed first why some = search rules
 

@@ -10,7 +10,7 @@ use Rattle.avr_desk.specs.declared.desk.DeskFault.{DeskFault}
 use Rattle.stk_host.specs.Dialog.{Emitted}
 use Rattle.avr_desk.specs.OutputEvents.{OutputEvent, CreatesFile, WritesFile, WritesOutput, ReportsLine, after_events}
 use Rattle.avr_desk.proofs.Stages.Outputs.{kept_none}
-use Rattle.avr_desk.proofs.Lines.Told.{follows_on}
+use Rattle.avr_desk.proofs.Lines.ReportedAs.{follows_on}
 use Rattle.avr_session.specs.Runs.{Cause, FileFailed, NotCreated, NotWritten, cause_line}
 use Rattle.avr_session.specs.Reporting.{OutputsPrefix, OutputsOrStops, Reports, DeskStops}
 use Rattle.avr_session.specs.Session.{saving_output}
@@ -32,9 +32,9 @@ not_created old new file (Err other) fault more is kept = record {
 }
 
 -- if a file can't be saved, the desk has failed
-pub save_is_desk : (file : List ℕ) (before now : DeskState) (cause : Cause) (told : List ℕ)
-    → SaveStops file before now cause told → DeskStops before now cause told
-save_is_desk file before now cause told stops = search rules
+pub save_is_desk : (file : List ℕ) (before now : DeskState) (cause : Cause) (notice : List ℕ)
+    → SaveStops file before now cause notice → DeskStops before now cause notice
+save_is_desk file before now cause notice stops = search rules
 
 -- a file was created, and its bytes were written, or a prefix of them
 text_then : (old mid new : DeskState) (file text : List ℕ) (result : Result (Unit {0}) DeskFault)

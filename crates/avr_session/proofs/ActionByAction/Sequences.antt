@@ -29,7 +29,7 @@ use Rattle.avr_session.specs.Actions.{Action, action_allocates, actions, plan_al
 use Rattle.avr_session.specs.Concluding.{HostIsUsable, conclusion, standing_after}
 use Rattle.avr_session.specs.Lines.{fault_line}
 use Rattle.avr_session.specs.Outcomes.{EndsWithFaultLine}
-use Rattle.avr_session.specs.Session.{says, standing, reported, unless_fault, fault_line_or, action_dialog, actions_dialog, ending, session, status_of}
+use Rattle.avr_session.specs.Session.{emits, standing, reported, unless_fault, fault_line_or, action_dialog, actions_dialog, ending, session, status_of}
 use Rattle.avr_session.specs.Runs.{Cause, PrintingFailed, cause_line, reports_fault, Devices, devices, start, Terms, before_fault, ReportsCause, StopsAfterOutput, MayAllocate, RanWhole}
 use Rattle.avr_session.specs.Reporting.{DeskStops, PrintStops, ReadStops, Reports}
 use Rattle.avr_session.specs.Run.{StopsSession}
@@ -37,40 +37,40 @@ use Rattle.avr_session.specs.Stopping.{RanToStatus}
 use Rattle.avr_session.specs.AllocationPoints.{AtStartOnly, AtAllocation}
 use Rattle.avr_session.specs.Performing.{has_fault, PerformsOnTerms, Performs, DoesPlanActions, EndsSession, PlaysSession, Runs}
 use Rattle.avr_desk.proofs.Stages.Outputs.{kept_none}
-use Rattle.avr_desk.proofs.Lines.Told.{follows_here, same_here}
-use Rattle.avr_session.proofs.Runs.Calls.{none_failed_here, came_here, came_said, came_part, ran_from, ran_on, stops_in, broke_on, broke_part, broke_output, LacksLater, StopsReport, ReportedBy}
-use Rattle.avr_session.proofs.ActionByAction.FaultsReported.{Foretells, foretold, prefix_tells_none, actions_foretells}
+use Rattle.avr_desk.proofs.Lines.ReportedAs.{follows_here, same_here}
+use Rattle.avr_session.proofs.Runs.Calls.{none_failed_here, came_here, came_emitted, came_part, ran_from, ran_on, stops_in, broke_on, broke_part, broke_output, LacksLater, StopsReport, ReportedBy}
+use Rattle.avr_session.proofs.ActionByAction.FaultsReported.{Foretells, foretold, prefix_reports_none, actions_foretells}
 use Rattle.avr_session.proofs.ActionByAction.Actions.{actions_dialog-one, actions_dialog-append}
 use Rattle.avr_session.proofs.ActionByAction.Operations.{Stop, fault_at, cause_at, StopsAs, StopsOver, operation_runs, stop_come, cause_is_reported}
 
 -- a desk that failed in printing stops the run, whatever was reported
-printing_tells : (flag : Bool) (told : List ℕ) (d : DeskState) → told ≡ [] → ReportsCause flag PrintingFailed told d d
+printing_reports : (flag : Bool) (notice : List ℕ) (d : DeskState) → notice ≡ [] → ReportsCause flag PrintingFailed notice d d
 unfolding cause_line
-printing_tells flag told d none = search (rules, same_here)
+printing_reports flag notice d none = search (rules, same_here)
 
 pub print_stops_run : (terms : Terms) (o : LinkState) (d e : DeskState) → CountsNeverFall d e
-    → (said : List OutputEvent) (cause : Cause) (told : List ℕ) → PrintStops d e cause told
-    → StopsAfterOutput terms (devices o d) (devices o e) said cause told
-print_stops_run terms o d e le said PrintingFailed told stops = search (rules, printing_tells, follows_here)
-print_stops_run terms o d e le said cause told stops = absurd stops
+    → (emitted : List OutputEvent) (cause : Cause) (notice : List ℕ) → PrintStops d e cause notice
+    → StopsAfterOutput terms (devices o d) (devices o e) emitted cause notice
+print_stops_run terms o d e le emitted PrintingFailed notice stops = search (rules, printing_reports, follows_here)
+print_stops_run terms o d e le emitted cause notice stops = absurd stops
 
 -- so does a desk that failed at a file, if no fault was reported
-desk_stops_run : (takes : Bool) (o : LinkState) (d e : DeskState) → CountsNeverFall d e → (said : List OutputEvent)
-    → reports_fault said ≡ false → (cause : Cause) (told : List ℕ) → DeskStops d e cause told
-    → StopsAfterOutput (before_fault takes) (devices o d) (devices o e) said cause told
-desk_stops_run takes o d e le said none cause told stops = search (rules, print_stops_run)
+desk_stops_run : (takes : Bool) (o : LinkState) (d e : DeskState) → CountsNeverFall d e → (emitted : List OutputEvent)
+    → reports_fault emitted ≡ false → (cause : Cause) (notice : List ℕ) → DeskStops d e cause notice
+    → StopsAfterOutput (before_fault takes) (devices o d) (devices o e) emitted cause notice
+desk_stops_run takes o d e le emitted none cause notice stops = search (rules, print_stops_run)
 
 -- the cause that stops a report, after a prefix of its output
 
 pub print_stops_report : (terms : Terms) (o : LinkState) {d e : DeskState} {outputs : List OutputEvent}
-    {told : Result (Unit {0}) DeskFault} → Reports PrintStops d e outputs told
+    {notice : Result (Unit {0}) DeskFault} → Reports PrintStops d e outputs notice
     → StopsReport terms o d e outputs PrintStops
-print_stops_report terms o {d = d} {e = e} reports mid cause prefix told stops = search (rules, print_stops_run)
+print_stops_report terms o {d = d} {e = e} reports mid cause prefix notice stops = search (rules, print_stops_run)
 
-told_by : {R : Type 0} (takes : Bool) (dialog : Dialog ⊥ R) (m : Progress) (o p : LinkState) {d e : DeskState}
+notice_by : {R : Type 0} (takes : Bool) (dialog : Dialog ⊥ R) (m : Progress) (o p : LinkState) {d e : DeskState}
     (stop : Stop) → StopsOver takes dialog m o p stop → ReportsLine d e (cause_line (cause_at stop))
     → ReportedBy (before_fault takes) (cause_at stop) (devices o d) (devices p e)
-told_by takes dialog m o p {d = d} stop over some = search (rules, stop_come)
+notice_by takes dialog m o p {d = d} stop over some = search (rules, stop_come)
 
 -- a call of an equal operation
 pub calls_of : {A : Type 0} {takes : Bool} {a b : Dialog ⊥ (Result A HostFault)} {old new : HostState} {o p : LinkState}
@@ -78,43 +78,43 @@ pub calls_of : {A : Type 0} {takes : Bool} {a b : Dialog ⊥ (Result A HostFault
 calls_of {takes = takes} {old = old} {new = new} {o = o} {p = p} {outcome = outcome} is = search rules
 
 -- An operation of the host and the output about its outcome, for a call that ended and was reported like this.
-module _ {A : Type 0} (operation : Dialog ⊥ (Result A HostFault)) (outcome_says : Result A HostFault → List OutputEvent)
+module _ {A : Type 0} (operation : Dialog ⊥ (Result A HostFault)) (outcome_output : Result A HostFault → List OutputEvent)
     {old new : HostState} {o p : LinkState} {d e : DeskState} {outcome : Result A HostFault}
-    {told : Result (Unit {0}) DeskFault} {result : Result (Unit {0}) End}
-    {By : DeskState → DeskState → Cause → List ℕ → Type 0} (reports : Reports By d e (outcome_says outcome) told) where
-  action_performs : (terms : Terms) → StopsReport terms p d e (outcome_says outcome) By
+    {notice : Result (Unit {0}) DeskFault} {result : Result (Unit {0}) End}
+    {By : DeskState → DeskState → Cause → List ℕ → Type 0} (reports : Reports By d e (outcome_output outcome) notice) where
+  action_performs : (terms : Terms) → StopsReport terms p d e (outcome_output outcome) By
       → ((stop : Stop) → StopsAs outcome stop → StopsOver terms.takes operation old.progress o p stop
       → ReportedBy terms (cause_at stop) (devices o d) (devices p e)) → old.broken ≡ None
-      → Calls terms.takes operation old new o p outcome → result ≡ conclusion outcome told
-      → PerformsOnTerms terms (AtStartOnly terms.takes) (reported operation outcome_says) old new (devices o d) (devices p e)
+      → Calls terms.takes operation old new o p outcome → result ≡ conclusion outcome notice
+      → PerformsOnTerms terms (AtStartOnly terms.takes) (reported operation outcome_output) old new (devices o d) (devices p e)
       (standing_after result)
-  action_performs terms why tells sound calls is = search (rules, operation_runs)
+  action_performs terms why is_reported sound calls is = search (rules, operation_runs)
 
-  pub operation_performs : (takes : Bool) → StopsReport (before_fault takes) p d e (outcome_says outcome) By
+  pub operation_performs : (takes : Bool) → StopsReport (before_fault takes) p d e (outcome_output outcome) By
       → ((stop : Stop) → StopsAs outcome stop → ReportsLine d e (cause_line (cause_at stop)))
-      → old.broken ≡ None → Calls takes operation old new o p outcome → result ≡ conclusion outcome told
-      → Performs takes (reported operation outcome_says) old new (devices o d) (devices p e) (standing_after result)
-  operation_performs takes why some sound calls = search (rules, action_performs, told_by)
+      → old.broken ≡ None → Calls takes operation old new o p outcome → result ≡ conclusion outcome notice
+      → Performs takes (reported operation outcome_output) old new (devices o d) (devices p e) (standing_after result)
+  operation_performs takes why some sound calls = search (rules, action_performs, notice_by)
 
 left_out_runs : (takes : Bool) (outputs : List OutputEvent) (m : Progress) (o : LinkState) (d e : DeskState)
-    (told : Result (Unit {0}) DeskFault) → Reports PrintStops d e outputs told
-    → Runs (says outputs (Done NoFault)) m (devices o d) (devices o e) (before_fault takes) (AtStartOnly takes)
-    (standing_after (conclusion {A = Unit {0}} (Ok tt) told)) m
-left_out_runs takes outputs m o d e (Ok done) reports = ran_from (came_said outputs (Done NoFault) m o reports.says)
+    (notice : Result (Unit {0}) DeskFault) → Reports PrintStops d e outputs notice
+    → Runs (emits outputs (Done NoFault)) m (devices o d) (devices o e) (before_fault takes) (AtStartOnly takes)
+    (standing_after (conclusion {A = Unit {0}} (Ok tt) notice)) m
+left_out_runs takes outputs m o d e (Ok done) reports = ran_from (came_emitted outputs (Done NoFault) m o reports.emits)
 left_out_runs takes outputs m o d e (Err _) reports = search (rules, broke_output, print_stops_report)
 
 pub left_out_performs : (takes : Bool) (outputs : List OutputEvent) {host : HostState} {o : LinkState} {d e : DeskState}
-    {told : Result (Unit {0}) DeskFault} (result : Result (Unit {0}) End) → host.broken ≡ None
-    → Reports PrintStops d e outputs told → result ≡ conclusion {A = Unit {0}} (Ok tt) told
-    → Performs takes (says outputs (Done NoFault)) host host (devices o d) (devices o e) (standing_after result)
+    {notice : Result (Unit {0}) DeskFault} (result : Result (Unit {0}) End) → host.broken ≡ None
+    → Reports PrintStops d e outputs notice → result ≡ conclusion {A = Unit {0}} (Ok tt) notice
+    → Performs takes (emits outputs (Done NoFault)) host host (devices o d) (devices o e) (standing_after result)
 left_out_performs takes outputs {host = host} {o = o} {d = d} {e = e} result sound reports is =
     search (rules, left_out_runs)
 
 -- the output in place of an action reports no fault
-pub ends_untold : (part : Part) (view : DeskState) (told : Result (Unit {0}) DeskFault) {result : Result (Unit {0}) End}
-    → result ≡ conclusion {A = Unit {0}} (Ok tt) told → EndsWithFaultLine part view result
-ends_untold part view (Ok done) is = rw is tt
-ends_untold part view (Err _) is = rw is tt
+pub ends_unreported : (part : Part) (view : DeskState) (notice : Result (Unit {0}) DeskFault) {result : Result (Unit {0}) End}
+    → result ≡ conclusion {A = Unit {0}} (Ok tt) notice → EndsWithFaultLine part view result
+ends_unreported part view (Ok done) is = rw is tt
+ends_unreported part view (Err _) is = rw is tt
 
 pub nothing_performs : {terms : Terms} {L : MayAllocate} (standing : Standing) (host : HostState) (o : Devices)
     → HostIsUsable (Ok standing) host.broken → PerformsOnTerms terms L (Done standing) host host o o (Ok standing)
@@ -213,7 +213,7 @@ performs_lacking : {terms : Terms} {L M : MayAllocate} {dialog : Dialog OutputEv
 unfolding came_here
 performs_lacking lack (Ok standing) done = performs_as done done.runs done.serves
 performs_lacking {dialog = dialog} {x = x} {o = o} lack (Err stopped) done = performs_as done
-    (broke_on (came_here dialog x.progress o) (λ said cause told stops. stops) lack done.runs) done.serves
+    (broke_on (came_here dialog x.progress o) (λ emitted cause notice stops. stops) lack done.runs) done.serves
 
 pub does_one : (plan : Plan) (action : Action) {x y : HostState} {o p : Devices} {result : Result Standing (Unit {0})}
     → Performs (action_allocates action) (action_dialog plan.part plan.switches action) x y o p result
@@ -229,16 +229,16 @@ does_same plan xs ys {x = x} {y = y} {o = o} {p = p} {result = result} same done
 
 -- one that is an operation of the host, and the print about its outcome
 pub does_printed : (plan : Plan) (action : Action) {A : Type 0} {a b : Dialog ⊥ (Result A HostFault)}
-    (outcome_says : Result A HostFault → List OutputEvent) {x y : HostState} {o p : LinkState} {d e : DeskState}
-    {outcome : Result A HostFault} {told : Result (Unit {0}) DeskFault} {result : Result (Unit {0}) End}
-    → action_dialog plan.part plan.switches action ≡ reported b outcome_says
-    → ((stop : Stop) → outcome_says (Err (fault_at stop)) ≡ PrintsLine (fault_line plan.part (fault_at stop)) ∷ [])
+    (outcome_output : Result A HostFault → List OutputEvent) {x y : HostState} {o p : LinkState} {d e : DeskState}
+    {outcome : Result A HostFault} {notice : Result (Unit {0}) DeskFault} {result : Result (Unit {0}) End}
+    → action_dialog plan.part plan.switches action ≡ reported b outcome_output
+    → ((stop : Stop) → outcome_output (Err (fault_at stop)) ≡ PrintsLine (fault_line plan.part (fault_at stop)) ∷ [])
     → x.broken ≡ None → a ≡ b → Calls (action_allocates action) a x y o p outcome
-    → Reports PrintStops d e (outcome_says outcome) told → result ≡ conclusion outcome told
+    → Reports PrintStops d e (outcome_output outcome) notice → result ≡ conclusion outcome notice
     → DoesPlanActions plan (action ∷ []) x y (devices o d) (devices p e) (standing_after result)
-does_printed plan action {b = b} outcome_says dialog line sound same calls reports is =
-    does_one plan action (rw dialog (operation_performs b outcome_says reports (action_allocates action)
-    (print_stops_report _ _ reports) (cause_is_reported plan.part outcome_says line reports) sound (calls_of same calls) is))
+does_printed plan action {b = b} outcome_output dialog line sound same calls reports is =
+    does_one plan action (rw dialog (operation_performs b outcome_output reports (action_allocates action)
+    (print_stops_report _ _ reports) (cause_is_reported plan.part outcome_output line reports) sound (calls_of same calls) is))
 
 module _ (plan : Plan) (xs ys : List Action) where
   does_both : {x y : HostState} {o p : Devices} {result : Result Standing (Unit {0})}
@@ -268,26 +268,26 @@ module _ (plan : Plan) (xs ys : List Action) where
 -- a read, whose data are in a vector
 
 pub given_concluded : {A : Type 0} (a : A) (outcome : Result (Unit {0}) HostFault)
-    (told : Result (Unit {0}) DeskFault) → conclusion (value_or_fault a outcome) told ≡ conclusion outcome told
-given_concluded a outcome told = search rules
+    (notice : Result (Unit {0}) DeskFault) → conclusion (value_or_fault a outcome) notice ≡ conclusion outcome notice
+given_concluded a outcome notice = search rules
 
 -- why a run stops depends on the fault alone
-pub given_told : {A : Type 0} (a : A) (good : A → List OutputEvent) {d e : DeskState} (part : Part)
-    (outcome : Result (Unit {0}) HostFault) {told : Result (Unit {0}) DeskFault}
-    → Reports (ReadStops outcome) d e (fault_line_or part good (value_or_fault a outcome)) told
+pub given_reported : {A : Type 0} (a : A) (good : A → List OutputEvent) {d e : DeskState} (part : Part)
+    (outcome : Result (Unit {0}) HostFault) {notice : Result (Unit {0}) DeskFault}
+    → Reports (ReadStops outcome) d e (fault_line_or part good (value_or_fault a outcome)) notice
     → (stop : Stop) → StopsAs (value_or_fault a outcome) stop → ReportsLine d e (cause_line (cause_at stop))
-given_told a good part (Ok ok) reports stop is = absurd (cc)
-given_told a good part (Err fault) reports stop is = cause_is_reported part (fault_line_or part good) (λ stop. refl) reports stop is
+given_reported a good part (Ok ok) reports stop is = absurd (cc)
+given_reported a good part (Err fault) reports stop is = cause_is_reported part (fault_line_or part good) (λ stop. refl) reports stop is
 
 -- only if bytes were read is there something to save, and they are reported without a fault
 pub read_stops_report : (part : Part) (good : List ℕ → List OutputEvent) (items : List ℕ) → reports_fault (good items)
     ≡ false
     → (outcome : Result (Unit {0}) HostFault) (takes : Bool) (o : LinkState) {d e : DeskState}
-    {told : Result (Unit {0}) DeskFault}
-    → Reports (ReadStops outcome) d e (fault_line_or part good (value_or_fault items outcome)) told
+    {notice : Result (Unit {0}) DeskFault}
+    → Reports (ReadStops outcome) d e (fault_line_or part good (value_or_fault items outcome)) notice
     → StopsReport (before_fault takes) o d e (fault_line_or part good (value_or_fault items outcome)) (ReadStops outcome)
 read_stops_report part good items none (Ok done) takes o {d = d} {e = e} reports =
-    search (rules, desk_stops_run, prefix_tells_none)
+    search (rules, desk_stops_run, prefix_reports_none)
 read_stops_report part good items none (Err fault) takes o reports = print_stops_report (before_fault takes) o reports
 
 -- the tasks are the first and those after it
@@ -309,36 +309,36 @@ pub performs_until : {terms : Terms} {L : MayAllocate} {first : Dialog OutputEve
     → PerformsOnTerms terms L (first >>= go_on) x y o p (Err stopped)
 performs_until go_on stopped done = search (rules, broke_part)
 
-abbrev told_before : Terms
-told_before = record { takes = false; has_reported = true }
+abbrev reported_before : Terms
+reported_before = record { takes = false; has_reported = true }
 
 -- a failed link isn't reported there, and nothing is allocated
 silent_at : {R : Type 0} (dialog : Dialog ⊥ R) (m : Progress) (o p : LinkState) (d : DeskState) (stop : Stop)
     → StopsOver false dialog m o p stop → ReportsCause true (cause_at stop) [] d d
 silent_at dialog m o p d stop over = search rules
 
-told_nothing : {A R : Type 0} (dialog : Dialog ⊥ R) (m : Progress) (o p : LinkState) {outcome : Result A HostFault}
+reported_nothing : {A R : Type 0} (dialog : Dialog ⊥ R) (m : Progress) (o p : LinkState) {outcome : Result A HostFault}
     (d : DeskState) (stop : Stop) → StopsAs outcome stop
-    → StopsOver false dialog m o p stop → ReportedBy told_before (cause_at stop) (devices o d) (devices p d)
-told_nothing dialog m o p d stop is over =
+    → StopsOver false dialog m o p stop → ReportedBy reported_before (cause_at stop) (devices o d) (devices p d)
+reported_nothing dialog m o p d stop is over =
     search (rules, stop_come false dialog m o p d stop over, silent_at dialog m o p d stop over, follows_here d)
 
 -- programming mode is left without a report
 pub quietly_performs : {old new : HostState} {o p : LinkState} (d : DeskState) {outcome : Result (Unit {0}) HostFault}
     {result : Result (Unit {0}) End} → old.broken ≡ None → Calls false closing old new o p outcome
     → result ≡ conclusion outcome (Ok tt)
-    → PerformsOnTerms told_before (AtStartOnly false) (reported closing (λ _. [])) old new (devices o d) (devices p d)
+    → PerformsOnTerms reported_before (AtStartOnly false) (reported closing (λ _. [])) old new (devices o d) (devices p d)
     (standing_after result)
 quietly_performs {old = old} {o = o} {p = p} d sound calls is =
     let reports : Reports PrintStops d d [] (Ok tt) =
-    record { says = (kept_none d.kept, same_here d); follows = follows_here d } in
-    search (rules, action_performs, print_stops_report, told_nothing)
+    record { emits = (kept_none d.kept, same_here d); follows = follows_here d } in
+    search (rules, action_performs, print_stops_report, reported_nothing)
 
 -- after it nothing more goes over the link
 pub quietly_over : {first : Dialog OutputEvent Standing} {L : MayAllocate} {x y : HostState} {o p : Devices}
     (standing : Standing)
-    → PerformsOnTerms told_before L first x y o p (Ok standing)
-    → PerformsOnTerms told_before L (first >>= λ _. Done Over) x y o p (Ok Over)
+    → PerformsOnTerms reported_before L first x y o p (Ok standing)
+    → PerformsOnTerms reported_before L (first >>= λ _. Done Over) x y o p (Ok Over)
 quietly_over {y = y} {p = p} standing done =
     performs_as done (ran_on (came_part (λ _. Done Over) done.runs) (ran_from (came_here (Done Over) y.progress p))) tt
 

@@ -12,16 +12,16 @@ use Rattle.stk_host.specs.Dialog.{Dialog, Done, ◌>>=◌, lifted, Event, Emitte
 use Rattle.stk_host.specs.Play.{Progress, InTurn, played_over, RunsOverLink, BreaksOverLink}
 use Rattle.stk_host.specs.Reach.{TranscriptLeads}
 use Rattle.stk_host.proofs.Transcripts.Laws.{grows_none, grows_on}
-use Rattle.stk_host.proofs.Transcripts.InDialogs.{continued, played_bind, leads_here, leads_on, leads_bind, leads_say, leads_from, breaks_on, breaks_bind}
+use Rattle.stk_host.proofs.Transcripts.InDialogs.{continued, played_bind, leads_here, leads_on, leads_bind, leads_emit, leads_from, breaks_on, breaks_bind}
 use Rattle.stk_host.proofs.Dialogs.Lifted.{raised, plays_lifted, by_lifted, outputs_raised}
 use Rattle.stk_host.proofs.Transcripts.Laws.{heard_append}
 use Rattle.avr_desk.specs.OutputEvents.{OutputEvent, IsPartOfEvent, after_events}
 use Rattle.avr_desk.proofs.Stages.Outputs.{kept_on, kept_none, after_append}
-use Rattle.avr_desk.proofs.Lines.Told.{follows_on, follows_same, same_here, same_on}
-use Rattle.avr_session.specs.Session.{says}
+use Rattle.avr_desk.proofs.Lines.ReportedAs.{follows_on, follows_same, same_here, same_on}
+use Rattle.avr_session.specs.Session.{emits}
 use Rattle.avr_session.specs.Runs.{Devices, devices, NoDeviceFailed, Cause, SendingFailed, ReceivingFailed, AllocationFailed, reports_fault, StopsAt, Listens, MayAllocate, Terms, StopsAfterOutput, RanWhole, BrokeOff}
 use Rattle.avr_session.specs.Reporting.{IsOfDesk, OutputsPrefix, OutputsPrefixAndReports}
-use Rattle.avr_session.proofs.Runs.Stops.{place_behind, outputs_said, map_append}
+use Rattle.avr_session.proofs.Runs.Stops.{place_behind, outputs_emitted, map_append}
 
 -- a point of a call: the rest of its dialog, the progress of its conversation, and the devices' states
 pub record Point (R : Type 0) : Type 0 where
@@ -117,8 +117,8 @@ ran_on f ran = ran_from (came_on f (came_of ran (leads_from ran.plays)))
 
 -- what stops such a part stops the whole, after these output events
 abbrev pub StopsWhole : Terms → Terms → List OutputEvent → Devices → Devices → Devices → Type 0
-StopsWhole some all before o p q = (said : List OutputEvent) (cause : Cause) (told : List ℕ)
-    → StopsAfterOutput some p q said cause told → StopsAfterOutput all o q (before ++ said) cause told
+StopsWhole some all before o p q = (emitted : List OutputEvent) (cause : Cause) (notice : List ℕ)
+    → StopsAfterOutput some p q emitted cause notice → StopsAfterOutput all o q (before ++ emitted) cause notice
 
 -- if a failed allocation may stop the rest of a dialog, it may stop the whole, after this transcript and these events
 abbrev pub LacksLater : MayAllocate → Progress → Transcript → List (Event OutputEvent) → MayAllocate → Progress → Type 0
@@ -129,7 +129,7 @@ LacksLater L m transcript events M n = (during : Transcript) (shown : List (Even
 pub stops_in : (some all : Terms) (before : List OutputEvent) (o p q : Devices) → (some.takes ≡ true → all.takes ≡ true)
     → NoDeviceFailed o p → (all.has_reported || reports_fault before) ≡ some.has_reported
     → StopsWhole some all before o p q
-stops_in some all before o p q takes sound same said cause told stops =
+stops_in some all before o p q takes sound same emitted cause notice stops =
     search (rules, or_assoc, list_any-append, follows_on, follows_same)
 
 -- the events that happened, up to where the cause stopped them
@@ -160,24 +160,24 @@ placed_more {cause = cause} more none f = search (rules, append_assoc)
 
 -- this was reported of a cause, with no output before it
 abbrev pub ReportedBy : Terms → Cause → Devices → Devices → Type 0
-ReportedBy terms cause o p = (told : List ℕ) × StopsAfterOutput terms o p [] cause told × ChangesRecord (after_err told) o.desk p.desk
+ReportedBy terms cause o p = (notice : List ℕ) × StopsAfterOutput terms o p [] cause notice × ChangesRecord (after_err notice) o.desk p.desk
 
 module _ {R : Type 0} {dialog : Dialog OutputEvent R} {m : Progress} {o p : Devices} {terms : Terms} {L : MayAllocate} where
   placed_of : (f : BrokeOff dialog m o p terms L) → Placed f.cause f.during f.shown (played_over dialog m f.during).events
   placed_of f = search rules
 
-  broke_off : (during : Transcript) (shown : List (Event OutputEvent)) (cause : Cause) (told : List ℕ)
+  broke_off : (during : Transcript) (shown : List (Event OutputEvent)) (cause : Cause) (notice : List ℕ)
       → Grows o.link.transcript during p.link.transcript
       → Placed cause during shown (played_over dialog m during).events
       → bytes_sent shown ≡ sent during → InTurn dialog m during
-      → Listens cause (played_over dialog m during).outcome → StopsAfterOutput terms o p (outputs shown) cause told
-      → ChangesRecord (λ r. after_err told (after_events (outputs shown) r)) o.desk p.desk
+      → Listens cause (played_over dialog m during).outcome → StopsAfterOutput terms o p (outputs shown) cause notice
+      → ChangesRecord (λ r. after_err notice (after_events (outputs shown) r)) o.desk p.desk
       → (cause ≡ AllocationFailed → L m during shown) → BrokeOff dialog m o p terms L
-  broke_off during shown cause told grows placed all_sent in_turn listens stops kept lacks = record {
+  broke_off during shown cause notice grows placed all_sent in_turn listens stops kept lacks = record {
     during = during;
     shown = shown;
     cause = cause;
-    told = told;
+    notice = notice;
     grows = grows;
     breaks = search rules;
     place = placed.place;
@@ -194,8 +194,8 @@ module _ {R : Type 0} {dialog : Dialog OutputEvent R} {m : Progress} {o p : Devi
       → (cause ≡ AllocationFailed → L m during shown) → BrokeOff dialog m o p terms L
   broke_silent during shown cause quiet some grows placed all_sent in_turn listens lacks =
       broke_off during shown cause some.0 grows placed all_sent in_turn listens
-      (subst (λ said. StopsAfterOutput terms o p said cause some.0) (sym quiet) some.1)
-      (subst (λ said. ChangesRecord (λ r. after_err some.0 (after_events said r)) o.desk p.desk) (sym quiet) some.2) lacks
+      (subst (λ emitted. StopsAfterOutput terms o p emitted cause some.0) (sym quiet) some.1)
+      (subst (λ emitted. ChangesRecord (λ r. after_err some.0 (after_events emitted r)) o.desk p.desk) (sym quiet) some.2) lacks
 
 pub broke_on : {R : Type 0} {x y : Point R} {q : Devices} {some all : Terms} {L M : MayAllocate} (came : Came x y)
     → StopsWhole some all (outputs came.events) x.devices y.devices q
@@ -208,7 +208,7 @@ broke_on {R = R} {x = x} {y = y} {q = q} {all = all} came why lack broke =
     let whole = breaks_on IsPartOfEvent came.leads broke.breaks in
     let play = ap (λ t. played x.left m.next (on_tape m.unread ++ t)) (heard_append came.during broke.during)
     ∙ came.leads.goes_on (heard broke.during) in
-    broke_off (came.during ++ broke.during) (came.events ++ broke.shown) broke.cause broke.told
+    broke_off (came.during ++ broke.during) (came.events ++ broke.shown) broke.cause broke.notice
     (grows_on o.link.transcript p.link.transcript q.link.transcript came.during broke.during came.grows broke.grows)
     (subst (λ (play : Played OutputEvent R). Placed broke.cause (came.during ++ broke.during)
     (came.events ++ broke.shown) play.events) (sym play)
@@ -282,28 +282,28 @@ module _ {A R : Type 0} (go_on : A → Dialog OutputEvent R) where
       let play = played a m.next (on_tape m.unread ++ heard f.during) in
       let next : A → ℕ → Tape → Played OutputEvent R = λ r. played (go_on r) in
       let bound = sym (played_bind a go_on m.next (on_tape m.unread ++ heard f.during)) in
-      broke_off f.during f.shown f.cause f.told f.grows
+      broke_off f.during f.shown f.cause f.notice f.grows
       (subst (λ (play : Played OutputEvent R). Placed f.cause f.during f.shown play.events) bound (placed_more
       (continued play.outcome next).events (search rules) (placed_of f)))
       f.breaks.all_sent (breaks_bind IsPartOfEvent go_on f.breaks).in_turn
-      (search rules) (why (outputs f.shown) f.cause f.told f.stops) f.kept
+      (search rules) (why (outputs f.shown) f.cause f.notice f.stops) f.kept
       (λ is. lack f.during f.shown (f.lacks is))
 
   pub broke_operation : (by : HostFault) {dialog : Dialog ⊥ A} {m : Progress} {o p : Devices} {terms : Terms}
       {L : MayAllocate} → BreaksOverLink by dialog m o.link p.link → ReportedBy terms (broken_cause by) o p
       → BrokeOff (lifted dialog >>= go_on) m o p terms L
   broke_operation by {L = L} f some =
-      broke_part {M = L} (λ said cause told s. s) (λ during shown lack. lack) (broke_raised by f some)
+      broke_part {M = L} (λ emitted cause notice s. s) (λ during shown lack. lack) (broke_raised by f some)
 
 -- output
 
-leads_says : {R : Type 0} (xs : List OutputEvent) (dialog : Dialog OutputEvent R) (m : Progress)
-    → TranscriptLeads (says xs dialog) m [] (map Emitted xs) dialog m
-leads_says [] dialog m = leads_here dialog m
-leads_says (x ∷ xs) dialog m = leads_on (leads_say x (says xs dialog) m) (leads_says xs dialog m)
+leads_output : {R : Type 0} (xs : List OutputEvent) (dialog : Dialog OutputEvent R) (m : Progress)
+    → TranscriptLeads (emits xs dialog) m [] (map Emitted xs) dialog m
+leads_output [] dialog m = leads_here dialog m
+leads_output (x ∷ xs) dialog m = leads_on (leads_emit x (emits xs dialog) m) (leads_output xs dialog m)
 
 says_events : {R : Type 0} (xs : List OutputEvent) (dialog : Dialog OutputEvent R) (seq : ℕ) (u : List ℕ)
-    → (played (says xs dialog) seq (on_tape u ++ [])).events
+    → (played (emits xs dialog) seq (on_tape u ++ [])).events
     ≡ map Emitted xs ++ (played dialog seq (on_tape u ++ [])).events
 says_events [] dialog seq u = refl
 says_events (x ∷ xs) dialog seq u = ap (λ es. Emitted x ∷ es) (says_events xs dialog seq u)
@@ -316,28 +316,28 @@ no_bytes (x ∷ xs) = no_bytes xs
 abbrev pub StopsReport : Terms → LinkState → DeskState → DeskState → List OutputEvent
     → (DeskState → DeskState → Cause → List ℕ → Type 0) → Type 0
 StopsReport terms o d e outputs By = (mid : DeskState) (cause : Cause) (prefix : OutputsPrefix cause d mid outputs)
-    (told : List ℕ) → By d e cause told → StopsAfterOutput terms (devices o d) (devices o e) (prefix.whole ++ prefix.begun)
-    cause told
+    (notice : List ℕ) → By d e cause notice → StopsAfterOutput terms (devices o d) (devices o e) (prefix.whole ++ prefix.begun)
+    cause notice
 
 module _ {R : Type 0} (xs : List OutputEvent) (dialog : Dialog OutputEvent R) (m : Progress) (o : LinkState) where
-  pub came_said : {d e : DeskState} → ChangesRecord (after_events xs) d e × HasSameCounts d e
-      → Came (point (says xs dialog) m (devices o d)) (point dialog m (devices o e))
-  came_said {d = d} {e = e} said = search (rules, grows_none o.transcript, leads_says xs dialog m, outputs_said xs)
+  pub came_emitted : {d e : DeskState} → ChangesRecord (after_events xs) d e × HasSameCounts d e
+      → Came (point (emits xs dialog) m (devices o d)) (point dialog m (devices o e))
+  came_emitted {d = d} {e = e} emitted = search (rules, grows_none o.transcript, leads_output xs dialog m, outputs_emitted xs)
 
   pub broke_output : {By : DeskState → DeskState → Cause → List ℕ → Type 0} {terms : Terms} {L : MayAllocate}
       {d e : DeskState}
       → StopsReport terms o d e xs By → OutputsPrefixAndReports By d e xs
-      → BrokeOff (says xs dialog) m (devices o d) (devices o e) terms L
+      → BrokeOff (emits xs dialog) m (devices o d) (devices o e) terms L
   broke_output {terms = terms} {d = d} {e = e} why f =
       let prefix = f.prefix in
       let shown : List OutputEvent = prefix.whole ++ prefix.begun in
-      broke_off [] (map Emitted shown) f.cause f.told (grows_none o.transcript)
+      broke_off [] (map Emitted shown) f.cause f.notice (grows_none o.transcript)
       (subst (Placed f.cause [] (map Emitted shown)) (sym (says_events xs dialog m.next m.unread))
       (placed_more (played_over dialog m []).events (λ listens. absurd (search rules))
       (search (rules, map_append)))) (no_bytes shown) tt (search rules)
-      (subst (λ said. StopsAfterOutput terms (devices o d) (devices o e) said f.cause f.told)
-      (sym (outputs_said shown)) (why f.between f.cause f.prefix f.told f.stops))
-      (search (rules, kept_on, outputs_said)) (λ is. absurd (subst IsOfDesk is prefix.by_desk))
+      (subst (λ emitted. StopsAfterOutput terms (devices o d) (devices o e) emitted f.cause f.notice)
+      (sym (outputs_emitted shown)) (why f.between f.cause f.prefix f.notice f.stops))
+      (search (rules, kept_on, outputs_emitted)) (λ is. absurd (subst IsOfDesk is prefix.by_desk))
 
 -- at once, for a failed allocation
 pub broke_lacking : {R : Type 0} {terms : Terms} {L : MayAllocate} {o p : Devices} (dialog : Dialog OutputEvent R)

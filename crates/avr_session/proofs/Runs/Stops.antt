@@ -30,9 +30,9 @@ place_behind cause first during before whole begun later none x = x
 
 -- ---- output events
 
-pub outputs_said : (xs : List OutputEvent) → outputs (map Emitted xs) ≡ xs
-outputs_said [] = refl
-outputs_said (x ∷ xs) = ap (λ ss. x ∷ ss) (outputs_said xs)
+pub outputs_emitted : (xs : List OutputEvent) → outputs (map Emitted xs) ≡ xs
+outputs_emitted [] = refl
+outputs_emitted (x ∷ xs) = ap (λ ss. x ∷ ss) (outputs_emitted xs)
 
 pub map_append : (x y : List OutputEvent) → map {B = Event OutputEvent} Emitted (x ++ y) ≡ map Emitted x ++ map Emitted y
 map_append [] y = refl
@@ -41,7 +41,7 @@ map_append (s ∷ x) y = ap (λ es. Emitted s ∷ es) (map_append x y)
 -- output events, by their events
 pub outputs_by : (xs : List OutputEvent) (events : List (Event OutputEvent)) → map Emitted xs ≡ events → xs
     ≡ outputs events
-outputs_by xs events is = sym (outputs_said xs) ∙ ap outputs is
+outputs_by xs events is = sym (outputs_emitted xs) ∙ ap outputs is
 
 -- output events that were done, and a prefix of others after them
 pub prefix_behind : {cause : Cause} {d e f : DeskState} (done more : List OutputEvent) → ChangesRecord (after_events done) d e

@@ -12,7 +12,7 @@ use Rattle.stk_frame.specs.declared.command.Command.TheVariants.{SignOn}
 use Rattle.stk_host.specs.declared.fault.HostFault.{HostFault}
 use Rattle.stk_host.specs.declared.fault.StepFault.TheVariants.{NoAnswer}
 use Rattle.stk_host.specs.Tape.{Reading}
-use Rattle.stk_host.proofs.Dialogs.Logic.{World, HoldsFrom, Upholds, NoOutput, OnReply, done, emit, ask, bind, told, wider, call, attempts}
+use Rattle.stk_host.proofs.Dialogs.Logic.{World, HoldsFrom, Upholds, NoOutput, OnReply, done, emit, ask, bind, notice, wider, call, attempts}
 use Rattle.stk_host.specs.Dialog.{Dialog, Done, ◌>>=◌}
 use Rattle.stk_host.specs.Steps.{exchange, Reply, Data, Again, Stop, reply_from_reading, with_data, attempt, StepOutcome, step, unless_step_fault, play}
 use Rattle.stk_host.specs.ReadSteps.{signature_steps}
@@ -20,7 +20,7 @@ use Rattle.stk_host.specs.Operations.{handshake, signature_checked, opening, wit
 use Rattle.stk_host.specs.Bound.{opening_steps, closing_steps}
 use Rattle.avr_session.specs.Standing.{Standing, NoFault, Faulty, Over}
 use Rattle.avr_session.specs.Actions.{Action, OpenSession, actions}
-use Rattle.avr_session.specs.Session.{says, standing, reported, unless_fault, closing_output, action_dialog, actions_dialog, ending, status_of, session}
+use Rattle.avr_session.specs.Session.{emits, standing, reported, unless_fault, closing_output, action_dialog, actions_dialog, ending, status_of, session}
 use Rattle.avr_session.specs.PlanSteps.{action_steps, actions_steps, run_steps}
 use Rattle.avr_tool.proofs.Plans.Calls.{call_of, dialog_is}
 use Rattle.avr_tool.specs.OverFaultyLink.{Weight, total_weight, bodies_in}
@@ -120,12 +120,12 @@ module _ (w : Weight) where
   operation_spends : {A : Type 0} (steps : List (List Command)) (judge : List ℕ → Result A HostFault)
       → Spends (4 * total steps) (operation steps judge)
   unfolding operation
-  operation_spends steps judge k left le = told (checked_by judge) (play_spends steps [] k left le) (λ o t e. e)
+  operation_spends steps judge k left le = notice (checked_by judge) (play_spends steps [] k left le) (λ o t e. e)
 
   opening_spends : (signature : List ℕ) (force : Bool) → Spends (4 * total opening_steps) (opening signature force)
   unfolding opening handshake
   opening_spends signature force k left le =
-      told (signature_checked signature force)
+      notice (signature_checked signature force)
       (then_spends (SignOn ∷ []) ((enter ∷ []) ∷ signature_steps)
       (λ name. step (enter ∷ []) >>= unless_step_fault (λ nothing. play signature_steps []))
       (λ name. search (rules, then_spends, play_spends)) k left le)
@@ -135,19 +135,19 @@ module _ (w : Weight) where
   unfolding closing
   closing_spends k left le =
       let size = weighed_append (map body (leave ∷ [])) [] in
-      told without_bytes (step_spends (leave ∷ []) k left (omega (arith, le, size))) (λ o t e. e)
+      notice without_bytes (step_spends (leave ∷ []) k left (omega (arith, le, size))) (λ o t e. e)
 
   -- ---- the actions of a session
 
-  says_costs : (outputs : List OutputEvent) (s : Standing) (k left : ℕ) → k ≤ left
-      → OneAction (λ r rest. k ≤ rest) (says outputs (Done s)) left
-  says_costs [] s k left le = done le
-  says_costs (output ∷ outputs) s k left le = emit tt (says_costs outputs s k left le)
+  output_costs : (outputs : List OutputEvent) (s : Standing) (k left : ℕ) → k ≤ left
+      → OneAction (λ r rest. k ≤ rest) (emits outputs (Done s)) left
+  output_costs [] s k left le = done le
+  output_costs (output ∷ outputs) s k left le = emit tt (output_costs outputs s k left le)
 
   reported_costs : {A : Type 0} (n : ℕ) (operation : Dialog ⊥ (Result A HostFault))
-      (tells : Result A HostFault → List OutputEvent) → Spends n operation → Costs n (reported operation tells)
-  reported_costs n operation tells asks k left le =
-      bind (call (asks k left le)) (λ r t e. says_costs (tells r) (standing r) k t e)
+      (is_reported : Result A HostFault → List OutputEvent) → Spends n operation → Costs n (reported operation is_reported)
+  reported_costs n operation is_reported asks k left le =
+      bind (call (asks k left le)) (λ r t e. output_costs (is_reported r) (standing r) k t e)
 
   module _ (part : Part) (s : Switches) where
     call_spends : (action : Action) → Spends (4 * total (action_steps part action)) (call_of part s action)
@@ -175,7 +175,7 @@ module _ (w : Weight) where
 
     ending_costs : (at : Standing) → Costs (4 * total closing_steps) (ending part s at)
     ending_costs NoFault = reported_costs (4 * total closing_steps) closing (closing_output s.quiet part) closing_spends
-    ending_costs Faulty = λ k left le. told (λ closed. Over)
+    ending_costs Faulty = λ k left le. notice (λ closed. Over)
         (reported_costs (4 * total closing_steps) closing (λ _. []) closing_spends k left le) (λ a t e. e)
     ending_costs Over = λ k left le. done (omega (arith, le))
 
@@ -186,7 +186,7 @@ module _ (w : Weight) where
       let s = plan.switches in
       let n = 4 * total closing_steps in
       let size = total_on (actions_steps part (actions plan)) closing_steps in
-      (told {After = λ r rest. Unit {0}} status_of
+      (notice {After = λ r rest. Unit {0}} status_of
       (bind (actions_cost part s (actions plan) n (4 * total (run_steps plan)) (omega (arith, size)))
       (λ at t e. ending_costs part s at 0 t (omega (arith, e))))
       (λ at t e. tt)).holds

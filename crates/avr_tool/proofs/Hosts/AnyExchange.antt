@@ -33,10 +33,10 @@ asks≢done bytes go_on r e = cc
 
 module _ {P : Type 0} (m : Device P) where
   -- what a dialog upholds holds along each link
-  module _ {E R : Type 0} (During : P → Type 0) (Says : E → P → Type 0) (After After' : R → P → Type 0)
+  module _ {E R : Type 0} (During : P → Type 0) (EmitsAll : E → P → Type 0) (After After' : R → P → Type 0)
       (at_end : (r : R) (q : P) → After r q → During q × After' r q) where
     led : (d : Dialog E R) (k : ℕ) (p : P) (exchanges : List Exchange)
-        → HoldsFrom (over_any_exchange m) (λ bytes q. During q) Says After d p
+        → HoldsFrom (over_any_exchange m) (λ bytes q. During q) EmitsAll After d p
         → During (state_after m k d p exchanges).programmer
         × ((r : R) → (state_after m k d p exchanges).dialog ≡ Done r → After' r (state_after m k d p exchanges).programmer)
     led (Done a) k p exchanges h = search (rules, done_is)
@@ -44,12 +44,12 @@ module _ {P : Type 0} (m : Device P) where
     led (Ask bytes go_on) zero p exchanges h = (h.0, λ r e. absurd (asks≢done bytes go_on r e))
     led (Ask bytes go_on) (suc k) p exchanges h = led (go_on _) k _ (later_exchanges exchanges) (h.1 (first_exchange exchanges))
 
-  pub leads : {E R : Type 0} {During : P → Type 0} {Says : E → P → Type 0} {After After' : R → P → Type 0}
+  pub leads : {E R : Type 0} {During : P → Type 0} {EmitsAll : E → P → Type 0} {After After' : R → P → Type 0}
       {d : Dialog E R} {p : P} {exchanges : List Exchange} → ((r : R) (q : P) → After r q → During q × After' r q)
-      → Upholds (over_any_exchange m) (λ bytes q. During q) Says After d p → Leads m d p exchanges During After'
-  leads {During = J} {Says = Says} {After = A} {After' = A'} {d = d} {p = p} {exchanges = exchanges} at_end l = record {
-    during = λ k. (led J Says A A' at_end d k p exchanges l.holds).0;
-    after = λ k. (led J Says A A' at_end d k p exchanges l.holds).1;
+      → Upholds (over_any_exchange m) (λ bytes q. During q) EmitsAll After d p → Leads m d p exchanges During After'
+  leads {During = J} {EmitsAll = EmitsAll} {After = A} {After' = A'} {d = d} {p = p} {exchanges = exchanges} at_end l = record {
+    during = λ k. (led J EmitsAll A A' at_end d k p exchanges l.holds).0;
+    after = λ k. (led J EmitsAll A A' at_end d k p exchanges l.holds).1;
   }
 
   -- what a call upholds if one condition holds throughout

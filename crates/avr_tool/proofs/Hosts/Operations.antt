@@ -12,7 +12,7 @@ use Rattle.stk_host.specs.Dialog.{Dialog, Done, ◌>>=◌}
 use Rattle.stk_host.specs.Steps.{StepOutcome, step, unless_step_fault, play}
 use Rattle.stk_host.specs.ReadSteps.{signature_steps}
 use Rattle.stk_host.specs.Operations.{host_fault, handshake, without_bytes, closing, checked_by, operation}
-use Rattle.stk_host.proofs.Dialogs.Logic.{OnOutcome, done, bind, told, wider, on_data}
+use Rattle.stk_host.proofs.Dialogs.Logic.{OnOutcome, done, bind, notice, wider, on_data}
 use Rattle.stk_emu.specs.Exchange.{Exchange}
 use Rattle.stk_emu.specs.Programmer.{Programmer}
 use Rattle.stk_emu.specs.Device.{Device, device}
@@ -84,12 +84,12 @@ module _ (part : Part) (sound : IsPart part) where
       (p : Programmer) → AreSteps part steps → FitsPart part m → Settled part m p
       → Keeps device (Reached part steps m) (AfterCall steps m judge) (operation steps judge) p
   unfolding operation
-  operation_goes {A = A} steps m judge p are f s = told (checked_by judge) (play_goes steps m [] p are f s) judged
+  operation_goes {A = A} steps m judge p are f s = notice (checked_by judge) (play_goes steps m [] p are f s) verdict
     where
-      judged : (o : StepOutcome) (q : Programmer) → AfterSteps part steps m [] o q
+      verdict : (o : StepOutcome) (q : Programmer) → AfterSteps part steps m [] o q
           → AfterCall steps m judge (checked_by judge o) q
-      judged (Ok got) q a = inl (a.0, ap judge a.1)
-      judged (Err fault) q a = inr (fault, refl, a)
+      verdict (Ok got) q a = inl (a.0, ap judge a.1)
+      verdict (Err fault) q a = inr (fault, refl, a)
 
   idle_reached : (m : Memories) (q : Programmer) → Reached part signature_steps m q → HasMemories part m q
   idle_reached m q r = settled_idle part m q (search (rules, quiet_stays, read_quiet))
@@ -122,7 +122,7 @@ pub closing_goes : (Stands : Programmer → Type 0) → IsRepeatable device (lea
     → Keeps device Stands (λ r q. Stands q × IsClosed r) closing p
 unfolding closing
 closing_goes Stands fits p stands =
-    told without_bytes (step_leads device (leave ∷ []) Stands Stands fits Stands (λ o q. Stands q) p (λ q i. i)
+    notice without_bytes (step_leads device (leave ∷ []) Stands Stands fits Stands (λ o q. Stands q) p (λ q i. i)
     (λ q i. i) (λ fault q i. i) stands) left
   where
     left : (o : StepOutcome) (q : Programmer)
@@ -135,14 +135,14 @@ closing_goes Stands fits p stands =
 
 -- a dialog whose result is reported in another form
 abbrev reported : {E A B P : Type 0} → (A → B) → StateAfter E A P → StateAfter E B P
-reported tell s = record {
-  dialog = s.dialog >>= (λ a. Done (tell a));
+reported report_line s = record {
+  dialog = s.dialog >>= (λ a. Done (report_line a));
   programmer = s.programmer;
   exchanges = s.exchanges;
   left = s.left;
 }
 
 module _ {E P : Type 0} (m : Device P) where
-  pub along_told : {A B : Type 0} (k : ℕ) (d : Dialog E A) (tell : A → B) (p : P) (exchanges : List Exchange)
-      → state_after m k (d >>= (λ a. Done (tell a))) p exchanges ≡ reported tell (state_after m k d p exchanges)
-  along_told {A = A} {B = B} k d tell p exchanges = search (rules, along_bind, told, along_next_dialog)
+  pub along_reported : {A B : Type 0} (k : ℕ) (d : Dialog E A) (report_line : A → B) (p : P) (exchanges : List Exchange)
+      → state_after m k (d >>= (λ a. Done (report_line a))) p exchanges ≡ reported report_line (state_after m k d p exchanges)
+  along_reported {A = A} {B = B} k d report_line p exchanges = search (rules, along_bind, notice, along_next_dialog)

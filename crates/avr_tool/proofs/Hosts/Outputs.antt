@@ -3,7 +3,7 @@ use Rattle.std.proofs.Common.{◌≡◌, ℕ, zero, suc, List, [], ◌∷◌, �
 use Rattle.std.proofs.lemmas.List.{append-nil}
 use Rattle.std.specs.Prelude.{⊤}
 use Rattle.avr_desk.specs.OutputEvents.{OutputEvent}
-use Rattle.avr_session.specs.Session.{says, standing, reported}
+use Rattle.avr_session.specs.Session.{emits, standing, reported}
 use Rattle.avr_session.specs.Standing.{Standing}
 use Rattle.stk_emu.specs.DialogOverExchanges.{state_after, outputs_after}
 use Rattle.stk_emu.specs.Device.{device}
@@ -56,36 +56,36 @@ module _ (True : OutputEvent → Programmer → Type 0) where
   pub record Prints {R : Type 0} (Now : Moment) (After : End R) (d : Dialog OutputEvent R) (z : Spot) : Type 0 where
     pub holds : PrintsFrom Now After d z
 
-  pub stops : {R : Type 0} {Now : Moment} (After : End R) (r : R) (said : List OutputEvent) (z : Spot) → After r said z
-      → Prints Now (λ b x. After b (said ++ x)) (Done r) z
-  stops After r said z a = record { holds = subst (λ x. After r x z) (sym (append-nil said)) a }
+  pub stops : {R : Type 0} {Now : Moment} (After : End R) (r : R) (emitted : List OutputEvent) (z : Spot) → After r emitted z
+      → Prints Now (λ b x. After b (emitted ++ x)) (Done r) z
+  stops After r emitted z a = record { holds = subst (λ x. After r x z) (sym (append-nil emitted)) a }
 
   on_outputs : {R : Type 0} (Now : Moment) (After : End R) (outputs : List OutputEvent) (r : R) (z : Spot)
-      → AllTrue True outputs z.0 → After r outputs z → PrintsFrom Now After (says outputs (Done r)) z
+      → AllTrue True outputs z.0 → After r outputs z → PrintsFrom Now After (emits outputs (Done r)) z
   on_outputs Now After [] r z all a = a
   on_outputs Now After (output ∷ outputs) r z all a =
       (all.0, on_outputs (λ x. Now (output ∷ x)) (λ r x. After r (output ∷ x)) outputs r z all.1 a)
 
   pub prints_reported : {A : Type 0} {During : Spot → Type 0} {After : Result A HostFault → Spot → Type 0}
       {Now : Moment} {Then : End Standing} {d : Dialog ⊥ (Result A HostFault)} {z : Spot}
-      (outcome_says : Result A HostFault → List OutputEvent) → Runs device During After d z
+      (outcome_output : Result A HostFault → List OutputEvent) → Runs device During After d z
       → ((y : Spot) → During y → Now [] y)
       → ((r : Result A HostFault) (y : Spot) → After r y
-      → AllTrue True (outcome_says r) y.0 × Then (standing r) (outcome_says r) y)
-      → Prints Now Then (reported d outcome_says) z
-  prints_reported {A = A} {During = During} {After = After} {Now = Now} {Then = Then} {d = d} {z = z} outcome_says l f
+      → AllTrue True (outcome_output r) y.0 × Then (standing r) (outcome_output r) y)
+      → Prints Now Then (reported d outcome_output) z
+  prints_reported {A = A} {During = During} {After = After} {Now = Now} {Then = Then} {d = d} {z = z} outcome_output l f
       each = record { holds = on d z l.holds }
     where
       on : (d : Dialog ⊥ (Result A HostFault)) (z : Spot) → HoldsFrom link (λ bytes y. During y) NoOutput After d z
-          → PrintsFrom Now Then (reported d outcome_says) z
-      on (Done r) z h = let x = each r z h in on_outputs Now Then (outcome_says r) (standing r) z x.0 x.1
+          → PrintsFrom Now Then (reported d outcome_output) z
+      on (Done r) z h = let x = each r z h in on_outputs Now Then (outcome_output r) (standing r) z x.0 x.1
       on (Emit e d) z h = absurd e
       on (Ask bytes go_on) z h = (f z h.0, on (go_on _) (link.after bytes z tt) (h.1 tt))
 
   on_bind : {A B : Type 0} (Now Now' : Moment) (Between : End A) (After : End B) (next : A → Dialog OutputEvent B)
-      → ((said : List OutputEvent) (y : Spot) → Now said y → Now' said y)
-      → ((a : A) (said : List OutputEvent) (y : Spot) → Between a said y
-      → Prints (λ x. Now' (said ++ x)) (λ b x. After b (said ++ x)) (next a) y)
+      → ((emitted : List OutputEvent) (y : Spot) → Now emitted y → Now' emitted y)
+      → ((a : A) (emitted : List OutputEvent) (y : Spot) → Between a emitted y
+      → Prints (λ x. Now' (emitted ++ x)) (λ b x. After b (emitted ++ x)) (next a) y)
       → (d : Dialog OutputEvent A) (z : Spot) → PrintsFrom Now Between d z → PrintsFrom Now' After (d >>= next) z
   on_bind Now Now' Between After next f more (Done a) z h = (more a [] z h).holds
   on_bind Now Now' Between After next f more (Emit output d) z h = (
@@ -98,23 +98,23 @@ module _ (True : OutputEvent → Programmer → Type 0) where
 
   pub prints_then : {A B : Type 0} {Now Now' : Moment} {Between : End A} {After : End B}
       {next : A → Dialog OutputEvent B} {d : Dialog OutputEvent A} {z : Spot}
-      → ((said : List OutputEvent) (y : Spot) → Now said y → Now' said y) → Prints Now Between d z
-      → ((a : A) (said : List OutputEvent) (y : Spot) → Between a said y
-      → Prints (λ x. Now' (said ++ x)) (λ b x. After b (said ++ x)) (next a) y)
+      → ((emitted : List OutputEvent) (y : Spot) → Now emitted y → Now' emitted y) → Prints Now Between d z
+      → ((a : A) (emitted : List OutputEvent) (y : Spot) → Between a emitted y
+      → Prints (λ x. Now' (emitted ++ x)) (λ b x. After b (emitted ++ x)) (next a) y)
       → Prints Now' After (d >>= next) z
   prints_then {Now = Now} {Now' = Now'} {Between = Between} {After = After} {next = next} {d = d} {z = z} f l more =
       record { holds = on_bind Now Now' Between After next f more d z l.holds }
 
   pub prints_wider : {R : Type 0} {Now Now' : Moment} {After After' : End R} {d : Dialog OutputEvent R} {z : Spot}
-      → ((said : List OutputEvent) (y : Spot) → Now said y → Now' said y)
-      → ((r : R) (said : List OutputEvent) (y : Spot) → After r said y → After' r said y)
+      → ((emitted : List OutputEvent) (y : Spot) → Now emitted y → Now' emitted y)
+      → ((r : R) (emitted : List OutputEvent) (y : Spot) → After r emitted y → After' r emitted y)
       → Prints Now After d z → Prints Now' After' d z
   prints_wider {Now' = Now'} {After' = After'} {d = d} {z = z} f g l =
       subst (λ d. Prints Now' After' d z) (bind_done d)
-      (prints_then f l (λ r said y a. stops After' r said y (g r said y a)))
+      (prints_then f l (λ r emitted y a. stops After' r emitted y (g r emitted y a)))
 
   on_moment : {R : Type 0} (Now : Moment) (After : End R)
-      → ((r : R) (said : List OutputEvent) (y : Spot) → After r said y → Now said y)
+      → ((r : R) (emitted : List OutputEvent) (y : Spot) → After r emitted y → Now emitted y)
       → (k : ℕ) (d : Dialog OutputEvent R) (z : Spot) → PrintsFrom Now After d z → Printed Now After k d z
   on_moment Now After last k (Done a) z h = search (rules, done_is)
   on_moment Now After last k (Emit output d) z h =
@@ -127,6 +127,6 @@ module _ (True : OutputEvent → Programmer → Type 0) where
       record { now = more.now; after = more.after }
 
   pub at_moment : {R : Type 0} {Now : Moment} {After : End R} {d : Dialog OutputEvent R} {z : Spot}
-      → ((r : R) (said : List OutputEvent) (y : Spot) → After r said y → Now said y) → (k : ℕ) → Prints Now After d z
+      → ((r : R) (emitted : List OutputEvent) (y : Spot) → After r emitted y → Now emitted y) → (k : ℕ) → Prints Now After d z
       → Printed Now After k d z
   at_moment {Now = Now} {After = After} {d = d} {z = z} last k l = on_moment Now After last k d z l.holds

@@ -22,7 +22,7 @@ use Rattle.stk_emu.specs.DialogOverExchanges.{state_after, outputs_after, SendsV
 use Rattle.stk_emu.proofs.Wires.Arrivals.{none_clear}
 use Rattle.stk_emu.proofs.Answers.BodySizes.{replies_fit_frames}
 use Rattle.avr_tool.proofs.Given.LaterAnswers.{answer_extends}
-use Rattle.avr_tool.proofs.Lines.Plays.{played_along, said_played, done_played, waits_played}
+use Rattle.avr_tool.proofs.Lines.Plays.{played_along, emitted_played, done_played, waits_played}
 use Rattle.avr_tool.proofs.Lines.WireTapes.{GoesOver, over_wire}
 
 pub record IsWhole (f : List ℕ) : Type 0 where
@@ -182,8 +182,8 @@ module _ {E R : Type 0} (d : Dialog E R) (n : ℕ) (p : Programmer) (fates : Lis
         ≡ record { events = events; outcome = Some (r, after.next, on_tape after.unread ++ w.waits) }
     over = search (rules, goes_along, never_idle)
 
-    pub whole_said : outputs events ≡ outputs_after device count d p (exchanges_of_fates fates)
-    whole_said = sym (ap (λ x. outputs x.events) over) ∙ said_played device count d n p (exchanges_of_fates fates) []
+    pub whole_emitted : outputs events ≡ outputs_after device count d p (exchanges_of_fates fates)
+    whole_emitted = sym (ap (λ x. outputs x.events) over) ∙ emitted_played device count d n p (exchanges_of_fates fates) []
 
     pub whole_done : (state_after device count d p (exchanges_of_fates fates)).dialog ≡ Done r
     whole_done = search (rules, done_played, over)

@@ -36,13 +36,13 @@ pub cons_none : {A : Type 0} (x : A) (xs : List A) → [] ≡ x ∷ xs → ⊥
 cons_none x xs e = cc
 
 module _ {E R P : Type 0} (m : Device P) where
-  pub said_played : (k : ℕ) (d : Dialog E R) (n : ℕ) (p : P) (exchanges : List Exchange) (left : Tape)
+  pub emitted_played : (k : ℕ) (d : Dialog E R) (n : ℕ) (p : P) (exchanges : List Exchange) (left : Tape)
       → outputs (played_along m k d n p exchanges left).events ≡ outputs_after m k d p exchanges
-  said_played k (Done r) n p exchanges left = refl
-  said_played k (Emit e d) n p exchanges left = ap (λ said. e ∷ said) (said_played k d n p exchanges left)
-  said_played zero (Ask bytes go_on) n p exchanges left = refl
-  said_played (suc k) (Ask bytes go_on) n p exchanges left =
-      said_played k (go_on (reading_of_exchange (first_exchange exchanges) (m.answer bytes p))) (next n)
+  emitted_played k (Done r) n p exchanges left = refl
+  emitted_played k (Emit e d) n p exchanges left = ap (λ emitted. e ∷ emitted) (emitted_played k d n p exchanges left)
+  emitted_played zero (Ask bytes go_on) n p exchanges left = refl
+  emitted_played (suc k) (Ask bytes go_on) n p exchanges left =
+      emitted_played k (go_on (reading_of_exchange (first_exchange exchanges) (m.answer bytes p))) (next n)
       (after_exchange (first_exchange exchanges) (m.after bytes p) p m.reset) (later_exchanges exchanges) left
 
   pub done_played : (k : ℕ) (d : Dialog E R) (n : ℕ) (p : P) (exchanges : List Exchange) (left : Tape) (r : R) (seq : ℕ)

@@ -29,7 +29,7 @@ pub record GoesOver {E R P : Type 0} (m : Device P) (d : Dialog E R) (n : ℕ) (
     (exchanges : List Exchange) : Type 0 where
   pub programmer : (wire_after_frames m sent w).programmer ≡ (state_after m (length sent) d p exchanges).programmer
   pub play : played d n (tape_of m sent w) ≡ played_along m (length sent) d n p exchanges []
-  pub honest : (j : ℕ) → length sent ≤ j → RepliesAreAuthentic m d n (tape_of m sent w) p (executions_of_fates j w.fates)
+  pub is_authentic : (j : ℕ) → length sent ≤ j → RepliesAreAuthentic m d n (tape_of m sent w) p (executions_of_fates j w.fates)
 
 module _ {P : Type 0} (m : Device P) (answers : RepliesFitFrames m) where
   -- a question whose reply came, by its own exchange
@@ -56,7 +56,7 @@ module _ {P : Type 0} (m : Device P) (answers : RepliesFitFrames m) where
       → NoneHasNumber n w.late → AreLawful w.fates
       → frames_in (played d n (tape_of m sent w)).events ≡ sent ++ more
       → GoesOver m d n w sent w.programmer (exchanges_of_fates w.fates)
-  over_wire (Done r) n w [] more asks clear lawful e = record { programmer = refl; play = refl; honest = λ j le. tt }
+  over_wire (Done r) n w [] more asks clear lawful e = record { programmer = refl; play = refl; is_authentic = λ j le. tt }
   over_wire (Done r) n w (f ∷ sent) more asks clear lawful e = absurd (cons_none f (sent ++ more) e)
   over_wire (Emit s d) n w sent more asks clear lawful e = search (rules, over_wire d n w sent more asks clear lawful e)
   over_wire (Ask bytes go_on) n w [] more asks clear lawful e =

@@ -9,7 +9,7 @@ use Rattle.avr_session.specs.Lines.{fault_line}
 use Rattle.avr_session.specs.PlanSteps.{action_steps}
 use Rattle.avr_session.specs.Session.{standing, unless_fault, action_dialog, actions_dialog}
 use Rattle.avr_session.specs.Standing.{Standing, NoFault}
-use Rattle.stk_host.proofs.Dialogs.Logic.{told, wider}
+use Rattle.stk_host.proofs.Dialogs.Logic.{notice, wider}
 use Rattle.stk_host.specs.declared.fault.HostFault.{HostFault}
 use Rattle.stk_host.specs.declared.fault.StepFault.{StepFault}
 use Rattle.stk_host.specs.declared.fault.StepFault.TheVariants as of_step
@@ -28,7 +28,7 @@ use Rattle.avr_tool.proofs.Hosts.Operations.{AfterCall, operation_goes, beginnin
 use Rattle.avr_tool.proofs.Hosts.OneLink.{Spot, Runs}
 use Rattle.avr_tool.proofs.Hosts.Outputs.{AllTrue, Prints, stops, prints_reported, prints_then, prints_wider}
 use Rattle.avr_tool.proofs.Leads.{Reached, AfterBeginning}
-use Rattle.avr_tool.proofs.Plans.Calls.{Outcome, outcome_of, call_of, outcome_says, outcome_expected, dialog_is, expected_is, IsOperation, is_operation}
+use Rattle.avr_tool.proofs.Plans.Calls.{Outcome, outcome_of, call_of, outcome_output, outcome_expected, dialog_is, expected_is, IsOperation, is_operation}
 use Rattle.avr_tool.proofs.Plans.Fits.{FitsAction, AllFitActions, action_items_fit}
 use Rattle.avr_tool.proofs.Plans.Standings.{after_fault, faulty_fine, over_fine}
 use Rattle.avr_tool.specs.ExpectedRun.{Expected, then_from, ◌then◌, action_expected, actions_expected}
@@ -52,29 +52,29 @@ module _ (part : Part) (s : Switches) (At : Memories → Spot → Type 0) (Fails
   Comes action m z = Runs device (λ y. RestsIn part (action_items action) m y) (Came action m) (call_of part s action) z
 
   -- as the expected run: its state, its output and its memories
-  pub record Own (c : Expected) (at : Standing) (said : List OutputEvent) (z : Spot) : Type 0 where
+  pub record Own (c : Expected) (at : Standing) (emitted : List OutputEvent) (z : Spot) : Type 0 where
     pub stands : c.standing ≡ at
-    pub output_events_are : said ≡ c.emits
+    pub output_events_are : emitted ≡ c.emits
     pub left : At c.memories z
 
   -- a step failed, and its line was printed last
-  pub record Broken (actions : List Action) (m : Memories) (at : Standing) (said : List OutputEvent) : Type 0 where
+  pub record Broken (actions : List Action) (m : Memories) (at : Standing) (emitted : List OutputEvent) : Type 0 where
     pub fails : Fails
     pub faulty : at ≡ NoFault → ⊥
-    pub line : OutputToFault part s actions m said
+    pub line : OutputToFault part s actions m emitted
 
   -- at each question of these actions; then after them
   abbrev pub Now : List Action → Memories → List OutputEvent → Spot → Type 0
-  Now actions m said z = RestsIn part (actions_items actions) m z × FirstActionsOutput part s actions m said
+  Now actions m emitted z = RestsIn part (actions_items actions) m z × FirstActionsOutput part s actions m emitted
 
   abbrev pub After : List Action → Memories → Standing → List OutputEvent → Spot → Type 0
-  After actions m at said z = RestsIn part (actions_items actions) m z
-      × (Own (actions_expected part s actions m) at said z ⊎ Broken actions m at said)
+  After actions m at emitted z = RestsIn part (actions_items actions) m z
+      × (Own (actions_expected part s actions m) at emitted z ⊎ Broken actions m at emitted)
 
   -- after the first of them
   abbrev pub AfterOne : Action → List Action → Memories → Standing → List OutputEvent → Spot → Type 0
-  AfterOne action rest m at said z = RestsIn part (action_items action) m z
-      × (Own (outcome_expected part s action m) at said z ⊎ Broken (action ∷ rest) m at said)
+  AfterOne action rest m at emitted z = RestsIn part (action_items action) m z
+      × (Own (outcome_expected part s action m) at emitted z ⊎ Broken (action ∷ rest) m at emitted)
 
   -- What the calls do between such conditions. Each action has its outcome, and the closing keeps the memories. A fault
   -- comes only if steps may fail.
@@ -122,7 +122,7 @@ module _ (part : Part) (sound : IsPart part) (s : Switches) where
   pub opening_comes : (m : Memories) → FitsPart part m → (p : Programmer) → HasMemories part m p → ComesAnyhow OpenSession m p
   unfolding opening
   opening_comes m f p idle =
-      told (signature_checked part.signature s.force)
+      notice (signature_checked part.signature s.force)
       (wider (λ bytes q i. rests_here part [] m q i) (λ e q x. x) (λ o q x. x)
       (beginning_goes part sound m p f idle)) came
     where
@@ -142,7 +142,7 @@ fault_output part fault = PrintsLine (fault_line part (host_fault fault)) ∷ []
 
 module _ (part : Part) (s : Switches) where
   fault_says : (action : Action) (fault : StepFault)
-      → outcome_says part s action (Err (host_fault fault)) ≡ fault_output part fault
+      → outcome_output part s action (Err (host_fault fault)) ≡ fault_output part fault
   fault_says OpenSession of_step.NoAnswer = refl
   fault_says action fault = search rules
 
@@ -150,7 +150,7 @@ module _ (part : Part) (s : Switches) where
   module _ (True : OutputEvent → Programmer → Type 0) where
     abbrev pub ActionTrue : Action → Memories → Type 0
     ActionTrue action m = (q : Programmer) → memories_of q.chip ≡ effects part (action_items action) m
-        → AllTrue True (outcome_says part s action (outcome_of part action m)) q
+        → AllTrue True (outcome_output part s action (outcome_of part action m)) q
 
     abbrev pub ActionsTrue : List Action → Memories → Type 0
     ActionsTrue [] m = ⊤
@@ -176,19 +176,19 @@ module _ (part : Part) (sound : IsPart part) (s : Switches) (True : OutputEvent 
     c = outcome_expected part s action m
 
     pub action_prints : (z : Spot) → ActionTrue part s True action m → Comes part s At Fails action m z
-        → Prints True (λ said y. RestsIn part items m y × FirstActionsOutput part s (action ∷ rest) m said)
+        → Prints True (λ emitted y. RestsIn part items m y × FirstActionsOutput part s (action ∷ rest) m emitted)
         (AfterOne part s At Fails action rest m) (action_dialog part s action) z
     action_prints z holds comes =
-        subst (λ d. Prints True (λ said y. RestsIn part items m y × FirstActionsOutput part s (action ∷ rest) m said)
+        subst (λ d. Prints True (λ emitted y. RestsIn part items m y × FirstActionsOutput part s (action ∷ rest) m emitted)
         (AfterOne part s At Fails action rest m) d z) (dialog_is part s action)
-        (prints_reported True (outcome_says part s action) comes (λ y r. (r, none_done (action ∷ rest) m)) each)
+        (prints_reported True (outcome_output part s action) comes (λ y r. (r, none_done (action ∷ rest) m)) each)
       where
         each : (got : Result (Outcome action) HostFault) (y : Spot) → Came part s At Fails action m got y
-            → AllTrue True (outcome_says part s action got) y.0
-            × AfterOne part s At Fails action rest m (standing got) (outcome_says part s action got) y
+            → AllTrue True (outcome_output part s action got) y.0
+            × AfterOne part s At Fails action rest m (standing got) (outcome_output part s action got) y
         each got y (inl made) =
-            subst (λ x. AllTrue True (outcome_says part s action x) y.0
-            × AfterOne part s At Fails action rest m (standing x) (outcome_says part s action x) y) (sym made.0) (
+            subst (λ x. AllTrue True (outcome_output part s action x) y.0
+            × AfterOne part s At Fails action rest m (standing x) (outcome_output part s action x) y) (sym made.0) (
               holds y.0 (pass.idle _ y made.1).memories,
               (
                 rests_all part sound items m y.0 fits f (pass.idle _ y made.1),
@@ -197,8 +197,8 @@ module _ (part : Part) (sound : IsPart part) (s : Switches) (True : OutputEvent 
             )
         each got y (inr broke) =
             let fault = broke.1.0 in
-            let line : outcome_says part s action got ≡ fault_output part fault =
-            ap (outcome_says part s action) broke.1.1 ∙ fault_says part s action fault in (
+            let line : outcome_output part s action got ≡ fault_output part fault =
+            ap (outcome_output part s action) broke.1.1 ∙ fault_says part s action fault in (
               subst (λ x. AllTrue True x y.0) (sym line) (fault_true fault y.0),
               (
                 broke.1.2,
@@ -206,7 +206,7 @@ module _ (part : Part) (sound : IsPart part) (s : Switches) (True : OutputEvent 
                   fails = broke.0;
                   faulty = subst (λ x. standing x ≡ NoFault → ⊥) (sym broke.1.1)
                       (after_fault (Outcome action) (λ at. at ≡ NoFault → ⊥) (host_fault fault) faulty_fine over_fine);
-                  line = record { told = []; first = none_done (action ∷ rest) m; fault = fault; output_events_are = line };
+                  line = record { notice = []; first = none_done (action ∷ rest) m; fault = fault; output_events_are = line };
                 }),
               ),
             )
@@ -217,9 +217,9 @@ module _ (part : Part) (sound : IsPart part) (s : Switches) (True : OutputEvent 
         → (action_expected part s action m then next) ≡ then_from c at next
     goes_as next at e = ap (λ x. x then next) (expected_is part s action m) ∙ ap (λ x. then_from c x next) e
 
-    module _ (said : List OutputEvent) (is : said ≡ c.emits) (fine : c.standing ≡ NoFault) where
+    module _ (emitted : List OutputEvent) (is : emitted ≡ c.emits) (fine : c.standing ≡ NoFault) where
       first_behind : (x : List OutputEvent) → FirstActionsOutput part s rest c.memories x
-          → FirstActionsOutput part s (action ∷ rest) m (said ++ x)
+          → FirstActionsOutput part s (action ∷ rest) m (emitted ++ x)
       first_behind x first =
           let on = goes_as (actions_expected part s first.done) NoFault fine in
           record {
@@ -235,7 +235,7 @@ module _ (part : Part) (sound : IsPart part) (s : Switches) (True : OutputEvent 
       rests_later y r = rests_behind part sound items (actions_items rest) m y.0 fits f r
 
       after_behind : (at : Standing) (x : List OutputEvent) (y : Spot) → After part s At Fails rest c.memories at x y
-          → After part s At Fails (action ∷ rest) m at (said ++ x) y
+          → After part s At Fails (action ∷ rest) m at (emitted ++ x) y
       after_behind at x y (rests, inl own) =
           search (rules, rests_later y rests, goes_as (actions_expected part s rest) NoFault fine)
       after_behind at x y (rests, inr broken) =
@@ -245,11 +245,11 @@ module _ (part : Part) (sound : IsPart part) (s : Switches) (True : OutputEvent 
               fails = broken.fails;
               faulty = broken.faulty;
               line = record {
-                told = said ++ line.told;
-                first = first_behind line.told line.first;
+                notice = emitted ++ line.notice;
+                first = first_behind line.notice line.first;
                 fault = line.fault;
-                output_events_are = ap (λ y. said ++ y) line.output_events_are
-                    ∙ sym (append_assoc said line.told (fault_output part line.fault));
+                output_events_are = ap (λ y. emitted ++ y) line.output_events_are
+                    ∙ sym (append_assoc emitted line.notice (fault_output part line.fault));
               };
             }),
           )
@@ -260,28 +260,28 @@ module _ (part : Part) (sound : IsPart part) (s : Switches) (True : OutputEvent 
     pub goes_cons : (z : Spot) → ActionTrue part s True action m → Comes part s At Fails action m z
         → ((y : Spot) → At c.memories y → Goes rest c.memories y) → Goes (action ∷ rest) m z
     goes_cons z holds comes more =
-        prints_then True (λ said y x. (before y x.0, x.1)) (action_prints z holds comes) on
+        prints_then True (λ emitted y x. (before y x.0, x.1)) (action_prints z holds comes) on
       where
-        on : (at : Standing) (said : List OutputEvent) (y : Spot) → AfterOne part s At Fails action rest m at said y
-            → Prints True (λ x. Now part s At Fails (action ∷ rest) m (said ++ x))
-            (λ b x. After part s At Fails (action ∷ rest) m b (said ++ x))
+        on : (at : Standing) (emitted : List OutputEvent) (y : Spot) → AfterOne part s At Fails action rest m at emitted y
+            → Prints True (λ x. Now part s At Fails (action ∷ rest) m (emitted ++ x))
+            (λ b x. After part s At Fails (action ∷ rest) m b (emitted ++ x))
             (unless_fault (actions_dialog part s rest) at) y
-        on NoFault said y (r, inl own) =
+        on NoFault emitted y (r, inl own) =
             prints_wider True
             (λ x v now. (
-              rests_later said own.output_events_are own.stands v now.0,
-              first_behind said own.output_events_are own.stands x now.1,
+              rests_later emitted own.output_events_are own.stands v now.0,
+              first_behind emitted own.output_events_are own.stands x now.1,
             ))
-            (after_behind said own.output_events_are own.stands) (more y own.left)
-        on NoFault said y (r, inr broken) = absurd (broken.faulty refl)
-        on at said y (r, inl own) =
-            stops True (After part s At Fails (action ∷ rest) m) at said y (
+            (after_behind emitted own.output_events_are own.stands) (more y own.left)
+        on NoFault emitted y (r, inr broken) = absurd (broken.faulty refl)
+        on at emitted y (r, inl own) =
+            stops True (After part s At Fails (action ∷ rest) m) at emitted y (
               before y r,
-              inl (subst (λ x. Own part s At Fails x at said y)
+              inl (subst (λ x. Own part s At Fails x at emitted y)
                   (sym (goes_as (actions_expected part s rest) at own.stands)) own),
             )
-        on at said y (r, inr broken) =
-            stops True (After part s At Fails (action ∷ rest) m) at said y (before y r, inr broken)
+        on at emitted y (r, inr broken) =
+            stops True (After part s At Fails (action ∷ rest) m) at emitted y (before y r, inr broken)
 
   -- the actions after the opening
   pub goes_actions : (actions : List Action) (m : Memories) (z : Spot) → AllFitActions part actions → FitsPart part m

@@ -18,7 +18,7 @@ use Rattle.avr_tool.proofs.Hosts.OneLink.{Spot, on_link}
 use Rattle.avr_tool.proofs.Hosts.Outputs.{Anything, Prints, Printed, any_outputs, at_moment}
 use Rattle.avr_tool.proofs.Leads.{Leads}
 use Rattle.avr_tool.proofs.Memories.ExpectedAgrees.{expected_status, expected_memories}
-use Rattle.avr_tool.proofs.Plans.Calls.{outcome_of, outcome_says}
+use Rattle.avr_tool.proofs.Plans.Calls.{outcome_of, outcome_output}
 use Rattle.avr_tool.proofs.Plans.Fits.{work}
 use Rattle.avr_tool.specs.Items.{action_items}
 use Rattle.avr_tool.specs.Outcome.{HasFirstOperations, IsDone, IsExpectedRun}
@@ -28,7 +28,7 @@ module _ (plan : Plan) (sound : IsPart plan.part) (m0 : Memories) (f0 : FitsPart
   anything : (actions : List Action) (m : Memories) → ActionsTrue plan.part plan.switches Anything actions m
   anything [] m = tt
   anything (action ∷ actions) m =
-      (λ q is. any_outputs (outcome_says plan.part plan.switches action (outcome_of plan.part action m)) q, anything actions (effects plan.part (action_items action) m))
+      (λ q is. any_outputs (outcome_output plan.part plan.switches action (outcome_of plan.part action m)) q, anything actions (effects plan.part (action_items action) m))
 
   -- over any link, or if no step fails
   pub session_passes : (At : Memories → Spot → Type 0) (Fails : Type 0) → Passes plan.part plan.switches At Fails
@@ -37,7 +37,7 @@ module _ (plan : Plan) (sound : IsPart plan.part) (m0 : Memories) (f0 : FitsPart
   session_passes At Fails pass z opened =
       session_prints plan sound fitted Anything (λ fault q. any_outputs (fault_output plan.part fault) q)
       (λ q. any_outputs (closing_output plan.switches.quiet plan.part (Ok tt)) q) At Fails pass m0 f0
-      (λ q is. any_outputs (outcome_says plan.part plan.switches OpenSession (outcome_of plan.part OpenSession m0)) q)
+      (λ q is. any_outputs (outcome_output plan.part plan.switches OpenSession (outcome_of plan.part OpenSession m0)) q)
       (anything (work plan) m0) z opened
 
   module _ (p : Programmer) (exchanges : List Exchange) (idle : HasMemories plan.part m0 p) where

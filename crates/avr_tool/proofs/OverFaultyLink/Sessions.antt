@@ -26,7 +26,7 @@ use Rattle.avr_tool.proofs.Hosts.Outputs.{AllTrue, Prints, stops, prints_reporte
 use Rattle.avr_tool.proofs.WriteOperations.StepCounts.{items_counted}
 use Rattle.avr_tool.proofs.WriteOperations.Steps.{leave_fits}
 use Rattle.avr_tool.proofs.Plans.Fits.{work, work_fits}
-use Rattle.avr_tool.specs.ExpectedRun.{Expected, working_expected, ending_says}
+use Rattle.avr_tool.specs.ExpectedRun.{Expected, working_expected, ending_output}
 use Rattle.avr_tool.specs.ExpectedOutput.{FirstActionsOutput, OutputToFault, IsExpectedOutput}
 use Rattle.avr_tool.specs.Items.{items}
 use Rattle.avr_tool.specs.Outcome.{HasFirstOperations, IsExpectedRun}
@@ -48,17 +48,17 @@ anyhow part sound s = record {
 
 module _ (plan : Plan) (m : Memories) where
   abbrev pub AtMoment : List OutputEvent → Spot → Type 0
-  AtMoment said y = HasFirstOperations plan m (memories_of y.0.chip) × IsExpectedOutput plan m said
+  AtMoment emitted y = HasFirstOperations plan m (memories_of y.0.chip) × IsExpectedOutput plan m emitted
 
   -- with a status: as the expected run, or status 1 after the line of a failed step
   abbrev pub AtEnd : Type 0 → ℕ → List OutputEvent → Spot → Type 0
-  AtEnd Fails status said y = HasFirstOperations plan m (memories_of y.0.chip)
-      × (IsExpectedRun plan m (memories_of y.0.chip) said status
-      ⊎ (Fails × (OutputToFault plan.part plan.switches (actions plan) m said × (status ≡ 1))))
+  AtEnd Fails status emitted y = HasFirstOperations plan m (memories_of y.0.chip)
+      × (IsExpectedRun plan m (memories_of y.0.chip) emitted status
+      ⊎ (Fails × (OutputToFault plan.part plan.switches (actions plan) m emitted × (status ≡ 1))))
 
-  pub at_last : (Fails : Type 0) (status : ℕ) (said : List OutputEvent) (y : Spot) → AtEnd Fails status said y
-      → AtMoment said y
-  at_last Fails status said y e' = search rules
+  pub at_last : (Fails : Type 0) (status : ℕ) (emitted : List OutputEvent) (y : Spot) → AtEnd Fails status emitted y
+      → AtMoment emitted y
+  at_last Fails status emitted y e' = search rules
 
 module _ (plan : Plan) (sound : IsPart plan.part) (fitted : All (IsFitted plan.part) plan.tasks)
     (True : OutputEvent → Programmer → Type 0)
@@ -75,8 +75,8 @@ module _ (plan : Plan) (sound : IsPart plan.part) (fitted : All (IsFitted plan.p
   abbrev w : Expected
   w = working_expected plan m
 
-  all_done : (said : List OutputEvent) → said ≡ w.emits → w.standing ≡ NoFault → FirstActionsOutput part s (actions plan) m said
-  all_done said is fine = record {
+  all_done : (emitted : List OutputEvent) → emitted ≡ w.emits → w.standing ≡ NoFault → FirstActionsOutput part s (actions plan) m emitted
+  all_done emitted is fine = record {
     done = actions plan;
     more = [];
     actions_are = sym (append-nil (actions plan));
@@ -84,24 +84,24 @@ module _ (plan : Plan) (sound : IsPart plan.part) (fitted : All (IsFitted plan.p
     output_events_are = is;
   }
 
-  module _ (said : List OutputEvent) (y : Spot) (rests : RestsIn part (items plan) m y)
-      (own : Own part s At Fails w NoFault said y) where
+  module _ (emitted : List OutputEvent) (y : Spot) (rests : RestsIn part (items plan) m y)
+      (own : Own part s At Fails w NoFault emitted y) where
     left : (z : Spot) → HasMemories part w.memories z.0 → HasFirstOperations plan m (memories_of z.0.chip)
     left z i = search (rules, items_counted)
 
-    abbrev Told : Result ⊤ HostFault → Spot → Type 0
-    Told r z = AllTrue True (closing_output s.quiet part r) z.0
-        × AtEnd plan m Fails (status_of (standing r)) (said ++ closing_output s.quiet part r) z
+    abbrev ReportedAs : Result ⊤ HostFault → Spot → Type 0
+    ReportedAs r z = AllTrue True (closing_output s.quiet part r) z.0
+        × AtEnd plan m Fails (status_of (standing r)) (emitted ++ closing_output s.quiet part r) z
 
     closed : (r : Result ⊤ HostFault) (z : Spot) → HasMemories part w.memories z.0
-        × ((r ≡ Ok tt) ⊎ (Fails × ((fault : StepFault) × (r ≡ Err (host_fault fault))))) → Told r z
-    closed r z (i, inl ok) = subst (λ x. Told x z) (sym ok) (
+        × ((r ≡ Ok tt) ⊎ (Fails × ((fault : StepFault) × (r ≡ Err (host_fault fault))))) → ReportedAs r z
+    closed r z (i, inl ok) = subst (λ x. ReportedAs x z) (sym ok) (
       done_true z.0,
       (
         left z i,
         inl (record {
-          said = ap (λ xs. xs ++ closing_output s.quiet part (Ok tt)) own.output_events_are
-              ∙ sym (ap (λ t. w.emits ++ ending_says plan t) own.stands);
+          emitted = ap (λ xs. xs ++ closing_output s.quiet part (Ok tt)) own.output_events_are
+              ∙ sym (ap (λ t. w.emits ++ ending_output plan t) own.stands);
           status_is = sym (ap status_of own.stands);
           memories = i.memories;
         }),
@@ -109,7 +109,7 @@ module _ (plan : Plan) (sound : IsPart plan.part) (fitted : All (IsFitted plan.p
     )
     closed r z (i, inr broke) =
         let fault = broke.1.0 in
-        subst (λ x. Told x z) (sym broke.1.1) (
+        subst (λ x. ReportedAs x z) (sym broke.1.1) (
           fault_true fault z.0,
           (
             left z i,
@@ -117,35 +117,35 @@ module _ (plan : Plan) (sound : IsPart plan.part) (fitted : All (IsFitted plan.p
           ),
         )
 
-  with_fault : (at : Standing) (said : List OutputEvent) (y z : Spot) → ending_says plan at ≡ [] → status_of at ≡ 1
-      → After part s At Fails (actions plan) m at said y → memories_of z.0.chip ≡ memories_of y.0.chip
-      → AtEnd plan m Fails 1 said z
-  with_fault at said y z none one (rests, inl own) kept = search (rules, items_counted)
-  with_fault at said y z none one (rests, inr broken) kept = search (rules, items_counted)
+  with_fault : (at : Standing) (emitted : List OutputEvent) (y z : Spot) → ending_output plan at ≡ [] → status_of at ≡ 1
+      → After part s At Fails (actions plan) m at emitted y → memories_of z.0.chip ≡ memories_of y.0.chip
+      → AtEnd plan m Fails 1 emitted z
+  with_fault at emitted y z none one (rests, inl own) kept = search (rules, items_counted)
+  with_fault at emitted y z none one (rests, inr broken) kept = search (rules, items_counted)
 
-  ending_prints : (at : Standing) (said : List OutputEvent) (y : Spot)
-      → After part s At Fails (actions plan) m at said y
-      → Prints True (λ x. AtMoment plan m (said ++ x)) (λ b x. AtEnd plan m Fails (status_of b) (said ++ x))
+  ending_prints : (at : Standing) (emitted : List OutputEvent) (y : Spot)
+      → After part s At Fails (actions plan) m at emitted y
+      → Prints True (λ x. AtMoment plan m (emitted ++ x)) (λ b x. AtEnd plan m Fails (status_of b) (emitted ++ x))
       (ending part s at) y
-  ending_prints NoFault said y (rests, inl own) =
+  ending_prints NoFault emitted y (rests, inl own) =
       prints_reported True (closing_output s.quiet part) (pass.closes w.memories y own.left)
       (λ z i. (
-        left said y rests own z i,
-        inr (inl (all_done (said ++ []) (append-nil said ∙ own.output_events_are) own.stands)),
+        left emitted y rests own z i,
+        inr (inl (all_done (emitted ++ []) (append-nil emitted ∙ own.output_events_are) own.stands)),
       ))
-      (closed said y rests own)
-  ending_prints NoFault said y (rests, inr broken) = absurd (broken.faulty refl)
-  ending_prints Faulty said y after =
+      (closed emitted y rests own)
+  ending_prints NoFault emitted y (rests, inr broken) = absurd (broken.faulty refl)
+  ending_prints Faulty emitted y after =
       let before = memories_after_steps part after.0.count (steps_of_items part (items plan)) m in
-      let left : (z : Spot) → HasMemories part before z.0 → AtEnd plan m Fails 1 (said ++ []) z =
-      λ z i. subst (λ x. AtEnd plan m Fails 1 x z) (sym (append-nil said))
-      (with_fault Faulty said y z refl refl after (i.memories ∙ sym after.0.stands.memories)) in
+      let left : (z : Spot) → HasMemories part before z.0 → AtEnd plan m Fails 1 (emitted ++ []) z =
+      λ z i. subst (λ x. AtEnd plan m Fails 1 x z) (sym (append-nil emitted))
+      (with_fault Faulty emitted y z refl refl after (i.memories ∙ sym after.0.stands.memories)) in
       prints_then True (λ x z now. now)
-      (prints_reported True {Then = λ at x z. AtEnd plan m Fails 1 (said ++ x) z} (λ _. [])
+      (prints_reported True {Then = λ at x z. AtEnd plan m Fails 1 (emitted ++ x) z} (λ _. [])
       (on_link device (closing_goes (HasMemories part before) (leave_fits part before) y.0 after.0.stands))
-      (λ z i. at_last plan m Fails 1 (said ++ []) z (left z i)) (λ r z x. (tt, left z x.0)))
-      (λ closed x z a. stops True (λ b v. AtEnd plan m Fails (status_of b) (said ++ v)) Over x z a)
-  ending_prints Over said y after = search (rules, with_fault Over said y y refl refl after refl)
+      (λ z i. at_last plan m Fails 1 (emitted ++ []) z (left z i)) (λ r z x. (tt, left z x.0)))
+      (λ closed x z a. stops True (λ b v. AtEnd plan m Fails (status_of b) (emitted ++ v)) Over x z a)
+  ending_prints Over emitted y after = search (rules, with_fault Over emitted y y refl refl after refl)
 
   pub session_prints : ActionTrue part s True OpenSession m → ActionsTrue part s True (work plan) m → (z : Spot)
       → Comes part s At Fails OpenSession m z
@@ -156,4 +156,4 @@ module _ (plan : Plan) (sound : IsPart plan.part) (fitted : All (IsFitted plan.p
       (prints_then True (λ x y now. ((search (rules, items_counted)), inr (inl now.1)))
       (goes_cons part sound s True fault_true At Fails pass OpenSession (work plan) m tt f z opening_true opened
       (search (rules, goes_actions, work_fits))) ending_prints)
-      (λ at said y a. stops True (AtEnd plan m Fails) (status_of at) said y a)
+      (λ at emitted y a. stops True (AtEnd plan m Fails) (status_of at) emitted y a)

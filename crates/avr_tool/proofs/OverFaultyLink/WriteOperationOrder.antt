@@ -30,11 +30,11 @@ use Rattle.avr_tool.proofs.Plans.Fits.{FitsAction, AllFitActions, work, work_fit
 use Rattle.avr_tool.proofs.OverFaultyLink.FirstSteps.{Rests, rests_here, effects_sizes}
 use Rattle.avr_tool.proofs.OverFaultyLink.Sessions.{anyhow}
 use Rattle.avr_tool.proofs.OverFaultyLink.EachAction.{ComesAnyhow, AfterOne, fault_output, action_prints, operation_comes, opening_comes}
-use Rattle.avr_tool.proofs.Hosts.Operations.{along_told, closing_goes}
+use Rattle.avr_tool.proofs.Hosts.Operations.{along_reported, closing_goes}
 use Rattle.avr_tool.proofs.Hosts.OneLink.{Spot, on_link}
 use Rattle.avr_tool.proofs.Hosts.Outputs.{Anything, Prints, any_outputs, stops, at_moment, prints_reported, prints_then, prints_wider}
 use Rattle.avr_tool.proofs.WriteOperations.Steps.{leave_fits}
-use Rattle.avr_tool.proofs.Plans.Calls.{outcome_of, outcome_says, dialog_is, is_operation}
+use Rattle.avr_tool.proofs.Plans.Calls.{outcome_of, outcome_output, dialog_is, is_operation}
 use Rattle.stk_emu.proofs.Answers.Commands.{settled_idle}
 use Rattle.avr_tool.proofs.OverFaultyLink.WriteOperations.{Changed, Makes, makes_none, makes_items, makes_then}
 
@@ -49,19 +49,19 @@ module _ (part : Part) (sound : IsPart part) (s : Switches) where
       → Leads device (action_dialog part s action) p exchanges (Rests part (steps_of_items part (action_items action)) m)
       (λ at q. at ≡ NoFault → Settled part (effects part (action_items action) m) q)
   action_leads action m p exchanges fits f comes = record {
-    during = λ k. (at_moment Anything (λ at said z x. x.0) k prints).now;
-    after = λ k at e fine. elim ((at_moment Anything (λ at said z x. x.0) k prints).after at e).1 [
+    during = λ k. (at_moment Anything (λ at emitted z x. x.0) k prints).now;
+    after = λ k at e fine. elim ((at_moment Anything (λ at emitted z x. x.0) k prints).after at e).1 [
       | inl own ↦ own.left
       | inr broken ↦ absurd (broken.faulty fine)
     ];
   }
     where
-      prints : Prints Anything (λ said z. Rests part (steps_of_items part (action_items action)) m z.0)
+      prints : Prints Anything (λ emitted z. Rests part (steps_of_items part (action_items action)) m z.0)
           (AfterOne part s (λ m z. Settled part m z.0) ⊤ action [] m) (action_dialog part s action) (p, exchanges)
-      prints = prints_wider Anything (λ said z x. x.0) (λ at said z x. x)
+      prints = prints_wider Anything (λ emitted z x. x.0) (λ at emitted z x. x)
           (action_prints part sound s Anything (λ fault q. any_outputs (fault_output part fault) q)
           (λ m z. Settled part m z.0) ⊤ (anyhow part sound s) action [] m fits f (p, exchanges)
-          (λ q is. any_outputs (outcome_says part s action (outcome_of part action m)) q) (on_link device comes))
+          (λ q is. any_outputs (outcome_output part s action (outcome_of part action m)) q) (on_link device comes))
 
   makes_written : (action : Action) (m : Memories) → FitsAction part action → FitsPart part m
       → action_steps part action ≡ steps_of_items part (action_items action)
@@ -70,7 +70,7 @@ module _ (part : Part) (sound : IsPart part) (s : Switches) where
       let o = is_operation part s sound m f action fits in
       subst (λ d. Makes part m (action_items action) d (action_made part action) p exchanges)
       (search (rules, dialog_is))
-      (makes_items part sound m (action_items action) o.judge (outcome_says part s action) p exchanges
+      (makes_items part sound m (action_items action) o.judge (outcome_output part s action) p exchanges
       (subst (AreSteps part) same o.are) settled)
 
   makes_action : (action : Action) (m : Memories) → FitsAction part action → FitsPart part m
@@ -100,18 +100,18 @@ module _ (part : Part) (sound : IsPart part) (s : Switches) where
   -- the end keeps the memories
   module _ (m : Memories) where
     abbrev Kept : Dialog OutputEvent Standing → Spot → Type 0
-    Kept d z = Prints Anything (λ said y. HasMemories part m y.0) (λ at said y. HasMemories part m y.0) d z
+    Kept d z = Prints Anything (λ emitted y. HasMemories part m y.0) (λ at emitted y. HasMemories part m y.0) d z
 
-    closing_keeps : (outcome_says : Result ⊤ HostFault → List OutputEvent) (z : Spot) → HasMemories part m z.0
-        → Kept (reported closing outcome_says) z
-    closing_keeps outcome_says z i =
-        prints_reported Anything outcome_says (on_link device (closing_goes (HasMemories part m) (leave_fits part m) z.0 i))
-        (λ y i. i) (λ r y x. (any_outputs (outcome_says r) y.0, x.0))
+    closing_keeps : (outcome_output : Result ⊤ HostFault → List OutputEvent) (z : Spot) → HasMemories part m z.0
+        → Kept (reported closing outcome_output) z
+    closing_keeps outcome_output z i =
+        prints_reported Anything outcome_output (on_link device (closing_goes (HasMemories part m) (leave_fits part m) z.0 i))
+        (λ y i. i) (λ r y x. (any_outputs (outcome_output r) y.0, x.0))
 
     ending_keeps : (at : Standing) (z : Spot) → HasMemories part m z.0 → Kept (ending part s at) z
     ending_keeps NoFault z i = closing_keeps (closing_output s.quiet part) z i
     ending_keeps Faulty z i = prints_then Anything (λ x y i. i) (closing_keeps (λ _. []) z i)
-        (λ at x y i. stops Anything (λ at said y. HasMemories part m y.0) Over x y i)
+        (λ at x y i. stops Anything (λ at emitted y. HasMemories part m y.0) Over x y i)
     ending_keeps Over z i = record { holds = i }
 
 module _ (plan : Plan) (sound : IsPart plan.part) (fitted : All (IsFitted plan.part) plan.tasks) (m : Memories)
@@ -149,7 +149,7 @@ module _ (plan : Plan) (sound : IsPart plan.part) (fitted : All (IsFitted plan.p
             (λ l. subst (λ i. At i (state_after device l (ending part plan.switches s) z.programmer z.exchanges).programmer)
             (let same : made ≡ made + 0 = omega arith in same) (record {
               few = changed.few;
-              stands = (at_moment Anything (λ at said y i. i) l keeps).now;
+              stands = (at_moment Anything (λ at emitted y i. i) l keeps).now;
             }));
         sharp = inr (λ l. refl);
       }
@@ -163,7 +163,7 @@ module _ (plan : Plan) (sound : IsPart plan.part) (fitted : All (IsFitted plan.p
       (then_count device all_actions (operations_completed plan) (λ t. none_made)) (operations_completed plan) At
       (λ j q. memories_of q.chip ≡ effects plan.part (take j (write_operations plan)) m) p exchanges
       (λ k. (search rules))
-      (λ k j changed. ap (λ z. memories_of z.programmer.chip) (along_told device k (session_dialog plan) status_of p exchanges)
+      (λ k j changed. ap (λ z. memories_of z.programmer.chip) (along_reported device k (session_dialog plan) status_of p exchanges)
       ∙ (changed.stands.memories ∙ items_counted plan.part (items plan) j m))
       (tallies_bind device all_actions (ending plan.part plan.switches) (operations_completed plan) (λ t. none_made) At p exchanges
       makes_actions.tally (λ k s e. ends k s e))

@@ -28,7 +28,7 @@ use Rattle.avr_session.specs.Standing.{Standing, NoFault}
 use Rattle.avr_session.specs.Session.{reported, unless_fault}
 use Rattle.avr_tool.specs.Made.{none_made, made_unless_fault, steps_completed}
 use Rattle.avr_tool.proofs.OverFaultyLink.FirstSteps.{Rests, changed_min, changed_prefix, changed_behind, all_on, all_changed}
-use Rattle.avr_tool.proofs.OverFaultyLink.Calls.{told_programmer, told_fine}
+use Rattle.avr_tool.proofs.OverFaultyLink.Calls.{reported_programmer, reported_fine}
 
 -- the memories after `j` first steps of these items
 pub record Changed (part : Part) (items : List Item) (m : Memories) (j : ℕ) (q : Programmer) : Type 0 where
@@ -65,28 +65,28 @@ steps_most (commands ∷ steps) k p exchanges =
 
 module _ (part : Part) (sound : IsPart part) where
   module _ {A : Type 0} (m : Memories) (items : List Item) (judge : List ℕ → Result A HostFault)
-      (outcome_says : Result A HostFault → List OutputEvent) (p : Programmer) (exchanges : List Exchange)
+      (outcome_output : Result A HostFault → List OutputEvent) (p : Programmer) (exchanges : List Exchange)
       (are : AreSteps part (steps_of_items part items)) (settled : Settled part m p) where
     abbrev steps : List (List Command)
     steps = steps_of_items part items
 
-    abbrev told : Dialog OutputEvent Standing
-    told = reported (operation steps judge) outcome_says
+    abbrev notice : Dialog OutputEvent Standing
+    notice = reported (operation steps judge) outcome_output
 
     played : Tallies device (play steps []) (steps_completed device steps) (λ j. Settled part (memories_after_steps part j steps m)) p
         exchanges
     played = (tallies_play part steps m [] p exchanges sound are settled).0
 
-    moved : (k : ℕ) → (state_after device k (play steps []) p exchanges).programmer ≡ (state_after device k told p exchanges).programmer
+    moved : (k : ℕ) → (state_after device k (play steps []) p exchanges).programmer ≡ (state_after device k notice p exchanges).programmer
     unfolding operation
-    moved k = sym (told_programmer device judge outcome_says k (play steps []) p exchanges)
+    moved k = sym (reported_programmer device judge outcome_output k (play steps []) p exchanges)
 
     stands : (k : ℕ) (q : Programmer) → Settled part (memories_after_steps part (played.count k) steps m) q
         → Changed part items m (min (played.count k) (length steps)) q
     stands k q at = search (rules, changed_min, settled_idle)
 
-    told_tally : Tallies device told (steps_completed device steps) (Changed part items m) p exchanges
-    told_tally = record {
+    reported_tally : Tallies device notice (steps_completed device steps) (Changed part items m) p exchanges
+    reported_tally = record {
       count = λ k. min (played.count k) (length steps);
       none = let e = played.none in omega (arith, e);
       at_least = λ k. let l = played.at_least k in let most = steps_most steps k p exchanges in omega (arith, l, most);
@@ -95,14 +95,14 @@ module _ (part : Part) (sound : IsPart part) where
           (stands k (state_after device k (play steps []) p exchanges).programmer (played.stands k));
     }
 
-    all_done : (k : ℕ) → (state_after device k told p exchanges).dialog ≡ Done NoFault
+    all_done : (k : ℕ) → (state_after device k notice p exchanges).dialog ≡ Done NoFault
         → steps_completed device steps k p exchanges ≡ length steps
     unfolding operation
     all_done k e =
-        let got = told_fine device judge outcome_says k (play steps []) p exchanges e in search (rules, steps_all)
+        let got = reported_fine device judge outcome_output k (play steps []) p exchanges e in search (rules, steps_all)
 
-    pub makes_items : Makes part m items told (steps_completed device steps) p exchanges
-    makes_items = record { tally = told_tally; complete = λ k e. all_done k e }
+    pub makes_items : Makes part m items notice (steps_completed device steps) p exchanges
+    makes_items = record { tally = reported_tally; complete = λ k e. all_done k e }
 
   size_on : (xs ys : List Item) → length (steps_of_items part (xs ++ ys))
       ≡ length (steps_of_items part xs) + length (steps_of_items part ys)

@@ -53,21 +53,21 @@ module _ (part : Part) where
     call_of (SaveMemory mem format file) = reading part mem
     call_of (SkipAction what) = Done (Ok tt)
 
-    abbrev pub outcome_says : (action : Action) → Result (Outcome action) HostFault → List OutputEvent
-    outcome_says OpenSession = opening_output s.quiet part
-    outcome_says EraseChip = erased_output s.quiet part
-    outcome_says (WriteImage mem image) = written_output s.quiet part mem image
-    outcome_says (CompareImage mem image) = verified_output s.quiet part mem image
-    outcome_says (SaveMemory mem format file) = fault_line_or part (read_output s mem format file)
-    outcome_says (SkipAction what) = fault_line_or part (λ _. skipped_output s.quiet what)
+    abbrev pub outcome_output : (action : Action) → Result (Outcome action) HostFault → List OutputEvent
+    outcome_output OpenSession = opening_output s.quiet part
+    outcome_output EraseChip = erased_output s.quiet part
+    outcome_output (WriteImage mem image) = written_output s.quiet part mem image
+    outcome_output (CompareImage mem image) = verified_output s.quiet part mem image
+    outcome_output (SaveMemory mem format file) = fault_line_or part (read_output s mem format file)
+    outcome_output (SkipAction what) = fault_line_or part (λ _. skipped_output s.quiet what)
 
-    pub dialog_is : (action : Action) → reported (call_of action) (outcome_says action) ≡ action_dialog part s action
+    pub dialog_is : (action : Action) → reported (call_of action) (outcome_output action) ≡ action_dialog part s action
     dialog_is OpenSession = refl
     dialog_is action = search rules
 
     abbrev pub outcome_expected : Action → Memories → Expected
     outcome_expected action m =
-        reported_expected (outcome_says action) (outcome_of action m) (effects part (action_items action) m)
+        reported_expected (outcome_output action) (outcome_of action m) (effects part (action_items action) m)
 
     pub expected_is : (action : Action) (m : Memories) → action_expected part s action m ≡ outcome_expected action m
     expected_is OpenSession m = refl

@@ -6,7 +6,7 @@ use Rattle.avr_desk.specs.Lines.{memory_line, not_opened_line, not_read_line}
 use Rattle.avr_desk.specs.Record.{DeskState, Record, Bytes, after_err}
 use Rattle.avr_desk.specs.OutputEvents.{OutputEvent, PrintsLine, IsPartOfEvent, IsPrefixOf, ReportsLineAs, after_events}
 use Rattle.avr_desk.proofs.Stages.Outputs.{kept_append, after_append}
-use Rattle.avr_desk.proofs.Lines.Told.{follows_on, follows_same, same_on}
+use Rattle.avr_desk.proofs.Lines.ReportedAs.{follows_on, follows_same, same_on}
 use Rattle.avr_plan.specs.Plan.{Plan}
 use Rattle.avr_plan.specs.Planning.{planned}
 use Rattle.avr_desk.specs.Playing.{StageCompleted, StageRefused, BreakCause, LineNotPrinted, NotOpened, NotRead, NoMemory, NoMemoryForFile, ReportsBreakAs, events_of_break}
@@ -22,15 +22,15 @@ use Rattle.avr_session.specs.Session.{session}
 use Rattle.avr_session.specs.Stopping.{RanToStatus}
 use Rattle.avr_tool.specs.Headline.{run, run_after_planning, IsInTurn, IsRun, IsPrefixOfRun, InSession, InPlanning, stop_line, opened_at, StoppedInSession, StoppedPlanning, IsStopped}
 
-pub said_outputs : (emits : List OutputEvent) (events : List (Event OutputEvent))
+pub emitted_outputs : (emits : List OutputEvent) (events : List (Event OutputEvent))
     → outputs (map Emitted emits ++ events) ≡ emits ++ outputs events
-said_outputs [] events = refl
-said_outputs (output ∷ emits) events = ap (λ rest. output ∷ rest) (said_outputs emits events)
+emitted_outputs [] events = refl
+emitted_outputs (output ∷ emits) events = ap (λ rest. output ∷ rest) (emitted_outputs emits events)
 
-pub said_bytes : (emits : List OutputEvent) (events : List (Event OutputEvent))
+pub emitted_bytes : (emits : List OutputEvent) (events : List (Event OutputEvent))
     → bytes_sent (map Emitted emits ++ events) ≡ bytes_sent events
-said_bytes [] events = refl
-said_bytes (output ∷ emits) events = said_bytes emits events
+emitted_bytes [] events = refl
+emitted_bytes (output ∷ emits) events = emitted_bytes emits events
 
 -- the run of what planning gave
 abbrev after_planning : StageResult Plan → Tape → Played OutputEvent ℕ
@@ -52,9 +52,9 @@ ran_whole settings plan x y between status went whole =
       left = whole.0.unread;
       is = search rules;
       in_turn = search rules;
-      all_sent = said_bytes went.emits ran.events ∙ ran.plays.all_sent;
+      all_sent = emitted_bytes went.emits ran.events ∙ ran.plays.all_sent;
       grows = ran.grows;
-      kept = search (rules, kept_append, said_outputs);
+      kept = search (rules, kept_append, emitted_outputs);
       few = ran.few (omega arith);
       sound = (ran.sound.0, same_on x.desk between y.desk went.sound ran.sound.1);
     }
@@ -76,9 +76,9 @@ refused_whole settings x y same (line, went) = record {
   left = [];
   is = λ later more. ap (λ q. after_planning q more) (went.comes later);
   in_turn = λ later. subst (λ stage_outcome. IsInTurn stage_outcome []) (sym (answered (went.comes later))) refl;
-  all_sent = said_bytes went.emits (Emitted (PrintsLine line) ∷ []);
+  all_sent = emitted_bytes went.emits (Emitted (PrintsLine line) ∷ []);
   grows = subst (λ (l : LinkState). Grows x.link.transcript [] l.transcript) (sym same) (grows_none x.link.transcript);
-  kept = went.kept ∙ ap (λ emits. after_events emits x.desk.kept) (sym (said_outputs went.emits (Emitted (PrintsLine line) ∷ [])));
+  kept = went.kept ∙ ap (λ emits. after_events emits x.desk.kept) (sym (emitted_outputs went.emits (Emitted (PrintsLine line) ∷ [])));
   few = omega arith;
   sound = (ap (λ (l : LinkState). l.failures) same, went.sound);
 }
@@ -121,39 +121,39 @@ behind_prefix emits f =
     search (rules, append_assoc (map Emitted emits) f.whole f.begun, append_assoc (map Emitted emits) f.whole f.later)
 
 -- all that the desk did, in planning and then in the session
-shown_kept : (emits : List OutputEvent) (shown : List (Event OutputEvent)) (told : Bytes) (r s t : Record)
-    → s ≡ after_events emits r → t ≡ after_err told (after_events (outputs shown) s)
-    → t ≡ after_err told (after_events (outputs (map Emitted emits ++ shown) ++ []) r)
-shown_kept emits shown told r s t first then =
-    then ∙ ap (λ k. after_err told (after_events (outputs shown) k)) first
-    ∙ ap (after_err told) (sym (after_append emits (outputs shown) r))
-    ∙ ap (λ done. after_err told (after_events done r))
-    (sym (append-nil (outputs (map Emitted emits ++ shown)) ∙ said_outputs emits shown))
+shown_kept : (emits : List OutputEvent) (shown : List (Event OutputEvent)) (notice : Bytes) (r s t : Record)
+    → s ≡ after_events emits r → t ≡ after_err notice (after_events (outputs shown) s)
+    → t ≡ after_err notice (after_events (outputs (map Emitted emits ++ shown) ++ []) r)
+shown_kept emits shown notice r s t first then =
+    then ∙ ap (λ k. after_err notice (after_events (outputs shown) k)) first
+    ∙ ap (after_err notice) (sym (after_append emits (outputs shown) r))
+    ∙ ap (λ done. after_err notice (after_events done r))
+    (sym (append-nil (outputs (map Emitted emits ++ shown)) ∙ emitted_outputs emits shown))
 
 -- what was reported is a part of the reason's line
-line_part : (line told : Bytes) (x y : DeskState) → ReportsLineAs line told x y → IsPrefixOf told line
-line_part line told x y (inl whole) = ([], append-nil told ∙ whole.0)
-line_part line told x y (inr part) = part.0
+line_part : (line notice : Bytes) (x y : DeskState) → ReportsLineAs line notice x y → IsPrefixOf notice line
+line_part line notice x y (inl whole) = ([], append-nil notice ∙ whole.0)
+line_part line notice x y (inr part) = part.0
 
-none_part : (line told : Bytes) → told ≡ [] → IsPrefixOf told line
-none_part line told none = (line, ap (λ t. t ++ line) none)
+none_part : (line notice : Bytes) → notice ≡ [] → IsPrefixOf notice line
+none_part line notice none = (line, ap (λ t. t ++ line) none)
 
-cause_part : (has_reported : Bool) (cause : Cause) (told : Bytes) (x y : DeskState)
-    → ReportsCause has_reported cause told x y → IsPrefixOf told (cause_line cause)
-cause_part false cause told x y tells = line_part (cause_line cause) told x y tells
-cause_part true SendingFailed told x y none = none_part (cause_line SendingFailed) told none
-cause_part true ReceivingFailed told x y none = none_part (cause_line ReceivingFailed) told none
-cause_part true PrintingFailed told x y none = none_part (cause_line PrintingFailed) told none
-cause_part true (FileFailed file trouble) told x y tells = absurd tells
-cause_part true AllocationFailed told x y tells = absurd tells
+cause_part : (has_reported : Bool) (cause : Cause) (notice : Bytes) (x y : DeskState)
+    → ReportsCause has_reported cause notice x y → IsPrefixOf notice (cause_line cause)
+cause_part false cause notice x y is_reported = line_part (cause_line cause) notice x y is_reported
+cause_part true SendingFailed notice x y none = none_part (cause_line SendingFailed) notice none
+cause_part true ReceivingFailed notice x y none = none_part (cause_line ReceivingFailed) notice none
+cause_part true PrintingFailed notice x y none = none_part (cause_line PrintingFailed) notice none
+cause_part true (FileFailed file trouble) notice x y is_reported = absurd is_reported
+cause_part true AllocationFailed notice x y is_reported = absurd is_reported
 
-break_part : (break : BreakCause) (told : Bytes) (x y : DeskState)
-    → ReportsBreakAs break told x y → IsPrefixOf told (stop_line (InPlanning break))
-break_part (LineNotPrinted line) told x y tells = tells.0
-break_part (NotOpened name) told x y tells = line_part (not_opened_line name) told tells.between y tells.tells
-break_part (NotRead name bytes) told x y tells = line_part (not_read_line name) told tells.between y tells.tells
-break_part NoMemory told x y tells = line_part memory_line told x y tells
-break_part (NoMemoryForFile reading) told x y tells = line_part memory_line told x y tells
+break_part : (break : BreakCause) (notice : Bytes) (x y : DeskState)
+    → ReportsBreakAs break notice x y → IsPrefixOf notice (stop_line (InPlanning break))
+break_part (LineNotPrinted line) notice x y is_reported = is_reported.0
+break_part (NotOpened name) notice x y is_reported = line_part (not_opened_line name) notice is_reported.between y is_reported.is_reported
+break_part (NotRead name bytes) notice x y is_reported = line_part (not_read_line name) notice is_reported.between y is_reported.is_reported
+break_part NoMemory notice x y is_reported = line_part memory_line notice x y is_reported
+break_part (NoMemoryForFile reading) notice x y is_reported = line_part memory_line notice x y is_reported
 
 stopped_prefix : (settings : Settings) (x y : Devices) → StoppedInSession settings x y → IsPrefixOfRun settings x y
 stopped_prefix settings x y stopped = record {
@@ -161,38 +161,38 @@ stopped_prefix settings x y stopped = record {
   during = stopped.then_is.during;
   shown = map Emitted stopped.made.emits ++ stopped.then_is.shown;
   reason = InSession stopped.then_is.cause;
-  told = stopped.then_is.told;
-  reported_part = cause_part _ stopped.then_is.cause stopped.then_is.told _ y.desk stopped.then_is.stops.tells;
+  notice = stopped.then_is.notice;
+  reported_part = cause_part _ stopped.then_is.cause stopped.then_is.notice _ y.desk stopped.then_is.stops.is_reported;
   prefix = search (rules, behind_prefix);
   in_turn = λ later. subst (λ stage_outcome. IsInTurn stage_outcome stopped.then_is.during)
       (sym (answered (stopped.made.comes later))) stopped.then_is.breaks.in_turn;
-  all_sent = said_bytes stopped.made.emits stopped.then_is.shown ∙ stopped.then_is.breaks.all_sent;
+  all_sent = emitted_bytes stopped.made.emits stopped.then_is.shown ∙ stopped.then_is.breaks.all_sent;
   grows = stopped.then_is.grows;
-  kept = shown_kept stopped.made.emits stopped.then_is.shown stopped.then_is.told x.desk.kept stopped.between.kept
+  kept = shown_kept stopped.made.emits stopped.then_is.shown stopped.then_is.notice x.desk.kept stopped.between.kept
       y.desk.kept stopped.made.kept stopped.then_is.kept;
 }
 
-said_append : (whole later : List OutputEvent) (events : List (Event OutputEvent))
+emitted_append : (whole later : List OutputEvent) (events : List (Event OutputEvent))
     → map Emitted (whole ++ later) ++ events ≡ map Emitted whole ++ (map Emitted later ++ events)
-said_append [] later events = refl
-said_append (output ∷ whole) later events = ap (λ rest. Emitted output ∷ rest) (said_append whole later events)
+emitted_append [] later events = refl
+emitted_append (output ∷ whole) later events = ap (λ rest. Emitted output ∷ rest) (emitted_append whole later events)
 
-last_is : (break : BreakCause) (told : Bytes) → events_of_break break told ≡ opened_at (InPlanning break) ++ PrintsLine told ∷ []
-last_is (NotRead name bytes) told = refl
-last_is (NoMemoryForFile reading) told = refl
-last_is (LineNotPrinted line) told = refl
-last_is (NotOpened name) told = refl
-last_is NoMemory told = refl
+last_is : (break : BreakCause) (notice : Bytes) → events_of_break break notice ≡ opened_at (InPlanning break) ++ PrintsLine notice ∷ []
+last_is (NotRead name bytes) notice = refl
+last_is (NoMemoryForFile reading) notice = refl
+last_is (LineNotPrinted line) notice = refl
+last_is (NotOpened name) notice = refl
+last_is NoMemory notice = refl
 
-broken_kept : (whole : List OutputEvent) (break : BreakCause) (told : Bytes) (r t : Record)
-    → t ≡ after_events (whole ++ events_of_break break told) r
-    → t ≡ after_err told (after_events (outputs (map Emitted whole ++ []) ++ opened_at (InPlanning break)) r)
-broken_kept whole break told r t kept =
-    kept ∙ ap (λ last. after_events (whole ++ last) r) (last_is break told)
-    ∙ ap (λ done. after_events done r) (sym (append_assoc whole (opened_at (InPlanning break)) (PrintsLine told ∷ [])))
-    ∙ after_append (whole ++ opened_at (InPlanning break)) (PrintsLine told ∷ []) r
-    ∙ ap (λ done. after_err told (after_events (done ++ opened_at (InPlanning break)) r))
-    (sym (said_outputs whole [] ∙ append-nil whole))
+broken_kept : (whole : List OutputEvent) (break : BreakCause) (notice : Bytes) (r t : Record)
+    → t ≡ after_events (whole ++ events_of_break break notice) r
+    → t ≡ after_err notice (after_events (outputs (map Emitted whole ++ []) ++ opened_at (InPlanning break)) r)
+broken_kept whole break notice r t kept =
+    kept ∙ ap (λ last. after_events (whole ++ last) r) (last_is break notice)
+    ∙ ap (λ done. after_events done r) (sym (append_assoc whole (opened_at (InPlanning break)) (PrintsLine notice ∷ [])))
+    ∙ after_append (whole ++ opened_at (InPlanning break)) (PrintsLine notice ∷ []) r
+    ∙ ap (λ done. after_err notice (after_events (done ++ opened_at (InPlanning break)) r))
+    (sym (emitted_outputs whole [] ∙ append-nil whole))
 
 planned_prefix : (settings : Settings) (x y : Devices) → StoppedPlanning settings x y → IsPrefixOfRun settings x y
 planned_prefix settings x y stopped = record {
@@ -200,14 +200,14 @@ planned_prefix settings x y stopped = record {
   during = [];
   shown = map Emitted stopped.broke.whole ++ [];
   reason = InPlanning stopped.broke.break;
-  told = stopped.broke.told;
-  reported_part = break_part stopped.broke.break stopped.broke.told x.desk y.desk stopped.broke.tells;
-  prefix = search (rules, said_append);
+  notice = stopped.broke.notice;
+  reported_part = break_part stopped.broke.break stopped.broke.notice x.desk y.desk stopped.broke.is_reported;
+  prefix = search (rules, emitted_append);
   in_turn = λ later. search rules;
-  all_sent = said_bytes stopped.broke.whole [];
+  all_sent = emitted_bytes stopped.broke.whole [];
   grows = subst (λ (l : LinkState). Grows x.link.transcript [] l.transcript) (sym stopped.same)
       (grows_none x.link.transcript);
-  kept = broken_kept stopped.broke.whole stopped.broke.break stopped.broke.told x.desk.kept y.desk.kept
+  kept = broken_kept stopped.broke.whole stopped.broke.break stopped.broke.notice x.desk.kept y.desk.kept
       stopped.broke.kept;
 }
 

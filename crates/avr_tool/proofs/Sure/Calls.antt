@@ -22,7 +22,7 @@ use Rattle.stk_emu.specs.Settled.{HasMemories, Ready, FitsPart}
 use Rattle.stk_emu.specs.Exchange.{Exchange}
 use Rattle.avr_tool.proofs.OverFaultyLink.EachAction.{Comes, Passes, operation_comes, opening_comes}
 use Rattle.avr_tool.proofs.Given.Comparisons.{signature_taken}
-use Rattle.avr_tool.proofs.Sure.Exchanges.{Brings, IsSure, brings_bind, brings_told, brings_play}
+use Rattle.avr_tool.proofs.Sure.Exchanges.{Brings, IsSure, brings_bind, brings_reported, brings_play}
 use Rattle.avr_tool.proofs.Given.WholeMemories.{read_gives}
 use Rattle.avr_tool.proofs.Hosts.Operations.{closing_goes}
 use Rattle.avr_tool.proofs.Hosts.OneLink.{Spot, on_link, both}
@@ -47,7 +47,7 @@ module _ (Such : List Exchange → Type 0) (sure : IsSure Such) where
         m))) o.gives
         (subst (λ left. Brings Such (Ready part m) (host.operation steps o.judge) (o.judge (data_of_steps part steps m))
         (Ready part left)) o.all
-        (brings_told Such (play steps []) (checked_by o.judge) (Ok (data_of_steps part steps m)) (Ready part m)
+        (brings_reported Such (play steps []) (checked_by o.judge) (Ok (data_of_steps part steps m)) (Ready part m)
         (Ready part (memories_after_steps part (length steps) steps m)) (brings_play part sound Such sure steps m [] o.are f))))
 
     handshake_brings : Brings Such (HasMemories part m) host.handshake (Ok part.signature) (Ready part m)
@@ -71,13 +71,13 @@ module _ (Such : List Exchange → Type 0) (sure : IsSure Such) where
     opening_brings force =
         subst (λ r. Brings Such (HasMemories part m) (host.opening part.signature force) r (Ready part m))
         (signature_taken part.signature force)
-        (brings_told Such host.handshake (signature_checked part.signature force) (Ok part.signature) (HasMemories part m)
+        (brings_reported Such host.handshake (signature_checked part.signature force) (Ok part.signature) (HasMemories part m)
         (Ready part m) handshake_brings)
 
   closing_brings : (part : Part) (m : Memories) → Brings Such (HasMemories part m) host.closing (Ok tt) (HasMemories part m)
   unfolding host.closing
   closing_brings part m =
-      brings_told Such (step (leave ∷ [])) without_bytes (Ok []) (HasMemories part m) (HasMemories part m)
+      brings_reported Such (step (leave ∷ [])) without_bytes (Ok []) (HasMemories part m) (HasMemories part m)
       (sure (leave ∷ []) [] (HasMemories part m) (HasMemories part m) (leave_steady part m) (omega arith) (λ q stands. refl))
 
   -- ---- the calls of a session

@@ -6,7 +6,7 @@ use Rattle.avr_part.specs.Part.{Part, IsPart}
 use Rattle.stk_frame.specs.declared.command.Command.{Command}
 use Rattle.stk_host.specs.Dialog.{Dialog, Done, ◌>>=◌}
 use Rattle.stk_host.specs.Steps.{Data, step, unless_step_fault, play}
-use Rattle.stk_host.proofs.Dialogs.Logic.{done, bind, told}
+use Rattle.stk_host.proofs.Dialogs.Logic.{done, bind, notice}
 use Rattle.stk_emu.specs.Exchange.{Exchange}
 use Rattle.stk_emu.specs.Programmer.{Programmer}
 use Rattle.stk_emu.specs.Device.{device}
@@ -39,10 +39,10 @@ module _ (Such : List Exchange → Type 0) where
       → Brings Such Before (d >>= next) b After
   brings_bind next a b Before Between After d first more z before such = search (rules, bind)
 
-  pub brings_told : {A B : Type 0} (d : Dialog ⊥ A) (tell : A → B) (a : A) (Before After : Programmer → Type 0)
-      → Brings Such Before d a After → Brings Such Before (d >>= (λ outcome. Done (tell outcome))) (tell a) After
-  brings_told d tell a Before After l z before such =
-      told tell (l z before such) (λ got y x. ((ap tell x.0.0, x.0.1), x.1))
+  pub brings_reported : {A B : Type 0} (d : Dialog ⊥ A) (report_line : A → B) (a : A) (Before After : Programmer → Type 0)
+      → Brings Such Before d a After → Brings Such Before (d >>= (λ outcome. Done (report_line outcome))) (report_line a) After
+  brings_reported d report_line a Before After l z before such =
+      notice report_line (l z before such) (λ got y x. ((ap report_line x.0.0, x.0.1), x.1))
 
 -- ---- the steps of a host
 

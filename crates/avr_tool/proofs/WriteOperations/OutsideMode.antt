@@ -23,7 +23,7 @@ use Rattle.stk_emu.specs.Fits.{after_commands, IsRepeatable}
 use Rattle.avr_tool.proofs.Leads.{AllFit}
 use Rattle.stk_emu.specs.Given.{on_data, reply_to, joined_reply}
 use Rattle.stk_emu.specs.WriteOperations.{memories_after_step, memories_after_steps, IsStep, Erases, ProgramsPage, ProgramsEepromRun, ProgramsFuse, ProgramsLock, ReadsFlash, ReadsEeprom, ReadsFuse, ReadsLock, ReadsSignature, ReadsCalibration, AreSteps}
-use Rattle.stk_emu.proofs.Answers.Commands.{executes_command, obeyed_none, steady, ready_settled, settled_ready, restart_is_settled}
+use Rattle.stk_emu.proofs.Answers.Commands.{executes_command, executed_none, steady, ready_settled, settled_ready, restart_is_settled}
 use Rattle.avr_tool.proofs.WriteOperations.Steps.{step_ready, address_fits}
 
 -- a command that fails and changes nothing
@@ -106,7 +106,7 @@ one_idles part c fails = record {
         → Settled part m (after_commands device i (c ∷ []) p)
     keeps m p zero off s = s
     keeps m p (suc i) off s = subst (Settled part m)
-        (sym (obeyed_none device i (device.after (body c) p) ∙ (fails p off).after)) s
+        (sym (executed_none device i (device.after (body c) p) ∙ (fails p off).after)) s
 
 loaded : (address : ℕ) (p : Programmer) → address < 2 ^ 32
     → device.after (body (LoadAddress address)) p ≡ (execute_command (LoadAddress address) p).1
@@ -137,15 +137,15 @@ two_idles part address c few fails = record {
     keeps m p (suc zero) off s = kept m p s
     keeps m p (suc (suc i)) off s =
         let q = device.after (body (LoadAddress address)) p in
-        subst (Settled part m) (sym (obeyed_none device i (device.after (body c) q) ∙ (fails q (outside p off)).after))
+        subst (Settled part m) (sym (executed_none device i (device.after (body c) q) ∙ (fails q (outside p off)).after))
         (kept m p s)
 
 -- if nothing restarts, the commands executed and replied to are the same
-obeyed_steady : (i : ℕ) (commands : List Command) (p : Programmer)
+executed_steady : (i : ℕ) (commands : List Command) (p : Programmer)
     → after_commands steady i commands p ≡ after_commands device i commands p
-obeyed_steady zero commands p = refl
-obeyed_steady (suc i) [] p = refl
-obeyed_steady (suc i) (command ∷ commands) p = obeyed_steady i commands (device.after (body command) p)
+executed_steady zero commands p = refl
+executed_steady (suc i) [] p = refl
+executed_steady (suc i) (command ∷ commands) p = executed_steady i commands (device.after (body command) p)
 
 pub gathered_steady : (commands : List Command) (before : List ℕ) (p : Programmer)
     → joined_reply steady commands before p ≡ joined_reply device commands before p
@@ -195,19 +195,19 @@ module _ (part : Part) (sound : IsPart part) where
   step_fits commands m is = record {
     prefix = λ p i s. elim (cases_Bool p.mode) [
       | inl on ↦ either_settled m (memories_after_step part commands m) (after_commands steady i commands p)
-          (after_commands device i commands p) (obeyed_steady i commands p)
+          (after_commands device i commands p) (executed_steady i commands p)
           (ready.prefix p i (settled_ready part m p on s))
       | inr off ↦ inl ((idles commands is).keeps m p i off s)
     ];
     again = λ p i s. elim (cases_Bool p.mode) [
       | inl on ↦
-          subst (Settled part (memories_after_step part commands m)) (obeyed_steady i commands p)
+          subst (Settled part (memories_after_step part commands m)) (executed_steady i commands p)
           (ready_settled part (memories_after_step part commands m) (after_commands steady i commands p)
           (ready.again p i (settled_ready part (memories_after_step part commands m) p on s)))
       | inr off ↦ (idles commands is).keeps (memories_after_step part commands m) p i off s
     ];
     whole = λ p bytes has s.
-        subst (Settled part (memories_after_step part commands m)) (obeyed_steady (length commands) commands p)
+        subst (Settled part (memories_after_step part commands m)) (executed_steady (length commands) commands p)
         (ready_settled part (memories_after_step part commands m) (after_commands steady (length commands) commands p)
         (ready.whole p bytes (gathered_steady commands [] p ∙ has)
         (settled_ready part m p (in_mode_by_data commands p bytes is has) s)));

@@ -22,15 +22,15 @@ pub executes_command : (c : Command) (p : Programmer) → decoding.FieldsFit c �
 executes_command c p fits = ap (λ o. execute_decoded o (body c) p) (read_back c fits)
 
 module _ {P : Type 0} (m : Device P) where
-  pub obeyed_none : (i : ℕ) (p : P) → after_commands m i [] p ≡ p
-  obeyed_none i p = search rules
+  pub executed_none : (i : ℕ) (p : P) → after_commands m i [] p ≡ p
+  executed_none i p = search rules
 
   -- a step of one command
   pub one_fits : (c : Command) (Before After : P → Type 0) → ((p : P) → Before p → After (m.after (body c) p))
       → ((p : P) → After p → After (m.after (body c) p))
       → ((p : P) → Before p → Before (m.reset p)) → ((p : P) → After p → After (m.reset p))
       → IsRepeatable m (c ∷ []) Before After
-  one_fits c Before After does again restart_keeps restart_keeps_after = search (rules, obeyed_none)
+  one_fits c Before After does again restart_keeps restart_keeps_after = search (rules, executed_none)
 
   -- a step of two commands
   pub two_fits : (c d : Command) (Before After : P → Type 0) → ((p : P) → Before p → Before (m.after (body c) p))
@@ -45,12 +45,12 @@ module _ {P : Type 0} (m : Device P) where
           ⊎ After (after_commands m i (c ∷ d ∷ []) p)
       prefixes p zero b = inl b
       prefixes p (suc zero) b = inl (first p b)
-      prefixes p (suc (suc i)) b = search (rules, obeyed_none)
+      prefixes p (suc (suc i)) b = search (rules, executed_none)
 
       agains : (p : P) (i : ℕ) → After p → After (after_commands m i (c ∷ d ∷ []) p)
       agains p zero a = a
       agains p (suc zero) a = first_again p a
-      agains p (suc (suc i)) a = subst After (sym (obeyed_none i (m.after (body d) (m.after (body c) p)))) (again p a)
+      agains p (suc (suc i)) a = subst After (sym (executed_none i (m.after (body d) (m.after (body c) p)))) (again p a)
 
 -- the device, if it never restarts
 abbrev pub steady : Device Programmer

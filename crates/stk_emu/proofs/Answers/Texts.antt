@@ -26,7 +26,7 @@ after_more m (x ∷ xs) ys p = after_more m xs ys (after_frame m x p)
 -- an event of the reader gives at most one frame
 pub found_frames : (event : Event) (held : List ℕ) → EventMatchesHeld event held
     → filter is_frame (frames_of_event event held) ≡ frames_of_event event held
-found_frames event held tells = search rules
+found_frames event held is_reported = search rules
 
 pub found_few : (event : Event) (held : List ℕ) → length (frames_of_event event held) ≤ 1
 found_few event held = search rules
@@ -34,7 +34,7 @@ found_few event held = search rules
 -- a reply belongs to a frame that has arrived whole
 pub answer_ends : (event : Event) (held out : List ℕ) (p : Programmer) → EventMatchesHeld event held
     → out ≡ answers device (frames_of_event event held) p → 0 < length out → HoldsFrame held
-answer_ends event held out p tells e some = search rules
+answer_ends event held out p is_reported e some = search rules
 
 -- the frames of a text with these bytes after it
 pub frames_fed : (old used new : List ℕ) (fs : List (List ℕ)) (text : List ℕ) → Fed old used new fs

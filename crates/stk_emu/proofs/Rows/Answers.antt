@@ -54,5 +54,5 @@ pub load_is_lost : restarted_programmer (behind
 load_is_lost = refl
 
 -- the reply's frame to an unknown command
-abbrev pub told : ℕ → List ℕ
-told n = frame n (0x05 ∷ 0xC9 ∷ [])
+abbrev pub notice : ℕ → List ℕ
+notice n = frame n (0x05 ∷ 0xC9 ∷ [])

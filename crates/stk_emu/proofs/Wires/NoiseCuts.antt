@@ -33,7 +33,7 @@ pub noise_next : (old new noise : List ℕ) (at used : ℕ) (event : Event)
     → EventMatchesHeld event new → event ≢ Frame
     → MayHaveBeenFed old (take at noise) → filter is_good (cut (take at noise)) ≡ []
     → MayHaveBeenFed new (take (at + used) noise) × (filter is_good (cut (take (at + used) noise)) ≡ [])
-noise_next old new noise at used event part tells bad stands none =
+noise_next old new noise at used event part is_reported bad stands none =
     let fs = frames_of_event event new in
     let fed = fed_rest old new noise at used fs part in
     rw (take-add at used noise) (

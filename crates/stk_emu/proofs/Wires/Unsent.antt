@@ -11,5 +11,5 @@ unsent_sending t bytes =
     ap length (ap (λ bs. sent (t ++ Sent bs ∷ [])) (take-length bytes) ∙ sent_append t (Sent bytes ∷ [])
     ∙ ap (λ bs. sent t ++ bs) (append-nil bytes)) ∙ length-append (sent t) bytes
 
-pub unsent_hearing : (t : Transcript) (items : Tape) → sent (t ++ Got items ∷ []) ≡ sent t
-unsent_hearing t items = sent_append t (Got items ∷ []) ∙ append-nil (sent t)
+pub unsent_receiving : (t : Transcript) (items : Tape) → sent (t ++ Got items ∷ []) ≡ sent t
+unsent_receiving t items = sent_append t (Got items ∷ []) ∙ append-nil (sent t)

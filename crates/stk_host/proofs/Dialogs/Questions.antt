@@ -122,16 +122,16 @@ pub bounded : {R : Type 0} (steps : List (List Command)) (d : Dialog ⊥ R) → 
 bounded steps d f = record { asks = f; sends = sends_asked NoPart (4 * commands_in steps) d f }
 
 -- a dialog whose result is checked
-pub judged_most : {A B : Type 0} (n : ℕ) (d : Dialog ⊥ A) (judge : A → B) → AsksAtMost n d
+pub checked_most : {A B : Type 0} (n : ℕ) (d : Dialog ⊥ A) (judge : A → B) → AsksAtMost n d
     → AsksAtMost n (d >>= λ outcome. Done (judge outcome))
-judged_most n d judge f = asks_bind n 0 n d (λ outcome. Done (judge outcome)) (omega arith) f (λ outcome. tt)
+checked_most n d judge f = asks_bind n 0 n d (λ outcome. Done (judge outcome)) (omega arith) f (λ outcome. tt)
 
 -- the operations of a host
 
 pub operation_most : {A : Type 0} (steps : List (List Command)) (judge : List ℕ → Result A HostFault)
     → AsksAtMost (4 * commands_in steps) (operation steps judge)
 unfolding operation
-operation_most steps judge = judged_most (4 * commands_in steps) (play steps []) (checked_by judge) (play_most steps [])
+operation_most steps judge = checked_most (4 * commands_in steps) (play steps []) (checked_by judge) (play_most steps [])
 
 beginning_most : AsksAtMost (4 * commands_in opening_steps) handshake
 unfolding handshake
@@ -140,11 +140,11 @@ beginning_most = search (rules, then_most, play_most)
 pub opening_most : (signature : List ℕ) (force : Bool)
     → AsksAtMost (4 * commands_in opening_steps) (opening signature force)
 unfolding opening
-opening_most signature force = search (rules, judged_most, beginning_most)
+opening_most signature force = search (rules, checked_most, beginning_most)
 
 pub closing_most : AsksAtMost (4 * commands_in closing_steps) closing
 unfolding closing
-closing_most = judged_most (4 * commands_in closing_steps) (step (leave ∷ [])) without_bytes (step_most (leave ∷ []))
+closing_most = checked_most (4 * commands_in closing_steps) (step (leave ∷ [])) without_bytes (step_most (leave ∷ []))
 
 -- a memory that can't be written is asked nothing
 pub writing_most : (part : Part) (mem : Mem) (image : List (Option ℕ))

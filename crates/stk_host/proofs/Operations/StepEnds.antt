@@ -56,25 +56,25 @@ pub stop_ends : {A : Type 0} (takes : Bool) (first : Dialog ⊥ StepOutcome) (ju
     → ((fault : StepFault) → judge (Err fault) ≡ Err (host_fault fault)) → (fault : HostFault) (m n : Progress)
     (o p : LinkState) → StopsSteps first m o p fault n
     → EndsCall takes (first >>= λ outcome. Done (judge outcome)) m o p (Err fault) n
-stop_ends takes first judge told fault m n o p (inr (of, is, e)) =
+stop_ends takes first judge notice fault m n o p (inr (of, is, e)) =
     search (rules, then_reaches (λ outcome. Done (judge outcome)) e)
-stop_ends takes first judge told SendFailed m n o p (inl e) = broken_bind (λ outcome. Done (judge outcome)) e
-stop_ends takes first judge told RecvFailed m n o p (inl e) = broken_bind (λ outcome. Done (judge outcome)) e
-stop_ends takes first judge told _ m n o p (inl e) = absurd e.breaks
+stop_ends takes first judge notice SendFailed m n o p (inl e) = broken_bind (λ outcome. Done (judge outcome)) e
+stop_ends takes first judge notice RecvFailed m n o p (inl e) = broken_bind (λ outcome. Done (judge outcome)) e
+stop_ends takes first judge notice _ m n o p (inl e) = absurd e.breaks
 
 -- the checked signature is right or wrong; neither is a fault of the link
-judged_ends : {dialog : Dialog ⊥ (Result (List ℕ) HostFault)} {m n : Progress} {o p : LinkState} (wanted found : List ℕ)
+checked_ends : {dialog : Dialog ⊥ (Result (List ℕ) HostFault)} {m n : Progress} {o p : LinkState} (wanted found : List ℕ)
     (force same : Bool)
     → RunsOverLink dialog m o p (if force then Ok found else if same then Ok found else Err (WrongSignature found)) n
     → EndsCall false dialog m o p (if force then Ok found else if same then Ok found else Err (WrongSignature found)) n
-judged_ends wanted found force same e = search rules
+checked_ends wanted found force same e = search rules
 
 pub opening_ends : (wanted : List ℕ) (force : Bool) (begun : Result (List ℕ) HostFault) (m n : Progress)
     (o p : LinkState) → EndsSteps handshake (λ found. found) m o p begun n
     → EndsCall false (opening wanted force) m o p (opening_result wanted force begun) n
 unfolding opening
 opening_ends wanted force (Ok found) m n o p e =
-    judged_ends wanted found force (bytes_eq found wanted)
+    checked_ends wanted found force (bytes_eq found wanted)
     (played_from (then_reaches (λ outcome. Done (signature_checked wanted force outcome)) e))
 opening_ends wanted force (Err fault) m n o p e = search (rules, stop_ends)
 

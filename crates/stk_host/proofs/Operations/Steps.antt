@@ -83,24 +83,24 @@ plays_all steps_at place end {before = before} come past = search (rules, play_d
 -- the outcome of an operation, from the outcome of its steps
 
 -- a stop, as the host reports it
-told_ends : {A : Type 0} (takes : Bool) (steps : List (List Command)) (judge : List ℕ → Result A HostFault)
+reported_ends : {A : Type 0} (takes : Bool) (steps : List (List Command)) (judge : List ℕ → Result A HostFault)
     (fault : HostFault) (m n : Progress) (o p : LinkState)
     → StopsSteps (play steps []) m o p fault n → EndsCall takes (operation steps judge) m o p (Err fault) n
 unfolding operation
-told_ends takes steps judge fault m n o p e = search (rules, stop_ends)
+reported_ends takes steps judge fault m n o p e = search (rules, stop_ends)
 
-judged_from : {A : Type 0} (steps : List (List Command)) (judge : List ℕ → Result A HostFault) (bytes : List ℕ)
+checked_from : {A : Type 0} (steps : List (List Command)) (judge : List ℕ → Result A HostFault) (bytes : List ℕ)
     {m n : Progress} {o p : LinkState}
     → RunsOverLink (play steps []) m o p (Ok bytes) n → RunsOverLink (operation steps judge) m o p (judge bytes) n
 unfolding operation
-judged_from steps judge bytes e = played_from (then_reaches (λ outcome. Done (checked_by judge outcome)) e)
+checked_from steps judge bytes e = played_from (then_reaches (λ outcome. Done (checked_by judge outcome)) e)
 
 -- an operation that reads nothing
 pub done_ends : (steps : List (List Command)) (result : Result (Unit {0}) HostFault) (m n : Progress) (o p : LinkState)
     → EndsSteps (play steps []) (λ done. []) m o p result n
     → EndsCall false (operation steps (λ bytes. Ok tt)) m o p result n
-done_ends steps (Ok done) m n o p e = judged_from steps (λ bytes. Ok tt) [] e
-done_ends steps (Err fault) m n o p e = told_ends false steps (λ bytes. Ok tt) fault m n o p e
+done_ends steps (Ok done) m n o p e = checked_from steps (λ bytes. Ok tt) [] e
+done_ends steps (Err fault) m n o p e = reported_ends false steps (λ bytes. Ok tt) fault m n o p e
 
 pub writing_ends : (part : Part) (mem : Mem) (image : List (Option ℕ)) (result : Result (Unit {0}) HostFault)
     (m n : Progress) (o p : LinkState) → is_writable mem ≡ true
@@ -115,8 +115,8 @@ writes_nothing part mem image m o cannot = search (rules, played_from, reaches_h
 pub reading_ends : (steps : List (List Command)) (bytes : List ℕ) (result : Result (Unit {0}) HostFault)
     (m n : Progress) (o p : LinkState) → EndsSteps (play steps []) (λ done. bytes) m o p result n
     → EndsCall true (operation steps Ok) m o p (value_or_fault (emptied_on_fault result bytes) result) n
-reading_ends steps bytes (Ok done) m n o p e = judged_from steps Ok bytes e
-reading_ends steps bytes (Err fault) m n o p e = told_ends true steps Ok fault m n o p e
+reading_ends steps bytes (Ok done) m n o p e = checked_from steps Ok bytes e
+reading_ends steps bytes (Err fault) m n o p e = reported_ends true steps Ok fault m n o p e
 
 differs_ends : (dialog : Dialog ⊥ (Result (Unit {0}) HostFault)) (mem : Mem) (found : Option Difference)
     {m n : Progress} {o p : LinkState}
@@ -129,8 +129,8 @@ pub verifying_ends : (steps : List (List Command)) (mem : Mem) (image : List (Op
     → EndsCall true (operation steps (comparison mem image)) m o p (verifying_result mem image bytes result) n
 verifying_ends steps mem image bytes (Ok done) m n o p e =
     differs_ends (operation steps (comparison mem image)) mem (difference_from 0 image bytes)
-    (judged_from steps (comparison mem image) bytes e)
-verifying_ends steps mem image bytes (Err fault) m n o p e = search (rules, told_ends)
+    (checked_from steps (comparison mem image) bytes e)
+verifying_ends steps mem image bytes (Err fault) m n o p e = search (rules, reported_ends)
 
 -- a loop over places begins
 pub begins_at : (steps_at : ℕ → List (List Command)) (count : ℕ) (before : List ℕ) (m : Progress) (o : LinkState)

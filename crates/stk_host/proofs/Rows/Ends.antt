@@ -48,14 +48,14 @@ abbrev leaving : List ℕ
 leaving = 0x1B ∷ 0x06 ∷ 0x00 ∷ 0x03 ∷ 0x0E ∷ 0x11 ∷ 0x01 ∷ 0x01 ∷ 0x01 ∷ []
 
 -- the frame was sent, and its reply not received
-pub unheard : EndsCall false closing sixth fresh (showing (Sent leaving ∷ [])) (Err RecvFailed) sixth
+pub unreceived : EndsCall false closing sixth fresh (showing (Sent leaving ∷ [])) (Err RecvFailed) sixth
 unfolding exchange attempt attempts_or_fault answer closing
-unheard = search rules
+unreceived = search rules
 
 -- that is not a failure to send it
 pub not_unsent : (after : Progress) → EndsCall false closing sixth fresh (showing (Sent leaving ∷ [])) (Err SendFailed)
     after → ⊥
-not_unsent after f = never_either closing sixth (Sent leaving ∷ []) f unheard
+not_unsent after f = never_either closing sixth (Sent leaving ∷ []) f unreceived
 
 -- two bytes of the frame were sent
 pub unsent : EndsCall false closing sixth fresh (showing (Sent (0x1B ∷ 0x06 ∷ []) ∷ [])) (Err SendFailed) sixth
@@ -79,14 +79,14 @@ unsent = record {
 }
 
 -- that is not a failure to receive its reply
-pub not_unheard : (after : Progress) → EndsCall false closing sixth fresh (showing (Sent (0x1B ∷ 0x06 ∷ []) ∷ []))
+pub not_unreceived : (after : Progress) → EndsCall false closing sixth fresh (showing (Sent (0x1B ∷ 0x06 ∷ []) ∷ []))
     (Err RecvFailed) after → ⊥
-not_unheard after f = never_either closing sixth (Sent (0x1B ∷ 0x06 ∷ []) ∷ []) unsent f
+not_unreceived after f = never_either closing sixth (Sent (0x1B ∷ 0x06 ∷ []) ∷ []) unsent f
 
 -- that is not a failure to receive its reply either
-pub not_unheard_whole : (after : Progress) → EndsCall false closing sixth fresh (showing (Taken leaving ∷ []))
+pub not_unreceived_whole : (after : Progress) → EndsCall false closing sixth fresh (showing (Taken leaving ∷ []))
     (Err RecvFailed) after → ⊥
-not_unheard_whole after f = search rules
+not_unreceived_whole after f = search rules
 
 -- nothing was sent, and nothing received
 pub unsent_at_all : EndsCall false closing sixth fresh (showing []) (Err SendFailed) sixth

@@ -165,9 +165,9 @@ module _ {E R : Type 0} {a b : Dialog E R} {m n : Progress} {x : Transcript} {ev
   breaks_on IsPartOfEvent {y = y} {shown = shown} f g = search (rules, led, prefix_behind, led_bytes, led_in_turn, f, g)
 
 -- an output event
-pub leads_say : {E R : Type 0} (e : E) (dialog : Dialog E R) (m : Progress)
+pub leads_emit : {E R : Type 0} (e : E) (dialog : Dialog E R) (m : Progress)
     → TranscriptLeads (Emit e dialog) m [] (Emitted e ∷ []) dialog m
-leads_say e dialog m = record { goes_on = λ more. refl; all_sent = refl; none_taken = tt; in_turn = tt }
+leads_emit e dialog m = record { goes_on = λ more. refl; all_sent = refl; none_taken = tt; in_turn = tt }
 
 -- a result was reached
 pub plays_from : {E R : Type 0} {a : Dialog E R} {m n : Progress} {transcript : Transcript} {events : List (Event E)}

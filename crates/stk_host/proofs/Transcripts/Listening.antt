@@ -112,8 +112,8 @@ module _ {seq : ℕ} {u : List ℕ} {o : LinkState} where
         (λ more. answer_ended seq l.text more l.no_answer (omega (arith, l.counted)))
 
     -- nothing is received: the link failed
-    pub hears_none : {q : LinkState} → Grows p.transcript [] q.transcript → ReceivesNoReply seq u o q
-    hears_none {q = q} g = grind (arith, common_steps, not_yet)
+    pub receives_none : {q : LinkState} → Grows p.transcript [] q.transcript → ReceivesNoReply seq u o q
+    receives_none {q = q} g = grind (arith, common_steps, not_yet)
 
   pub reads_on : {held : List ℕ} {count : ℕ} {left : List ℕ} {p : LinkState} (n : ℕ)
       (new_left new : List ℕ) (what : Event)

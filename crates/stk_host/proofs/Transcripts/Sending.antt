@@ -9,13 +9,13 @@ use Rattle.stk_host.specs.Transcript.{Transcript, LinkState, Sent, NoneTaken, Is
 use Rattle.stk_host.specs.Reach.{SendsExactly, SendsOnlyPart}
 use Rattle.stk_host.proofs.Transcripts.Laws.{sent_append, grows_on, quiet_append, taken_quiet, none_append, none_behind}
 
-pub says_more : (x y : List ℕ) (o p q : Transcript) → SendsExactly x o p → Grows p (Sent y ∷ []) q → SendsExactly (x ++ y) o q
-says_more x y o p q says g = grind (arith, common_steps, quiet_append, none_append, sent_append)
+pub output_more : (x y : List ℕ) (o p q : Transcript) → SendsExactly x o p → Grows p (Sent y ∷ []) q → SendsExactly (x ++ y) o q
+output_more x y o p q emits g = grind (arith, common_steps, quiet_append, none_append, sent_append)
 
 -- one more part
 pub says_part : (bytes : List ℕ) (n m : ℕ) (part : List ℕ) (o p q : Transcript) → SendsExactly (take n bytes) o p
     → part ≡ drop n bytes → Grows p (Sent (take m part) ∷ []) q → SendsExactly (take (n + m) bytes) o q
-says_part bytes n m part o p q says is g = search (rules, take-add, says_more)
+says_part bytes n m part o p q emits is g = search (rules, take-add, output_more)
 
 -- what a failed send didn't take
 some_unsent : (last : Transcript) (bytes unsent : List ℕ) → IsNothingOrTaken last → NoneTaken last
@@ -25,7 +25,7 @@ some_unsent last bytes unsent taken none is some = search rules
 -- the first `n` bytes were sent, and the send of the others failed
 pub part_of : (bytes : List ℕ) (n : ℕ) (part : List ℕ) (o p q : Transcript) → n < length bytes
     → SendsExactly (take n bytes) o p → part ≡ drop n bytes → TakesPart part p q → SendsOnlyPart bytes o q
-part_of bytes n part o p q few says is t =
+part_of bytes n part o p q few emits is t =
     let some : 0 < length part = rw (is, length-drop) (omega arith) in
     record {
       part = take n bytes ++ sent t.last;
@@ -33,11 +33,11 @@ part_of bytes n part o p q few says is t =
       bytes_are = sym (take-append-drop n bytes)
           ∙ (ap (λ bs. take n bytes ++ bs) (sym is ∙ t.bytes_are) ∙ sym (append_assoc (take n bytes) (sent t.last) t.unsent));
       some = omega arith;
-      during = says.during ++ t.last;
-      grows = grows_on o p q says.during t.last says.grows t.grows;
-      quiet = quiet_append says.during t.last says.none_taken says.quiet (taken_quiet t.last t.is_taken);
-      bytes_sent = sent_append says.during t.last ∙ ap (λ bs. bs ++ sent t.last) says.bytes_sent;
-      not_whole = λ none. some_unsent t.last part t.unsent t.is_taken (none_behind says.during t.last none) t.bytes_are some;
+      during = emits.during ++ t.last;
+      grows = grows_on o p q emits.during t.last emits.grows t.grows;
+      quiet = quiet_append emits.during t.last emits.none_taken emits.quiet (taken_quiet t.last t.is_taken);
+      bytes_sent = sent_append emits.during t.last ∙ ap (λ bs. bs ++ sent t.last) emits.bytes_sent;
+      not_whole = λ none. some_unsent t.last part t.unsent t.is_taken (none_behind emits.during t.last none) t.bytes_are some;
     }
 
 -- nothing was taken

@@ -12,7 +12,7 @@ returns-in_err-byte-clause-value c =
 pub returns-in_err-put-clause-value : goal.returns-in_err-put-clause-value
 returns-in_err-put-clause-value c =
     let below = fitting_below _ _ (value_of c.split_at.result.0.now) _ (sym c.in_ok-byte.ensures) in
-    grind (arith, nat_tests, below, c.size.ensures, c.in_err-put.ensures.judged)
+    grind (arith, nat_tests, below, c.size.ensures, c.in_err-put.ensures.verdict)
 
 pub loop-rest-preserved-then-len-gt0 : goal.loop-rest-preserved-then-len-gt0
 loop-rest-preserved-then-len-gt0 c = grind (arith, pieces_prefix, ap₂, piece_good, with_pieces, length)

@@ -8,7 +8,7 @@ use Rattle.avr_laws.proofs.conversations.a_wire_is_an_authentic_link.Goals as go
 
 pub returns-clause-wire : goal.returns-clause-wire
 returns-clause-wire g c = λ d n w sent more asks clear lawful e.
-    (over_wire device replies_fit_frames d n w sent more asks clear lawful e).honest (length sent) (omega arith)
+    (over_wire device replies_fit_frames d n w sent more asks clear lawful e).is_authentic (length sent) (omega arith)
 
 pub returns-clause-prefix : goal.returns-clause-prefix
 returns-clause-prefix g c = search (rules, prefix_came)

@@ -9,9 +9,9 @@ pub returns-clause-memories : goal.returns-clause-memories
 returns-clause-memories c = λ plan m k status p fates sound fitted sizes idle good e.
     (few_session_ends plan sound fitted m p fates sizes idle good k status e).memories
 
-pub returns-clause-says : goal.returns-clause-says
-returns-clause-says c = λ plan m k status p fates sound fitted sizes idle good e.
-    (few_session_ends plan sound fitted m p fates sizes idle good k status e).said
+pub returns-clause-emits : goal.returns-clause-emits
+returns-clause-emits c = λ plan m k status p fates sound fitted sizes idle good e.
+    (few_session_ends plan sound fitted m p fates sizes idle good k status e).emitted
 
 pub returns-clause-done : goal.returns-clause-done
 returns-clause-done c = λ plan m k p fates sound fitted sizes idle few le. session_done plan sound fitted m k p fates

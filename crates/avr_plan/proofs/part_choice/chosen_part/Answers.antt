@@ -11,4 +11,4 @@ returns-in-Ok-clause-goes g c = went_settled _ _ _ (ap (part_or_line _) (sym c.i
 pub returns-in-Err-clause-goes : goal.returns-in-Err-clause-goes
 returns-in-Err-clause-goes g c =
     goes_unsettled (OnlyAtStart false) _ (no_part_line _) _ _ _ (ap (part_or_line _) (sym c.in-Err.ensures.value))
-    c.refuse.ensures.status (rw c.no_part_message.ensures at c.refuse.ensures.told)
+    c.refuse.ensures.status (rw c.no_part_message.ensures at c.refuse.ensures.notice)

@@ -15,13 +15,13 @@ pub returns-in-Err-clause-goes : goal.returns-in-Err-clause-goes
 returns-in-Err-clause-goes g c =
     rw (c.in-Some.is, ← c.as_str-file.ensures) (goes_file_fault (OnlyAtStart false) _ LARGEST_PART_FILE (checked_parts _)
     _ _ _ _ _ (breaks_as _ _ _ _ c.in-Err.ensures.kept) c.in-Err.ensures.counts.0
-    (counted_as _ _ _ _ _ c.in-Err.ensures.counts) refl (rw c.file_message.ensures at c.refuse.ensures.told))
+    (counted_as _ _ _ _ _ c.in-Err.ensures.counts) refl (rw c.file_message.ensures at c.refuse.ensures.notice))
 
 pub returns-then-not-contents-clause-goes : goal.returns-then-not-contents-clause-goes
 returns-then-not-contents-clause-goes g c =
     rw (c.in-Some.is, ← c.as_str-file.ensures) (goes_long_parts _ _ _ _ _ _ _ c.in-Ok.ensures.kept
     c.in-Ok.ensures.whole c.if-not-contents.true c.in-Ok.ensures.counts.1 refl
-    (rw c.too_long_message.ensures at c.refuse-then-not-contents.ensures.told))
+    (rw c.too_long_message.ensures at c.refuse-then-not-contents.ensures.notice))
 
 pub returns-in-Ok-parse_part_file-clause-goes : goal.returns-in-Ok-parse_part_file-clause-goes
 returns-in-Ok-parse_part_file-clause-goes g c =
@@ -32,12 +32,12 @@ returns-in-Ok-parse_part_file-clause-goes g c =
 pub returns-clause-goes : goal.returns-clause-goes
 returns-clause-goes g c =
     let gives = rw (c.as_slice.ensures, c.in-Err-parse_part_file.is) at c.parse_part_file.ensures.reads in
-    let told = rw (c.part_file_message.ensures, c.fault-fault.ensures)
-    at c.refuse-in-Err-parse_part_file.ensures.told in
+    let notice = rw (c.part_file_message.ensures, c.fault-fault.ensures)
+    at c.refuse-in-Err-parse_part_file.ensures.notice in
     rw (c.in-Some.is, ← c.as_str-file.ensures) (goes_bad_parts _ _ _ _ _ _ 1 _ c.in-Ok.ensures.kept
-    c.in-Ok.ensures.whole c.if-not-contents.false c.in-Ok.ensures.counts.1 gives refl told)
+    c.in-Ok.ensures.whole c.if-not-contents.false c.in-Ok.ensures.counts.1 gives refl notice)
 
-pub returns-then-not-contents-clause-told : goal.returns-then-not-contents-clause-told
-returns-then-not-contents-clause-told g c =
-    let told = rw (c.too_long_message.ensures, c.as_str-file.ensures) at c.refuse-then-not-contents.ensures.told in
+pub returns-then-not-contents-clause-notice : goal.returns-then-not-contents-clause-notice
+returns-then-not-contents-clause-notice g c =
+    let notice = rw (c.too_long_message.ensures, c.as_str-file.ensures) at c.refuse-then-not-contents.ensures.notice in
     rw c.in-Some.is (search rules)

@@ -7,7 +7,7 @@ use Rattle.avr_plan.proofs.planning.update_task.Goals as goal
 pub returns-then-not-writable-clause-goes : goal.returns-then-not-writable-clause-goes
 returns-then-not-writable-clause-goes g c =
     rw c.in-Write.is (goes_read_only c.args.switches _ c.args.update.now _ _ _ c.if-not-writable.ensures refl
-    (rw c.read_only_message.ensures at c.refuse.ensures.told))
+    (rw c.read_only_message.ensures at c.refuse.ensures.notice))
 
 pub returns-in_err-image-in-Write-clause-goes : goal.returns-in_err-image-in-Write-clause-goes
 returns-in_err-image-in-Write-clause-goes g c =

@@ -1,6 +1,6 @@
 use Rattle.std.proofs.lemmas.Grind.{common_steps}
 use Rattle.std.proofs.Common.{◌∙◌, sym, ap, arith, ◌∷◌, ◌+◌, drop, length-append, Err, slice_get, rules}
-use Rattle.avr_plan.proofs.Stages.Told.{fault_since}
+use Rattle.avr_plan.proofs.Stages.ReportedAs.{fault_since}
 use Rattle.std.proofs.lemmas.List.{drop_more, drop_all}
 use Rattle.std.proofs.lemmas.List.Elements.{All-append}
 use Rattle.std.proofs.lemmas.Option.{slice_get-get_or}
@@ -22,8 +22,8 @@ returns-in-Err-clause-goes g c =
     c.loop-update.invariant.goes _ (Err 1)
     (goes_without_next c.args.switches c.args.part.now c.loop-update.tasks.items us i u _ _ 1 cut c.in-Err.ensures.goes)
 
-pub returns-in-Err-clause-told : goal.returns-in-Err-clause-told
-returns-in-Err-clause-told g c = search (rules, slice_get, slice_get-get_or, fault_since)
+pub returns-in-Err-clause-notice : goal.returns-in-Err-clause-notice
+returns-in-Err-clause-notice g c = search (rules, slice_get, slice_get-get_or, fault_since)
 
 pub returns-clause-goes : goal.returns-clause-goes
 returns-clause-goes g c =

@@ -1,5 +1,5 @@
 use Rattle.std.proofs.Common.{refl, rules}
-use Rattle.avr_plan.proofs.Stages.Told.{fault_since}
+use Rattle.avr_plan.proofs.Stages.ReportedAs.{fault_since}
 use Rattle.avr_plan.proofs.Stages.Images.{went_image, goes_unwarned, goes_without_image, goes_without_room}
 use Rattle.avr_plan.proofs.Files.Sizes.{image-size}
 use Rattle.avr_plan.proofs.update_image.file_image.Goals as goal
@@ -18,13 +18,13 @@ returns-in-Err-warn_of_ending-clause-goes g c =
 pub returns-then-is_err-clause-goes : goal.returns-then-is_err-clause-goes
 returns-then-is_err-clause-goes g c =
     goes_without_room c.args.switches _ _ c.args.size _ _ _ _ _ _ c.in-Ok.ensures.read c.in-Ok.ensures.sound refl
-    (rw c.memory_message.ensures at c.refuse.ensures.told)
+    (rw c.memory_message.ensures at c.refuse.ensures.notice)
 
 pub returns-in-Err-clause-goes : goal.returns-in-Err-clause-goes
 returns-in-Err-clause-goes g c =
     goes_without_image c.args.switches _ _ c.args.size _ _ _ _ _ c.in-Err.ensures.read c.in-Err.ensures.follows
-    c.in-Err.ensures.counted refl (rw c.image_message.ensures at c.refuse-in-Err.ensures.told)
+    c.in-Err.ensures.counted refl (rw c.image_message.ensures at c.refuse-in-Err.ensures.notice)
 
-pub returns-in-Err-warn_of_ending-clause-told : goal.returns-in-Err-warn_of_ending-clause-told
-returns-in-Err-warn_of_ending-clause-told g c = λ update named.
-    search (rules, fault_since, c.in-Ok.ensures.sound, c.in-Err-warn_of_ending.ensures.told)
+pub returns-in-Err-warn_of_ending-clause-notice : goal.returns-in-Err-warn_of_ending-clause-notice
+returns-in-Err-warn_of_ending-clause-notice g c = λ update named.
+    search (rules, fault_since, c.in-Ok.ensures.sound, c.in-Err-warn_of_ending.ensures.notice)

@@ -1,7 +1,7 @@
 use Rattle.std.proofs.Common.{◌∙◌, sym, [], ◌∷◌, refl, rules}
 use Rattle.avr_desk.specs.OutputEvents.{WritesFile}
 use Rattle.avr_desk.specs.declared.stream.Stream.TheVariants.{File}
-use Rattle.avr_desk.proofs.Lines.Told.{failed_by, follows_on}
+use Rattle.avr_desk.proofs.Lines.ReportedAs.{failed_by, follows_on}
 use Rattle.avr_session.specs.FileText.{file_text}
 use Rattle.avr_session.specs.Runs.{NotCreated, cause_line}
 use Rattle.avr_session.specs.Saving.{SaveStops}
@@ -28,12 +28,12 @@ unfolding cause_line
 returns-in-Err g c =
     let failed = failed_by File (g.D.Desk.view c.args.desk.now) (g.D.Desk.view c.create.new.self) c.create.result _
     c.in-Err.is c.create.ensures.call.fault c.create.ensures.call.counts in
-    let says = file_stops (SaveStops c.args.target.file.now) _ (g.D.Desk.view c.create.new.self) _ _
+    let emits = file_stops (SaveStops c.args.target.file.now) _ (g.D.Desk.view c.create.new.self) _ _
     c.args.target.file.now NotCreated
     (not_created _ _ c.args.target.file.now c.create.result _
     (WritesFile (file_text c.args.target.format c.args.bytes.now) ∷ []) c.in-Err.is c.create.ensures.kept)
-    failed c.create.ensures.call.counts.0 (λ told stops. (refl, stops))
-    (rw c.not_created_message.ensures at c.refuse.ensures.told) in
+    failed c.create.ensures.call.counts.0 (λ notice stops. (refl, stops))
+    (rw c.not_created_message.ensures at c.refuse.ensures.notice) in
     let follows = follows_on (g.D.Desk.view c.args.desk.now) (g.D.Desk.view c.create.new.self)
-    (g.D.Desk.view c.refuse.new.desk) c.create.ensures.call.counts.0 c.refuse.ensures.told.follows in
+    (g.D.Desk.view c.refuse.new.desk) c.create.ensures.call.counts.0 c.refuse.ensures.notice.follows in
     rw (sym c.eq.ensures ∙ c.if-eq.false) (search rules)

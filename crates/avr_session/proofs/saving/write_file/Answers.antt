@@ -1,5 +1,5 @@
 use Rattle.avr_session.specs.Runs.{cause_line}
-use Rattle.avr_desk.proofs.Lines.Told.{failed_by}
+use Rattle.avr_desk.proofs.Lines.ReportedAs.{failed_by}
 use Rattle.avr_session.proofs.ActionByAction.Saves.{failed_at_file, writes_some}
 use Rattle.avr_session.proofs.saving.write_file.Goals as goal
 
@@ -11,4 +11,4 @@ returns-in-Err-clause-writes g c =
     writes_some c.args.stream c.args.target.file.now _ _ (g.D.Desk.view c.write_whole.new.desk) _ c.in-Err.ensures.part
     (failed_at_file c.args.stream (g.D.Desk.view c.args.desk.now) (g.D.Desk.view c.write_whole.new.desk)
     c.requires.written failed) c.write_whole.ensures.counts.0
-    (rw c.not_written_message.ensures at c.refuse.ensures.told)
+    (rw c.not_written_message.ensures at c.refuse.ensures.notice)

@@ -9,7 +9,7 @@ returns-in-Ok-clause-goes g c = let gives = rw c.copied.ensures.value at c.in-Ok
 pub returns-in-Err-BadChipFile-clause-goes : goal.returns-in-Err-BadChipFile-clause-goes
 returns-in-Err-BadChipFile-clause-goes g c =
     let gives = rw (c.in-Err-BadChipFile.field-0-is, c.copied.ensures.value) at c.in-Err-BadChipFile.ensures in
-    let told = rw (c.length_message.ensures, c.chip_file_size.ensures) at c.refuse.ensures.told in
+    let notice = rw (c.length_message.ensures, c.chip_file_size.ensures) at c.refuse.ensures.notice in
     search (rules, goes_wrong_length)
 
 pub returns-in-Err : goal.returns-in-Err

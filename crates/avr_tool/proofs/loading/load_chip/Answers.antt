@@ -17,11 +17,11 @@ returns-in_default-clause-goes g c =
     let counts = c.in-Err.ensures.counts in
     runs_until_break AtOpened c.args.file.now (chip_given c.args.part.now c.args.file.now) c.in-Err.fault _ _ _ _
     c.in_default.not-Absent (breaks_as _ _ _ c.in-Err.fault c.in-Err.ensures.kept) counts.0
-    (counted_as _ _ _ _ c.in-Err.fault counts) (search rules) (rw c.file_message.ensures at c.refuse.ensures.told)
+    (counted_as _ _ _ _ c.in-Err.fault counts) (search rules) (rw c.file_message.ensures at c.refuse.ensures.notice)
 
 pub returns-then-not-contents-clause-goes : goal.returns-then-not-contents-clause-goes
 returns-then-not-contents-clause-goes g c =
-    let told = rw c.too_long_message.ensures at c.refuse-then-not-contents.ensures.told in
+    let notice = rw c.too_long_message.ensures at c.refuse-then-not-contents.ensures.notice in
     search (rules, goes_past, c.in-Ok.ensures.kept, c.in-Ok.ensures.whole, c.in-Ok.ensures.counts.1)
 
 pub returns-clause-goes : goal.returns-clause-goes

@@ -5,7 +5,7 @@ use Rattle.avr_desk.specs.Record.{DeskState, Replaces, released, Bytes}
 use Rattle.avr_desk.specs.declared.desk.DeskFault.{DeskFault}
 use Rattle.avr_desk.specs.declared.desk.DeskFault.TheVariants.{Failed}
 use Rattle.avr_desk.specs.declared.stream.Stream.TheVariants.{File}
-use Rattle.avr_desk.proofs.Lines.Told.{failure_reported}
+use Rattle.avr_desk.proofs.Lines.ReportedAs.{failure_reported}
 use Rattle.avr_desk.specs.Lines.{not_written_line}
 use Rattle.avr_desk.specs.OutputEvents.{ReportsLine}
 use Rattle.avr_tool.specs.Saving.{SavesChip}
@@ -15,7 +15,7 @@ use Rattle.avr_tool.proofs.saving.save_chip.Goals as goal
 not_replaced : (old mid new : DeskState) (file bytes : Bytes) (status : ℕ) (fault : DeskFault)
     → fault ≡ Failed → Replaces file bytes (Err fault) old mid → CountsFailure {T = ⊤} File old mid (Err fault)
     → status ≡ 1 → ReportsLine (released mid) new (not_written_line file) → SavesChip old new file bytes (Err status)
-not_replaced old mid new file bytes status fault only kept counts one told = search (rules, failure_reported)
+not_replaced old mid new file bytes status fault only kept counts one notice = search (rules, failure_reported)
 
 pub returns-clause-saves : goal.returns-clause-saves
 returns-clause-saves g c = search (rules, not_replaced)

@@ -5,4 +5,4 @@ pub returns-clause-serves : goal.returns-clause-serves
 returns-clause-serves g c =
     let serves = rw (c.place_of-port.ensures, c.chip_file-file.ensures) at
     c.serve_client.ensures.serves c.args.listener c.accept.ensures.new c.accept.ensures.missed in
-    inl (_, _, c.in-Ok.ensures.judges, serves)
+    inl (_, _, c.in-Ok.ensures.checks_out, serves)

@@ -5,6 +5,6 @@ use Rattle.avr_tool.proofs.texts.print_text.Given as goal
 abbrev pub invariant-loop-turn : goal.invariant-loop-turn
 invariant-loop-turn g l = record {
   printed : HasPrinted (g.T.Parted.has_part l.text) l.stream (g.D.Desk.view l.initial.desk) (g.D.Desk.view l.desk)
-      l.at l._turn;
+      l.at l._exchange;
   stays : Preserves g.D.Desk.started_as l.initial.desk l.desk;
 }

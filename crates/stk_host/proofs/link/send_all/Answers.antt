@@ -8,7 +8,7 @@ returns-in_err-count-clause-sends g c =
     let p = err_from_is_err_and c.from_residual.result c.from_residual.ensures.1 in
     rw p.1 (record {
       ok = tt;
-      err = part_of c.args.bytes.now c.loop-done.done _ _ _ _ (omega arith) c.loop-done.invariant.says
+      err = part_of c.args.bytes.now c.loop-done.done _ _ _ _ (omega arith) c.loop-done.invariant.emits
           (behind c.args.bytes.now c.loop-done.done) c.in_err-count.ensures.sends.err;
       counts = fails_since _ _ _ _ c.loop-done.invariant.counted c.in_err-count.ensures.sends.counted
           c.in_err-count.ensures.sends.failed;
@@ -18,7 +18,7 @@ pub returns-then-count-eq0-clause-sends : goal.returns-then-count-eq0-clause-sen
 returns-then-count-eq0-clause-sends g c = record {
   ok = tt;
   err = part_of c.args.bytes.now (c.loop-done.done + c.in_ok-count.count) _ _ _ _ (omega arith)
-      (says_part c.args.bytes.now c.loop-done.done c.in_ok-count.count _ _ _ _ c.loop-done.invariant.says
+      (says_part c.args.bytes.now c.loop-done.done c.in_ok-count.count _ _ _ _ c.loop-done.invariant.emits
       (behind c.args.bytes.now c.loop-done.done) c.in_ok-count.ensures.sends.ok) refl (takes_none _ _ _ refl);
   counts = fails_since _ _ _ _ c.loop-done.invariant.counted c.in_ok-count.ensures.sends.counted
       (c.in_ok-count.ensures.sends.stuck (omega arith) (omega arith));

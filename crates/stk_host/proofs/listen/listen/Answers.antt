@@ -1,6 +1,6 @@
 use Rattle.std.proofs.Common.{arith, rules, ◌-◌}
 use Rattle.std.proofs.lemmas.Result.{err_from_is_err_and}
-use Rattle.stk_host.proofs.Transcripts.Listening.{Listening, begins, heard_bytes, heard_silence, heard_end, reads_on, read_on, finds, babbles, hears_none}
+use Rattle.stk_host.proofs.Transcripts.Listening.{Listening, begins, heard_bytes, heard_silence, heard_end, reads_on, read_on, finds, babbles, receives_none}
 use Rattle.stk_host.proofs.listen.listen.Goals as goal
 use Rattle.stk_host.proofs.listen.listen.Goals.{then-is_empty+in_ok-receive_piece+in-Bytes, else-is_empty}
 
@@ -9,13 +9,13 @@ loop-count-init g c = search (rules, begins)
 
 pub returns-in-Silence : goal.returns-in-Silence
 returns-in-Silence g c =
-    let hears = heard_silence c.loop-count.invariant.listening (c.is_empty.ensures.0 c.if-is_empty.true) (omega arith)
+    let receives_next = heard_silence c.loop-count.invariant.listening (c.is_empty.ensures.0 c.if-is_empty.true) (omega arith)
     c.in-Silence.is c.in_ok-receive_piece.ensures.ok in
     search rules
 
 pub returns-in-End : goal.returns-in-End
 returns-in-End g c =
-    let hears = heard_end c.loop-count.invariant.listening (c.is_empty.ensures.0 c.if-is_empty.true) (omega arith)
+    let receives_next = heard_end c.loop-count.invariant.listening (c.is_empty.ensures.0 c.if-is_empty.true) (omega arith)
     c.in-End.is c.in_ok-receive_piece.ensures.ok in
     search rules
 
@@ -25,7 +25,7 @@ returns-in_err-receive_piece g c = record {
   holds = search rules;
   err =
       let p = err_from_is_err_and c.from_residual.result c.from_residual.ensures.1 in
-      rw p.1 (hears_none c.loop-count.invariant.listening (c.is_empty.ensures.0 c.if-is_empty.true) (omega arith)
+      rw p.1 (receives_none c.loop-count.invariant.listening (c.is_empty.ensures.0 c.if-is_empty.true) (omega arith)
       c.in_err-receive_piece.ensures.err);
   counts = search rules;
   fits = search rules;
@@ -44,7 +44,7 @@ returns-then-is_answer g c =
     ] in
     let read = read_on _ (4096 - c.loop-count.count) _ c.prefix.ensures c.feed-used.ensures.within
     c.consume.ensures.left c.feed-used.ensures.fed in
-    let hears = finds _ _ _ _ l read.0 (c.is_answer.ensures.yes c.if-is_answer.true)
+    let receives_next = finds _ _ _ _ l read.0 (c.is_answer.ensures.yes c.if-is_answer.true)
     (omega (arith, read.1)) in
     search rules
 
@@ -78,5 +78,5 @@ loop-count-preserved g c =
 
 pub returns : goal.returns
 returns g c =
-    let hears = babbles c.loop-count.invariant.listening (omega arith) in
+    let receives_next = babbles c.loop-count.invariant.listening (omega arith) in
     search rules

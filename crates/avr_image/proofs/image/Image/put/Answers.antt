@@ -4,14 +4,14 @@ use Rattle.std.proofs.lemmas.List.{length-set}
 use Rattle.avr_image.proofs.Fields.Shown.{shown-marked, blank-marked, length_shown, sized, small-set}
 use Rattle.avr_image.proofs.image.Image.put.Goals as goal
 
-pub returns-then-at-len-clause-judged : goal.returns-then-at-len-clause-judged
-returns-then-at-len-clause-judged c = grind (arith, nat_tests, sized)
+pub returns-then-at-len-clause-verdict : goal.returns-then-at-len-clause-verdict
+returns-then-at-len-clause-verdict c = grind (arith, nat_tests, sized)
 
 pub invariant_of-self : goal.invariant_of-self
 invariant_of-self c = grind (arith, length-set, length, small-set, blank-marked)
 
-pub returns-clause-judged : goal.returns-clause-judged
-returns-clause-judged c = grind (arith, nat_tests, sized)
+pub returns-clause-verdict : goal.returns-clause-verdict
+returns-clause-verdict c = grind (arith, nat_tests, sized)
 
 pub returns-clause-laid : goal.returns-clause-laid
 returns-clause-laid c = grind (arith, length, shown-marked)

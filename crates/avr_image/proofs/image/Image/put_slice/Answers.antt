@@ -4,8 +4,8 @@ use Rattle.avr_image.proofs.Fields.Shown.{sized, length_shown}
 use Rattle.avr_image.proofs.Places.Laid.{shown-pasted, kept-pasted, length-pasted, fits_yes}
 use Rattle.avr_image.proofs.image.Image.put_slice.Goals as goal
 
-pub returns-then-bytes-saturating_sub-clause-judged : goal.returns-then-bytes-saturating_sub-clause-judged
-returns-then-bytes-saturating_sub-clause-judged c = grind (arith, nat_tests, sized)
+pub returns-then-bytes-saturating_sub-clause-verdict : goal.returns-then-bytes-saturating_sub-clause-verdict
+returns-then-bytes-saturating_sub-clause-verdict c = grind (arith, nat_tests, sized)
 
 pub invariant_of-self : goal.invariant_of-self
 invariant_of-self c =
@@ -18,8 +18,8 @@ invariant_of-self c =
     c.mark_span.ensures.len
     (λ i. omega (arith, c.type_inv.bytes i)) c.self.invariant)
 
-pub returns-clause-judged : goal.returns-clause-judged
-returns-clause-judged c = grind (arith, nat_tests, sized, fits_yes)
+pub returns-clause-verdict : goal.returns-clause-verdict
+returns-clause-verdict c = grind (arith, nat_tests, sized, fits_yes)
 
 pub returns-clause-laid : goal.returns-clause-laid
 returns-clause-laid c = grind (arith, length, nat_tests, shown-pasted)

@@ -1,7 +1,7 @@
 use Rattle.std.proofs.Common.{◌≡◌, [], ◌∷◌, refl, rules}
 use Rattle.avr_session.specs.Actions.{SkippedErase, EraseChip, SkipAction, erase_actions}
 use Rattle.avr_session.specs.Session.{erased_output}
-use Rattle.avr_session.proofs.ActionByAction.Sequences.{does_nothing, does_one, does_printed, does_same, ends_untold, left_out_performs}
+use Rattle.avr_session.proofs.ActionByAction.Sequences.{does_nothing, does_one, does_printed, does_same, ends_unreported, left_out_performs}
 use Rattle.avr_session.proofs.performing.Session.erase_if_due.Goals as goal
 
 pub returns-then-switches-2 : goal.returns-then-switches-2
@@ -11,7 +11,7 @@ returns-then-switches-2 g c =
     let reports = rw c.switches-switches.ensures at c.warn-warned.ensures.reports in
     let due : SkipAction SkippedErase ∷ [] ≡ erase_actions c.args.self.now.plan.now.switches c.args.self.now.plan.now.tasks =
     rw (is_dry, is_asked) refl in
-    search (rules, does_same, does_one, left_out_performs, ends_untold)
+    search (rules, does_same, does_one, left_out_performs, ends_unreported)
 
 pub returns-then-switches : goal.returns-then-switches
 returns-then-switches g c =

@@ -3,7 +3,7 @@ use Rattle.stk_host.specs.Operations.{reading}
 use Rattle.avr_session.specs.Actions.{SaveMemory}
 use Rattle.avr_session.specs.Session.{fault_line_or, read_output}
 use Rattle.avr_session.proofs.ActionByAction.FaultsReported.{read_none}
-use Rattle.avr_session.proofs.ActionByAction.Sequences.{calls_of, does_one, operation_performs, given_concluded, given_told, read_stops_report}
+use Rattle.avr_session.proofs.ActionByAction.Sequences.{calls_of, does_one, operation_performs, given_concluded, given_reported, read_stops_report}
 use Rattle.avr_session.proofs.performing.Session.read.Goals as goal
 
 pub report_read-reported-requires : goal.report_read-reported-requires
@@ -22,7 +22,7 @@ returns g c =
     (operation_performs (reading plan.part mem) (fault_line_or plan.part good) reports true
     (read_stops_report plan.part good items (read_none plan.switches mem format file items) c.read-outcome.result _ _
     reports)
-    (given_told items good plan.part c.read-outcome.result reports) c.requires.0
+    (given_reported items good plan.part c.read-outcome.result reports) c.requires.0
     (calls_of (ap (λ part. reading part mem) c.requires.1) c.read-outcome.ensures.calls)
     (c.conclude.ensures ∙ sym (given_concluded items c.read-outcome.result c.report_read-reported.result))) in
     search rules

@@ -1,7 +1,7 @@
 use Rattle.std.proofs.Common.{◌≡◌, refl, [], ◌∷◌, rules}
 use Rattle.std.proofs.lemmas.Result.{err_from_is_err_and}
 use Rattle.avr_session.specs.Actions.{SkippedWrite, WriteImage, CompareImage, SkipAction, read_back_actions, write_actions}
-use Rattle.avr_session.proofs.ActionByAction.Sequences.{left_out_performs, ends_untold, does_one, does_same, does_then, does_last}
+use Rattle.avr_session.proofs.ActionByAction.Sequences.{left_out_performs, ends_unreported, does_one, does_same, does_then, does_last}
 use Rattle.avr_session.proofs.performing.Session.write_and_verify.Goals as goal
 
 pub returns-then-switches : goal.returns-then-switches
@@ -10,8 +10,8 @@ returns-then-switches g c =
     let what = SkippedWrite c.args.mem c.args.image.now in
     let is_dry = rw c.switches.ensures at c.if-switches.true in
     let due : SkipAction what ∷ [] ≡ write_actions plan.switches c.args.mem c.args.image.now = rw is_dry refl in
-    let reports = rw (c.switches-quiet.ensures, c.len.ensures) at c.report_bytes-said.ensures.reports in
-    search (rules, does_same, does_one, left_out_performs, ends_untold)
+    let reports = rw (c.switches-quiet.ensures, c.len.ensures) at c.report_bytes-emitted.ensures.reports in
+    search (rules, does_same, does_one, left_out_performs, ends_unreported)
 
 pub returns-in_err-write : goal.returns-in_err-write
 returns-in_err-write g c =

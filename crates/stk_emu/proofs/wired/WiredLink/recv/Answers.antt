@@ -3,7 +3,7 @@ use Rattle.std.proofs.Math.Seq.{take-length}
 use Rattle.std.proofs.lemmas.List.{length-map}
 use Rattle.stk_emu.specs.Wired.{ComesOf}
 use Rattle.stk_emu.proofs.Wires.Waiting.{silence_next, bytes_next}
-use Rattle.stk_emu.proofs.Wires.Kept.{heard_state, keeps_hearing}
+use Rattle.stk_emu.proofs.Wires.Kept.{heard_state, keeps_receiving}
 use Rattle.stk_emu.proofs.wired.WiredLink.recv.Goals as goal
 use Rattle.stk_emu.proofs.wired.WiredLink.recv.Goals.{then-count-eq0, else-count-eq0}
 
@@ -25,4 +25,4 @@ returns-clause-next g c = elim c.if-count-eq0.branch [
 pub returns-clause-comes : goal.returns-clause-comes
 returns-clause-comes g c = λ start keeps.
     subst (ComesOf start) (sym (returns-clause-heard g c))
-    (keeps_hearing c.args.self.now _ start.programmer start.fates (returns-clause-next g c) keeps)
+    (keeps_receiving c.args.self.now _ start.programmer start.fates (returns-clause-next g c) keeps)

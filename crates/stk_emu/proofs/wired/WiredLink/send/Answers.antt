@@ -8,7 +8,7 @@ pub returns-clause-passes : goal.returns-clause-passes
 returns-clause-passes g c =
     rw (← c.self.view_is) (record {
       found = frames_of_event c.feed-used.result.1 c.feed-used.new.self;
-      are_frames = found_frames c.feed-used.result.1 c.feed-used.new.self c.feed-used.ensures.tells;
+      are_frames = found_frames c.feed-used.result.1 c.feed-used.new.self c.feed-used.ensures.is_reported;
       fed = c.feed-used.ensures.fed;
       waits = search rules;
       wire = c.pass_frame.ensures.wire;

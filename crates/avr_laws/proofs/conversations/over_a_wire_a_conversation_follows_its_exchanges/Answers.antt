@@ -1,7 +1,7 @@
 use Rattle.std.proofs.Common.{rules}
 use Rattle.avr_laws.proofs.Lines.Ends.{plays_prefix}
-use Rattle.avr_tool.proofs.Lines.InTurn.{stands_along, whole_said, whole_done}
-use Rattle.avr_laws.proofs.conversations.over_a_wire_a_conversation_goes_along_turns.Goals as goal
+use Rattle.avr_tool.proofs.Lines.InTurn.{stands_along, whole_emitted, whole_done}
+use Rattle.avr_laws.proofs.conversations.over_a_wire_a_conversation_follows_its_exchanges.Goals as goal
 
 pub returns-clause-programmer : goal.returns-clause-programmer
 returns-clause-programmer g c = search (rules, stands_along)
@@ -11,5 +11,5 @@ returns-clause-whole g c = λ d n p fates w events r after asks lawful keeps pla
     let prefix = plays_prefix d n w.transcript events r after plays in (
       prefix,
       whole_done d n p fates w asks lawful keeps plays.in_turn events r after plays prefix,
-      whole_said d n p fates w asks lawful keeps plays.in_turn events r after plays prefix,
+      whole_emitted d n p fates w asks lawful keeps plays.in_turn events r after plays prefix,
     )

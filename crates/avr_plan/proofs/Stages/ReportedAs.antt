@@ -8,4 +8,4 @@ use Rattle.avr_plan.specs.declared.plan_fault.TaskFault.{TaskFault}
 
 pub fault_since : (u : Update) (fault : TaskFault) (a b c : DeskState) → HasSameCounts a b
     → ReportsTaskFault u b c fault → ReportsTaskFault u a c fault
-fault_since u fault a b c same told = search rules
+fault_since u fault a b c same notice = search rules
