@@ -33,10 +33,10 @@ by_port : (part : Bytes) (e : Entries) → is_reported_anyway (run_settings part
     → run_settings part e ≡ port_of_option e.port >>= behind_port part e
 by_port part e notice = search (rules, cases_Bool)
 
-pub port_is_reported : (part : Bytes) (e : Entries) (fault : SettingsFault) → ReportsAnyway (port_of_option e.port) (Err fault)
-    → ReportsAnyway (run_settings part e) (Err fault)
+pub port_is_reported : (part : Bytes) (e : Entries) (fault : SettingsFault)
+    → ReportsAnyway (port_of_option e.port) (Err fault) → ReportsAnyway (run_settings part e) (Err fault)
 port_is_reported part e fault is_reported notice = search (rules, by_port, behind_port_keeps)
 
-pub nothing_behind_port : (part : Bytes) (e : Entries) (port : Port) → GivesUnlessOutOfMemory (port_of_option e.port) (Ok port)
-    → is_reported_anyway (run_settings part e) ≡ true → ⊥
+pub nothing_behind_port : (part : Bytes) (e : Entries) (port : Port) → GivesUnlessOutOfMemory (port_of_option e.port)
+    (Ok port) → is_reported_anyway (run_settings part e) ≡ true → ⊥
 nothing_behind_port part e port gives notice = search (rules, ⊎_elim, behind_port_keeps, by_port)

@@ -77,7 +77,8 @@ fn update_at(alloc: Global, number: u8, text: &str) -> Result<Update, SettingsFa
 }
 
 fn updates_given(alloc: Global, texts: Option<&[&str]>) -> Result<Updates, SettingsFault>
-    ensures { GivesUnlessOutOfMemory (updates_of (unwrap_or (option_map (λ t. map (λ s. s.now) t.now) texts.entry) [])) result }
+    ensures { GivesUnlessOutOfMemory (updates_of (unwrap_or (option_map (λ t. map (λ s. s.now) t.now) texts.entry) []))
+        result }
 {
     let mut updates = Updates::new(alloc);
     let Some(texts) = texts else {
@@ -121,8 +122,10 @@ fn serve_settings(
     at: &str,
     given: &ArgMatches<'_>,
 ) -> Result<Settings, SettingsFault>
-    ensures gives { GivesUnlessOutOfMemory (serve_settings part.now at.now (entries_of (rows_of (found_of given.now)))) result }
-    ensures is_reported { ReportsAnyway (serve_settings part.now at.now (entries_of (rows_of (found_of given.now)))) result }
+    ensures gives { GivesUnlessOutOfMemory (serve_settings part.now at.now (entries_of (rows_of (found_of given.now))))
+        result }
+    ensures is_reported { ReportsAnyway (serve_settings part.now at.now (entries_of (rows_of (found_of given.now))))
+        result }
 {
     let parts = text_of(given, "parts");
     let chip = text_of(given, "chip");

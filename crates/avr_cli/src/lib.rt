@@ -7,19 +7,15 @@
 #![tactic(auto)]
 
 mod command;
-
-mod settings;
-mod update;
-
-mod owned;
-mod text;
-
 mod from_options;
-mod ports;
-mod standard;
-mod update_text;
-
 mod laws;
+mod owned;
+mod ports;
+mod settings;
+mod standard;
+mod text;
+mod update;
+mod update_text;
 
 pub use command::{make_command, read_words};
 pub use from_options::read_settings;

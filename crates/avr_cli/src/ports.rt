@@ -83,8 +83,10 @@ pub(crate) fn port_given(alloc: Global, text: Option<&str>) -> Result<Port, Sett
 
 /// Reads the port of `--serve` and the file of `--chip`. A bad number is reported before a missing file.
 pub(crate) fn served(alloc: Global, at: &str, chip: Option<&str>) -> Result<Port, SettingsFault>
-    ensures gives { GivesUnlessOutOfMemory (port_to_serve at.now (port_number at.now) (option_map (λ s. s.now) chip.entry)) result }
-    ensures is_reported { ReportsAnyway (port_to_serve at.now (port_number at.now) (option_map (λ s. s.now) chip.entry)) result }
+    ensures gives { GivesUnlessOutOfMemory (port_to_serve at.now (port_number at.now)
+        (option_map (λ s. s.now) chip.entry)) result }
+    ensures is_reported { ReportsAnyway (port_to_serve at.now (port_number at.now) (option_map (λ s. s.now) chip.entry))
+        result }
 {
     if port_number(at).is_none() {
         return Err(bad_port(alloc, at));

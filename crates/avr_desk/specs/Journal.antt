@@ -38,21 +38,22 @@ ChangesCalls has_done change old new = (done : SystemCalls) → has_done done ol
 -- the held file was released, if there was one
 abbrev pub ReleasesHeld : {S H : Type 0} → (SystemCalls → S → Type 0) → Option H → S → S → Type 0
 ReleasesHeld has_done None old new = Preserves has_done old new
-ReleasesHeld has_done (Some hold) old new = (done : SystemCalls) → has_done (with_one_more_held done) old → has_done done new
+ReleasesHeld has_done (Some hold) old new = (done : SystemCalls) → has_done (with_one_more_held done) old
+    → has_done done new
 
 -- A crash may leave nothing that it could not leave before.
 abbrev pub CrashLeavesNoMore : {S : Type 0} → (S → Bytes → Option Bytes → Type 0) → S → S → Type 0
 CrashLeavesNoMore left old new = (name : Bytes) (found : Option Bytes) → left new name found → left old name found
 
 -- the same, but under this name a crash may also leave what `More` allows
-abbrev pub CrashMayAlsoLeave : {S : Type 0} → (S → Bytes → Option Bytes → Type 0) → Bytes → (Option Bytes → Type 0) → S → S
-    → Type 0
+abbrev pub CrashMayAlsoLeave : {S : Type 0} → (S → Bytes → Option Bytes → Type 0) → Bytes → (Option Bytes → Type 0) → S
+    → S → Type 0
 CrashMayAlsoLeave left name More old new = (other : Bytes) (found : Option Bytes) → left new other found
     → left old other found ⊎ ((other ≡ name) × More found)
 
 -- The call adds nothing to what the system has done, nor to what a crash may leave.
-pub record IsUncounted {S : Type 0} (has_done : SystemCalls → S → Type 0) (left : S → Bytes → Option Bytes → Type 0) (old new : S)
-    : Type 0 where
+pub record IsUncounted {S : Type 0} (has_done : SystemCalls → S → Type 0) (left : S → Bytes → Option Bytes
+    → Type 0) (old new : S) : Type 0 where
   pub done : Preserves has_done old new
   pub kept : CrashLeavesNoMore left old new
 

@@ -11,12 +11,18 @@ use Rattle.avr_desk.specs.Stage.{Stage, StageOutcome, Produced, Refused, StageRe
 
 -- The stage ran to its end and no call of the desk failed. For the openings that passed, the desk has the stage's
 -- events, whatever later openings would give. The line of a refusal came last.
-pub record StageCompleted {A : Type 0} (stage : Stage A) (old new : DeskState) (stage_outcome : StageOutcome A) : Type 0 where
-  pub passed : List Opening
-  pub emits : List OutputEvent
-  pub comes : (more : List Opening) → stage (passed ++ more) ≡ record { emits = emits; stage_outcome = stage_outcome; openings_left = more }
-  pub kept : ChangesRecord (after_events (events_with_refusal emits stage_outcome)) old new
-  pub sound : HasSameCounts old new
+pub record StageCompleted {A : Type 0} (stage : Stage A) (old new : DeskState) (stage_outcome : StageOutcome A) : Type 0
+  where
+    pub passed : List Opening
+    pub emits : List OutputEvent
+    pub comes : (more : List Opening) → stage (passed ++ more) ≡ record {
+      emits = emits;
+      stage_outcome =
+          stage_outcome;
+      openings_left = more;
+    }
+    pub kept : ChangesRecord (after_events (events_with_refusal emits stage_outcome)) old new
+    pub sound : HasSameCounts old new
 
 -- Why a stage broke off. The next line couldn't be printed, the next file couldn't be opened, or reading it failed
 -- after these bytes. Or allocation failed, with no file open or after this much of the next file.

@@ -32,7 +32,12 @@ pub record DeskState : Type 0 where
   pub message_failures : ℕ
 
 abbrev pub showing : Record → ℕ → ℕ → DeskState
-showing kept failures message_failures = record { kept = kept; failures = failures; message_failures = message_failures }
+showing kept failures message_failures = record {
+  kept = kept;
+  failures = failures;
+  message_failures =
+      message_failures;
+}
 
 -- The record of the desk changed like this. Most contracts over a desk cite it.
 abbrev pub ChangesRecord : (Record → Record) → DeskState → DeskState → Type 0
@@ -164,4 +169,14 @@ HasOpen test old r = OnOk r (test old.kept.current ≡ true)
 
 abbrev pub nothing_kept : Record
 nothing_kept =
-    record { uses = []; current = Closed; held = None; denied = []; tried = []; releases = 0; output = []; messages = [] }
+    record {
+      uses = [];
+      current = Closed;
+      held = None;
+      denied = [];
+      tried = [];
+      releases = 0;
+      output = [];
+      messages =
+          [];
+    }

@@ -32,12 +32,28 @@ abbrev pub Stage : Type 0 → Type 0
 Stage A = List Opening → StageResult A
 
 abbrev pub with_events_before : {A : Type 0} → List OutputEvent → StageResult A → StageResult A
-with_events_before emits p = record { emits = emits ++ p.emits; stage_outcome = p.stage_outcome; openings_left = p.openings_left }
+with_events_before emits p = record {
+  emits = emits ++ p.emits;
+  stage_outcome = p.stage_outcome;
+  openings_left =
+      p.openings_left;
+}
 
-abbrev pub continued_stage : {A B : Type 0} → List OutputEvent → List Opening → (A → Stage B) → StageOutcome A → StageResult B
+abbrev pub continued_stage : {A B : Type 0} → List OutputEvent → List Opening → (A → Stage B) → StageOutcome A
+    → StageResult B
 continued_stage emits openings_left go_on (Produced a) = with_events_before emits (go_on a openings_left)
-continued_stage emits openings_left go_on (Refused line) = record { emits = emits; stage_outcome = Refused line; openings_left = openings_left }
-continued_stage emits openings_left go_on NotReadToEnd = record { emits = emits; stage_outcome = NotReadToEnd; openings_left = openings_left }
+continued_stage emits openings_left go_on (Refused line) = record {
+  emits = emits;
+  stage_outcome =
+      Refused line;
+  openings_left = openings_left;
+}
+continued_stage emits openings_left go_on NotReadToEnd = record {
+  emits = emits;
+  stage_outcome =
+      NotReadToEnd;
+  openings_left = openings_left;
+}
 
 -- one stage, then the one that its result chooses
 infixl 10 ◌>>=◌

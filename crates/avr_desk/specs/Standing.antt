@@ -32,7 +32,8 @@ pub record GivesBytes {H : Type 0} (reads : Reads H) (old new : H) (buf : Bytes)
 
 abbrev pub OpenFileGives : {F I : Type 0} → Reads F → Reads I → OpenFile F I → OpenFile F I → Bytes → ℕ → Type 0
 OpenFileGives {I = I} reads input (Input old) new buf n = (now : I) × (new ≡ Input now) × GivesBytes input old now buf n
-OpenFileGives {F = F} reads input (ToRead old) new buf n = (now : F) × (new ≡ ToRead now) × GivesBytes reads old now buf n
+OpenFileGives {F = F} reads input (ToRead old) new buf n = (now : F) × (new ≡ ToRead now)
+    × GivesBytes reads old now buf n
 OpenFileGives reads input old new buf n = ⊥
 
 -- the open file gave nothing, and stays open

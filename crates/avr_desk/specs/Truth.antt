@@ -19,7 +19,8 @@ pub record IsReadPrefix (stood : Option Bytes) (bytes : Bytes) (ended : Bool) : 
 -- after these files were made, the opening gave what its name meant
 abbrev pub IsTrueOpening : Stock → List Writing → Opening → Type 0
 IsTrueOpening stock made (Absent name) = content_of_name stock made name ≡ None
-IsTrueOpening stock made (Found reading) = IsReadPrefix (content_of_name stock made reading.name) reading.bytes reading.ended
+IsTrueOpening stock made (Found reading) = IsReadPrefix (content_of_name stock made reading.name) reading.bytes
+    reading.ended
 
 -- Each opening gave what its name meant then, by the files made before it: `made`, and those among the uses.
 abbrev pub OpeningsAreTrue : Stock → List Writing → List FileUse → Type 0

@@ -23,7 +23,13 @@ impl<D> Model for FailingDesk<D> {
 
     ghost Value = { Failing D };
 
-    ghost view = { λ d. record { inner = d.inner; due = d.due; planned = d.planned; message_failures = d.message_failures } };
+    ghost view = { λ d. record {
+      inner = d.inner;
+      due = d.due;
+      planned = d.planned;
+      message_failures =
+          d.message_failures;
+    } };
 }
 
 impl<D> FailingDesk<D> {
@@ -83,7 +89,8 @@ impl<D: Desk> Desk for FailingDesk<D> {
 
     fn create(&mut self, name: &str) -> Result<(), DeskFault>
         ensures kept { ChangesRecord (after_create name.now result) (D.view self.old.inner) (D.view self.new.inner) }
-        ensures call { IsCall (failing D.view) (inner_comes_of D.started_as) (CountsFailure File) self.old self.new result }
+        ensures call { IsCall (failing D.view) (inner_comes_of D.started_as) (CountsFailure File) self.old self.new
+            result }
         ensures when_due { FailsWhenDue File D.view self.old self.new (CountsFailure File) result }
     {
         if self.is_due() {
@@ -96,7 +103,8 @@ impl<D: Desk> Desk for FailingDesk<D> {
         ensures bound { IfOk result (λ n. n ≤ length buf.new) }
         ensures kept { ChangesRecord (after_read buf.new result) (D.view self.old.inner) (D.view self.new.inner) }
         ensures has_file { HasOpen is_to_read (D.view self.old.inner) result }
-        ensures call { IsCall (failing D.view) (inner_comes_of D.started_as) (CountsFailure File) self.old self.new result }
+        ensures call { IsCall (failing D.view) (inner_comes_of D.started_as) (CountsFailure File) self.old self.new
+            result }
         ensures when_due { FailsWhenDue File D.view self.old self.new (CountsFailure File) result }
     {
         if self.is_due() {
@@ -127,7 +135,8 @@ impl<D: Desk> Desk for FailingDesk<D> {
     }
 
     fn err(&mut self, bytes: &[u8]) -> Result<usize, DeskFault>
-        ensures write { IsWrite (failing D.view) (inner_comes_of D.started_as) Messages bytes.now self.old self.new result }
+        ensures write { IsWrite (failing D.view) (inner_comes_of D.started_as) Messages bytes.now self.old self.new
+            result }
         ensures when_due { FailsWhenDue Messages D.view self.old self.new (WriteCounts Messages bytes.now) result }
     {
         if self.is_due() {
@@ -141,7 +150,8 @@ impl<D: Desk> Desk for FailingDesk<D> {
 impl<D: ChipDesk> ChipDesk for FailingDesk<D> {
     fn hold(&mut self, name: &str) -> Result<bool, DeskFault>
         ensures kept { ChangesRecord (after_hold name.now result) (D.view self.old.inner) (D.view self.new.inner) }
-        ensures call { IsCall (failing D.view) (inner_comes_of D.started_as) (CountsFailure File) self.old self.new result }
+        ensures call { IsCall (failing D.view) (inner_comes_of D.started_as) (CountsFailure File) self.old self.new
+            result }
         ensures when_due { FailsWhenDue File D.view self.old self.new (CountsFailure File) result }
     {
         if self.is_due() {
@@ -160,7 +170,8 @@ impl<D: ChipDesk> ChipDesk for FailingDesk<D> {
 
     fn replace(&mut self, name: &str, bytes: &[u8]) -> Result<(), DeskFault>
         ensures kept { Replaces name.now bytes.now result (D.view self.old.inner) (D.view self.new.inner) }
-        ensures call { IsCall (failing D.view) (inner_comes_of D.started_as) (CountsFailure File) self.old self.new result }
+        ensures call { IsCall (failing D.view) (inner_comes_of D.started_as) (CountsFailure File) self.old self.new
+            result }
         ensures when_due { FailsWhenDue File D.view self.old self.new (CountsFailure File) result }
     {
         if self.is_due() {

@@ -105,7 +105,8 @@ pub trait Folder {
 
     /// Opens a file for reading.
     fn open(&mut self, name: &str) -> io::Result<Self::File>
-        ensures named { Counts has_done 0 self.old ⊎ is_free self.old name.now → IfOk result (λ file. is_of file name.now) }
+        ensures named { Counts has_done 0 self.old ⊎ is_free self.old name.now
+            → IfOk result (λ file. is_of file name.now) }
         ensures absent { Counts has_done 0 self.old ⊎ is_free self.old name.now
             → IfErr result (λ error. error_kind error ≡ ErrorKind.NotFound → lacks name.now) }
         ensures opens { OnOk result (ChangesCalls has_done (with_calls (Opens name.now ∷ [])) self.old self.new) }
@@ -168,7 +169,8 @@ pub trait Folder {
     fn open_seen(&mut self, held: &Self::Held, seen: &Option<Self::Seen>) -> io::Result<Self::File>
         ensures named { IfOk result (λ file. is_of file (held_name held.now)) }
         ensures absent { IfErr result (λ error. error_kind error ≡ ErrorKind.NotFound → lacks (held_name held.now)) }
-        ensures opens { OnOk result (ChangesCalls has_done (with_calls (Opens (held_name held.now) ∷ [])) self.old self.new) }
+        ensures opens { OnOk result (ChangesCalls has_done (with_calls (Opens (held_name held.now) ∷ [])) self.old
+            self.new) }
         ensures fails { OnErr result (Preserves has_done self.old self.new) }
         ensures keeps { CrashLeavesNoMore left self.old self.new };
 

@@ -14,16 +14,16 @@ mod record;
 
 // calls over any desk
 mod files;
-mod stream;
-
 mod line;
 mod message;
+mod stream;
 
 // the desks, and the files of a system
 mod failing;
 mod file_system;
 mod folder;
 mod journal;
+mod laws;
 mod looks;
 mod mem_desk;
 mod replacement;
@@ -32,8 +32,6 @@ mod runtime;
 mod synced;
 mod system;
 mod watched;
-
-mod laws;
 
 pub use bytes::Bytes;
 pub use desk::{ChipDesk, Desk, DeskFault};

@@ -232,7 +232,8 @@ impl Desk for MemDesk {
 
     #[tactic(auto, using(crate::proofs::Desks::InMemory::same_true))]
     fn open(&mut self, name: &str) -> Result<(), DeskFault>
-        ensures kept { self.new ≡ record (with_record_and_failures (after_open name.now result self.old.kept) self.old self.new)
+        ensures kept { self.new ≡ record (with_record_and_failures (after_open name.now result self.old.kept) self.old
+            self.new)
             { opened = self.new.opened } }
         ensures found { OnOk result (contents name.now self.old ≡ Some self.new.opened) }
         ensures absent { result ≡ Err DeskFault.NotFound → contents name.now self.old ≡ None }
@@ -267,7 +268,8 @@ impl Desk for MemDesk {
 
     #[tactic(auto, using(crate::proofs::Desks::InMemory::same_true))]
     fn create(&mut self, name: &str) -> Result<(), DeskFault>
-        ensures kept { self.new ≡ with_record_and_failures (after_create name.now result self.old.kept) self.old self.new }
+        ensures kept { self.new ≡ with_record_and_failures (after_create name.now result self.old.kept) self.old
+            self.new }
         ensures call { IsCall memory_state HoldsTrue (CountsFailure File) self.old self.new result }
     {
         let Ok(name) = Bytes::copied(self.alloc, name.as_bytes()) else {
@@ -306,7 +308,8 @@ impl Desk for MemDesk {
     #[tactic(auto, using(crate::proofs::Desks::InMemory::same_true, crate::proofs::Desks::InMemory::written_true))]
     fn write(&mut self, bytes: &[u8]) -> Result<usize, DeskFault>
         ensures all { IfOk result (λ n. n ≡ length bytes.now) }
-        ensures kept { self.new ≡ with_record_and_failures (after_write (bytes_taken bytes.now result) self.old.kept) self.old self.new }
+        ensures kept { self.new ≡ with_record_and_failures (after_write (bytes_taken bytes.now result) self.old.kept)
+            self.old self.new }
         ensures has_file { OnOk result (is_to_write self.old.kept.current ≡ true) }
         ensures call { IsCall memory_state HoldsTrue (WriteCounts File bytes.now) self.old self.new result }
     {
@@ -322,7 +325,8 @@ impl Desk for MemDesk {
     #[tactic(auto, using(crate::proofs::Desks::InMemory::same_true))]
     fn out(&mut self, bytes: &[u8]) -> Result<usize, DeskFault>
         ensures all { IfOk result (λ n. n ≡ length bytes.now) }
-        ensures kept { self.new ≡ with_record_and_failures (after_out (bytes_taken bytes.now result) self.old.kept) self.old self.new }
+        ensures kept { self.new ≡ with_record_and_failures (after_out (bytes_taken bytes.now result) self.old.kept)
+            self.old self.new }
         ensures call { IsCall memory_state HoldsTrue (WriteCounts Output bytes.now) self.old self.new result }
     {
         if self.output.extend(bytes).is_err() {
@@ -334,7 +338,8 @@ impl Desk for MemDesk {
     #[tactic(auto, using(crate::proofs::Desks::InMemory::same_true))]
     fn err(&mut self, bytes: &[u8]) -> Result<usize, DeskFault>
         ensures all { IfOk result (λ n. n ≡ length bytes.now) }
-        ensures kept { self.new ≡ record (with_record_and_failures (after_err (bytes_taken bytes.now result) self.old.kept) self.old
+        ensures kept { self.new ≡ record (with_record_and_failures (after_err (bytes_taken bytes.now result)
+            self.old.kept) self.old
             self.new) { message_failures = self.new.message_failures } }
         ensures call { IsCall memory_state HoldsTrue (WriteCounts Messages bytes.now) self.old self.new result }
     {
@@ -385,7 +390,8 @@ impl ChipDesk for MemDesk {
 
     #[tactic(auto, using(crate::proofs::Desks::InMemory::same_true))]
     fn replace(&mut self, name: &str, bytes: &[u8]) -> Result<(), DeskFault>
-        ensures kept { self.new ≡ with_record_and_failures (if is_ok result then with_replaced name.now bytes.now self.old.kept
+        ensures kept { self.new ≡ with_record_and_failures (if is_ok result then with_replaced name.now bytes.now
+            self.old.kept
             else self.old.kept) self.old self.new }
         ensures replaces { Replaces name.now bytes.now result (memory_state self.old) (memory_state self.new) }
         ensures call { IsCall memory_state HoldsTrue (CountsFailure File) self.old self.new result }

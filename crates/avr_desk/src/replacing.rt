@@ -19,7 +19,8 @@ pub(crate) fn replace_named<R: FileSystem>(
     ensures makes { OnOk result (ChangesCalls R.has_done (with_calls (made name.now)) system.old system.new) }
     ensures fails { OnErr result (Preserves R.has_done system.old system.new) }
     ensures stays { (name : Option Bytes) → IsHeldBy R.FileSystem held.old name → IsHeldBy R.FileSystem held.new name }
-    ensures leaves { CrashMayAlsoLeave R.left name.now (λ f. R.began name.now f ⊎ (f ≡ Some bytes.now)) system.old system.new }
+    ensures leaves { CrashMayAlsoLeave R.left name.now (λ f. R.began name.now f ⊎ (f ≡ Some bytes.now)) system.old
+        system.new }
 {
     match held {
         Some(hold) if system.is_held(hold, name) => system.put_held(hold, bytes),

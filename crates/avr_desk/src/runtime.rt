@@ -253,7 +253,12 @@ impl<'a, R: Files<File = File> + Input + Alloc<A = Global>> Folder for &'a R {
         Ok(Synced::new(opened(identity_of(seen), file, there)?))
     }
 
-    fn check_not_held(&mut self, name: &str, held: &Held, seen: &Option<Metadata>) -> io::Result<()> {
+    fn check_not_held(
+        &mut self,
+        name: &str,
+        held: &Held,
+        seen: &Option<Metadata>,
+    ) -> io::Result<()> {
         let there = unless(ErrorKind::NotFound, fs::metadata(*self, name))?;
         let is_link = is_link(*self, name)?;
         let is_place = is_one_place(*self, name, held.place.path.as_str())?;
@@ -285,7 +290,12 @@ impl<'a, R: Files<File = File> + Input + Alloc<A = Global>> Folder for &'a R {
 
     // Renaming a file to its own name changes nothing, but waits for what others have begun in the folder. So the last
     // look, right before the new file gets the name, sees what they did.
-    fn check_unchanged(&mut self, held: &Held, seen: &Option<Metadata>, file: &File) -> io::Result<()> {
+    fn check_unchanged(
+        &mut self,
+        held: &Held,
+        seen: &Option<Metadata>,
+        file: &File,
+    ) -> io::Result<()> {
         let (new, path) = (held.place.new.as_str(), held.place.path.as_str());
         let is_own = is_at(*self, file, new)?;
         fs::rename(*self, new, new)?;

@@ -189,7 +189,8 @@ impl<R: FileSystem + Drop, O: Outlet + Drop, E: Outlet + Drop> Desk for SystemDe
     ghost started_as = { IsTrueSince R.FileSystem R.File.Read R.File.Write R.Input.Read O.Write E.Write };
 
     fn open(&mut self, name: &str) -> Result<(), DeskFault>
-        ensures kept { ChangesRecord (after_open name.now result) (system_desk_view self.old) (system_desk_view self.new) }
+        ensures kept { ChangesRecord (after_open name.now result) (system_desk_view self.old)
+            (system_desk_view self.new) }
         ensures counts { CountsFailure File (system_desk_view self.old) (system_desk_view self.new) result }
         ensures quiet { self.new ≡ record (with_open_of self.old self.new) { system = self.new.system } }
         ensures goes { writes_to_output self.new ≡ writes_to_output_after_open result (writes_to_output self.old) }
@@ -218,11 +219,13 @@ impl<R: FileSystem + Drop, O: Outlet + Drop, E: Outlet + Drop> Desk for SystemDe
     }
 
     fn create(&mut self, name: &str) -> Result<(), DeskFault>
-        ensures kept { ChangesRecord (after_create name.now result) (system_desk_view self.old) (system_desk_view self.new) }
+        ensures kept { ChangesRecord (after_create name.now result) (system_desk_view self.old)
+            (system_desk_view self.new) }
         ensures call { IsCall system_desk_view ⟦<SystemDesk<R, O, E> as Desk>⟧.started_as
             (CountsFailure File) self.old self.new result }
         ensures quiet { self.new ≡ record (with_open_of self.old self.new) { system = self.new.system } }
-        ensures goes { writes_to_output self.new ≡ (if is_ok result then is_dash name.now else writes_to_output self.old) }
+        ensures goes { writes_to_output self.new
+            ≡ (if is_ok result then is_dash name.now else writes_to_output self.old) }
         ensures error { KeepsLastError self.old.last_error self.new.last_error result }
     {
         if name == "-" {
@@ -337,7 +340,8 @@ impl<R: FileSystem + Drop, O: Outlet + Drop, E: Outlet + Drop> Desk for SystemDe
 
 impl<R: FileSystem + Drop, O: Outlet + Drop, E: Outlet + Drop> ChipDesk for SystemDesk<R, O, E> {
     fn hold(&mut self, name: &str) -> Result<bool, DeskFault>
-        ensures kept { ChangesRecord (after_hold name.now result) (system_desk_view self.old) (system_desk_view self.new) }
+        ensures kept { ChangesRecord (after_hold name.now result) (system_desk_view self.old)
+            (system_desk_view self.new) }
         ensures call { IsCall system_desk_view ⟦<SystemDesk<R, O, E> as Desk>⟧.started_as
             (CountsFailure File) self.old self.new result }
         ensures quiet { self.new ≡ record (with_log_of self.old self.new)
@@ -374,7 +378,11 @@ impl<R: FileSystem + Drop, O: Outlet + Drop, E: Outlet + Drop> ChipDesk for Syst
             (system_desk_view self.new)) }
         ensures call { IsCall system_desk_view ⟦<SystemDesk<R, O, E> as Desk>⟧.started_as
             (CountsFailure File) self.old self.new result }
-        ensures quiet { self.new ≡ record (with_open_of self.old self.new) { system = self.new.system; hold = self.new.hold } }
+        ensures quiet { self.new ≡ record (with_open_of self.old self.new) {
+          system = self.new.system;
+          hold =
+              self.new.hold;
+        } }
         ensures goes { writes_to_output self.new ≡ (if is_ok result then false else writes_to_output self.old) }
         ensures error { KeepsLastError self.old.last_error self.new.last_error result }
     {

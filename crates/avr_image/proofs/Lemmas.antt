@@ -166,7 +166,8 @@ runs_next = walks.runs-next
 
 -- from a byte on: first the bytes before the next gap, then the runs after them
 pub runs_first : (image : List (Option ℕ)) (addr : ℕ) → 0 < length (leading_run image)
-    → runs addr image ≡ (addr, leading_run image) ∷ runs (addr + length (leading_run image)) (drop (length (leading_run image)) image)
+    → runs addr image ≡ (addr, leading_run image) ∷ runs (addr + length (leading_run image))
+    (drop (length (leading_run image)) image)
 runs_first = walks.runs-first
 
 -- ---- the bytes before the next gap

@@ -57,7 +57,8 @@ pub fn a_span_is_by_address()
         → byte_at (with_byte image addr byte) other ≡ byte_at image other }
     ensures inside { (image : List (Option ℕ)) (addr : ℕ) (bytes : List ℕ) (place : ℕ)
         → addr + length bytes ≤ length image → place < length bytes
-        → byte_at (with_bytes_at image (enumerate_from addr bytes)) (addr + place) ≡ Some (slice_index_or bytes place 0) }
+        → byte_at (with_bytes_at image (enumerate_from addr bytes)) (addr + place)
+        ≡ Some (slice_index_or bytes place 0) }
     ensures below { (image : List (Option ℕ)) (addr : ℕ) (bytes : List ℕ) (other : ℕ) → other < addr
         → byte_at (with_bytes_at image (enumerate_from addr bytes)) other ≡ byte_at image other }
     ensures above { (image : List (Option ℕ)) (addr : ℕ) (bytes : List ℕ) (other : ℕ) → addr + length bytes ≤ other

@@ -33,7 +33,8 @@ module _ (plan : Plan) (begun : Programmer) (is_sound : IsSoundChip begun.chip) 
   asks_bodies : SendsValidBodies (session plan)
   asks_bodies = asks plan begun is_sound part_is fitted
 
-  module _ (tape : Tape) (executions : List Execution) (is_authentic : RepliesAreAuthentic device (session plan) 1 tape begun executions) where
+  module _ (tape : Tape) (executions : List Execution) (is_authentic : RepliesAreAuthentic device (session plan) 1 tape
+      begun executions) where
     abbrev exchanges : List Exchange
     exchanges = exchanges_heard (session plan) 1 tape executions
 
@@ -61,8 +62,8 @@ module _ (plan : Plan) (begun : Programmer) (is_sound : IsSoundChip begun.chip) 
           ≡ (state_after device count (session plan) begun exchanges).programmer
       stands = sym (goes.programmer count fewer ∙ ap (λ fs. after_sent_frames device fs executions begun) first_frames)
 
-      pub over_any_end : ReportsOverExchanges plan begun (after_sent_frames device (frames bytes) executions begun) exchanges bytes
-          events_played
+      pub over_any_end : ReportsOverExchanges plan begun (after_sent_frames device (frames bytes) executions begun)
+          exchanges bytes events_played
       over_any_end = search (rules, reports_over_exchanges, stands, by_tape)
 
     -- a whole session
@@ -81,13 +82,15 @@ module _ (plan : Plan) (begun : Programmer) (is_sound : IsSoundChip begun.chip) 
       emitted : outputs events ≡ outputs_after device (length (frames bytes)) (session plan) begun exchanges
       emitted = search (rules, same, goes)
 
-      pub over_any_line : WholeSessionOverExchanges plan begun (after_sent_frames device (frames bytes) executions begun) exchanges bytes
-          events
+      pub over_any_line : WholeSessionOverExchanges plan begun (after_sent_frames device (frames bytes) executions
+          begun) exchanges bytes events
           status
       over_any_line = (
-        subst (ReportsOverExchanges plan begun (after_sent_frames device (frames bytes) executions begun) exchanges bytes)
+        subst (ReportsOverExchanges plan begun (after_sent_frames device (frames bytes) executions begun) exchanges
+            bytes)
             (ap (λ p. p.events) is) (over_any_end bytes all_sent),
-        ends_and_reports_over_exchanges plan begun is_sound part_is fitted exchanges (after_sent_frames device (frames bytes) executions begun)
+        ends_and_reports_over_exchanges plan begun is_sound part_is fitted exchanges
+            (after_sent_frames device (frames bytes) executions begun)
             bytes (stands bytes all_sent) (outputs events) status comes emitted,
       )
 
@@ -107,8 +110,8 @@ module _ (plan : Plan) (begun : Programmer) (is_sound : IsSoundChip begun.chip) 
         → WholeSessionOverExchanges plan begun (after_received_bytes device got later begun)
         (exchanges_heard (session plan) 1 tape executions) bytes events status
     over_bytes left events status next is sent_is =
-        subst (λ q. WholeSessionOverExchanges plan begun q (exchanges_heard (session plan) 1 tape executions) bytes events
-        status) left_bytes
+        subst (λ q. WholeSessionOverExchanges plan begun q (exchanges_heard (session plan) 1 tape executions) bytes
+        events status) left_bytes
         (over_any_line tape executions authentic_bytes bytes left events status next is sent_is)
 
     pub end_bytes : IsBytePrefixOf bytes (bytes_sent (played (session plan) 1 tape).events)

@@ -37,7 +37,8 @@ use Rattle.avr_laws.proofs.Reports.OverTape.{by_fates, results_prefix}
 pub authentic_heard : {E R : Type 0} (d : Dialog E R) (n : ℕ) (p : Programmer) (fates : List Fate) (w : WiredState)
     → SendsValidBodies d → AreLawful fates → FollowsFates p fates w → InTurn d (progress_at n []) w.transcript
     → IsBytePrefixOf (sent w.transcript) (bytes_sent (played d n (heard w.transcript)).events)
-    → RepliesAreAuthentic device d n (heard w.transcript) p (executions_of_fates (length (frames_in (played d n (heard w.transcript)).events)) fates)
+    → RepliesAreAuthentic device d n (heard w.transcript) p
+    (executions_of_fates (length (frames_in (played d n (heard w.transcript)).events)) fates)
 authentic_heard d n p fates w asks lawful keeps exchanges prefix =
     let events = (played d n (heard w.transcript)).events in
     let executions = executions_of_fates (length (frames_in events)) fates in
@@ -79,7 +80,8 @@ module _ (plan : Plan) (w v : WiredState) (fresh : IsFresh w) (stays : Preserves
       let stood = stands plan w v fresh stays is_sound part_is fitted old now status (inl whole) in record {
         line = reports (inl whole);
         end = inl (
-          ends_and_reports_over_exchanges plan (fresh_programmer w.wire.programmer.chip) is_sound part_is fitted exchanges v.wire.programmer
+          ends_and_reports_over_exchanges plan (fresh_programmer w.wire.programmer.chip) is_sound part_is fitted
+              exchanges v.wire.programmer
               (sent v.transcript) stood (outputs (events_over plan v)) status c.done c.emitted,
           c.kept,
         );
@@ -98,16 +100,17 @@ one_no : ◌≡◌ {A = ℕ} 1 0 → ⊥
 one_no e = cc
 
 -- a session with status 0, and one that sent no frame
-module _ (plan : Plan) (w v : WiredState) (d e : DeskState) (status : ℕ) (over : SessionOverWire plan w v d e status) where
-  abbrev emitted : List OutputEvent
-  emitted = outputs (events_over plan v)
+module _ (plan : Plan) (w v : WiredState) (d e : DeskState) (status : ℕ) (over : SessionOverWire plan w v d e status)
+  where
+    abbrev emitted : List OutputEvent
+    emitted = outputs (events_over plan v)
 
-  pub came_to : status ≡ 0 → EndsOverExchanges plan (memories w) (memories v) (exchanges_of_fates w.wire.fates) emitted status
-      × ChangesRecord (after_events emitted) d e
-  came_to zero = elim over.end [ inl came ↦ came | inr broke ↦ absurd (one_no (sym broke.1 ∙ zero)) ]
+    pub came_to : status ≡ 0 → EndsOverExchanges plan (memories w) (memories v) (exchanges_of_fates w.wire.fates) emitted
+        status × ChangesRecord (after_events emitted) d e
+    came_to zero = elim over.end [ inl came ↦ came | inr broke ↦ absurd (one_no (sym broke.1 ∙ zero)) ]
 
-  pub untouched : frames (sent v.transcript) ≡ [] → memories v ≡ memories w
-  untouched none = search rules
+    pub untouched : frames (sent v.transcript) ≡ [] → memories v ≡ memories w
+    untouched none = search rules
 
 -- what was reported is a prefix of the output of the session over what was received
 module _ (plan : Plan) (w v : WiredState) (d e : DeskState) (status : ℕ) (silent : w.transcript ≡ [])

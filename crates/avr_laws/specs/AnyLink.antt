@@ -23,7 +23,8 @@ use Rattle.avr_laws.specs.TrueReports.{IsTrueReport, EmittedTrue}
 -- Everything reported among these events was true of the chip as the frames sent before had left it.
 abbrev pub ReportsWereTrue : Plan → Programmer → List Exchange → List (Event OutputEvent) → Type 0
 ReportsWereTrue plan p exchanges events =
-    EmittedTrue device (λ q output. IsTrueReport plan (memories_of p.chip) (memories_of q.chip) output) events exchanges p
+    EmittedTrue device (λ q output. IsTrueReport plan (memories_of p.chip) (memories_of q.chip) output) events exchanges
+    p
 
 -- What holds of a session however it ends, also if it breaks off or waits forever. These are its events over what was
 -- received.
@@ -36,8 +37,8 @@ pub record ReportsOverExchanges (plan : Plan) (p q : Programmer) (exchanges : Li
   pub foretold : IsExpectedOutput plan (memories_of p.chip) (outputs events)
 
 -- What holds besides for a session with this status.
-pub record EndsAndReportsOverExchanges (plan : Plan) (before after : Memories) (exchanges : List Exchange) (emits : List OutputEvent)
-    (status : ℕ) : Type 0 where
+pub record EndsAndReportsOverExchanges (plan : Plan) (before after : Memories) (exchanges : List Exchange)
+    (emits : List OutputEvent) (status : ℕ) : Type 0 where
   pub comes : EndsOverExchanges plan before after exchanges emits status
   -- with the line of a failed step the status is 1
   pub emitted : EndsAsExpected plan before emits status
@@ -47,7 +48,8 @@ pub record EndsAndReportsOverExchanges (plan : Plan) (before after : Memories) (
   pub again : AtMostThreeBadOfSeven exchanges → has_erase (items plan) ≡ true → AgreesOnTwoChips plan → status ≡ 0
 
 -- What holds of a session that ran whole.
-abbrev pub WholeSessionOverExchanges : Plan → Programmer → Programmer → List Exchange → List ℕ → List (Event OutputEvent) → ℕ → Type 0
+abbrev pub WholeSessionOverExchanges : Plan → Programmer → Programmer → List Exchange → List ℕ
+    → List (Event OutputEvent) → ℕ → Type 0
 WholeSessionOverExchanges plan p q exchanges bytes events status =
     ReportsOverExchanges plan p q exchanges bytes events
     × EndsAndReportsOverExchanges plan (memories_of p.chip) (memories_of q.chip) exchanges (outputs events) status
@@ -57,5 +59,5 @@ pub record OverAnyWire (plan : Plan) (before after : WiredState) (old now : Desk
   pub line : ReportsOverExchanges plan (fresh_programmer before.wire.programmer.chip) after.wire.programmer
       (exchanges_of_fates before.wire.fates) (sent after.transcript) (events_over plan after)
   pub end : (EndsAndReportsOverExchanges plan (memories before) (memories after) (exchanges_of_fates before.wire.fates)
-      (outputs (events_over plan after)) status × ChangesRecord (after_events (outputs (events_over plan after))) old now)
-      ⊎ (SessionStopped plan before after old now × (status ≡ 1))
+      (outputs (events_over plan after)) status × ChangesRecord (after_events (outputs (events_over plan after))) old
+      now) ⊎ (SessionStopped plan before after old now × (status ≡ 1))

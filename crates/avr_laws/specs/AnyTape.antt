@@ -13,7 +13,8 @@ use Rattle.avr_tool.specs.Authentic.{first_execution, later_executions}
 abbrev pub after_sent_frames : {P : Type 0} → Device P → List (List ℕ) → List Execution → P → P
 after_sent_frames m [] executions p = p
 after_sent_frames m (piece ∷ sent) executions p =
-    after_sent_frames m sent (later_executions executions) (after_execution (first_execution executions) (after_frame m piece p) p m.reset)
+    after_sent_frames m sent (later_executions executions) (after_execution (first_execution executions)
+    (after_frame m piece p) p m.reset)
 
 -- The exchange of a question with a reply. The reply to a command that was obeyed is its own, unless it is the refusal.
 abbrev pub answered_exchange : Execution → List ℕ → Exchange
@@ -54,8 +55,8 @@ pub record GoesAlongExchanges {E R P : Type 0} (m : Device P) (d : Dialog E R) (
       → (state_after m k d p (exchanges_heard d n tape executions)).programmer
       ≡ after_sent_frames m (take k (frames_in (played d n tape).events)) executions p
   pub outcome : (r : R) (seq : ℕ) (left : Tape) → (played d n tape).outcome ≡ Some (r, seq, left)
-      → ((state_after m (length (frames_in (played d n tape).events)) d p (exchanges_heard d n tape executions)).dialog ≡ Done r)
-      × (outputs (played d n tape).events
+      → ((state_after m (length (frames_in (played d n tape).events)) d p (exchanges_heard d n tape executions)).dialog
+      ≡ Done r) × (outputs (played d n tape).events
       ≡ outputs_after m (length (frames_in (played d n tape).events)) d p (exchanges_heard d n tape executions))
   pub waits : (played d n tape).outcome ≡ None
       → WaitsAlongExchanges m d p (exchanges_heard d n tape executions) (frames_in (played d n tape).events)
@@ -81,14 +82,15 @@ good_frames bytes = filter is_good (frames bytes)
 
 -- A programmer received any bytes, and `later` after each restart. The good frames cut from them are some of those
 -- sent, in order, each at most once. Anything else may be between them.
-pub record ReceivedSentFrames (got : List ℕ) (later : List (List ℕ)) (sent : List (List ℕ)) (executions : List Execution)
-    : Type 0 where
+pub record ReceivedSentFrames (got : List ℕ) (later : List (List ℕ)) (sent : List (List ℕ))
+    (executions : List Execution) : Type 0 where
   pub good : received_frames executions sent ≡ (good_frames got, map good_frames later)
 
 -- The device after it received these bytes, and these later ones after each restart.
 abbrev pub after_received_bytes : {P : Type 0} → Device P → List ℕ → List (List ℕ) → P → P
 after_received_bytes m got [] p = after_frames m (frames got) p
-after_received_bytes m got (first ∷ later) p = after_received_bytes m first later (m.reset (after_frames m (frames got) p))
+after_received_bytes m got (first ∷ later) p =
+    after_received_bytes m first later (m.reset (after_frames m (frames got) p))
 
 -- What happened at each frame if the programmer never restarts: true for a frame that arrived.
 abbrev pub executions_by_arrival : List Bool → List Execution

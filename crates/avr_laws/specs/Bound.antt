@@ -26,7 +26,8 @@ pub record ListensAtMost {E R : Type 0} (n : ℕ) (dialog : Dialog E R) : Type 0
   pub whole : (first : Progress) (transcript : Transcript) (events : List (Event E)) (result : R) (last : Progress)
       → Plays dialog first transcript events result last
       → (length (frames_in events) ≤ n) × ((timeouts_on (heard transcript) ≤ length (frames_in events))
-      × (length first.unread + count_of_bytes_on (heard transcript) ≤ reply_byte_limit * length (frames_in events) + length last.unread))
+      × (length first.unread + count_of_bytes_on (heard transcript) ≤ reply_byte_limit * length (frames_in events) +
+      length last.unread))
   pub at_each_receive : (first : Progress) (before after : Transcript) (items : Tape)
       → InTurn dialog first (before ++ Got items ∷ after)
       → (length (frames (sent before)) ≤ n) × ((timeouts_on (heard before) < length (frames (sent before)))

@@ -84,8 +84,8 @@ IfRead Claim (Some (reading, more)) = Claim reading more
 
 -- AT EACH QUESTION of this dialog the link brings refusals and replies to the last 256 frames, in any order and number.
 -- Each is whole or has one byte changed. Up to the awaited reply they have fewer than 4,096 bytes.
-abbrev pub BringsReplies : {E R P : Type 0} → Device P → Dialog E R → ℕ → List Arrival → P → List Execution → List (List ℕ)
-    → Type 0
+abbrev pub BringsReplies : {E R P : Type 0} → Device P → Dialog E R → ℕ → List Arrival → P → List Execution
+    → List (List ℕ) → Type 0
 BringsReplies m (Done r) n come p executions before = Unit {0}
 BringsReplies m (Emit e dialog) n come p executions before = BringsReplies m dialog n come p executions before
 BringsReplies m (Ask bytes go_on) n come p executions before =

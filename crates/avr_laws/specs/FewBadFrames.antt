@@ -27,7 +27,8 @@ badness_of_first (suc n) exchanges = badness (first_exchange exchanges) + badnes
 -- At most three of any `n` consecutive frames go wrong.
 abbrev pub AtMostThreeBadOf : ℕ → List Exchange → Type 0
 AtMostThreeBadOf n [] = Unit {0}
-AtMostThreeBadOf n (one_exchange ∷ exchanges) = (badness_of_first n (one_exchange ∷ exchanges) ≤ 3) × AtMostThreeBadOf n exchanges
+AtMostThreeBadOf n (one_exchange ∷ exchanges) = (badness_of_first n (one_exchange ∷ exchanges) ≤ 3)
+    × AtMostThreeBadOf n exchanges
 
 -- FEW BAD FRAMES: at most three of any seven consecutive frames go wrong. Seven, because four failed attempts of at
 -- most two commands have four bad frames of seven.
@@ -39,4 +40,5 @@ lost_command = Disturbed NotExecuted NoReply
 
 -- Every second command is lost: three of any six consecutive frames go wrong, and four of these seven.
 abbrev pub every_second_lost : List Exchange
-every_second_lost = lost_command ∷ AsIntended ∷ lost_command ∷ AsIntended ∷ lost_command ∷ AsIntended ∷ lost_command ∷ []
+every_second_lost = lost_command ∷ AsIntended ∷ lost_command ∷ AsIntended ∷ lost_command ∷ AsIntended ∷ lost_command
+    ∷ []

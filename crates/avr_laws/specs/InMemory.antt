@@ -36,7 +36,8 @@ outcome_shown status sent kept = record {
 -- What a run leaves, if it ends.
 abbrev pub run_outcome : Played OutputEvent ℕ → Option RunOutcome
 run_outcome p =
-    option_map (λ end. outcome_shown end.0 (bytes_sent p.events) (after_events (outputs p.events) nothing_kept)) p.outcome
+    option_map (λ end. outcome_shown end.0 (bytes_sent p.events) (after_events (outputs p.events) nothing_kept))
+    p.outcome
 
 -- THE RUN over some files and a tape: each file that the settings name is read whole, as it was before.
 abbrev pub run_over_files : Settings → Stock → Tape → Played OutputEvent ℕ
@@ -44,7 +45,8 @@ run_over_files settings stock tape = run settings (openings_of_files stock (file
 
 -- The run of these files over this tape leaves this outcome, whatever follows on the tape.
 abbrev pub RunLeaves : Settings → Stock → Tape → RunOutcome → Type 0
-RunLeaves settings stock tape outcome = (more : Tape) → run_outcome (run_over_files settings stock (tape ++ more)) ≡ Some outcome
+RunLeaves settings stock tape outcome = (more : Tape) → run_outcome (run_over_files settings stock (tape ++ more))
+    ≡ Some outcome
 
 -- The run over this tape leaves this outcome, with as many ends of the link after it as the run reads.
 pub record LeavesOutcome (settings : Settings) (stock : Stock) (tape : Tape) (outcome : RunOutcome) : Type 0 where

@@ -31,8 +31,8 @@ abbrev pub NoneForged : {P : Type 0} → Device P → List (List ℕ) → Tape �
 NoneForged m [] tape p executions before = Unit {0}
 NoneForged m (piece ∷ pieces) tape p executions before =
     on_reading (λ reading left.
-    AreNotForged (seq_of piece) (frame_of_reply m (seq_of piece) (body_of piece) p (first_execution executions) ∷ before)
-    (cut (take reply_byte_limit (leading_bytes tape)))
+    AreNotForged (seq_of piece) (frame_of_reply m (seq_of piece) (body_of piece) p (first_execution executions)
+    ∷ before) (cut (take reply_byte_limit (leading_bytes tape)))
     × NoneForged m pieces left
     (after_execution (first_execution executions) (m.after (body_of piece) p) p m.reset) (later_executions executions)
     (frame_of_reply m (seq_of piece) (body_of piece) p (first_execution executions) ∷ before))

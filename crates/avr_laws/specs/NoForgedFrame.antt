@@ -40,8 +40,8 @@ ForgesNoFrame m (Done r) n tape p executions before = Unit {0}
 ForgesNoFrame m (Emit e dialog) n tape p executions before = ForgesNoFrame m dialog n tape p executions before
 ForgesNoFrame m (Ask bytes go_on) n tape p executions before =
     on_reading (λ reading left.
-    AreNotForged n (frame_of_reply m n bytes p (first_execution executions) ∷ before) (cut (take reply_byte_limit (leading_bytes tape)))
-    × ForgesNoFrame m (go_on reading) (next n) left
+    AreNotForged n (frame_of_reply m n bytes p (first_execution executions)
+    ∷ before) (cut (take reply_byte_limit (leading_bytes tape))) × ForgesNoFrame m (go_on reading) (next n) left
     (after_execution (first_execution executions) (m.after bytes p) p m.reset) (later_executions executions)
     (frame_of_reply m n bytes p (first_execution executions) ∷ before))
     (answer n tape)

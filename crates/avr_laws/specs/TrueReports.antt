@@ -25,7 +25,8 @@ use Rattle.avr_tool.specs.Items.{items}
 -- Each output of a dialog along these exchanges holds of the programmer that obeyed the questions before it.
 abbrev pub ReportsTrue : {E R P : Type 0} → Device P → (P → E → Type 0) → ℕ → Dialog E R → P → List Exchange → Type 0
 ReportsTrue m IsTrueReport k (Done r) p exchanges = ⊤
-ReportsTrue m IsTrueReport k (Emit e dialog) p exchanges = IsTrueReport p e × ReportsTrue m IsTrueReport k dialog p exchanges
+ReportsTrue m IsTrueReport k (Emit e dialog) p exchanges =
+    IsTrueReport p e × ReportsTrue m IsTrueReport k dialog p exchanges
 ReportsTrue m IsTrueReport zero (Ask bytes go_on) p exchanges = ⊤
 ReportsTrue m IsTrueReport (suc k) (Ask bytes go_on) p exchanges =
     ReportsTrue m IsTrueReport k (go_on (reading_of_exchange (first_exchange exchanges) (m.answer bytes p)))
@@ -46,8 +47,8 @@ saved_bytes plan mem now = bytes_to_save mem plan.switches.all (memory_in plan.p
 -- BytesRead: the memory has what is saved. Differed: the reported difference exists. The others report the chip's
 -- signature, what the plan skips, why a step failed, and the end.
 pub data IsTrueReport (plan : Plan) (before now : Memories) (output : OutputEvent) : Type 0 where
-  SignatureRead : output ≡ PrintsLine (information (codes "device signature = " ∷ spaced_digits plan.part.signature ∷ []))
-      → IsTrueReport plan before now output
+  SignatureRead : output ≡ PrintsLine (information (codes "device signature = " ∷ spaced_digits plan.part.signature
+      ∷ [])) → IsTrueReport plan before now output
   ChipErased : Contains (actions plan) EraseChip → output ≡ PrintsLine (information (codes "chip erased" ∷ []))
       → now ≡ effect plan.part Erase before → IsTrueReport plan before now output
   EraseLeftOut : Contains (actions plan) (SkipAction SkippedErase)
@@ -62,13 +63,14 @@ pub data IsTrueReport (plan : Plan) (before now : Memories) (output : OutputEven
       → output ≡ count_line mem (byte_count image) (codes " bytes verified") → MemoryHoldsImage plan.part mem image now
       → IsTrueReport plan before now output
   Differed : (mem : Mem) (image : Image) (fault : HostFault) → Contains (actions plan) (CompareImage mem image)
-      → output ≡ PrintsLine (fault_line plan.part fault) → comparison mem image (memory_in plan.part mem now) ≡ Err fault
-      → IsTrueReport plan before now output
+      → output ≡ PrintsLine (fault_line plan.part fault) → comparison mem image (memory_in plan.part mem now)
+      ≡ Err fault → IsTrueReport plan before now output
   BytesSaved : (mem : Mem) (format : Format) (file : Bytes) → Contains (actions plan) (SaveMemory mem format file)
       → (output ≡ CreatesFile file) ⊎ ((output ≡ WritesFile (file_text format (saved_bytes plan mem now)))
       ⊎ (output ≡ WritesOutput (file_text format (saved_bytes plan mem now)))) → IsTrueReport plan before now output
   BytesRead : (mem : Mem) (format : Format) (file : Bytes) → Contains (actions plan) (SaveMemory mem format file)
-      → output ≡ count_line mem (length (saved_bytes plan mem now)) (codes " bytes read") → IsTrueReport plan before now output
+      → output ≡ count_line mem (length (saved_bytes plan mem now)) (codes " bytes read")
+      → IsTrueReport plan before now output
   StepFailed : (fault : StepFault) → output ≡ PrintsLine (fault_line plan.part (host_fault fault))
       → IsTrueReport plan before now output
   SessionDone : output ≡ PrintsLine (information (codes "done" ∷ [])) → IsTrueReport plan before now output
@@ -77,5 +79,7 @@ pub data IsTrueReport (plan : Plan) (before now : Memories) (output : OutputEven
 abbrev pub EmittedTrue : {E P : Type 0} → Device P → (P → E → Type 0) → List (Event E) → List Exchange → P → Type 0
 EmittedTrue m IsTrueReport [] exchanges p = ⊤
 EmittedTrue m IsTrueReport (Frame bytes ∷ events) exchanges p =
-    EmittedTrue m IsTrueReport events (later_exchanges exchanges) (after_exchange (first_exchange exchanges) (after_frame m bytes p) p m.reset)
-EmittedTrue m IsTrueReport (Emitted e ∷ events) exchanges p = IsTrueReport p e × EmittedTrue m IsTrueReport events exchanges p
+    EmittedTrue m IsTrueReport events (later_exchanges exchanges) (after_exchange (first_exchange exchanges)
+    (after_frame m bytes p) p m.reset)
+EmittedTrue m IsTrueReport (Emitted e ∷ events) exchanges p =
+    IsTrueReport p e × EmittedTrue m IsTrueReport events exchanges p

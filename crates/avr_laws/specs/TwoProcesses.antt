@@ -52,12 +52,14 @@ pub record IsJoined (host server : Transcript) : Type 0 where
 -- lost, repeated, changed or received before it was sent. Pieces may be cut, and timeouts may occur, anywhere. The
 -- host never meets the end of the link; the server may, at any time.
 pub record IsOrdered (calls : List EndCall) : Type 0 where
-  pub joined : (first later : List EndCall) → calls ≡ first ++ later → IsJoined (host_transcript first) (server_transcript first)
+  pub joined : (first later : List EndCall) → calls ≡ first ++ later
+      → IsJoined (host_transcript first) (server_transcript first)
   pub endless : HasNoEnd (heard (host_transcript calls))
 
 -- Timeouts occur only between replies: at each timeout the host has received no part of a reply.
 abbrev pub TimesOutBetweenReplies : Tape → Type 0
-TimesOutBetweenReplies tape = (before after : Tape) → tape ≡ before ++ Silence ∷ after → rest (bytes_on_tape before) ≡ []
+TimesOutBetweenReplies tape = (before after : Tape) → tape ≡ before ++ Silence ∷ after → rest (bytes_on_tape before)
+    ≡ []
 
 -- ---- 2. The server's end
 
@@ -104,7 +106,7 @@ pub record HasPromptRun (plan : Plan) (chip : Chip) (file : Bytes) : Type 0 wher
   pub host_desk_then : DeskState
   pub server_desk : DeskState
   pub server_desk_then : DeskState
-  pub ran : RanWhole (session plan) start (devices (passed []) host_desk) (devices (passed (host_transcript calls)) host_desk_then)
-      status after
+  pub ran : RanWhole (session plan) start (devices (passed []) host_desk) (devices (passed (host_transcript calls))
+      host_desk_then) status after
   pub serves : ServesChip chip file most (devices (passed []) server_desk)
       (devices (passed (server_transcript calls)) server_desk_then) 0

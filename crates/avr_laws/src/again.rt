@@ -33,7 +33,8 @@ pub fn what_agrees_on_two_chips_agrees_on_all()
     ensures status { (plan : Plan) (m : Memories) → FitsPart plan.part m
         → has_erase (items plan) ≡ true → AgreesOnTwoChips plan
         → (expected_run plan m).status ≡ 0 }
-    ensures needed { (plan : Plan) → ((m : Memories) → FitsPart plan.part m → ComparisonsAgree plan m) → AgreesOnTwoChips plan }
+    ensures needed { (plan : Plan) → ((m : Memories) → FitsPart plan.part m → ComparisonsAgree plan m)
+        → AgreesOnTwoChips plan }
 {}
 
 /// States when the same run again repairs what a broken-off run left. The plan erases, and its comparisons agree on a
@@ -45,7 +46,8 @@ pub fn the_same_run_again_repairs()
         → has_erase (items plan) ≡ true → AgreesOnTwoChips plan
         → (erase_keeps_eeprom plan.part before ≡ true → ItemsKeepEeprom plan.part (items plan))
         → HasFirstOperations plan before after → RunRepairs plan before after }
-    ensures write_operations { (plan : Plan) (k : ℕ) (m : Memories) → IsPart plan.part → All (IsFitted plan.part) plan.tasks
+    ensures write_operations { (plan : Plan) (k : ℕ) (m : Memories) → IsPart plan.part
+        → All (IsFitted plan.part) plan.tasks
         → FitsPart plan.part m
         → has_erase (items plan) ≡ true → AgreesOnTwoChips plan
         → (erase_keeps_eeprom plan.part m ≡ true → ItemsKeepEeprom plan.part (items plan))

@@ -82,11 +82,13 @@ pub fn what_was_reported_was_true()
     ensures played { (plan : Plan) (w v : WiredState) (d e : DeskState) (status : ℕ)
         → w.transcript ≡ [] → OverAnyWire plan w v d e status
         → (whole : RanToStatus (session plan) (devices (wired_link w) d) (devices (wired_link v) e) status)
-        → ReportsWereTrue plan (fresh_programmer w.wire.programmer.chip) (exchanges_of_fates w.wire.fates) whole.1.events }
+        → ReportsWereTrue plan (fresh_programmer w.wire.programmer.chip) (exchanges_of_fates w.wire.fates)
+        whole.1.events }
     ensures stopped { (plan : Plan) (w v : WiredState) (d e : DeskState) (status : ℕ)
         → w.transcript ≡ [] → OverAnyWire plan w v d e status
         → (stopped : SessionStopped plan w v d e)
-        → ReportsWereTrue plan (fresh_programmer w.wire.programmer.chip) (exchanges_of_fates w.wire.fates) stopped.breaks.prefix.whole }
+        → ReportsWereTrue plan (fresh_programmer w.wire.programmer.chip) (exchanges_of_fates w.wire.fates)
+        stopped.breaks.prefix.whole }
 {}
 
 /// States that a session outputs its expected run up to a fault, at each moment, over any link that forges no frame.
@@ -144,10 +146,12 @@ pub fn a_session_over_any_link()
         → bytes_sent events ≡ bytes
         → WholeSessionOverExchanges plan p (after_sent_frames device (frames bytes) executions p)
         (exchanges_heard (session plan) 1 tape executions) bytes events status }
-    ensures bytes { (plan : Plan) (p : Programmer) (got bytes : List ℕ) (later : List (List ℕ)) (executions : List Execution)
+    ensures bytes { (plan : Plan) (p : Programmer) (got bytes : List ℕ) (later : List (List ℕ))
+        (executions : List Execution)
         (tape left : Tape) (events : List (Event OutputEvent)) (status next : ℕ)
         → IsSoundChip p.chip → p.chip.part ≡ plan.part → All (IsFitted plan.part) plan.tasks
-        → ReceivedSentFrames got later (frames bytes) executions → ForgesNoFrame device (session plan) 1 tape p executions []
+        → ReceivedSentFrames got later (frames bytes) executions → ForgesNoFrame device (session plan) 1 tape p
+        executions []
         → played (session plan) 1 tape ≡ record { events = events; outcome = Some (status, next, left) }
         → bytes_sent events ≡ bytes
         → WholeSessionOverExchanges plan p (after_received_bytes device got later p)

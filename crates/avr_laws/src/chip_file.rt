@@ -55,7 +55,8 @@ pub fn a_further_run_over_its_chip_file_repairs()
         → two.plan ≡ one.plan
         → contents_held stock one.played_desk.kept file ≡ contents_held stock old.kept file
         → has_erase (items one.plan) ≡ true → AgreesOnTwoChips one.plan
-        → (erase_keeps_eeprom one.plan.part (memories_of one.chip) ≡ true → ItemsKeepEeprom one.plan.part (items one.plan))
+        → (erase_keeps_eeprom one.plan.part (memories_of one.chip) ≡ true
+        → ItemsKeepEeprom one.plan.part (items one.plan))
         → ((two.ran ≡ 0) × IsDone one.plan (memories_of one.chip) (memories two.after))
         ⊎ SessionStopped one.plan (new_wire two.chip []) two.after two.loaded_desk two.played_desk }
 {}

@@ -34,16 +34,20 @@ ghost use Rattle.stk_frame.specs.declared.command.Command.TheVariants.{LoadAddre
 /// States that steps return all their data if at most three of any seven consecutive frames go wrong. The bound is
 /// sharp: four lost commands in a row are too many, and so are three lost of any six, if every second one is lost.
 pub fn few_bad_fates_bring_all_data()
-    ensures step { (part : Part) (commands : List Command) (m : Memories) (k : ℕ) (p : Programmer) (exchanges : List Exchange)
-        → IsPart part → IsStep part commands → FitsPart part m → Ready part m p → AtMostThreeBadOfSeven exchanges → 8 ≤ k
+    ensures step { (part : Part) (commands : List Command) (m : Memories) (k : ℕ) (p : Programmer)
+        (exchanges : List Exchange)
+        → IsPart part → IsStep part commands → FitsPart part m → Ready part m p → AtMostThreeBadOfSeven exchanges
+        → 8 ≤ k
         → (state_after device k (step commands) p exchanges).dialog ≡ Done (Ok (data_of_step part commands m)) }
     ensures rest { (k : ℕ) (commands : List Command) (p : Programmer) (exchanges : List Exchange)
-        → AtMostThreeBadOfSeven exchanges → AtMostThreeBadOfSeven (state_after device k (step commands) p exchanges).exchanges }
+        → AtMostThreeBadOfSeven exchanges
+        → AtMostThreeBadOfSeven (state_after device k (step commands) p exchanges).exchanges }
     ensures play { (part : Part) (steps : List (List Command)) (m : Memories) (k : ℕ) (before : List ℕ) (p : Programmer)
         (exchanges : List Exchange)
         (o : StepOutcome)
         → IsPart part → AreSteps part steps → FitsPart part m → Ready part m p → AtMostThreeBadOfSeven exchanges
-        → (state_after device k (play steps before) p exchanges).dialog ≡ Done o → o ≡ Ok (before ++ data_of_steps part steps m) }
+        → (state_after device k (play steps before) p exchanges).dialog ≡ Done o → o
+        ≡ Ok (before ++ data_of_steps part steps m) }
     ensures good { (exchanges : List Exchange) → AllArriveRight exchanges → AtMostThreeBadOfSeven exchanges }
     ensures four { (command : Command) (commands : List Command) (p : Programmer)
         → (state_after device 4 (step (command ∷ commands)) p (lost_command ∷ lost_command ∷ lost_command ∷ lost_command
@@ -59,9 +63,11 @@ pub fn few_bad_fates_bring_all_data()
 /// it received are some of those sent, in order.
 pub fn over_any_tape_a_conversation_follows_its_exchanges<E, R>()
     ensures goes { (d : Dialog E R) (n : ℕ) (tape : Tape) (p : Programmer) (executions : List Execution)
-        → SendsValidBodies d → RepliesAreAuthentic device d n tape p executions → GoesAlongExchanges device d n tape p executions }
+        → SendsValidBodies d → RepliesAreAuthentic device d n tape p executions
+        → GoesAlongExchanges device d n tape p executions }
     ensures got { (got : List ℕ) (later sent : List (List ℕ)) (executions : List Execution) (p : Programmer)
-        → ReceivedSentFrames got later sent executions → after_received_bytes device got later p ≡ after_sent_frames device sent executions p }
+        → ReceivedSentFrames got later sent executions → after_received_bytes device got later p
+        ≡ after_sent_frames device sent executions p }
 {}
 
 /// States that everything read on a link that forges no frame is authentic, from the first frame on. A reply that is
@@ -79,9 +85,11 @@ pub fn a_wire_is_an_authentic_link<E, R>()
     ensures wire { (d : Dialog E R) (n : ℕ) (w : Wire Programmer) (sent more : List (List ℕ)) → SendsValidBodies d
         → NoneHasNumber n w.late → AreLawful w.fates
         → frames_in (played d n (tape_of device sent w)).events ≡ sent ++ more
-        → RepliesAreAuthentic device d n (tape_of device sent w) w.programmer (executions_of_fates (length sent) w.fates) }
+        → RepliesAreAuthentic device d n (tape_of device sent w) w.programmer (executions_of_fates (length sent)
+        w.fates) }
     ensures prefix { (got : List ℕ) (sent others : List (List ℕ)) → sent ≡ frames got ++ others
-        → filter is_good sent ≡ sent → ReceivedSentFrames got [] sent (executions_by_arrival (replicate (length (frames got)) true)) }
+        → filter is_good sent ≡ sent → ReceivedSentFrames got [] sent
+        (executions_by_arrival (replicate (length (frames got)) true)) }
 {}
 
 /// States that a conversation over a wire never receives while nothing waits, if it receives only when due.
@@ -97,7 +105,8 @@ pub fn over_a_wire_a_conversation_follows_its_exchanges<E, R>()
     ensures programmer { (d : Dialog E R) (n : ℕ) (p : Programmer) (fates : List Fate) (w : WiredState)
         → SendsValidBodies d → AreLawful fates → FollowsFates p fates w → InTurn d (progress_at n []) w.transcript
         → IsBytePrefixOf (sent w.transcript) (bytes_sent (played d n (heard w.transcript)).events)
-        → w.wire.programmer ≡ (state_after device (length (frames (sent w.transcript))) d p (exchanges_of_fates fates)).programmer }
+        → w.wire.programmer ≡ (state_after device (length (frames (sent w.transcript))) d p
+        (exchanges_of_fates fates)).programmer }
     ensures whole { (d : Dialog E R) (n : ℕ) (p : Programmer) (fates : List Fate) (w : WiredState)
         (events : List (Event E)) (r : R) (after : Progress)
         → SendsValidBodies d → AreLawful fates → FollowsFates p fates w

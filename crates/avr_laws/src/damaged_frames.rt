@@ -33,7 +33,8 @@ pub fn a_link_that_damages_one_byte_forges_no_frame<E, R>()
         → All (λ piece. is_good piece ≡ true) sent → Arrived sent through got
         → ReceivedSentFrames got [] sent (executions_by_arrival through) }
     ensures host { (d : Dialog E R) (n : ℕ) (come : List Arrival) (p : Programmer) (executions : List Execution)
-        → BringsReplies device d n come p executions [] → ForgesNoFrame device d n (tape_of_arrivals come) p executions [] }
+        → BringsReplies device d n come p executions [] → ForgesNoFrame device d n (tape_of_arrivals come) p executions
+        [] }
 {}
 
 /// States what status 0 means over a link that loses or delays frames, or damages one byte of them. Of the frames sent,

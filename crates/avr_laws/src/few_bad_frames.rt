@@ -29,12 +29,14 @@ pub fn a_run_with_few_bad_frames_is_its_expected_run()
     ensures status { (plan : Plan) (m : Memories) (k status : ℕ) (p : Programmer) (exchanges : List Exchange)
         → IsPart plan.part → All (IsFitted plan.part) plan.tasks → FitsPart plan.part m → HasMemories plan.part m p
         → AtMostThreeBadOfSeven exchanges
-        → (state_after device k (session plan) p exchanges).dialog ≡ Done status → status ≡ (expected_run plan m).status }
+        → (state_after device k (session plan) p exchanges).dialog ≡ Done status → status
+        ≡ (expected_run plan m).status }
     ensures memories { (plan : Plan) (m : Memories) (k status : ℕ) (p : Programmer) (exchanges : List Exchange)
         → IsPart plan.part → All (IsFitted plan.part) plan.tasks → FitsPart plan.part m → HasMemories plan.part m p
         → AtMostThreeBadOfSeven exchanges
         → (state_after device k (session plan) p exchanges).dialog ≡ Done status
-        → memories_of (state_after device k (session plan) p exchanges).programmer.chip ≡ (expected_run plan m).memories }
+        → memories_of (state_after device k (session plan) p exchanges).programmer.chip
+        ≡ (expected_run plan m).memories }
     ensures emits { (plan : Plan) (m : Memories) (k status : ℕ) (p : Programmer) (exchanges : List Exchange)
         → IsPart plan.part → All (IsFitted plan.part) plan.tasks → FitsPart plan.part m → HasMemories plan.part m p
         → AtMostThreeBadOfSeven exchanges

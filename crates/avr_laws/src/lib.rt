@@ -6,28 +6,29 @@
 #![tactic(auto)]
 
 // what a plan asks of files
-mod planning;
 mod again;
+mod planning;
 // what a run leaves, reports and sends over any link
 mod any_line;
-mod few_bad_frames;
 mod conversations;
 mod damaged_frames;
+mod few_bad_frames;
 // what a plan writes, address by address
 mod written;
 // runs from settings to a status, and worked ones
-mod runs;
 mod chip_file;
 mod crashes;
 mod program;
+mod runs;
 mod two_processes;
 
 pub use again::{
-    a_second_run_repairs_the_first, the_same_run_again_repairs, what_agrees_on_two_chips_agrees_on_all,
+    a_second_run_repairs_the_first, the_same_run_again_repairs,
+    what_agrees_on_two_chips_agrees_on_all,
 };
 pub use any_line::{
-    a_run_times_out_at_most_once_for_each_frame, a_run_makes_its_page_writes_in_order,
-    a_run_sends_at_most_four_times_its_commands, a_session_outputs_its_expected_run_up_to_a_fault,
+    a_run_makes_its_page_writes_in_order, a_run_sends_at_most_four_times_its_commands,
+    a_run_times_out_at_most_once_for_each_frame, a_session_outputs_its_expected_run_up_to_a_fault,
     a_session_over_a_wire_can_be_believed, a_session_over_any_link, what_a_run_reports_is_true,
     what_was_reported_was_true, whatever_becomes_of_a_session_its_first_page_writes_were_made,
 };
@@ -38,7 +39,8 @@ pub use chip_file::{
 pub use conversations::{
     a_conversation_in_turn_is_never_idle, a_link_that_forges_no_frame_is_authentic,
     a_wire_is_an_authentic_link, few_bad_fates_bring_all_data,
-    over_a_wire_a_conversation_follows_its_exchanges, over_any_tape_a_conversation_follows_its_exchanges,
+    over_a_wire_a_conversation_follows_its_exchanges,
+    over_any_tape_a_conversation_follows_its_exchanges,
 };
 pub use crashes::{
     a_crash_leaves_the_old_chip_or_the_new_one, a_crash_leaves_the_old_chip_or_the_served_one,
@@ -54,7 +56,7 @@ pub use planning::{
 };
 pub use program::a_program_with_status_0_kept_its_plan;
 pub use runs::{
-    a_further_run_repairs, a_forged_frame_voids_the_promise, a_run_in_memory_has_one_outcome,
+    a_forged_frame_voids_the_promise, a_further_run_repairs, a_run_in_memory_has_one_outcome,
     a_run_in_memory_is_a_function_of_its_files, a_sound_run_is_its_expected_run,
     a_worked_run_has_one_outcome, a_wrong_outcome_is_refused,
     an_ended_run_and_one_with_status_0_are_as_one, status_0_means_the_images,

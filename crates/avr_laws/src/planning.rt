@@ -33,7 +33,8 @@ pub fn a_sound_plan_is_refused_aloud()
 /// States that planning is a function of the files, if each opening was true of them, and each file was read to its
 /// end or past its limit. The result and the printed lines are those of planning over the whole files.
 pub fn a_plan_is_of_whole_files()
-    ensures { (s : Settings) (stock : Stock) (openings : List Opening) → AreTrueOpenings stock (planned s openings).emits
+    ensures { (s : Settings) (stock : Stock) (openings : List Opening)
+        → AreTrueOpenings stock (planned s openings).emits
         → ((planned s openings).stage_outcome ≡ NotReadToEnd → ⊥)
         → ((planned_from_files s stock).stage_outcome ≡ (planned s openings).stage_outcome)
         × (lines_in (all_events_of (planned_from_files s stock)) ≡ lines_in (all_events_of (planned s openings))) }

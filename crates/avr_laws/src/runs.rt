@@ -99,7 +99,8 @@ pub fn an_ended_run_and_one_with_status_0_are_as_one()
         → q.chip.part ≡ plan.part → memories_of q.chip ≡ memories_of (after_received_bytes device got later p).chip
         → IsKept plan second old now → ReceivedSentFrames over more (frames (sent second)) others
         → NoneForged device (frames (sent second)) (heard second) q others []
-        → (memories_of (after_received_bytes device over more q).chip ≡ effects plan.part (items plan) (memories_of p.chip))
+        → (memories_of (after_received_bytes device over more q).chip
+        ≡ effects plan.part (items plan) (memories_of p.chip))
         × (plan.switches.no_verify ≡ false → (mem : Mem) → MemoryHoldsImage plan.part mem
         (written_to plan.part mem (asked_items plan)) (memories_of (after_received_bytes device over more q).chip)) }
 {}
@@ -117,7 +118,8 @@ pub fn a_wrong_outcome_is_refused()
     ensures silence { (plan : Plan) (w v : WiredState) (d e : DeskState) (status : ℕ)
         → frames (sent v.transcript) ≡ [] → (memories v ≡ memories w → ⊥) → SessionOverWire plan w v d e status → ⊥ }
     ensures frames { (plan : Plan) (w v : WiredState) (d e : DeskState) (status : ℕ) (weight : Weight)
-        → 4 * total_weight weight (bodies_in (run_steps plan)) < total_weight weight (map body_of (frames (sent v.transcript)))
+        → 4 * total_weight weight (bodies_in (run_steps plan)) < total_weight weight
+        (map body_of (frames (sent v.transcript)))
         → SessionOverWire plan w v d e status → ⊥ }
 {}
 
@@ -129,13 +131,15 @@ pub fn a_wrong_outcome_is_refused()
 // Proof: `sound_expected` (ChipFile/FewBadThenAgain), by `few_session_ends` (FewBad/Sessions).
 pub fn a_sound_run_is_its_expected_run()
     ensures expected_run { (plan : Plan) (w v : WiredState) (d e : Record) (a b : ℕ × ℕ) (status : ℕ)
-        → AtMostThreeBadOfSeven (exchanges_of_fates w.wire.fates) → IsSound (wire_and_desk w (keeping d a)) (wire_and_desk v (keeping e b))
+        → AtMostThreeBadOfSeven (exchanges_of_fates w.wire.fates) → IsSound (wire_and_desk w (keeping d a))
+        (wire_and_desk v (keeping e b))
         → (EndsOutOfMemory e.messages → ⊥)
         → OverAnyWire plan w v (keeping d a) (keeping e b) status
         → IsExpectedRun plan (memories w) (memories v) (outputs (events_over plan v)) status
         × ChangesRecord (after_events (outputs (events_over plan v))) (keeping d a) (keeping e b) }
     ensures images { (plan : Plan) (w v : WiredState) (d e : Record) (a b : ℕ × ℕ) (status : ℕ)
-        → AtMostThreeBadOfSeven (exchanges_of_fates w.wire.fates) → IsSound (wire_and_desk w (keeping d a)) (wire_and_desk v (keeping e b))
+        → AtMostThreeBadOfSeven (exchanges_of_fates w.wire.fates) → IsSound (wire_and_desk w (keeping d a))
+        (wire_and_desk v (keeping e b))
         → (EndsOutOfMemory e.messages → ⊥)
         → plan.switches.no_verify ≡ false → has_erase (items plan) ≡ true → AgreesOnTwoChips plan
         → OverAnyWire plan w v (keeping d a) (keeping e b) status
@@ -156,7 +160,8 @@ pub fn a_further_run_repairs()
         → has_erase (items plan) ≡ true → AgreesOnTwoChips plan
         → (erase_keeps_eeprom plan.part (memories w) ≡ true → ItemsKeepEeprom plan.part (items plan))
         → SessionOverWire plan w v d e status
-        → memories x ≡ memories v → AtMostThreeBadOfSeven (exchanges_of_fates x.wire.fates) → OverAnyWire plan x y f g further
+        → memories x ≡ memories v → AtMostThreeBadOfSeven (exchanges_of_fates x.wire.fates)
+        → OverAnyWire plan x y f g further
         → ((further ≡ 0) × IsDone plan (memories w) (memories y)) ⊎ SessionStopped plan x y f g }
     ensures link { (plan : Plan) (p q x y : Programmer) (exchanges more : List Exchange) (bytes others : List ℕ)
         (events : List (Event OutputEvent)) (further : ℕ)
@@ -164,7 +169,8 @@ pub fn a_further_run_repairs()
         → has_erase (items plan) ≡ true → AgreesOnTwoChips plan
         → (erase_keeps_eeprom plan.part (memories_of p.chip) ≡ true → ItemsKeepEeprom plan.part (items plan))
         → OverExchanges plan p q exchanges bytes
-        → memories_of x.chip ≡ memories_of q.chip → AtMostThreeBadOfSeven more → WholeSessionOverExchanges plan x y more others events further
+        → memories_of x.chip ≡ memories_of q.chip → AtMostThreeBadOfSeven more → WholeSessionOverExchanges plan x y more
+        others events further
         → (further ≡ 0) × IsDone plan (memories_of p.chip) (memories_of y.chip) }
 {}
 
@@ -227,6 +233,7 @@ pub fn a_forged_frame_voids_the_promise()
         → (p.chip.lfuse ≡ 0xE2 → ⊥) → WholeSessionOverExchanges fuse_plan p q exchanges bytes events 0 → ⊥ }
     ensures made { (s : Chip) (got : List ℕ) (later : List (List ℕ)) (executions : List Execution)
         → IsSoundChip s → s.part ≡ fuse_plan.part → (s.lfuse ≡ 0xE2 → ⊥)
-        → ReceivedSentFrames got later (frames (bytes_sent (played (session fuse_plan) 1 forged_replies).events)) executions
+        → ReceivedSentFrames got later (frames (bytes_sent (played (session fuse_plan) 1 forged_replies).events))
+        executions
         → ForgesNoFrame device (session fuse_plan) 1 forged_replies (fresh_programmer s) executions [] → ⊥ }
 {}

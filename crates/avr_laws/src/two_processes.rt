@@ -51,7 +51,8 @@ pub fn what_a_host_receives_of_a_server_is_authentic()
         → (serves : HasServed (fresh_programmer s) server left) → IsJoined host server
         → HasNoEnd (heard host) → TimesOutBetweenReplies (heard host)
         → IsBytePrefixOf (sent host) (bytes_sent (played (session plan) 1 (heard host)).events)
-        → RepliesAreAuthentic device (session plan) 1 (heard host) (fresh_programmer s) (all_executed (length (frames serves.used))) }
+        → RepliesAreAuthentic device (session plan) 1 (heard host) (fresh_programmer s)
+        (all_executed (length (frames serves.used))) }
     ensures leaves { (plan : Plan) (s : Chip) (left : Programmer) (host server : Transcript)
         → IsSoundChip s → s.part ≡ plan.part → All (IsFitted plan.part) plan.tasks
         → (serves : HasServed (fresh_programmer s) server left) → IsJoined host server
@@ -100,7 +101,8 @@ pub fn a_session_and_a_server_are_one_run()
         → ForgesNoFrame device (session plan) 1 (heard host) (fresh_programmer s)
         (all_executed (length (frames serves.used))) []
         → WholeSessionOverExchanges plan (fresh_programmer s) left
-        (exchanges_heard (session plan) 1 (heard host) (all_executed (length (frames serves.used)))) (sent host) events status }
+        (exchanges_heard (session plan) 1 (heard host) (all_executed (length (frames serves.used)))) (sent host) events
+        status }
     ensures saved { (s : Chip) (file : Bytes) (most : ℕ) (old new : Devices) (status : ℕ)
         → (serves : ServesChip s file most old new status) → status ≡ 0
         → SavesChip serves.reported_desk new.desk file (chip_file serves.left.programmer.chip) (Ok tt) }

@@ -63,7 +63,8 @@ pub fn a_byte_of_flash_is_made_by_images()
         → IsMadeByImages (items plan) addr (byte_in plan.part Flash addr before) (byte_in plan.part Flash addr after) }
     ensures touched { (plan : Plan) (before after : Memories) (addr : ℕ) → addr < length before.flash
         → HasFirstOperations plan before after
-        → IsMadeByImages (write_operations plan) addr (byte_in plan.part Flash addr before) (byte_in plan.part Flash addr after) }
+        → IsMadeByImages (write_operations plan) addr (byte_in plan.part Flash addr before)
+        (byte_in plan.part Flash addr after) }
 {}
 
 /// States when a memory holds an image after the line that it was written. EEPROM and fuses: the chip was not locked.

@@ -37,7 +37,8 @@ read_again s sound =
 four_bytes : (xs : List ℕ) → length xs ≡ 4 → xs ≡ get_or xs 0 0 ∷ get_or xs 1 0 ∷ get_or xs 2 0 ∷ get_or xs 3 0 ∷ []
 four_bytes xs e = grind (arith, common_steps)
 
-pub written_again : (p : Part) (bytes : List ℕ) → length bytes ≡ chip_file_size p → chip_file (state_from_file p bytes) ≡ bytes
+pub written_again : (p : Part) (bytes : List ℕ) → length bytes ≡ chip_file_size p → chip_file (state_from_file p bytes)
+    ≡ bytes
 written_again p bytes e =
     let n = p.flash_size in
     let m = p.eeprom_size in

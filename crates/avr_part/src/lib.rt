@@ -9,8 +9,8 @@
 //! ```
 #![tactic(auto)]
 
-mod part;
 mod built_in;
+mod part;
 mod parts;
 // the part file
 mod fault;
@@ -19,11 +19,11 @@ mod judge;
 mod lines;
 mod part_file;
 // the chip: its instructions, memories and file
-mod instruction;
-mod memory;
 mod chip;
 mod chip_file;
+mod instruction;
 pub mod laws;
+mod memory;
 
 pub use chip::Chip;
 pub use fault::{Field, PartFault};

@@ -47,4 +47,9 @@ pub record AtAllocatingTask (switches : Switches) (part : Part) (tasks : List Ta
   pub updates_are : updates ≡ done ++ due ∷ more
   pub takes : op_allocates due due.op ≡ true
   pub made : List Task
-  pub are_made : tasks_stage switches part tasks done passed ≡ record { emits = emitted; stage_outcome = Produced made; openings_left = [] }
+  pub are_made : tasks_stage switches part tasks done passed ≡ record {
+    emits = emitted;
+    stage_outcome =
+        Produced made;
+    openings_left = [];
+  }

@@ -14,12 +14,12 @@
 
 mod image_file;
 mod intake;
-mod part_choice;
-mod update_image;
-mod planned;
 mod messages;
+mod part_choice;
 mod plan_fault;
+mod planned;
 mod planning;
+mod update_image;
 
 pub use image_file::{ReadFault, read_image};
 pub use intake::BadFile;

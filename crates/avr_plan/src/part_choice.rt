@@ -70,7 +70,8 @@ pub fn given_parts<D: Desk>(
 /// assert!(rt; desk.messages() == b"avrstk: error: no part nobody\n".as_slice());
 /// ```
 pub fn chosen_part<D: Desk>(desk: &mut D, parts: &Parts, id: &str) -> Result<Part, u8>
-    ensures goes { RunsStage (OnlyAtStart false) (part_stage id.now parts.now) (D.view desk.old) (D.view desk.new) result }
+    ensures goes { RunsStage (OnlyAtStart false) (part_stage id.now parts.now) (D.view desk.old) (D.view desk.new)
+        result }
     ensures refused { IfErr result (λ status. LacksPart id.now parts.now (D.view desk.old) (D.view desk.new)) }
     ensures stays { Preserves D.started_as desk.old desk.new }
 {

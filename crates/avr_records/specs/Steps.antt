@@ -35,11 +35,16 @@ next_extent size e emitted = extent_unless (fault_under_base size e.base e.data_
 
 abbrev pub with_extent : Progress → LineResult → Result Extent RecordFault → Result Progress RecordFault
 with_extent p emitted (Err fault) = Err fault
-with_extent p emitted (Ok e) = Ok (record { extent = e; image = with_bytes_at p.image (bytes_under_base p.extent.base emitted) })
+with_extent p emitted (Ok e) = Ok (record {
+  extent = e;
+  image =
+      with_bytes_at p.image (bytes_under_base p.extent.base emitted);
+})
 
 -- Extent and image after one more line, or the line's fault. After an end record a line changes nothing.
 abbrev pub next_progress : Progress → LineResult → Result Progress RecordFault
-next_progress p emitted = if p.extent.ended then Ok p else with_extent p emitted (next_extent (image_size p) p.extent emitted)
+next_progress p emitted = if p.extent.ended then Ok p else with_extent p emitted (next_extent (image_size p) p.extent
+    emitted)
 
 abbrev pub ending_of : Extent → Ending
 ending_of e = if e.ended then Ended else NoEnd

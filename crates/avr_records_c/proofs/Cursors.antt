@@ -48,8 +48,15 @@ joins kind image cursor (piece ∷ more) text is (next, call, wrote) =
     let n : ℕ = length piece in
     let same : Some call.text ≡ Some text = sym call.left ∙ is in
     let text_is : call.text ≡ text = cc same in
-    grind (arith, common_steps, call-prefix, take-append-drop, joins kind image next more (drop n call.text) (call.goes.left ∙ ap Some call.goes.puts.left) wrote)
+    grind (
+      arith,
+      common_steps,
+      call-prefix,
+      take-append-drop,
+      joins kind image next more (drop n call.text)
+          (call.goes.left ∙ ap Some call.goes.puts.left) wrote,
+    )
 
-pub pieces_join : (kind : Kind) (image : List (Option ℕ)) (pieces : List (List ℕ)) → WroteFile kind image file_start pieces
-    → concat pieces ≡ image_text kind image
+pub pieces_join : (kind : Kind) (image : List (Option ℕ)) (pieces : List (List ℕ))
+    → WroteFile kind image file_start pieces → concat pieces ≡ image_text kind image
 pieces_join kind image pieces wrote = search (rules, joins, starts)

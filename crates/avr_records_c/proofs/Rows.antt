@@ -47,11 +47,13 @@ no_fault_of_nothing x0 = search rules
 -- a misfit of the arguments is reported as fault 11
 no_reading_of_a_fourth_kind : Reads 4 [] [] []
     (record { outcome = outcome_of_fault (BadSum 1); bytes = []; present = [] }) → ⊥
-no_reading_of_a_fourth_kind e = let same : 4 ≡ 11 = ap (λ (l : ReadResult). l.outcome.fault) e in absurd (omega (arith, same))
+no_reading_of_a_fourth_kind e = let same : 4 ≡ 11 = ap (λ (l : ReadResult). l.outcome.fault) e in
+    absurd (omega (arith, same))
 
 -- a format without records is reported as fault 12
 no_misfit_of_raw_bytes : Reads 0 [] [] [] (record { outcome = misfit; bytes = []; present = [] }) → ⊥
-no_misfit_of_raw_bytes e = let same : 11 ≡ 12 = ap (λ (l : ReadResult). l.outcome.fault) e in absurd (omega (arith, same))
+no_misfit_of_raw_bytes e = let same : 11 ≡ 12 = ap (λ (l : ReadResult). l.outcome.fault) e in
+    absurd (omega (arith, same))
 
 -- the text of an empty image is its end record: no call may refuse it
 not_refused : Writes 1 [] [] file_start (0 ∷ []) (put_none file_start (0 ∷ [])) → ⊥

@@ -82,7 +82,8 @@ leading_run-bytes (suc n) addr present (b ∷ bytes) few = elim (cases_Bool (is_
 ]
 leading_run-bytes x addr present y few = refl
 
-leading_run-long : (addr : ℕ) (present bytes : List ℕ) → length (leading_run (image_from addr present bytes)) ≤ length bytes
+leading_run-long : (addr : ℕ) (present bytes : List ℕ) → length (leading_run (image_from addr present bytes)) ≤ length
+    bytes
 leading_run-long addr present [] = omega arith
 leading_run-long addr present (b ∷ bytes) = grind (arith, nat_tests, leading_run-long (suc addr) present bytes)
 

@@ -49,9 +49,10 @@ DoesPlanActions plan actions =
 
 -- The end of a session that is in this state after its actions.
 abbrev pub EndsSession : Plan → Standing → Performing
-EndsSession plan standing = PerformsOnTerms (record { takes = false; has_reported = has_fault standing }) (AtStartOnly false)
-    (ending plan.part plan.switches standing)
+EndsSession plan standing = PerformsOnTerms (record { takes = false; has_reported = has_fault standing })
+    (AtStartOnly false) (ending plan.part plan.switches standing)
 
 abbrev pub PlaysSession : Plan → Performing
 PlaysSession plan =
-    PerformsOnTerms (before_fault (plan_allocates plan)) (AtAllocation plan.part plan.switches (actions plan)) (session_dialog plan)
+    PerformsOnTerms (before_fault (plan_allocates plan)) (AtAllocation plan.part plan.switches (actions plan))
+    (session_dialog plan)

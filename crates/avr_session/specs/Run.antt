@@ -18,12 +18,14 @@ use Rattle.stk_host.specs.Transcript.{LinkState}
 -- an action that allocates.
 abbrev pub RunsSession : Plan → Devices → Devices → ℕ → Type 0
 RunsSession plan old new status =
-    RunsWholeOrStops (session plan) old new (plan_allocates plan) (AtAllocation plan.part plan.switches (actions plan)) status
+    RunsWholeOrStops (session plan) old new (plan_allocates plan) (AtAllocation plan.part plan.switches (actions plan))
+    status
 
 -- The session of a plan broke off.
 abbrev pub StopsSession : Plan → Devices → Devices → Type 0
 StopsSession plan old new =
-    BrokeOff (session plan) start old new (before_fault (plan_allocates plan)) (AtAllocation plan.part plan.switches (actions plan))
+    BrokeOff (session plan) start old new (before_fault (plan_allocates plan)) (AtAllocation plan.part plan.switches
+    (actions plan))
 
 -- A plan was made from what the files gave, up to `between`, and then this holds.
 pub record WithPlan (settings : Settings) (old : DeskState) (Then : Plan → DeskState → Type 0) : Type 0 where

@@ -94,7 +94,8 @@ StopsAt SendingFailed during whole begun later = StopsInFrame during begun later
 StopsAt ReceivingFailed during whole begun later = NoneTaken during × (begun ≡ []) × (later ≡ [])
 StopsAt (FileFailed file NotCreated) during whole begun later = StopsAtCreation file begun later
 StopsAt (FileFailed file NotWritten) during whole begun later =
-    (EndsWithCreation file whole × StopsInOutput WritesFile begun later) ⊎ ((file ≡ codes "-") × StopsInOutput WritesOutput begun later)
+    (EndsWithCreation file whole × StopsInOutput WritesFile begun later)
+    ⊎ ((file ≡ codes "-") × StopsInOutput WritesOutput begun later)
 StopsAt PrintingFailed during whole begun later = StopsInOutput PrintsLine begun later
 StopsAt AllocationFailed during whole begun later = begun ≡ []
 
@@ -109,7 +110,8 @@ abbrev pub CauseOccurred : Bool → Devices → Devices → Cause → Type 0
 CauseOccurred takes old then SendingFailed = link.HasFailed old.link then.link × HasSameCounts old.desk then.desk
 CauseOccurred takes old then ReceivingFailed = link.HasFailed old.link then.link × HasSameCounts old.desk then.desk
 CauseOccurred takes old then AllocationFailed = (takes ≡ true) × NoDeviceFailed old then
-CauseOccurred takes old then PrintingFailed = desk.HasFailedToReport old.desk then.desk × (then.link.failures ≡ old.link.failures)
+CauseOccurred takes old then PrintingFailed = desk.HasFailedToReport old.desk then.desk
+    × (then.link.failures ≡ old.link.failures)
 CauseOccurred takes old then cause = HasFailedAt File old.desk then.desk × (then.link.failures ≡ old.link.failures)
 
 -- The cause's line was reported. After a fault's line only the link or the printing can fail, and nothing more is

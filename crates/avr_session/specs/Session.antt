@@ -39,7 +39,8 @@ standing (Err fault) = Faulty
 -- An operation of the host, and the output for its outcome.
 abbrev pub reported : {A : Type 0} → Dialog ⊥ (Result A HostFault) → (Result A HostFault → List OutputEvent)
     → Dialog OutputEvent Standing
-reported operation outcome_output = lifted operation >>= λ outcome. emits (outcome_output outcome) (Done (standing outcome))
+reported operation outcome_output = lifted operation >>=
+    λ outcome. emits (outcome_output outcome) (Done (standing outcome))
 
 -- The next action of a session, which a fault skips.
 abbrev pub unless_fault : Dialog OutputEvent Standing → Standing → Dialog OutputEvent Standing
@@ -77,7 +78,8 @@ bytes_output quiet mem count done = informs quiet (name_of mem ∷ codes ": " �
 
 -- The name `-` is standard output.
 abbrev pub saving_output : Bytes → Bytes → List OutputEvent
-saving_output file text = if bytes_eq file (codes "-") then WritesOutput text ∷ [] else CreatesFile file ∷ WritesFile text ∷ []
+saving_output file text = if bytes_eq file (codes "-") then WritesOutput text ∷ [] else CreatesFile file
+    ∷ WritesFile text ∷ []
 
 -- Trailing FF of flash are dropped, unless `all` is set.
 abbrev pub bytes_to_save : Mem → Bool → Bytes → Bytes
@@ -88,10 +90,12 @@ abbrev pub erased_output : ℕ → Part → Result ⊤ HostFault → List Output
 erased_output quiet part = fault_line_or part (λ _. informs quiet (codes "chip erased" ∷ []))
 
 abbrev pub written_output : ℕ → Part → Mem → List (Option ℕ) → Result ⊤ HostFault → List OutputEvent
-written_output quiet part mem image = fault_line_or part (λ _. bytes_output quiet mem (byte_count image) (done_text Written))
+written_output quiet part mem image = fault_line_or part (λ _. bytes_output quiet mem (byte_count image)
+    (done_text Written))
 
 abbrev pub verified_output : ℕ → Part → Mem → List (Option ℕ) → Result ⊤ HostFault → List OutputEvent
-verified_output quiet part mem image = fault_line_or part (λ _. bytes_output quiet mem (byte_count image) (done_text Verified))
+verified_output quiet part mem image = fault_line_or part (λ _. bytes_output quiet mem (byte_count image)
+    (done_text Verified))
 
 abbrev pub closing_output : ℕ → Part → Result ⊤ HostFault → List OutputEvent
 closing_output quiet part = fault_line_or part (λ _. informs quiet (codes "done" ∷ []))

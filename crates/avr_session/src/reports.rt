@@ -155,7 +155,8 @@ pub(crate) fn report_image<D: Desk>(
     image: &Image,
     outcome: &Result<(), HostFault>,
 ) -> Result<(), DeskFault>
-    ensures { Prints D.Desk (fault_line_or plan.now.part (λ _. bytes_output plan.now.switches.quiet mem (byte_count image.now)
+    ensures { Prints D.Desk (fault_line_or plan.now.part (λ _. bytes_output plan.now.switches.quiet mem
+        (byte_count image.now)
         (done_text done)) outcome.now) desk.old desk.new result }
 {
     match outcome {

@@ -49,7 +49,8 @@ breaks_found : (p : Programmer) (text used unused part unsent : List ℕ) (trans
 breaks_found p text used unused part unsent transcript now [] few fs answered fed some is not_whole = search rules
 breaks_found p text used unused part unsent transcript now (frame ∷ []) few fs answered fed some is not_whole =
     search (rules, append-nil)
-breaks_found p text used unused part unsent transcript now (frame ∷ other ∷ more) few fs answered fed some is not_whole =
+breaks_found p text used unused part unsent transcript now (frame ∷ other ∷ more) few fs answered fed some is
+    not_whole =
     absurd (omega arith)
 
 pub breaks_here : (p : Programmer) (text used unused out : List ℕ) (a b : Transcript) (old now : EmulatorState)

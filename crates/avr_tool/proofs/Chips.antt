@@ -24,8 +24,8 @@ use Rattle.avr_tool.specs.Loading.{AtOpened, chip_or_line, checked_chip, chip_gi
 
 -- ---- a fresh chip
 
-pub went_fresh : (part : Part) (chip : ChipState) (d : DeskState) → GivesPartUnlessOutOfMemory (Ok (fresh_state part)) (Ok chip)
-    → StageCompleted (result_stage (Ok (fresh_state part))) d d (Produced chip)
+pub went_fresh : (part : Part) (chip : ChipState) (d : DeskState) → GivesPartUnlessOutOfMemory (Ok (fresh_state part))
+    (Ok chip) → StageCompleted (result_stage (Ok (fresh_state part))) d d (Produced chip)
 went_fresh part chip d (inl gives) = let same : fresh_state part ≡ chip = cc in search (rules, went_settled)
 went_fresh part chip d (inr memory) = cc
 
@@ -36,8 +36,8 @@ none_is : (test : Bool) (good : ChipState) (n : ℕ) (fault : PartFault)
     → (if test then Ok good else Err (BadChipFile n)) ≡ Err fault → test ≡ false
 none_is test good n fault is = search rules
 
-right_length : (part : Part) (bytes : Bytes) (chip : ChipState) → GivesPartUnlessOutOfMemory (chip_from_file part bytes) (Ok chip)
-    → ((length bytes == chip_file_size part) ≡ true) × (chip ≡ state_from_file part bytes)
+right_length : (part : Part) (bytes : Bytes) (chip : ChipState) → GivesPartUnlessOutOfMemory (chip_from_file part bytes)
+    (Ok chip) → ((length bytes == chip_file_size part) ≡ true) × (chip ≡ state_from_file part bytes)
 right_length part bytes chip x3 = search rules
 
 pub went_chip : (part : Part) (file bytes : Bytes) (chip : ChipState) (d : DeskState)
@@ -58,14 +58,17 @@ goes_wrong_length part file bytes n old new status (inr memory) one notice = cc
 
 -- ---- the chip of a file that was read
 
-pub opened_at : (opening : Opening) (passed : List Opening) (emitted : List OutputEvent) → OnlyAtStart true passed emitted
-    → AtOpened (opening ∷ passed) (Opens opening ∷ emitted)
+pub opened_at : (opening : Opening) (passed : List Opening) (emitted : List OutputEvent)
+    → OnlyAtStart true passed emitted → AtOpened (opening ∷ passed) (Opens opening ∷ emitted)
 opened_at opening passed emitted takes = search rules
 
 -- the check of the file's bytes
 goes_whole : (part : Part) (file bytes : Bytes) (ended : Bool) (old mid new : DeskState) (result : Result ChipState ℕ)
-    → ChangesRecord (with_read file bytes ended) old mid → EndsOrExceedsLimit LARGEST_CHIP_FILE (record { bytes = bytes; ended = ended })
-    → HasSameCounts old mid
+    → ChangesRecord (with_read file bytes ended) old mid → EndsOrExceedsLimit LARGEST_CHIP_FILE (record {
+      bytes =
+          bytes;
+      ended = ended;
+    }) → HasSameCounts old mid
     → RunsStage (OnlyAtStart true) (result_stage (checked_chip part file bytes)) mid new result
     → RunsStage AtOpened (chip_stage part file) old new result
 goes_whole part file bytes ended old mid new result kept whole rose goes =
@@ -76,8 +79,11 @@ goes_whole part file bytes ended old mid new result kept whole rose goes =
 -- if the file was read to its end
 pub goes_ended : (part : Part) (file bytes : Bytes) (ended : Bool) (old mid new : DeskState)
     (result : Result ChipState ℕ)
-    → ChangesRecord (with_read file bytes ended) old mid → EndsOrExceedsLimit LARGEST_CHIP_FILE (record { bytes = bytes; ended = ended })
-    → ended ≡ true → HasSameCounts old mid
+    → ChangesRecord (with_read file bytes ended) old mid → EndsOrExceedsLimit LARGEST_CHIP_FILE (record {
+      bytes =
+          bytes;
+      ended = ended;
+    }) → ended ≡ true → HasSameCounts old mid
     → RunsStage (OnlyAtStart true) (result_stage (chip_or_line part file bytes)) mid new result
     → RunsStage AtOpened (chip_stage part file) old new result
 goes_ended part file bytes false old mid new result kept whole is rose goes = cc
@@ -87,8 +93,11 @@ goes_ended part file bytes true old mid new result kept whole is rose goes =
 
 -- if it was read past the limit
 pub goes_past : (part : Part) (file bytes : Bytes) (ended : Bool) (old mid new : DeskState) (status : ℕ)
-    → ChangesRecord (with_read file bytes ended) old mid → EndsOrExceedsLimit LARGEST_CHIP_FILE (record { bytes = bytes; ended = ended })
-    → ended ≡ false → HasSameCounts old mid
+    → ChangesRecord (with_read file bytes ended) old mid → EndsOrExceedsLimit LARGEST_CHIP_FILE (record {
+      bytes =
+          bytes;
+      ended = ended;
+    }) → ended ≡ false → HasSameCounts old mid
     → status ≡ 1 → ReportsLine mid new (too_long_line file LARGEST_CHIP_FILE)
     → RunsStage AtOpened (chip_stage part file) old new (Err status)
 goes_past part file bytes true old mid new status kept whole is rose one notice = cc

@@ -30,12 +30,12 @@ module _ (settings : Settings) (file : Bytes) (plan : Plan) (chip : Chip) (w v :
   is_new = search rules
 
   pub runs_over_emulator : (old planned_desk loaded_desk played_desk now : DeskState) (ran status : ℕ)
-      → StageCompleted (planned settings) old planned_desk (Produced plan) → LockedAndLoaded plan.part file planned_desk loaded_desk chip
-      → CountsNeverFall played_desk now
+      → StageCompleted (planned settings) old planned_desk (Produced plan) → LockedAndLoaded plan.part file planned_desk
+      loaded_desk chip → CountsNeverFall played_desk now
       → RunsSession plan (devices (wired_link w) loaded_desk) (devices (wired_link v) played_desk) ran
-      → Preserves ComesOf w v → (w.wire.programmer.chip.part ≡ plan.part → SessionOverWire plan w v loaded_desk played_desk ran)
-      → IsSavedIfSent (sent v.transcript) played_desk now file (chip_file v.wire.programmer.chip) ran status
-      → RunsOverEmulator settings file old now status
+      → Preserves ComesOf w v → (w.wire.programmer.chip.part ≡ plan.part
+      → SessionOverWire plan w v loaded_desk played_desk ran) → IsSavedIfSent (sent v.transcript) played_desk now file
+      (chip_file v.wire.programmer.chip) ran status → RunsOverEmulator settings file old now status
   runs_over_emulator old planned_desk loaded_desk played_desk now ran status made is_loaded by_saving runs
       comes line saved = record {
         plan = plan;

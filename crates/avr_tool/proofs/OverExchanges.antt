@@ -85,6 +85,6 @@ module _ (plan : Plan) (begun : Programmer) (is_sound : IsSoundChip begun.chip) 
         further = λ zero verified s mems kept.
             shown_succeeds plan.part s (λ mem. written_to plan.part mem (asked_items plan)) after mems kept
             (run_written plan before after fitted verified (is_done zero) its_part its_sizes).images;
-        good = λ right. has_expected (session_ends plan its_part fitted AllArriveRight good_sure before begun exchanges its_sizes
-            is_idle right count status comes);
+        good = λ right. has_expected (session_ends plan its_part fitted AllArriveRight good_sure before begun exchanges
+            its_sizes is_idle right count status comes);
       }

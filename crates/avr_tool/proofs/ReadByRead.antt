@@ -27,8 +27,8 @@ leaves_more : (served : Served) (p : Programmer) (text : List ℕ) (x y : Transc
 leaves_more served p text x y mid now first then =
     search (rules, breaks_transcript, breaks_prefix, sent_append, all_more, heard_append, bytes_of_append)
 
-receives_more : (served : Served) (most_reads : ℕ) (x y : Transcript) → ReceivesUntil TooManyReads most_reads x → ReceivesUntil served 1 y
-    → ReceivesUntil served (most_reads + 1) (x ++ y)
+receives_more : (served : Served) (most_reads : ℕ) (x y : Transcript) → ReceivesUntil TooManyReads most_reads x
+    → ReceivesUntil served 1 y → ReceivesUntil served (most_reads + 1) (x ++ y)
 receives_more served most_reads x y first then = search (rules, no_end_append, heard_append, append_assoc, reads_append)
 
 sends_more : (served : Served) (x y : Transcript) → NoneTaken x → NoSendFailed served y

@@ -46,7 +46,8 @@ sent_first plan old new status silent runs = elim runs [
       )
   | inr broke ↦
       let b = broke.0 in
-      let prefix = shown_prefix IsPartOfEvent b.shown (played (session plan) 1 (heard b.during)).events b.breaks.prefix in
+      let prefix = shown_prefix IsPartOfEvent b.shown (played (session plan) 1 (heard b.during)).events b.breaks.prefix
+      in
       search rules
 ]
   where
@@ -86,17 +87,19 @@ module _ (plan : Plan) (w v : WiredState) (fresh : IsFresh w) (stays : Preserves
   stands runs = search (rules, stands_along, asks_bodies, keeps, first)
 
   over : Runs → OverExchanges plan begun v.wire.programmer exchanges (sent v.transcript)
-  over runs = over_exchanges plan begun is_sound part_is fitted exchanges v.wire.programmer (sent v.transcript) (stands runs)
-      (heard v.transcript) (first runs).1
+  over runs = over_exchanges plan begun is_sound part_is fitted exchanges v.wire.programmer (sent v.transcript)
+      (stands runs) (heard v.transcript) (first runs).1
 
   -- if it ran whole, it has come to its status there, and all its output was done
   pub record ComesWhole : Type 0 where
-    pub done : (state_after device (length (frames (sent v.transcript))) (session plan) begun exchanges).dialog ≡ Done status
+    pub done : (state_after device (length (frames (sent v.transcript))) (session plan) begun exchanges).dialog
+        ≡ Done status
     pub emitted : outputs (events_over plan v)
         ≡ outputs_after device (length (frames (sent v.transcript))) (session plan) begun exchanges
     pub kept : ChangesRecord (after_events (outputs (events_over plan v))) old now
 
-  pub whole_comes : RanToStatus (session plan) (devices (wired_link w) old) (devices (wired_link v) now) status → ComesWhole
+  pub whole_comes : RanToStatus (session plan) (devices (wired_link w) old) (devices (wired_link v) now) status
+      → ComesWhole
   whole_comes whole =
       let plays : Plays (session plan) start v.transcript whole.1.events status whole.0 =
       search rules
@@ -106,8 +109,8 @@ module _ (plan : Plan) (w v : WiredState) (fresh : IsFresh w) (stays : Preserves
       ∙ ap (λ x. x.events) (plays.plays [])) in
       let prefix = (first (inl whole)).1 in record {
         done = search (rules, whole_done, asks_bodies, keeps);
-        emitted = ap outputs (sym same) ∙ whole_emitted (session plan) 1 begun w.wire.fates v asks_bodies fresh.lawful keeps
-            plays.in_turn whole.1.events status whole.0 plays prefix;
+        emitted = ap outputs (sym same) ∙ whole_emitted (session plan) 1 begun w.wire.fates v asks_bodies fresh.lawful
+            keeps plays.in_turn whole.1.events status whole.0 plays prefix;
         kept = whole.1.kept ∙ ap (λ events. after_events (outputs events) old.kept) same;
       }
 

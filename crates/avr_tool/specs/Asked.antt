@@ -26,7 +26,8 @@ pub record IsRefused (words : List Bytes) (old new : DeskState) (status : ℕ) :
 -- status, a fault of the settings was reported. An error of `clap` is of a kind that the command line calls for; if the
 -- command takes the command line, it is that allocation failed. With settings or an error nothing was done at the desk.
 abbrev pub GivesSettings : List Bytes → DeskState → DeskState → Result Settings NotAsked → Type 0
-GivesSettings words old new (Ok settings) = (Ok settings ≡ settings_from_arguments words) × (fault_of avrstk words ≡ []) × (new ≡ old)
+GivesSettings words old new (Ok settings) = (Ok settings ≡ settings_from_arguments words) × (fault_of avrstk words ≡ [])
+    × (new ≡ old)
 GivesSettings words old new (Err (Refused status)) = IsRefused words old new status
 GivesSettings words old new (Err (Words error)) =
     HasKind (fault_of avrstk words) error × (takes avrstk words ≡ true → kind_of error ≡ OutOfMemory) × (new ≡ old)

@@ -51,7 +51,8 @@ pub record RunsOverEmulator (settings : Settings) (file : Bytes) (old now : Desk
   pub runs : RunsSession plan (wire_and_desk (new_wire chip []) loaded_desk) (wire_and_desk after played_desk) ran
   pub comes : Preserves ComesOf (new_wire chip []) after
   pub line : SessionOverWire plan (new_wire chip []) after loaded_desk played_desk ran
-  pub saved : IsSavedIfSent (sent after.transcript) played_desk now file (chip_file after.wire.programmer.chip) ran status
+  pub saved : IsSavedIfSent (sent after.transcript) played_desk now file (chip_file after.wire.programmer.chip) ran
+      status
   pub follows : CountsNeverFall played_desk now
 
 -- The contract of `run_emu`: that run; or there is a plan but no chip; or there is no plan. Without a chip nothing was

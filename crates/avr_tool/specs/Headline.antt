@@ -123,7 +123,8 @@ pub record IsPrefixOfRun (settings : Settings) (before now : Devices) : Type 0 w
   pub all_sent : bytes_sent shown ≡ sent during
   pub grows : Grows before.link.transcript during now.link.transcript
   pub reported_part : IsPrefixOf notice (stop_line reason)
-  pub kept : ChangesRecord (λ r. after_err notice (after_events (outputs shown ++ opened_at reason) r)) before.desk now.desk
+  pub kept : ChangesRecord (λ r. after_err notice (after_events (outputs shown ++ opened_at reason) r)) before.desk
+      now.desk
 
 -- ---- 4. From settings to the bytes of the chip, over a fresh wire (stk_emu's `IsFresh`)
 

@@ -46,15 +46,16 @@ AllArriveRight (one_exchange ∷ exchanges) = (one_exchange ≡ AsIntended) × A
 -- led the programmer from `p` to `q`, and these bytes were sent.
 pub record OverExchanges (plan : Plan) (p q : Programmer) (exchanges : List Exchange) (bytes : List ℕ) : Type 0 where
   -- the first write operations of the plan were made: those completed, and perhaps one more
-  pub write_operations : MakesWriteOperations plan p exchanges (length (frames bytes)) (memories_of p.chip) (memories_of q.chip)
+  pub write_operations : MakesWriteOperations plan p exchanges (length (frames bytes)) (memories_of p.chip)
+      (memories_of q.chip)
   -- at most four frames for each command of the plan's steps, by every weight of bodies
   pub four : (weight : Weight) → total_weight weight (map body_of (frames bytes))
       ≤ 4 * total_weight weight (bodies_in (run_steps plan))
 
 -- What also holds of a session that ended with this status. The expected run is the output, the status and the memories
 -- of the same plan over a perfect link.
-pub record EndsOverExchanges (plan : Plan) (before after : Memories) (exchanges : List Exchange) (emits : List OutputEvent)
-    (status : ℕ) : Type 0 where
+pub record EndsOverExchanges (plan : Plan) (before after : Memories) (exchanges : List Exchange)
+    (emits : List OutputEvent) (status : ℕ) : Type 0 where
   -- with status 0 the session is its expected run: only faults of the link were hidden
   pub success : status ≡ 0 → IsExpectedRun plan before after emits status
   -- all that the plan writes was written, and all that it compares agreed
@@ -91,5 +92,5 @@ pub record SessionOverWire (plan : Plan) (before after : WiredState) (old now : 
   pub line : OverExchanges plan (fresh_programmer before.wire.programmer.chip) after.wire.programmer
       (exchanges_of_fates before.wire.fates) (sent after.transcript)
   pub end : (EndsOverExchanges plan (memories before) (memories after) (exchanges_of_fates before.wire.fates)
-      (outputs (events_over plan after)) status × ChangesRecord (after_events (outputs (events_over plan after))) old now)
-      ⊎ (SessionStopped plan before after old now × (status ≡ 1))
+      (outputs (events_over plan after)) status × ChangesRecord (after_events (outputs (events_over plan after))) old
+      now) ⊎ (SessionStopped plan before after old now × (status ≡ 1))

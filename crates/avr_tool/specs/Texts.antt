@@ -40,11 +40,12 @@ IsPrintedOrCut has stream text old new (Ok count) = IsText has text × (count �
 IsPrintedOrCut has stream text old new (Err fault) = IsTextFront has text × HasFailedAt stream old new
 
 -- The text was printed, and nothing else happened.
-pub record PrintsText (has : Parts) (stream : Stream) (old new : DeskState) (printed : Result ℕ DeskFault) : Type 0 where
-  pub text : Bytes
-  pub kept : ChangesRecord (after_sent stream text) old new
-  pub comes : IsPrintedOrCut has stream text old new printed
-  pub follows : CountsNeverFall old new
+pub record PrintsText (has : Parts) (stream : Stream) (old new : DeskState) (printed : Result ℕ DeskFault) : Type 0
+  where
+    pub text : Bytes
+    pub kept : ChangesRecord (after_sent stream text) old new
+    pub comes : IsPrintedOrCut has stream text old new printed
+    pub follows : CountsNeverFall old new
 
 -- An error was reported by its text and LF, in part if a write to the messages failed. Nothing else happened.
 pub record ReportsText (has : Parts) (old new : DeskState) : Type 0 where

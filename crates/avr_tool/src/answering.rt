@@ -29,7 +29,8 @@ fn reply_to_piece<L: Link>(
     piece: &[u8],
 ) -> Result<(), LinkFault>
     ensures ok { OnOk result (SendsAllReplies emulator.old piece.now (L.view link.old) (L.view link.new) emulator.new) }
-    ensures err { OnErr result (SendsPartOfReplies emulator.old piece.now (L.view link.old) (L.view link.new) emulator.new) }
+    ensures err { OnErr result (SendsPartOfReplies emulator.old piece.now (L.view link.old) (L.view link.new)
+        emulator.new) }
     ensures counts { LinkCounts (L.view link.old) (L.view link.new) result }
     ensures comes { Preserves L.started_as link.old link.new }
 {

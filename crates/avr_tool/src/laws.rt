@@ -24,7 +24,8 @@ pub fn a_run_is_one_function()
     ensures run { (s : AnySettings) (x : Devices) (between : DeskState) (y : Devices) (status : ℕ)
         → RunsSettings s x between y status → IsRun s x y status ⊎ IsStopped s x y status }
     ensures session { (s : AnySettings) (plan : Plan) (x : Devices) (between : DeskState) (y : Devices) (status : ℕ)
-        (made : StageCompleted (planned s) x.desk between (Produced plan)) → RunsSession plan (devices x.link between) y status
+        (made : StageCompleted (planned s) x.desk between (Produced plan)) → RunsSession plan (devices x.link between) y
+        status
         → CountsNeverFall between y.desk × (((r : IsRun s x y status) × (r.openings ≡ made.passed))
         ⊎ (StopsSession plan (devices x.link between) y × (status ≡ 1))) }
 {}

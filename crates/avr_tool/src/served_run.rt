@@ -9,7 +9,7 @@ ghost use Rattle.avr_session.specs.Runs.{devices};
 ghost use Rattle.ghosts.specs.Preserves.{Preserves};
 
 use crate::answering::answer_all;
-use crate::ending::{status_of, report_end};
+use crate::ending::{report_end, status_of};
 use crate::holding::hold_chip;
 use crate::ports::chip_file;
 use crate::saving::save_after;
@@ -48,7 +48,8 @@ fn find_part<D: Desk>(alloc: Global, desk: &mut D, settings: &Settings) -> Resul
 /// reason was printed, as far as the desk takes it.
 pub fn check_part<D: ChipDesk>(alloc: Global, settings: &Settings, desk: &mut D) -> Result<Part, u8>
     requires port { HasChip settings.now.port }
-    ensures checks_out { ChecksPart settings.now (chip_file_of settings.now.port) (D.view desk.old) (D.view desk.new) result }
+    ensures checks_out { ChecksPart settings.now (chip_file_of settings.now.port) (D.view desk.old) (D.view desk.new)
+        result }
     ensures stays { Preserves D.started_as desk.old desk.new }
 {
     let part = match find_part(alloc, desk, settings) {
@@ -146,7 +147,14 @@ pub fn serve_for<D: ChipDesk, L: Link>(
     ensures stays { Preserves D.started_as desk.old desk.new }
 {
     match find_part(alloc, desk, settings) {
-        Ok(part) => serve_part(alloc, &part, chip_file(&settings.port), desk, link, most_reads),
+        Ok(part) => serve_part(
+            alloc,
+            &part,
+            chip_file(&settings.port),
+            desk,
+            link,
+            most_reads,
+        ),
         Err(status) => status,
     }
 }

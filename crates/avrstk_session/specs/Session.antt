@@ -19,7 +19,8 @@ use Rattle.avr_session.specs.Runs.{Devices}
 use Rattle.avrstk_session.specs.Outline.{Outlines}
 
 abbrev pub usage_pieces : List Bytes
-usage_pieces = codes "usage: avrstk_session -p PART [--parts FILE] -P emu:CHIPFILE [-n], or AVRSTK'S OPTIONS -P stdio:" ∷ []
+usage_pieces = codes "usage: avrstk_session -p PART [--parts FILE] -P emu:CHIPFILE [-n], or AVRSTK'S OPTIONS -P stdio:"
+    ∷ []
 
 -- Help has status 0, any other error 1. A failed allocation has a line of its own.
 abbrev pub ReportsUsage : ErrorKind → DeskState → DeskState → ℕ → Type 0
@@ -68,7 +69,8 @@ pub record ServesTakenCommandLine (words : List Bytes) (old new : Devices) (stat
 abbrev pub ServesWords : List Bytes → Devices → Devices → ℕ → Type 0
 ServesWords words old new status =
     ServesTakenCommandLine words old new status
-    ⊎ ((IsRefused words old.desk new.desk status ⊎ IsCommandLineRefused words old.desk new.desk status) × (new.link ≡ old.link))
+    ⊎ ((IsRefused words old.desk new.desk status ⊎ IsCommandLineRefused words old.desk new.desk status)
+    × (new.link ≡ old.link))
 
 -- From the start of a process: its command line was read and served. Or it could not be read.
 abbrev pub StartsSession : {C : Type 0} → CommandLine C → Devices → Devices → ℕ → Type 0

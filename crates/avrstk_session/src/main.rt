@@ -46,7 +46,8 @@ fn take_closed_streams(rt: &HostRuntime) -> [io::Result<File>; 3] {
 /// Checks that the part and the chip file of these settings can be served, and returns the status.
 fn judge<D: ChipDesk>(alloc: Global, settings: &Settings, desk: &mut D) -> u8
     requires { HasChip settings.now.port }
-    ensures checks_out { ChecksOnly settings.now (chip_file_of settings.now.port) (D.view desk.old) (D.view desk.new) result }
+    ensures checks_out { ChecksOnly settings.now (chip_file_of settings.now.port) (D.view desk.old) (D.view desk.new)
+        result }
     ensures stays { Preserves D.started_as desk.old desk.new }
 {
     match check_part(alloc, settings, desk) {

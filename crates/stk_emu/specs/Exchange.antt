@@ -59,5 +59,6 @@ later_exchanges (one_exchange ∷ exchanges) = exchanges
 
 -- An authentic reading is no reply, the refusal, or the programmer's own reply to this command, which it executed.
 abbrev pub IsAuthentic : {P : Type 0} → Device P → List ℕ → P → Execution → Reading → Type 0
-IsAuthentic m bytes p execution (Answered body) = ((execution ≡ Executed) × (body ≡ m.answer bytes p)) ⊎ (body ≡ refusal)
+IsAuthentic m bytes p execution (Answered body) = ((execution ≡ Executed) × (body ≡ m.answer bytes p))
+    ⊎ (body ≡ refusal)
 IsAuthentic m bytes p execution _ = Unit {0}

@@ -42,7 +42,8 @@ data_of_step part commands m = []
 
 abbrev pub data_of_steps : Part → List (List Command) → Memories → List ℕ
 data_of_steps part [] m = []
-data_of_steps part (commands ∷ steps) m = data_of_step part commands m ++ data_of_steps part steps (memories_after_step part commands m)
+data_of_steps part (commands ∷ steps) m = data_of_step part commands m
+    ++ data_of_steps part steps (memories_after_step part commands m)
 
 abbrev pub on_data : Reply → (List ℕ → Reply) → Reply
 on_data (Data bytes) go_on = go_on bytes

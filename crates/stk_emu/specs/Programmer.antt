@@ -201,8 +201,8 @@ read_then x chip more = with_first_byte (slice_index (spi_of x chip).0 3) (more 
 abbrev pub flash_reads : Bool → ℕ → ℕ → ℕ → ℕ → ChipState → BytesAndChip
 flash_reads wide cmd address i zero chip = ([], chip)
 flash_reads wide cmd address i (suc n) chip =
-    read_then (at_address (for_half cmd i) (word_at address i) 0) (after_instructions (extension wide (word_at address i)) chip)
-    (flash_reads wide cmd address (suc i) n)
+    read_then (at_address (for_half cmd i) (word_at address i) 0)
+    (after_instructions (extension wide (word_at address i)) chip) (flash_reads wide cmd address (suc i) n)
 
 -- The instructions that load a block of flash, and the bytes read of one.
 abbrev pub block_loads : Block → List ℕ → List (List ℕ)

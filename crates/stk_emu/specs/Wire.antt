@@ -40,7 +40,8 @@ exchanges_of_fates (fate ∷ fates) = exchange_of_fate fate ∷ exchanges_of_fat
 -- What becomes of the command in each of the next `k` frames.
 abbrev pub executions_of_fates : ℕ → List Fate → List Execution
 executions_of_fates zero fates = []
-executions_of_fates (suc k) fates = execution_in (exchange_of_fate (first_fate fates)) ∷ executions_of_fates k (other_fates fates)
+executions_of_fates (suc k) fates = execution_in (exchange_of_fate (first_fate fates))
+    ∷ executions_of_fates k (other_fates fates)
 
 -- What a fate brings back, given the frames of the reply and of the refusal.
 abbrev pub brought_by_fate : Fate → List ℕ → List ℕ → Tape
@@ -76,7 +77,8 @@ arrival m piece w =
 
 abbrev pub wire_after_frame : {P : Type 0} → Device P → List ℕ → Wire P → Wire P
 wire_after_frame m piece w = record {
-  programmer = after_exchange (exchange_of_fate (first_fate w.fates)) (after_frame m piece w.programmer) w.programmer m.reset;
+  programmer = after_exchange (exchange_of_fate (first_fate w.fates)) (after_frame m piece w.programmer) w.programmer
+      m.reset;
   fates = other_fates w.fates;
   late = late_after (first_fate w.fates) (reply_frame m piece w.programmer) w.late;
 }

@@ -56,7 +56,8 @@ memories_after_step part commands m = effects part (write_operation_of commands)
 abbrev pub memories_after_steps : Part → ℕ → List (List Command) → Memories → Memories
 memories_after_steps part zero steps m = m
 memories_after_steps part (suc count) [] m = m
-memories_after_steps part (suc count) (commands ∷ steps) m = memories_after_steps part count steps (memories_after_step part commands m)
+memories_after_steps part (suc count) (commands ∷ steps) m =
+    memories_after_steps part count steps (memories_after_step part commands m)
 
 abbrev pub steps_of_item : Part → Item → List (List Command)
 steps_of_item part Erase = (erase ∷ []) ∷ []

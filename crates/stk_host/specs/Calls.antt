@@ -69,7 +69,8 @@ HoldsReply _ held = Unit {0}
 -- What `listen` ensures: how it ends, what the reader holds, and which bytes are unread then.
 pub record ListensForReply {L : Type 0} (link : Ghosts L) (seq : ℕ) (old new : L) (before after held : List ℕ)
     (result : Result Reading LinkFault) : Type 0 where
-  pub ok : IfOk result (λ reading. ReceivesReply seq before (link.view old) (link.view new) (reading_of reading held) after)
+  pub ok : IfOk result (λ reading. ReceivesReply seq before (link.view old) (link.view new) (reading_of reading held)
+      after)
   pub holds : IfOk result (λ reading. HoldsReply reading held)
   pub err : OnErr result (ReceivesNoReply seq before (link.view old) (link.view new))
   pub counts : LinkCounts (link.view old) (link.view new) result
@@ -108,8 +109,8 @@ CompletesStepsWithData these given brought before old new (Err fault) after =
     (steps : List (List Command)) → StopsSteps (play (these ++ steps) given) before old new fault after
 
 -- The same of steps that bring no data.
-abbrev pub CompletesSteps : List (List Command) → Progress → LinkState → LinkState → Result (Unit {0}) HostFault → Progress
-    → Type 0
+abbrev pub CompletesSteps : List (List Command) → Progress → LinkState → LinkState → Result (Unit {0}) HostFault
+    → Progress → Type 0
 CompletesSteps these = CompletesStepsWithData these [] []
 
 -- The data bytes that a reply of this shape brings, if the shape fixes them.

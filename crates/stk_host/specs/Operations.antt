@@ -27,7 +27,8 @@ host_fault (of_step.BadAnswer command) = BadAnswer command
 -- Signs on, enters programming mode and reads the signature.
 unfoldable pub handshake : Dialog ⊥ StepOutcome
 handshake =
-    step (SignOn ∷ []) >>= unless_step_fault (λ name. step (enter ∷ []) >>= unless_step_fault (λ nothing. play signature_steps []))
+    step (SignOn ∷ []) >>= unless_step_fault (λ name. step (enter ∷ []) >>=
+    unless_step_fault (λ nothing. play signature_steps []))
 
 abbrev pub signature_checked : List ℕ → Bool → StepOutcome → Result (List ℕ) HostFault
 signature_checked wanted force (Ok found) =

@@ -168,7 +168,8 @@ pub(crate) fn play_step<L: Link>(
 ) -> Result<(), HostFault>
     requires sized { IsSizedStep first.now last.now }
     requires none { step_data_count last.now ≡ 0 }
-    ensures { Converses L.Link (CompletesSteps (commands_by first.now last.now ∷ [])) talk.old talk.new link.old link.new result }
+    ensures { Converses L.Link (CompletesSteps (commands_by first.now last.now ∷ [])) talk.old talk.new link.old
+        link.new result }
 {
     talk.step(link, first, last)
 }
@@ -183,7 +184,8 @@ pub(crate) fn read_step<L: Link>(
 ) -> Result<(), HostFault>
     requires sized { IsSizedStep first.now last.now }
     requires room { length out.old.items + step_data_count last.now ≤ vec_capacity out.old }
-    ensures asks { Converses L.Link (CompletesStepsWithData (commands_by first.now last.now ∷ []) out.old.items out.new.items)
+    ensures asks { Converses L.Link (CompletesStepsWithData (commands_by first.now last.now ∷ []) out.old.items
+        out.new.items)
         talk.old talk.new link.old link.new result }
     ensures size { OnOk result (length out.new.items ≡ length out.old.items + step_data_count last.now) }
     ensures room { vec_capacity out.old ≤ vec_capacity out.new }

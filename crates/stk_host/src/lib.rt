@@ -25,17 +25,17 @@ mod stream_link;
 mod tape_link;
 mod watched_link;
 // replies, attempts and steps
-mod listen;
 mod conversation;
 mod fault;
+mod listen;
 mod places;
 // operations
 mod comparing;
 mod host;
+mod laws;
 mod opening;
 mod reading;
 mod writing;
-mod laws;
 
 pub use failing_link::FailingLink;
 pub use fault::{HostFault, StepFault};

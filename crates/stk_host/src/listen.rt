@@ -63,7 +63,11 @@ impl Unread {
     }
 
     /// Receives the next piece, of at most `most` bytes.
-    pub(crate) fn receive_piece<L: Link>(&mut self, link: &mut L, most: usize) -> Result<Heard, LinkFault>
+    pub(crate) fn receive_piece<L: Link>(
+        &mut self,
+        link: &mut L,
+        most: usize,
+    ) -> Result<Heard, LinkFault>
         requires { 0 < most }
         ensures { ReceivesNextPiece L.Link most link.old link.new self.new result }
     {

@@ -68,7 +68,8 @@ pub(crate) fn read_memory<L: Link>(
 ) -> Result<(), HostFault>
     requires empty { out.old.items ≡ [] }
     requires room { parts.size_of mem part.now ≤ vec_capacity out.old }
-    ensures is { Converses L.Link (RunsSteps (read_steps part.now mem) out.new.items) talk.old talk.new link.old link.new result }
+    ensures is { Converses L.Link (RunsSteps (read_steps part.now mem) out.new.items) talk.old talk.new link.old
+        link.new result }
     ensures size { OnOk result (length out.new.items ≡ parts.size_of mem part.now) }
 {
     for number in 0..read_count(part, mem) {

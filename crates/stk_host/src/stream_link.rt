@@ -80,7 +80,8 @@ fn put_bytes<W: Outlet>(writer: &mut W, bytes: &[u8], history: &mut History) -> 
 fn receive_bytes<R: Inlet>(reader: &mut R, buffer: &mut [u8]) -> io::Result<Heard>
     requires { 0 < length buffer.old }
     ensures within { IfOk result (λ heard. FitsBuffer heard (length buffer.new)) }
-    ensures ok { IfOk result (λ heard. ReceivesKnownBytes heard buffer.new (R.remaining reader.old) (R.remaining reader.new)) }
+    ensures ok { IfOk result (λ heard. ReceivesKnownBytes heard buffer.new (R.remaining reader.old)
+        (R.remaining reader.new)) }
     ensures err { OnErr result (Keeps (R.remaining reader.old) (R.remaining reader.new)) }
     ensures silent { IfOk result (λ heard. heard ≡ Silence → R.has_timed_out reader.new) }
     ensures fault { IfErr result (λ error. IsListeningFailure (Some (error_kind error))) }

@@ -122,7 +122,8 @@ fn write_places<L: Link>(
     mem: Mem,
     image: &Image,
 ) -> Result<(), HostFault>
-    ensures { Converses L.Link (RunsSteps (each_from (place_steps part.now mem image.now) 0 (place_count part.now mem)) [])
+    ensures { Converses L.Link (RunsSteps (each_from (place_steps part.now mem image.now) 0 (place_count part.now mem))
+        [])
         talk.old talk.new link.old link.new result }
 {
     for place in 0..place_count(part, mem) {
@@ -137,7 +138,8 @@ fn write_fuse<L: Link>(
     fuse: Fuse,
     byte: Option<u8>,
 ) -> Result<(), HostFault>
-    ensures { Converses L.Link (RunsSteps (byte_steps (program_fuse fuse) byte) []) talk.old talk.new link.old link.new result }
+    ensures { Converses L.Link (RunsSteps (byte_steps (program_fuse fuse) byte) []) talk.old talk.new link.old link.new
+        result }
 {
     match byte {
         Some(value) => play_step(talk, link, &None, &Command::program_fuse(fuse, value)),
@@ -153,7 +155,8 @@ pub(crate) fn write_memory<L: Link>(
     mem: Mem,
     image: &Image,
 ) -> Result<(), HostFault>
-    ensures { Converses L.Link (RunsSteps (write_steps part.now mem image.now) []) talk.old talk.new link.old link.new result }
+    ensures { Converses L.Link (RunsSteps (write_steps part.now mem image.now) []) talk.old talk.new link.old link.new
+        result }
 {
     match mem {
         Mem::Flash | Mem::Eeprom => write_places(talk, link, part, mem, image),

@@ -29,8 +29,8 @@ true_append stock made (Created file ∷ first) last are behind =
     (subst (λ fs. OpeningsAreTrue stock fs last) (sym (append_assoc made (file ∷ []) (files_among first))) behind)
 
 -- the later uses were true, by the files of both
-pub true_behind : (stock : Stock) (made : List Writing) (first last : List FileUse) → OpeningsAreTrue stock made (first ++ last)
-    → OpeningsAreTrue stock (made ++ files_among first) last
+pub true_behind : (stock : Stock) (made : List Writing) (first last : List FileUse) → OpeningsAreTrue stock made (first
+    ++ last) → OpeningsAreTrue stock (made ++ files_among first) last
 true_behind stock made [] last are = subst (λ fs. OpeningsAreTrue stock fs last) (sym (append-nil made)) are
 true_behind stock made (Opened opening ∷ first) last are = true_behind stock made first last are.1
 true_behind stock made (Created file ∷ first) last are =
@@ -63,7 +63,8 @@ stands stock m name holds = ap (λ (s : Stock). content_of_name s (all_files m.k
 -- the record changes if memory was allocated, otherwise it stays
 changed_true : (ok : Bool) (kept : Record) (old new : MemDeskState)
     → new ≡ (if ok then record old { kept = kept } else old)
-    → ((stock : Stock) → HoldsTrue stock old → HoldsTrue stock (record old { kept = kept })) → Preserves HoldsTrue old new
+    → ((stock : Stock) → HoldsTrue stock old → HoldsTrue stock (record old { kept = kept }))
+    → Preserves HoldsTrue old new
 changed_true true kept old new is done = λ stock holds. subst (HoldsTrue stock) (sym is) (done stock holds)
 changed_true false kept old new is done = λ stock holds. subst (HoldsTrue stock) (sym is) holds
 
@@ -79,8 +80,13 @@ created_true ok file old new is = changed_true ok _ old new is (λ stock holds. 
 -- the open file is closed, and there is one more use, which is true
 pub used_true : (ok : Bool) (last : FileUse) (old new : MemDeskState)
     → ((stock : Stock) → HoldsTrue stock old → OpeningsAreTrue stock (files_among (all_uses old.kept)) (last ∷ []))
-    → new ≡ (if ok then record old { kept = record old.kept { uses = all_uses old.kept ++ last ∷ []; current = Closed } }
-    else old)
+    → new ≡ (if ok then record old {
+      kept = record old.kept {
+        uses = all_uses old.kept ++ last ∷ [];
+        current =
+            Closed;
+      };
+    } else old)
     → Preserves HoldsTrue old new
 used_true ok last old new true_then is = changed_true ok _ old new is (λ stock holds. record {
   began = holds.began;
@@ -124,7 +130,8 @@ opened_true true name own bytes first old closed new ok same none there is has =
 opened_true false name own bytes first old closed new ok same none there is has = absurd (cc)
 
 -- the state that a desk shows is the one inside
-pub from_inside : (inside now new : MemDeskState) → inside ≡ now → Preserves HoldsTrue inside new → Preserves HoldsTrue now new
+pub from_inside : (inside now new : MemDeskState) → inside ≡ now → Preserves HoldsTrue inside new
+    → Preserves HoldsTrue now new
 from_inside inside now new is stays = λ stock holds. stays stock (subst (HoldsTrue stock) (sym is) holds)
 
 -- bytes of the open file are read, or its end is seen, which needs room in the buffer
@@ -153,8 +160,8 @@ module _ (old new : MemDeskState) (ends : Bool) (n room : ℕ) (whole gave next 
       }
 
   pub read_true : (ok : Bool) → new.kept.uses ≡ old.kept.uses
-      → new.kept.current ≡ (if ok then noted piece ends old.kept.current else old.kept.current) → new.opened ≡ old.opened
-      → Preserves HoldsTrue old new
+      → new.kept.current ≡ (if ok then noted piece ends old.kept.current else old.kept.current) → new.opened
+      ≡ old.opened → Preserves HoldsTrue old new
   read_true ok uses current same = search (rules, stock_same, prefix_on)
 
 pub written_true : (bytes : Bytes) (old new : MemDeskState) → new.input ≡ old.input → new.stored ≡ old.stored

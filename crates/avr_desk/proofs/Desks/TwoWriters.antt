@@ -127,7 +127,8 @@ module _ {S F I H O E : Type 0} (system : Ghosts S F I H) (reads : Reads F) (wri
   -- another file is held, then released
   left_one : {old new : S} (hold : Option H) (held : Option Bytes) (calls : List FileCall) (name : Bytes)
       → IsHeldBy system hold held → ReleasesHeld system.has_done hold old new
-      → system.has_done (with_one_more_held (record { calls = calls; holds = count_of held })) old → Did calls (Some name) new
+      → system.has_done (with_one_more_held (record { calls = calls; holds = count_of held })) old
+      → Did calls (Some name) new
   left_one hold held calls name is leaves has_done = search rules
 
   -- it holds as many files as the desk
@@ -161,8 +162,8 @@ module _ {S F I H O E : Type 0} (system : Ghosts S F I H) (reads : Reads F) (wri
   crash_kept : {s t : S} (tried : List Writing) → NoMore s t → CrashLeaves system s tried → CrashLeaves system t tried
   crash_kept tried keeps leaves = λ name found is. leaves name found (keeps name found is)
 
-  crash_held : {s t : S} (tried : List Writing) {name : Bytes} → CrashMayAlsoLeave system.left name (system.began name) s t
-      → CrashLeaves system s tried → CrashLeaves system t tried
+  crash_held : {s t : S} (tried : List Writing) {name : Bytes} → CrashMayAlsoLeave system.left name (system.began name)
+      s t → CrashLeaves system s tried → CrashLeaves system t tried
   crash_held tried also leaves = search rules
 
   -- bytes were to replace the file of this name
@@ -243,9 +244,10 @@ module _ {S F I H O E : Type 0} (system : Ghosts S F I H) (reads : Reads F) (wri
       keeps))
 
   pub input_true : {b : Desk} {s t : S} {f u : ℕ} {e : Option ErrorKind} {o : OpenFile F I} {k : Record}
-      {name own : Bytes} {i : I} → o ≡ open_file.Input i → own ≡ name → true ≡ is_dash name → k ≡ with_open (ToRead (record { name = own; bytes = []; ended = false })) b.kept
-      → Closed b.opened → system.is_input i → ChangesCalls system.has_done (with_calls (Gives ∷ [])) b.system s → Preserves system.has_done s t
-      → NoMore b.system s → NoMore s t → Since b (Next b t f u e o b.hold k)
+      {name own : Bytes} {i : I} → o ≡ open_file.Input i → own ≡ name → true ≡ is_dash name → k
+      ≡ with_open (ToRead (record { name = own; bytes = []; ended = false })) b.kept → Closed b.opened
+      → system.is_input i → ChangesCalls system.has_done (with_calls (Gives ∷ [])) b.system s
+      → Preserves system.has_done s t → NoMore b.system s → NoMore s t → Since b (Next b t f u e o b.hold k)
   input_true {own = own} {i = i} is_open same dash kept closed begins does stays keeps keeps_on =
       let x : Reading = record { name = own; bytes = []; ended = false } in
       let is : is_dash own ≡ true = sym (dash ∙ ap is_dash (sym same)) in
@@ -256,15 +258,22 @@ module _ {S F I H O E : Type 0} (system : Ghosts S F I H) (reads : Reads F) (wri
       {name own : Bytes} {h : F} (held : Option H) → held ≡ b.hold → o ≡ open_file.ToRead h → own ≡ name
       → false ≡ is_dash name → (Counts system.has_done (count_of held) b.system → system.is_of h name)
       → k ≡ with_open (ToRead (record { name = own; bytes = []; ended = false })) b.kept
-      → Closed b.opened → ChangesCalls system.has_done (with_calls (Opens name ∷ [])) b.system s → Preserves system.has_done s t
-      → NoMore b.system s → NoMore s t → Since b (Next b t f u e o b.hold k)
+      → Closed b.opened → ChangesCalls system.has_done (with_calls (Opens name ∷ [])) b.system s
+      → Preserves system.has_done s t → NoMore b.system s → NoMore s t → Since b (Next b t f u e o b.hold k)
   file_true {b = b} {own = own} {h = h} held is_hold is_open same no_dash named kept closed does stays keeps keeps_on =
       let x : Reading = record { name = own; bytes = []; ended = false } in
       rw is_open (opened_true x kept refl
-      (λ only. (x, refl, (h, subst (system.is_of h) (sym same) (named (holds_as b is_hold only)), given_none reads h own)))
-      closed
-      (λ done has_done. rw (opened_named own (sym (no_dash ∙ ap is_dash (sym same))), same) (stays _ (does done has_done)))
-      (left_on keeps keeps_on))
+      (λ only. (
+        x,
+        refl,
+        (
+          h,
+          subst (system.is_of h) (sym same) (named (holds_as b is_hold only)),
+          given_none reads h own,
+        ),
+      )) closed
+      (λ done has_done. rw (opened_named own (sym (no_dash ∙ ap is_dash (sym same))), same)
+      (stays _ (does done has_done))) (left_on keeps keeps_on))
 
   -- there was no such file
   pub absent_true : {b : Desk} {s t : S} {f u : ℕ} {e : Option ErrorKind} {o : OpenFile F I} {k : Record}
@@ -305,10 +314,12 @@ module _ {S F I H O E : Type 0} (system : Ghosts S F I H) (reads : Reads F) (wri
   pub created_true : {b : Desk} {s t : S} {f u : ℕ} {e : Option ErrorKind} {o : OpenFile F I} {k : Record}
       {name own : Bytes} {h : F} → o ≡ open_file.ToWrite h → own ≡ name → false ≡ is_dash name → system.is_of h name
       → k ≡ with_open (ToWrite (record { name = own; bytes = [] })) b.kept
-      → Closed b.opened → ChangesCalls system.has_done (with_calls (made name)) b.system s → Preserves system.has_done s t
-      → (held : Option H) → held ≡ b.hold → (Counts system.has_done (count_of held) b.system → NoMore b.system s)
-      → NoMore s t → Since b (Next b t f u e o b.hold k)
-  created_true {b = b} {own = own} {h = h} is_open same no_dash named kept closed does stays held is_hold keeps keeps_on =
+      → Closed b.opened → ChangesCalls system.has_done (with_calls (made name)) b.system s
+      → Preserves system.has_done s t → (held : Option H) → held ≡ b.hold
+      → (Counts system.has_done (count_of held) b.system → NoMore b.system s) → NoMore s t
+      → Since b (Next b t f u e o b.hold k)
+  created_true {b = b} {own = own} {h = h} is_open same no_dash named kept closed does stays held is_hold keeps
+      keeps_on =
       let x : Writing = record { name = own; bytes = [] } in
       rw is_open (create_true x kept (no_dash ∙ ap is_dash (sym same))
       (x, refl, (h, subst (system.is_of h) (sym same) named, Appends-nil (writes.contents h))) closed
@@ -320,21 +331,23 @@ module _ {S F I H O E : Type 0} (system : Ghosts S F I H) (reads : Reads F) (wri
       → c.output ≡ b.output → c.messages ≡ b.messages → c.hold ≡ None → c.opened ≡ open_file.Nothing
       → c.kept ≡ with_replaced own bytes b.kept → system.replaced name bytes
       → ((name : Option Bytes) → IsHeldBy system b.hold name → IsHeldBy system h name) → (o : OpenFile F I)
-      → o ≡ b.opened → Closed o → ChangesCalls system.has_done (with_calls (made name)) b.system s → ReleasesHeld system.has_done h s t → u ≡ t
-      → Preserves system.has_done u c.system
-      → CrashMayAlsoLeave system.left name (λ found. system.began name found ⊎ (found ≡ Some bytes)) b.system s → NoMore s t
-      → NoMore u c.system → Since b c
+      → o ≡ b.opened → Closed o → ChangesCalls system.has_done (with_calls (made name)) b.system s
+      → ReleasesHeld system.has_done h s t → u ≡ t → Preserves system.has_done u c.system
+      → CrashMayAlsoLeave system.left name (λ found. system.began name found ⊎ (found ≡ Some bytes)) b.system s
+      → NoMore s t → NoMore u c.system → Since b c
   replace_true {b = b} {c = c} {u = u} {own = own} {bytes = bytes} h same output messages hold is_open kept replaced
       still o was closed does leaves last stays also keeps keeps_on =
       let x : Writing = record { name = own; bytes = bytes } in
       let files = ap has_dash (files_replaced own bytes b.kept) in
-      let now = Next b c.system c.failures c.message_failures c.last_error open_file.Nothing None (with_replaced own bytes b.kept) in
+      let now = Next b c.system c.failures c.message_failures c.last_error open_file.Nothing None
+      (with_replaced own bytes b.kept) in
       let is : c ≡ now = rw (← output, ← messages, ← hold, ← is_open, ← kept) refl in
       rw is (quiet refl refl
       (λ none. no_dash_in_front (all_files b.kept) (x ∷ []) (sym files ∙ none)) (λ none was. refl)
       (λ are. record {
         uses = more_true b.system b.opened b.hold b.kept (Created x)
-            (inr (inr (subst (λ (n : Bytes). system.replaced n bytes) (sym same) replaced))) are (subst Closed was closed);
+            (inr (inr (subst (λ (n : Bytes). system.replaced n bytes) (sym same) replaced))) are
+            (subst Closed was closed);
         current = refl;
         denied = are.denied;
         held = tt;
@@ -346,9 +359,9 @@ module _ {S F I H O E : Type 0} (system : Ghosts S F I H) (reads : Reads F) (wri
 
   pub unreplaced_true : {b : Desk} {s : S} {f u : ℕ} {e : Option ErrorKind} {h : Option H} {k : Record}
       {name own bytes : Bytes} → own ≡ name → k ≡ with_tried own bytes b.kept
-      → ((name : Option Bytes) → IsHeldBy system b.hold name → IsHeldBy system h name) → Preserves system.has_done b.system s
-      → CrashMayAlsoLeave system.left name (λ found. system.began name found ⊎ (found ≡ Some bytes)) b.system s
-      → Since b (Next b s f u e b.opened h k)
+      → ((name : Option Bytes) → IsHeldBy system b.hold name → IsHeldBy system h name)
+      → Preserves system.has_done b.system s → CrashMayAlsoLeave system.left name (λ found. system.began name found
+      ⊎ (found ≡ Some bytes)) b.system s → Since b (Next b s f u e b.opened h k)
   unreplaced_true {b = b} {h = h} same kept still stays also =
       rw kept (quiet refl refl (λ none. none) (λ none was. was) (λ are. record {
         uses = are.uses;
@@ -362,11 +375,15 @@ module _ {S F I H O E : Type 0} (system : Ghosts S F I H) (reads : Reads F) (wri
   -- a file is held, and the one held before is released
   pub held_true : {b c : Desk} {s t : S} {h : H} {name own : Bytes} → own ≡ name → c.output ≡ b.output
       → c.messages ≡ b.messages → c.opened ≡ b.opened → c.hold ≡ Some h → c.kept ≡ record b.kept { held = Some own }
-      → c.system ≡ t → system.holds h name → ChangesCalls system.has_done with_one_more_held b.system s → ReleasesHeld system.has_done b.hold s t
-      → CrashMayAlsoLeave system.left name (system.began name) b.system s → NoMore s t → Since b c
+      → c.system ≡ t → system.holds h name → ChangesCalls system.has_done with_one_more_held b.system s
+      → ReleasesHeld system.has_done b.hold s t → CrashMayAlsoLeave system.left name (system.began name) b.system s
+      → NoMore s t → Since b c
   held_true {b = b} {c = c} {h = h} {own = own} same output messages is_open hold kept last holds does leaves also
       keeps =
-      let now = Next b c.system c.failures c.message_failures c.last_error b.opened (Some h) (record b.kept { held = Some own }) in
+      let now = Next b c.system c.failures c.message_failures c.last_error b.opened (Some h) (record b.kept {
+        held =
+            Some own;
+      }) in
       let is : c ≡ now = rw (← output, ← messages, ← hold, ← is_open, ← kept) refl in
       rw is (quiet refl refl (λ none. none) (λ none was. was) (λ are. record {
         uses = are.uses;
@@ -378,14 +395,16 @@ module _ {S F I H O E : Type 0} (system : Ghosts S F I H) (reads : Reads F) (wri
       }))
 
   pub denied_true : {b : Desk} {s : S} {f u : ℕ} {e : Option ErrorKind} {k : Record} {name own : Bytes} → own ≡ name
-      → system.denies name → k ≡ record b.kept { denied = b.kept.denied ++ own ∷ [] } → Preserves system.has_done b.system s
-      → CrashMayAlsoLeave system.left name (system.began name) b.system s → Since b (Next b s f u e b.opened b.hold k)
+      → system.denies name → k ≡ record b.kept { denied = b.kept.denied ++ own ∷ [] }
+      → Preserves system.has_done b.system s → CrashMayAlsoLeave system.left name (system.began name) b.system s
+      → Since b (Next b s f u e b.opened b.hold k)
   denied_true {b = b} {own = own} same denies kept stays also =
       rw kept (quiet refl refl (λ none. none) (λ none was. was) (grind (arith, common_steps)))
 
   -- the file was not held
-  pub unheld_true : {b : Desk} {s : S} {f u : ℕ} {e : Option ErrorKind} {name : Bytes} → Preserves system.has_done b.system s
-      → CrashMayAlsoLeave system.left name (system.began name) b.system s → Since b (Next b s f u e b.opened b.hold b.kept)
+  pub unheld_true : {b : Desk} {s : S} {f u : ℕ} {e : Option ErrorKind} {name : Bytes}
+      → Preserves system.has_done b.system s → CrashMayAlsoLeave system.left name (system.began name) b.system s
+      → Since b (Next b s f u e b.opened b.hold b.kept)
   unheld_true stays also = search (rules, quiet)
 
   pub released_true : {b c : Desk} {t : S} → c.output ≡ b.output → c.messages ≡ b.messages → c.opened ≡ b.opened

@@ -19,8 +19,8 @@ use Rattle.avr_desk.proofs.Stages.Played.{output_more}
 -- ---- if the desk didn't fail
 
 -- So a status other than that of a plan is the refusal that the stage returns.
-pub sound_refusal : {A : Type 0} (taking : AllocationPoints) (stage : Stage A) (before after : Record) (k l m n status : ℕ)
-    → NoFailureCounted k l
+pub sound_refusal : {A : Type 0} (taking : AllocationPoints) (stage : Stage A) (before after : Record)
+    (k l m n status : ℕ) → NoFailureCounted k l
     → ((prefix : Bytes) → after.messages ≡ prefix ++ memory_line → ⊥)
     → RunsStage taking stage (showing before k m) (showing after l n) (Err status)
     → StageRefused stage (showing before k m) (showing after l n)
@@ -62,7 +62,12 @@ Begins name stage = (openings : List Opening)
 pub begins_then : {A B : Type 0} (name : Bytes) (stage : Stage A) (go_on : A → Stage B) → Begins name stage
     → Begins name (stage >>= go_on)
 begins_then name stage go_on begins openings =
-    let p = stage openings in grind (arith, nat_tests, output_more p.emits p.openings_left go_on p.stage_outcome, begins openings)
+    let p = stage openings in grind (
+      arith,
+      nat_tests,
+      output_more p.emits p.openings_left go_on p.stage_outcome,
+      begins openings,
+    )
 
 pub begins_file : {A : Type 0} (name : Bytes) (limit : ℕ) (judge : Bytes → Result A Bytes)
     → Begins name (file_stage name limit judge)
@@ -74,8 +79,8 @@ only_reported r notice line kept = grind (arith, nat_tests, append_cancel_left)
 
 -- A stage that begins like this, at a desk that shows no opening. Either the file could not be opened, and that was
 -- reported; or an allocation before any output failed, and that was reported.
-module _ {A : Type 0} (taking : AllocationPoints) (name notice : Bytes) (stage : Stage A) (begins : Begins name stage) (r : Record)
-    (k l m n : ℕ) where
+module _ {A : Type 0} (taking : AllocationPoints) (name notice : Bytes) (stage : Stage A) (begins : Begins name stage)
+    (r : Record) (k l m n : ℕ) where
   abbrev Old : DeskState
   Old = showing r k m
 
@@ -92,8 +97,9 @@ module _ {A : Type 0} (taking : AllocationPoints) (name notice : Bytes) (stage :
   -- a break before the file was opened, or while it was; a later one shows the opening
   by_break : (passed openings : List Opening) (p : StageResult A) (whole later : List OutputEvent) (break : BreakCause)
       (line : Bytes) → (extra : List OutputEvent) × (p.emits ≡ Opens (next_opening name openings) ∷ extra)
-      → p.emits ≡ whole ++ later → BreakFitsNext break [] (events_with_refusal later p.stage_outcome) → AllocatesThere taking break passed whole
-      → ReportsBreakAs break line Old New → after_err notice r ≡ after_events (whole ++ events_of_break break line) r → ReportedAs
+      → p.emits ≡ whole ++ later → BreakFitsNext break [] (events_with_refusal later p.stage_outcome)
+      → AllocatesThere taking break passed whole → ReportsBreakAs break line Old New → after_err notice r
+      ≡ after_events (whole ++ events_of_break break line) r → ReportedAs
   by_break passed openings p [] later NoMemory line begun are is taken is_reported kept = search (rules, only_reported)
   by_break passed openings p x later break line begun are is taken is_reported kept =
       let none = none_opened (x ++ events_of_break break line) kept in search (rules, only_reported, nat_tests)
@@ -125,11 +131,12 @@ module _ {A : Type 0} (name : Bytes) (limit : ℕ) (judge : Bytes → Result A B
   by_prefix : (openings : List Opening) (whole later : List OutputEvent) (break : BreakCause) (line : Bytes)
       → (file_stage name limit judge openings).emits ≡ whole ++ later
       → BreakFitsNext break [] (events_with_refusal later (file_stage name limit judge openings).stage_outcome)
-      → ReportsBreakAs break line Before After → after_events done r ≡ after_events (whole ++ events_of_break break line) r
-      → ReportsLineAs memory_line notice Before After
+      → ReportsBreakAs break line Before After → after_events done r
+      ≡ after_events (whole ++ events_of_break break line) r → ReportsLineAs memory_line notice Before After
   by_prefix openings (first ∷ []) later NoMemory line emits is is_reported kept =
       search (rules, same_openings, begins_file, nat_tests, append_cancel_left)
-  by_prefix openings [] later (NoMemoryForFile x) line emits is is_reported kept = search (rules, nat_tests, append_cancel_left)
+  by_prefix openings [] later (NoMemoryForFile x) line emits is is_reported kept =
+      search (rules, nat_tests, append_cancel_left)
   by_prefix openings x later break line emits is is_reported kept = grind (arith, common_steps)
 
   -- So the desk showed its opening, read to the end, and what was reported is the line of memory.

@@ -21,13 +21,18 @@ use Rattle.avr_desk.specs.Stage.{Stage, Produced, StageResult, ◌>>=◌, result
 -- ---- the opening passed
 
 abbrev after_opening : List Opening → Opening → StageResult Opening
-after_opening more opening = record { emits = Opens opening ∷ []; stage_outcome = Produced opening; openings_left = more }
+after_opening more opening = record {
+  emits = Opens opening ∷ [];
+  stage_outcome = Produced opening;
+  openings_left =
+      more;
+}
 
 -- the file of this name gave this, so the stage goes on
-pub runs_open : {A : Type 0} (inner taking : AllocationPoints) (name : Bytes) (next : Opening → Stage A) (opening : Opening)
-    (old mid new : DeskState) (result : Result A ℕ)
-    → renamed_opening name opening ≡ opening → ChangesRecord (after_events (Opens opening ∷ [])) old mid → HasSameCounts old mid
-    → ((passed : List Opening) (emitted : List OutputEvent) → inner passed emitted
+pub runs_open : {A : Type 0} (inner taking : AllocationPoints) (name : Bytes) (next : Opening
+    → Stage A) (opening : Opening) (old mid new : DeskState) (result : Result A ℕ)
+    → renamed_opening name opening ≡ opening → ChangesRecord (after_events (Opens opening ∷ [])) old mid
+    → HasSameCounts old mid → ((passed : List Opening) (emitted : List OutputEvent) → inner passed emitted
     → taking (opening ∷ passed) (Opens opening ∷ emitted))
     → RunsStage inner (next opening) mid new result → RunsStage taking (open_stage name >>= next) old new result
 runs_open inner taking name next opening old mid new result is kept same behind goes =
@@ -51,18 +56,19 @@ runs_content taking name limit judge reading old new result whole goes = grind (
 
 -- ---- the opening broke off
 
-broke_opening : {A : Type 0} (taking : AllocationPoints) (name : Bytes) (next : Opening → Stage A) (break : BreakCause) (notice : Bytes)
-    (old new : DeskState) (status : ℕ)
+broke_opening : {A : Type 0} (taking : AllocationPoints) (name : Bytes) (next : Opening → Stage A) (break : BreakCause)
+    (notice : Bytes) (old new : DeskState) (status : ℕ)
     → AllocatesThere taking break [] [] → status ≡ 1
     → ((more : List Opening) → BreakFitsNext break more (Opens (next_opening name more) ∷ []))
     → ReportsBreakAs break notice old new
     → ChangesRecord (after_events (events_of_break break notice)) old new → CountsNeverFall old new
     → RunsStage taking (open_stage name >>= next) old new (Err status)
-broke_opening taking name next break notice old new status taken one is is_reported kept follows = grind (arith, nat_tests)
+broke_opening taking name next break notice old new status taken one is is_reported kept follows =
+    grind (arith, nat_tests)
 
 -- the file could not be opened
-goes_unopened : {A : Type 0} (taking : AllocationPoints) (name : Bytes) (next : Opening → Stage A) (old mid new : DeskState)
-    (status : ℕ)
+goes_unopened : {A : Type 0} (taking : AllocationPoints) (name : Bytes) (next : Opening
+    → Stage A) (old mid new : DeskState) (status : ℕ)
     → mid.kept ≡ old.kept → CountsNeverFall old mid → HasFailedAt File old mid → status ≡ 1
     → ReportsLine mid new (not_opened_line name)
     → RunsStage taking (open_stage name >>= next) old new (Err status)
@@ -73,37 +79,38 @@ goes_unopened taking name next old mid new status same rose failed one notice =
     (follows_on old mid new rose notice.follows)
 
 -- or could not be read to its end
-goes_unread : {A : Type 0} (taking : AllocationPoints) (name bytes : Bytes) (next : Opening → Stage A) (old mid new : DeskState)
-    (status : ℕ)
-    → ChangesRecord (with_read name bytes false) old mid → CountsNeverFall old mid → HasFailedAt File old mid → status ≡ 1
-    → ReportsLine mid new (not_read_line name) → RunsStage taking (open_stage name >>= next) old new (Err status)
+goes_unread : {A : Type 0} (taking : AllocationPoints) (name bytes : Bytes) (next : Opening
+    → Stage A) (old mid new : DeskState) (status : ℕ)
+    → ChangesRecord (with_read name bytes false) old mid → CountsNeverFall old mid → HasFailedAt File old mid → status
+    ≡ 1 → ReportsLine mid new (not_read_line name) → RunsStage taking (open_stage name >>= next) old new (Err status)
 goes_unread taking name bytes next old mid new status kept rose failed one notice =
     broke_opening taking name next (NotRead name bytes) notice.notice old new status tt one (λ more. ([], refl))
     (failure_reported old mid new (not_read_line name) rose failed notice)
-    (kept_append (opened_and_read_in_part name bytes ∷ []) (PrintsLine notice.notice ∷ []) old.kept mid.kept new.kept kept notice.kept)
-    (follows_on old mid new rose notice.follows)
+    (kept_append (opened_and_read_in_part name bytes ∷ []) (PrintsLine notice.notice ∷ []) old.kept mid.kept new.kept
+    kept notice.kept) (follows_on old mid new rose notice.follows)
 
 -- or allocation failed for it
 goes_unheld : {A : Type 0} (taking : AllocationPoints) (name bytes : Bytes) (ended : Bool) (next : Opening → Stage A)
     (old mid new : DeskState)
     (status : ℕ)
-    → ChangesRecord (with_read name bytes ended) old mid → HasSameCounts old mid → status ≡ 1 → ReportsLine mid new memory_line
-    → RunsStage taking (open_stage name >>= next) old new (Err status)
+    → ChangesRecord (with_read name bytes ended) old mid → HasSameCounts old mid → status ≡ 1
+    → ReportsLine mid new memory_line → RunsStage taking (open_stage name >>= next) old new (Err status)
 goes_unheld taking name bytes ended next old mid new status kept same one notice =
     let reading : Reading = record { name = name; bytes = bytes; ended = ended } in
     broke_opening taking name next (NoMemoryForFile reading) notice.notice old new status tt one (λ more. ([], refl))
     (search rules)
-    (kept_append (Opens (Found reading) ∷ []) (PrintsLine notice.notice ∷ []) old.kept mid.kept new.kept kept notice.kept)
-    (follows_on old mid new (follows_same old mid same) notice.follows)
+    (kept_append (Opens (Found reading) ∷ []) (PrintsLine notice.notice ∷ []) old.kept mid.kept new.kept kept
+    notice.kept) (follows_on old mid new (follows_same old mid same) notice.follows)
 
 -- any fault of the file except that it doesn't exist
-pub runs_until_break : {A : Type 0} (taking : AllocationPoints) (name : Bytes) (next : Opening → Stage A) (fault : FileFault)
-    (old mid new : DeskState)
+pub runs_until_break : {A : Type 0} (taking : AllocationPoints) (name : Bytes) (next : Opening
+    → Stage A) (fault : FileFault) (old mid new : DeskState)
     (status : ℕ)
-    → (fault ≡ file_fault.Absent → ⊥) → FileBreaks name old mid fault → CountsNeverFall old mid → CountsFileFault old mid fault
-    → status ≡ 1 → ReportsLine mid new (file_fault_line name fault)
+    → (fault ≡ file_fault.Absent → ⊥) → FileBreaks name old mid fault → CountsNeverFall old mid
+    → CountsFileFault old mid fault → status ≡ 1 → ReportsLine mid new (file_fault_line name fault)
     → RunsStage taking (open_stage name >>= next) old new (Err status)
-runs_until_break taking name next file_fault.Absent old mid new status there breaks rose counted one notice = search rules
+runs_until_break taking name next file_fault.Absent old mid new status there breaks rose counted one notice =
+    search rules
 runs_until_break taking name next fault old mid new status there breaks rose counted one notice =
     search (rules, goes_unopened, goes_unread, goes_unheld)
 

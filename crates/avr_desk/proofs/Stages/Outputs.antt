@@ -15,4 +15,5 @@ after_append (output ∷ x) y r = after_append x y (after output r)
 
 pub kept_append : (x y : List OutputEvent) (a b c : Record) → b ≡ after_events x a → c ≡ after_events y b
     → c ≡ after_events (x ++ y) a
-kept_append x y a b c e f = kept_on (after_events x) (after_events y) (after_events (x ++ y)) a b c (after_append x y) e f
+kept_append x y a b c e f = kept_on (after_events x) (after_events y) (after_events (x ++ y)) a b c (after_append x y) e
+    f

@@ -57,11 +57,11 @@ completed_then stage go_on old mid new a stage_outcome first then = record {
 -- allocation points after a stage that succeeded
 abbrev pub TakesBehind : {A : Type 0} (inner taking : AllocationPoints) (stage : Stage A) (old mid : DeskState) (a : A)
     → StageCompleted stage old mid (Produced a) → Type 0
-TakesBehind inner taking stage old mid a first = (passed : List Opening) (emitted : List OutputEvent) → inner passed emitted
-    → taking (first.passed ++ passed) (first.emits ++ emitted)
+TakesBehind inner taking stage old mid a first = (passed : List Opening) (emitted : List OutputEvent)
+    → inner passed emitted → taking (first.passed ++ passed) (first.emits ++ emitted)
 
-went_broke : {A B : Type 0} (inner taking : AllocationPoints) (stage : Stage A) (go_on : A → Stage B) (old mid new : DeskState)
-    (a : A) (first : StageCompleted stage old mid (Produced a))
+went_broke : {A B : Type 0} (inner taking : AllocationPoints) (stage : Stage A) (go_on : A
+    → Stage B) (old mid new : DeskState) (a : A) (first : StageCompleted stage old mid (Produced a))
     → TakesBehind inner taking stage old mid a first
     → StageBrokeOff inner (go_on a) mid new → StageBrokeOff taking (stage >>= go_on) old new
 went_broke inner taking stage go_on old mid new a first behind then = record {
@@ -77,52 +77,63 @@ went_broke inner taking stage go_on old mid new a first behind then = record {
 }
 
 -- a stage that succeeded, and the run of the next one
-pub runs_then : {A B : Type 0} (inner taking : AllocationPoints) (stage : Stage A) (go_on : A → Stage B) (old mid new : DeskState)
-    (a : A) (result : Result B ℕ) (went : StageCompleted stage old mid (Produced a))
-    → TakesBehind inner taking stage old mid a went
+pub runs_then : {A B : Type 0} (inner taking : AllocationPoints) (stage : Stage A) (go_on : A
+    → Stage B) (old mid new : DeskState) (a : A) (result : Result B ℕ) (went : StageCompleted stage old mid
+    (Produced a)) → TakesBehind inner taking stage old mid a went
     → RunsStage inner (go_on a) mid new result → RunsStage taking (stage >>= go_on) old new result
 runs_then inner taking stage go_on old mid new a (Ok b) went behind then = search (rules, completed_then)
-runs_then inner taking stage go_on old mid new a (Err status) went behind (one, inl then) = search (rules, completed_then)
+runs_then inner taking stage go_on old mid new a (Err status) went behind (one, inl then) =
+    search (rules, completed_then)
 runs_then inner taking stage go_on old mid new a (Err status) went behind (one, inr then) =
     (one, inr (went_broke inner taking stage go_on old mid new a went behind then))
 
 -- a stage that was refused or broke off
-pub runs_first_only : {A B : Type 0} (taking : AllocationPoints) (stage : Stage A) (go_on : A → Stage B) (old new : DeskState)
-    (status : ℕ) → RunsStage taking stage old new (Err status) → RunsStage taking (stage >>= go_on) old new (Err status)
+pub runs_first_only : {A B : Type 0} (taking : AllocationPoints) (stage : Stage A) (go_on : A
+    → Stage B) (old new : DeskState) (status : ℕ) → RunsStage taking stage old new (Err status)
+    → RunsStage taking (stage >>= go_on) old new (Err status)
 runs_first_only taking stage go_on old new status (one, inl went) = grind (arith, nat_tests)
 runs_first_only taking stage go_on old new status (one, inr broke) = grind (arith, nat_tests, rest_more)
 
 -- more allocation points
-pub goes_within : {A : Type 0} (inner taking : AllocationPoints) (stage : Stage A) (old new : DeskState) (result : Result A ℕ)
-    → ((passed : List Opening) (emitted : List OutputEvent) → inner passed emitted → taking passed emitted)
-    → RunsStage inner stage old new result → RunsStage taking stage old new result
+pub goes_within : {A : Type 0} (inner taking : AllocationPoints) (stage : Stage A) (old new : DeskState)
+    (result : Result A ℕ) → ((passed : List Opening) (emitted : List OutputEvent) → inner passed emitted
+    → taking passed emitted) → RunsStage inner stage old new result → RunsStage taking stage old new result
 goes_within inner taking stage old new result within went = search (rules, nat_tests)
 
 -- ---- stages that read nothing
 
 -- nothing is printed or read
-pub completed_without_events : {A : Type 0} (d : DeskState) (a : A) → StageCompleted (result_stage (Ok a)) d d (Produced a)
-completed_without_events d a = record { passed = []; emits = []; comes = λ more. refl; kept = kept_none d.kept; sound = same_here d }
+pub completed_without_events : {A : Type 0} (d : DeskState) (a : A) → StageCompleted (result_stage (Ok a)) d d
+    (Produced a)
+completed_without_events d a = record {
+  passed = [];
+  emits = [];
+  comes = λ more. refl;
+  kept = kept_none d.kept;
+  sound =
+      same_here d;
+}
 
 -- a line was printed whole
-reported_whole : {A : Type 0} (old new : DeskState) (line : List ℕ) → ChangesRecord (after_events (PrintsLine line ∷ [])) old new
-    → HasSameCounts old new
+reported_whole : {A : Type 0} (old new : DeskState) (line : List ℕ)
+    → ChangesRecord (after_events (PrintsLine line ∷ [])) old new → HasSameCounts old new
     → StageCompleted {A = A} (result_stage (Err line)) old new (Refused line)
 reported_whole old new line kept same =
     record { passed = []; emits = []; comes = λ more. refl; kept = kept; sound = same }
 
 -- or it broke off there
-broke_here : {A : Type 0} (taking : AllocationPoints) (stage : Stage A) (old new : DeskState) (break : BreakCause) (notice : List ℕ)
-    → AllocatesThere taking break [] []
-    → ((more : List Opening) → BreakFitsNext break more (events_with_refusal (stage more).emits (stage more).stage_outcome))
-    → ReportsBreakAs break notice old new
-    → ChangesRecord (after_events (events_of_break break notice)) old new → CountsNeverFall old new → StageBrokeOff taking stage old new
+broke_here : {A : Type 0} (taking : AllocationPoints) (stage : Stage A) (old new : DeskState) (break : BreakCause)
+    (notice : List ℕ) → AllocatesThere taking break [] []
+    → ((more : List Opening) → BreakFitsNext break more (events_with_refusal (stage more).emits
+    (stage more).stage_outcome)) → ReportsBreakAs break notice old new
+    → ChangesRecord (after_events (events_of_break break notice)) old new → CountsNeverFall old new
+    → StageBrokeOff taking stage old new
 broke_here taking stage old new break notice taken is is_reported kept follows = grind (arith, nat_tests)
 
 -- a refusal that was reported, or a prefix of its line
-refused_by : {A : Type 0} (taking : AllocationPoints) (old new : DeskState) (line notice : List ℕ) → ReportsLineAs line notice old new
-    → ChangesRecord (after_events (PrintsLine notice ∷ [])) old new → CountsNeverFall old new
-    → RunsStage {A = A} taking (result_stage (Err line)) old new (Err 1)
+refused_by : {A : Type 0} (taking : AllocationPoints) (old new : DeskState) (line notice : List ℕ)
+    → ReportsLineAs line notice old new → ChangesRecord (after_events (PrintsLine notice ∷ [])) old new
+    → CountsNeverFall old new → RunsStage {A = A} taking (result_stage (Err line)) old new (Err 1)
 refused_by {A} taking old new line notice (inl whole) kept follows = (
   refl,
   inl (
@@ -133,38 +144,51 @@ refused_by {A} taking old new line notice (inl whole) kept follows = (
 )
 refused_by {A} taking old new line notice (inr part) kept follows = (
   refl,
-  inr (broke_here taking (result_stage {A = A} (Err line)) old new (LineNotPrinted line) notice tt (λ more. ([], refl)) part
+  inr (broke_here taking (result_stage {A = A} (Err line)) old new (LineNotPrinted line) notice tt (λ more. ([], refl))
+      part
       kept follows),
 )
 
-pub runs_to_refusal : {A : Type 0} (taking : AllocationPoints) (old new : DeskState) (line : List ℕ) (status : ℕ) → status ≡ 1
-    → ReportsLine old new line → RunsStage {A = A} taking (result_stage (Err line)) old new (Err status)
+pub runs_to_refusal : {A : Type 0} (taking : AllocationPoints) (old new : DeskState) (line : List ℕ) (status : ℕ)
+    → status ≡ 1 → ReportsLine old new line → RunsStage {A = A} taking (result_stage (Err line)) old new (Err status)
 runs_to_refusal {A} taking old new line status one notice =
     (one, (refused_by {A = A} taking old new line notice.notice notice.is_reported notice.kept notice.follows).1)
 
 -- a failed allocation
 pub runs_without_memory : {A : Type 0} (taking : AllocationPoints) (stage : Stage A) (old new : DeskState) (status : ℕ)
     → taking [] [] → status ≡ 1 → ReportsLine old new memory_line → RunsStage taking stage old new (Err status)
-runs_without_memory taking stage old new status takes one notice =
-    (one, inr (broke_here taking stage old new NoMemory notice.notice takes (λ more. tt) notice.is_reported notice.kept notice.follows))
+runs_without_memory taking stage old new status takes one notice = (
+  one,
+  inr (broke_here taking stage old new NoMemory notice.notice takes (λ more. tt) notice.is_reported notice.kept
+      notice.follows),
+)
 
 -- ---- results and output
 
 pub went_settled : {A : Type 0} (r : Result A (List ℕ)) (a : A) (d : DeskState) → r ≡ Ok a
     → StageCompleted (result_stage r) d d (Produced a)
-went_settled r a d is = subst (λ x. StageCompleted (result_stage x) d d (Produced a)) (sym is) (completed_without_events d a)
+went_settled r a d is = subst (λ x. StageCompleted (result_stage x) d d (Produced a)) (sym is)
+    (completed_without_events d a)
 
-pub goes_unsettled : {A : Type 0} (taking : AllocationPoints) (r : Result A (List ℕ)) (line : List ℕ) (old new : DeskState)
-    (status : ℕ) → r ≡ Err line → status ≡ 1 → ReportsLine old new line → RunsStage taking (result_stage r) old new (Err status)
+pub goes_unsettled : {A : Type 0} (taking : AllocationPoints) (r : Result A (List ℕ)) (line : List ℕ)
+    (old new : DeskState) (status : ℕ) → r ≡ Err line → status ≡ 1 → ReportsLine old new line
+    → RunsStage taking (result_stage r) old new (Err status)
 goes_unsettled taking r line old new status is one notice =
     subst (λ x. RunsStage taking (result_stage x) old new (Err status)) (sym is)
     (runs_to_refusal taking old new line status one notice)
 
 pub completed_silently : (d : DeskState) → StageCompleted (output_stage []) d d (Produced tt)
-completed_silently d = record { passed = []; emits = []; comes = λ more. refl; kept = kept_none d.kept; sound = same_here d }
+completed_silently d = record {
+  passed = [];
+  emits = [];
+  comes = λ more. refl;
+  kept = kept_none d.kept;
+  sound =
+      same_here d;
+}
 
-pub completed_output : (old new : DeskState) (line : List ℕ) → ChangesRecord (after_events (PrintsLine line ∷ [])) old new
-    → HasSameCounts old new → StageCompleted (output_stage (PrintsLine line ∷ [])) old new (Produced tt)
+pub completed_output : (old new : DeskState) (line : List ℕ) → ChangesRecord (after_events (PrintsLine line ∷ [])) old
+    new → HasSameCounts old new → StageCompleted (output_stage (PrintsLine line ∷ [])) old new (Produced tt)
 completed_output old new line kept same =
     record { passed = []; emits = PrintsLine line ∷ []; comes = λ more. refl; kept = kept; sound = same }
 
@@ -179,6 +203,6 @@ goes_output_part taking old new line fault part is counts = (
 )
 
 -- the counts of failures never fall, whatever the outcome
-pub goes_follows : {A : Type 0} (taking : AllocationPoints) (stage : Stage A) (old new : DeskState) (result : Result A ℕ)
-    → RunsStage taking stage old new result → CountsNeverFall old new
+pub goes_follows : {A : Type 0} (taking : AllocationPoints) (stage : Stage A) (old new : DeskState)
+    (result : Result A ℕ) → RunsStage taking stage old new result → CountsNeverFall old new
 goes_follows taking stage old new result went = search rules

@@ -55,7 +55,8 @@ filled_is image start (suc n) (y ∷ ys) len each =
     let first : y ≡ byte_or_ff (byte_at image start) =
     each 0 (omega arith) ∙ ap (λ (k : ℕ). byte_or_ff (byte_at image k)) (omega arith) in
     let rest : ys ≡ filled_bytes image (start + 1) n = filled_is image (start + 1) n ys (omega (arith, len))
-    (λ i l. each (suc i) (omega (arith, l)) ∙ ap (λ (k : ℕ). byte_or_ff (byte_at image k)) (omega arith)) in search rules
+    (λ i l. each (suc i) (omega (arith, l)) ∙ ap (λ (k : ℕ). byte_or_ff (byte_at image k)) (omega arith)) in
+    search rules
 filled_is image start x z len each = absurd (omega (arith, len))
 
 pub get_or-zeros : (n i : ℕ) → ◌≡◌ {A = ℕ} (get_or {A = ℕ} (replicate {A = ℕ} n 0) i 0) 0

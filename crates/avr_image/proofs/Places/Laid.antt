@@ -13,7 +13,8 @@ use Rattle.avr_image.proofs.Fields.Shown.{same_items, byte_at-shown, length_show
 pub length-with_bytes_at : (image : List (Option ℕ)) (places : List (ℕ × ℕ))
     → length (with_bytes_at image places) ≡ length image
 length-with_bytes_at image [] = refl
-length-with_bytes_at image ((a, b) ∷ places) = length-with_bytes_at (set image a (Some b)) places ∙ length-set image a (Some b)
+length-with_bytes_at image ((a, b) ∷ places) = length-with_bytes_at (set image a (Some b)) places ∙ length-set image a
+    (Some b)
 
 -- ---- in parts
 
@@ -54,7 +55,14 @@ laid_over_laid image ys =
 
 pub laid_append : (size : ℕ) (xs ys : List (ℕ × ℕ))
     → image_of_pairs size (xs ++ ys) ≡ over (image_of_pairs size xs) (image_of_pairs size ys)
-laid_append size xs ys = grind (arith, nat_tests, length-with_bytes_at, length-replicate, with_bytes_at-append, laid_over_laid)
+laid_append size xs ys = grind (
+  arith,
+  nat_tests,
+  length-with_bytes_at,
+  length-replicate,
+  with_bytes_at-append,
+  laid_over_laid,
+)
 
 pub over_over : (a b c : List (Option ℕ)) → length b ≡ length c → over (over a b) c ≡ over a (over b c)
 over_over (x ∷ a) [] (z ∷ c) l = absurd (omega (arith, l))
@@ -85,7 +93,8 @@ span_in image addr (b ∷ span) zero l room = grind (arith, nat_tests, span_low,
 span_in image addr (b ∷ span) (suc j) l room =
     search (
       rules,
-      span_in (set image addr (Some b)) (addr + 1) span j (omega (arith, l)) (omega (arith, room, length-set image addr (Some b))),
+      span_in (set image addr (Some b)) (addr + 1) span j (omega (arith, l))
+          (omega (arith, room, length-set image addr (Some b))),
     )
 
 -- ---- a byte, address by address
@@ -120,7 +129,8 @@ pasted_high start span bytes i room l = grind (arith, nat_tests, length-take, ge
 -- the bits of a span are those of its bytes
 pub shown-pasted : (words words' bytes span : List ℕ) (addr : ℕ) → addr + length span ≤ length bytes
     → ((k : ℕ) → is_present words' k ≡ (is_within addr (addr + length span) k || is_present words k))
-    → dense_image words' (with_span addr span bytes) ≡ with_bytes_at (dense_image words bytes) (enumerate_from addr span)
+    → dense_image words' (with_span addr span bytes) ≡ with_bytes_at (dense_image words bytes)
+    (enumerate_from addr span)
 shown-pasted words words' bytes span addr room bits =
     let size = length_shown words bytes in
     let left = length_shown words' (with_span addr span bytes) ∙ length-pasted addr span bytes room in

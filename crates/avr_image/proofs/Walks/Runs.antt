@@ -31,13 +31,15 @@ abbrev after : List (Option ℕ) → List (Option ℕ)
 after image = drop (length (leading_run image)) image
 
 runs-leading_run : (addr b : ℕ) (image : List (Option ℕ))
-    → runs addr (Some b ∷ image) ≡ (addr, b ∷ leading_run image) ∷ runs (addr + 1 + length (leading_run image)) (after image)
+    → runs addr (Some b ∷ image) ≡ (addr, b ∷ leading_run image) ∷ runs (addr + 1 + length (leading_run image))
+    (after image)
 runs-leading_run addr b [] = refl
 runs-leading_run addr b (None ∷ image) = grind (arith, nat_tests, runs-begin)
 runs-leading_run addr b (Some c ∷ image) = grind (arith, nat_tests, runs-leading_run (addr + 1) c image)
 
 pub runs-first : (image : List (Option ℕ)) (addr : ℕ) → 0 < length (leading_run image)
-    → runs addr image ≡ (addr, leading_run image) ∷ runs (addr + length (leading_run image)) (drop (length (leading_run image)) image)
+    → runs addr image ≡ (addr, leading_run image) ∷ runs (addr + length (leading_run image))
+    (drop (length (leading_run image)) image)
 runs-first image addr some = search (rules, runs-leading_run)
 
 -- ---- as the walk finds them
@@ -83,8 +85,8 @@ drop-next : (image xs : List (Option ℕ)) (place : ℕ) (x : Option ℕ) → dr
     → drop (place + 1) image ≡ xs
 drop-next image xs place x is = sym (drop-drop 1 place image) ∙ ap (drop 1) is
 
-pub filled-leading_run : (image xs : List (Option ℕ)) (n place : ℕ) → drop place image ≡ xs → n ≤ length (leading_run xs)
-    → filled_bytes image place n ≡ take n (leading_run xs)
+pub filled-leading_run : (image xs : List (Option ℕ)) (n place : ℕ) → drop place image ≡ xs
+    → n ≤ length (leading_run xs) → filled_bytes image place n ≡ take n (leading_run xs)
 filled-leading_run image xs zero place is l = refl
 filled-leading_run image (Some b ∷ xs) (suc n) place is l =
     let here : byte_at image place ≡ Some b =
@@ -93,7 +95,8 @@ filled-leading_run image (Some b ∷ xs) (suc n) place is l =
     search (rules, filled-leading_run image xs n (place + 1) (drop-next image xs place (Some b) is) (omega (arith, l)))
 filled-leading_run image x (suc n) place is l = absurd (omega (arith, l))
 
-prefix-leading_run : (k : ℕ) (image : List (Option ℕ)) → prefix_len is_some (take k image) ≡ min k (length (leading_run image))
+prefix-leading_run : (k : ℕ) (image : List (Option ℕ)) → prefix_len is_some (take k image)
+    ≡ min k (length (leading_run image))
 prefix-leading_run (suc k) (Some b ∷ image) = let more = prefix-leading_run k image in omega (arith, more)
 prefix-leading_run x y = omega arith
 

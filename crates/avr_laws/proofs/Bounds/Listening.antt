@@ -130,23 +130,27 @@ all_waiting [] e = (refl, refl)
 all_waiting (Byte b ∷ tape) e = let more = all_waiting tape e in let bytes = more.1 in (more.0, omega (arith, bytes))
 all_waiting (item ∷ tape) e = absurd (cc)
 
-read_waits : (tape : Tape) (found : Option (List ℕ × ℕ)) → reading_from_first found (take reply_byte_limit (leading_bytes tape)) tape ≡ None
-    → (timeouts_on tape ≡ 0) × (count_of_bytes_on tape < reply_byte_limit)
+read_waits : (tape : Tape) (found : Option (List ℕ × ℕ))
+    → reading_from_first found (take reply_byte_limit (leading_bytes tape)) tape ≡ None → (timeouts_on tape ≡ 0)
+    × (count_of_bytes_on tape < reply_byte_limit)
 read_waits tape (Some (body, used)) e = absurd (cc)
 read_waits tape None e =
     let bytes = take reply_byte_limit (leading_bytes tape) in
     elim (cases_Bool (nat_le reply_byte_limit (length bytes))) [
-      | inl full ↦ let no_none = sym (cond-true (nat_le reply_byte_limit (length bytes)) (Some (Babbled, drop reply_byte_limit tape))
-          (timeout_or_end (drop (length bytes) tape)) full) ∙ e in absurd (cc)
+      | inl full ↦ let no_none = sym (cond-true (nat_le reply_byte_limit (length bytes))
+          (Some (Babbled, drop reply_byte_limit tape)) (timeout_or_end (drop (length bytes) tape)) full) ∙ e in
+          absurd (cc)
       | inr part ↦
           let few : length bytes < reply_byte_limit = leb-false reply_byte_limit (length bytes) part in
-          let whole : length bytes ≡ length (leading_bytes tape) = take_short reply_byte_limit (leading_bytes tape) few in
+          let whole : length bytes ≡ length (leading_bytes tape) =
+          take_short reply_byte_limit (leading_bytes tape) few in
           let none = sym (search rules) ∙ e in
           let w = all_waiting tape (subst (λ (n : ℕ). timeout_or_end (drop n tape) ≡ None) whole none) in
           search rules
     ]
 
-answer_waits_for : (seq : ℕ) (tape : Tape) → answer seq tape ≡ None → (timeouts_on tape ≡ 0) × (count_of_bytes_on tape < reply_byte_limit)
+answer_waits_for : (seq : ℕ) (tape : Tape) → answer seq tape ≡ None → (timeouts_on tape ≡ 0)
+    × (count_of_bytes_on tape < reply_byte_limit)
 unfolding answer
 answer_waits_for seq tape e = read_waits tape (first_answer seq (cut (take reply_byte_limit (leading_bytes tape)))) e
 
@@ -198,7 +202,8 @@ listens_at_most {E = E} {R = R} n d most bodies = search (rules, whole, at_each_
     whole : (first : Progress) (transcript : Transcript) (events : List (Event E)) (result : R) (last : Progress)
         → Plays d first transcript events result last
         → (length (frames_in events) ≤ n) × ((timeouts_on (heard transcript) ≤ length (frames_in events))
-        × (length first.unread + count_of_bytes_on (heard transcript) ≤ reply_byte_limit * length (frames_in events) + length last.unread))
+        × (length first.unread + count_of_bytes_on (heard transcript) ≤ reply_byte_limit * length (frames_in events) +
+        length last.unread))
     whole first transcript events result last p =
         let tape = on_tape first.unread ++ (heard transcript ++ []) in
         let same : length (frames_in (played d first.next tape).events) ≡ length (frames_in events) =

@@ -57,8 +57,9 @@ pub further_repairs : (plan : Plan) (w v x y : WiredState) (d e f g : DeskState)
     → has_erase (items plan) ≡ true → AgreesOnTwoChips plan
     → (erase_keeps_eeprom plan.part (memories w) ≡ true → ItemsKeepEeprom plan.part (items plan))
     → SessionOverWire plan w v d e status
-    → memories x ≡ memories v → AtMostThreeBadOfSeven (exchanges_of_fates x.wire.fates) → OverAnyWire plan x y f g further
-    → ((further ≡ 0) × IsDone plan (memories w) (memories y)) ⊎ SessionStopped plan x y f g
+    → memories x ≡ memories v → AtMostThreeBadOfSeven (exchanges_of_fates x.wire.fates)
+    → OverAnyWire plan x y f g further → ((further ≡ 0) × IsDone plan (memories w) (memories y))
+    ⊎ SessionStopped plan x y f g
 further_repairs plan w v x y d e f g status further sound fitted fits erases both kept first same few second =
     elim second.end [
       | inl came ↦
@@ -66,23 +67,26 @@ further_repairs plan w v x y d e f g status further sound fitted fits erases bot
           inl (
             zero,
             done_further plan (memories w) (memories x) (memories y) sound fitted fits erases both kept
-                (record { count = first.line.write_operations.count; memories = same ∙ first.line.write_operations.memories })
-                (came.0.comes.done zero),
+                (record {
+                  count = first.line.write_operations.count;
+                  memories =
+                      same ∙ first.line.write_operations.memories;
+                }) (came.0.comes.done zero),
           )
       | inr broke ↦ inr broke.0
     ]
 
 -- the same over any link, also if it is unknown how the first run ended
-pub further_repairs_over_link : (plan : Plan) (p q x y : Programmer) (exchanges more : List Exchange) (bytes others : List ℕ)
-    (events : List (Event OutputEvent)) (further : ℕ)
+pub further_repairs_over_link : (plan : Plan) (p q x y : Programmer) (exchanges more : List Exchange)
+    (bytes others : List ℕ) (events : List (Event OutputEvent)) (further : ℕ)
     → IsPart plan.part → All (IsFitted plan.part) plan.tasks → FitsPart plan.part (memories_of p.chip)
     → has_erase (items plan) ≡ true → AgreesOnTwoChips plan
     → (erase_keeps_eeprom plan.part (memories_of p.chip) ≡ true → ItemsKeepEeprom plan.part (items plan))
     → OverExchanges plan p q exchanges bytes
-    → memories_of x.chip ≡ memories_of q.chip → AtMostThreeBadOfSeven more → WholeSessionOverExchanges plan x y more others events further
-    → (further ≡ 0) × IsDone plan (memories_of p.chip) (memories_of y.chip)
-further_repairs_over_link plan p q x y exchanges more bytes others events further sound fitted fits erases both kept first
-    same few second =
+    → memories_of x.chip ≡ memories_of q.chip → AtMostThreeBadOfSeven more → WholeSessionOverExchanges plan x y more
+    others events further → (further ≡ 0) × IsDone plan (memories_of p.chip) (memories_of y.chip)
+further_repairs_over_link plan p q x y exchanges more bytes others events further sound fitted fits erases both kept
+    first same few second =
     let zero = second.1.again few erases both in (
       zero,
       done_further plan (memories_of p.chip) (memories_of x.chip) (memories_of y.chip) sound fitted fits erases both

@@ -47,8 +47,8 @@ module _ (part : Part) (file : Bytes) (old new : DeskState) (chip : Chip)
 -- ---- a run
 
 -- the first uses were true by themselves
-true_front : (stock : Stock) (made : List Writing) (first last : List FileUse) → OpeningsAreTrue stock made (first ++ last)
-    → OpeningsAreTrue stock made first
+true_front : (stock : Stock) (made : List Writing) (first last : List FileUse) → OpeningsAreTrue stock made (first
+    ++ last) → OpeningsAreTrue stock made first
 true_front stock made [] last are = tt
 true_front stock made (Opened opening ∷ first) last are = (are.0, true_front stock made first last are.1)
 true_front stock made (Created file ∷ first) last are = true_front stock (made ++ file ∷ []) first last are

@@ -28,8 +28,8 @@ tried_all (output ∷ emits) r = let more = tried_all emits (after output r) in 
 abbrev pub tried_at : DeskState → List Writing
 tried_at d = d.kept.tried
 
-pub tried_went : {A : Type 0} (stage : Stage A) (old new : DeskState) (stage_outcome : StageOutcome A) → StageCompleted stage old new stage_outcome
-    → tried_at new ≡ tried_at old
+pub tried_went : {A : Type 0} (stage : Stage A) (old new : DeskState) (stage_outcome : StageOutcome A)
+    → StageCompleted stage old new stage_outcome → tried_at new ≡ tried_at old
 tried_went stage old new stage_outcome went = search (rules, tried_all)
 
 pub tried_loaded : (part : Part) (file : Bytes) (old new : DeskState) (chip : chips.ChipState)
@@ -82,8 +82,8 @@ server_tries settings file most_reads old new status (inr no_part) none = tried_
 -- ---- so a crash leaves these, or what was there
 
 module _ {S F I H O E : Type 0} (system : Ghosts S F I H) (reads : Reads F) (writes : Writes F) (input : Reads I)
-    (old new : Shown S F H I O E) (fresh : IsNewDesk system old) (is_reported : RecordsAll system reads writes input old new)
-    (file : Bytes) where
+    (old new : Shown S F H I O E) (fresh : IsNewDesk system old) (is_reported : RecordsAll system reads writes input old
+    new) (file : Bytes) where
   pub left_old_or_new : (chip : Option Bytes) → TriesOnly file chip new.kept.tried
       → LeavesOldOrNew system new.system file chip
   left_old_or_new chip only found left = search (rules, (is_reported fresh).crash)

@@ -48,8 +48,8 @@ stood_more stock made f name differs = elim (cases_Bool (is_dash name)) [
 
 -- ---- a save with status 0
 
-files_saved : (out : List ℕ) (old new : DeskState) (file bytes : Bytes) (ran : ℕ) → IsSavedIfSent out old new file bytes ran 0
-    → (all_files new.kept ≡ all_files old.kept)
+files_saved : (out : List ℕ) (old new : DeskState) (file bytes : Bytes) (ran : ℕ)
+    → IsSavedIfSent out old new file bytes ran 0 → (all_files new.kept ≡ all_files old.kept)
     ⊎ (all_files new.kept ≡ all_files old.kept ++ record { name = file; bytes = bytes } ∷ [])
 files_saved out old new file bytes ran saved = search (rules, files_replaced)
 

@@ -46,8 +46,8 @@ module _ (settings : Settings) (file : Bytes) (stock : Stock) (old new : MemDesk
   zero : r.ran ≡ 0
   zero = search rules
 
-  came : EndsOverExchanges r.plan (memories_of r.chip) (memories_of r.after.wire.programmer.chip) (exchanges_of_fates [])
-      (outputs (events_over r.plan r.after)) r.ran
+  came : EndsOverExchanges r.plan (memories_of r.chip) (memories_of r.after.wire.programmer.chip)
+      (exchanges_of_fates []) (outputs (events_over r.plan r.after)) r.ran
       × ChangesRecord (after_events (outputs (events_over r.plan r.after))) r.loaded_desk r.played_desk
   came = search rules
 

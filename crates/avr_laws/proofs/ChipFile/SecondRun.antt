@@ -60,7 +60,8 @@ module _ (file : Bytes) (stock : Stock) (no_dash : is_dash file ≡ false) where
   -- the chip's bytes, or the earlier ones
   saved_held : (out : List ℕ) (old new : DeskState) (bytes : Bytes) (ran status : ℕ)
       → IsSavedIfSent out old new file bytes ran status
-      → (contents_held stock new.kept file ≡ Some bytes) ⊎ (contents_held stock new.kept file ≡ contents_held stock old.kept file)
+      → (contents_held stock new.kept file ≡ Some bytes) ⊎ (contents_held stock new.kept file
+      ≡ contents_held stock old.kept file)
   saved_held out old new bytes ran status saved = search (rules, files_replaced, newest_append)
 
   -- with status 0 the chip's, because a session of status 0 has sent something
@@ -144,8 +145,8 @@ module _ (settings : Settings) (file : Bytes) (stock : Stock) (old mid new : Mem
 
   second : OverAnyWire plan (new_wire two.chip []) two.after two.loaded_desk two.played_desk two.ran
   second =
-      subst (λ (p : Plan). OverAnyWire p (new_wire two.chip []) two.after two.loaded_desk two.played_desk two.ran) same_plan
-      (emulated_wire two)
+      subst (λ (p : Plan). OverAnyWire p (new_wire two.chip []) two.after two.loaded_desk two.played_desk two.ran)
+      same_plan (emulated_wire two)
 
   pub repairs_file : has_erase (items plan) ≡ true → AgreesOnTwoChips plan
       → (erase_keeps_eeprom plan.part before ≡ true → ItemsKeepEeprom plan.part (items plan))

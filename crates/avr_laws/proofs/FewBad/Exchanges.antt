@@ -33,12 +33,14 @@ use Rattle.avr_tool.proofs.Sure.Exchanges.{IsSure, brings_one, brings_play, step
 
 -- ---- counting
 
-pub more_bad : (n m : ℕ) (exchanges : List Exchange) → n ≤ m → badness_of_first n exchanges ≤ badness_of_first m exchanges
+pub more_bad : (n m : ℕ) (exchanges : List Exchange) → n ≤ m → badness_of_first n exchanges ≤ badness_of_first m
+    exchanges
 more_bad zero m exchanges le = omega arith
 more_bad (suc n) zero exchanges le = absurd (omega (arith, le))
 more_bad (suc n) (suc m) exchanges le = search (rules, more_bad n m (later_exchanges exchanges) (omega (arith, le)))
 
-pub others_few : (exchanges : List Exchange) → AtMostThreeBadOfSeven exchanges → AtMostThreeBadOfSeven (later_exchanges exchanges)
+pub others_few : (exchanges : List Exchange) → AtMostThreeBadOfSeven exchanges
+    → AtMostThreeBadOfSeven (later_exchanges exchanges)
 others_few exchanges few = search rules
 
 in_seven : (exchanges : List Exchange) → AtMostThreeBadOfSeven exchanges → badness_of_first 7 exchanges ≤ 3
@@ -47,13 +49,18 @@ in_seven exchanges few = search rules
 none_bad : (n : ℕ) (exchanges : List Exchange) → AllArriveRight exchanges → badness_of_first n exchanges ≡ 0
 none_bad zero exchanges good = refl
 none_bad (suc n) [] good = let none = none_bad n [] good in omega (arith, none)
-none_bad (suc n) (one_exchange ∷ exchanges) good = let none = none_bad n exchanges good.1 in let well : badness one_exchange ≡ 0 = ap badness good.0 in
+none_bad (suc n) (one_exchange ∷ exchanges) good = let none = none_bad n exchanges good.1 in
+    let well : badness one_exchange ≡ 0 = ap badness good.0 in
     omega (arith, none, well)
 
 -- a good link is the simplest case
 pub good_few : (exchanges : List Exchange) → AllArriveRight exchanges → AtMostThreeBadOfSeven exchanges
 good_few [] good = tt
-good_few (one_exchange ∷ exchanges) good = (let none = none_bad 7 (one_exchange ∷ exchanges) good in omega (arith, none), good_few exchanges good.1)
+good_few (one_exchange ∷ exchanges) good = (
+  let none = none_bad 7 (one_exchange ∷ exchanges) good in
+      omega (arith, none),
+  good_few exchanges good.1,
+)
 
 module _ {E R : Type 0} where
   -- if few of the exchanges to come are bad, so are few of those that are left
@@ -62,7 +69,8 @@ module _ {E R : Type 0} where
   few_left k (Done r) p exchanges few = few
   few_left k (Emit s d) p exchanges few = few_left k d p exchanges few
   few_left zero (Ask bytes go_on) p exchanges few = few
-  few_left (suc k) (Ask bytes go_on) p exchanges few = few_left k (go_on _) _ (later_exchanges exchanges) (others_few exchanges few)
+  few_left (suc k) (Ask bytes go_on) p exchanges few =
+      few_left k (go_on _) _ (later_exchanges exchanges) (others_few exchanges few)
 
   -- a dialog that asks at most `n` questions is done after `n`
   pub done_within : (n k : ℕ) (d : Dialog E R) (p : Programmer) (exchanges : List Exchange) → AsksAtMost n d → n ≤ k
@@ -112,8 +120,8 @@ well size exchanges got then rest (inr s) = inr
     })
 
 -- the frame that went wrong
-wrong : (size : ℕ) (exchanges : List Exchange) (got : List ℕ) (fault : StepFault) → 1 ≤ badness (first_exchange exchanges)
-    → Tried (suc size) exchanges got (Again fault) (later_exchanges exchanges)
+wrong : (size : ℕ) (exchanges : List Exchange) (got : List ℕ) (fault : StepFault)
+    → 1 ≤ badness (first_exchange exchanges) → Tried (suc size) exchanges got (Again fault) (later_exchanges exchanges)
 wrong size exchanges got fault is = search rules
 
 -- Enough frames go well for one attempt and `more` others: at most one frame goes well between two that go wrong.
@@ -127,12 +135,15 @@ next_clear more exchanges is le =
     let rest = later_exchanges exchanges in
     let e : suc more + suc more ≡ suc (suc (more + more)) = omega arith in
     let few : badness_of_first (suc more + suc more) rest ≤ more = omega (arith, is, le) in
-    let few' : badness_of_first (suc (suc (more + more))) rest ≤ more = subst (λ n. badness_of_first n rest ≤ more) e few in
+    let few' : badness_of_first (suc (suc (more + more))) rest ≤ more =
+    subst (λ n. badness_of_first n rest ≤ more) e few in
     let less = more_bad (suc (more + more)) (suc (suc (more + more))) rest (omega arith) in search rules
 
-clear_behind : (place more : ℕ) (exchanges rest : List Exchange) → suc place ≤ 2 → rest ≡ later_exchanges (behind place exchanges)
-    → 1 ≤ badness (first_exchange (behind place exchanges)) → Clear (suc more) exchanges → Clear more rest
-clear_behind zero more exchanges rest le is wrong c = subst (Clear more) (sym is) (next_clear more exchanges wrong c.here)
+clear_behind : (place more : ℕ) (exchanges rest : List Exchange) → suc place ≤ 2 → rest
+    ≡ later_exchanges (behind place exchanges) → 1 ≤ badness (first_exchange (behind place exchanges))
+    → Clear (suc more) exchanges → Clear more rest
+clear_behind zero more exchanges rest le is wrong c =
+    subst (Clear more) (sym is) (next_clear more exchanges wrong c.here)
 clear_behind (suc zero) more exchanges rest le is wrong c = search (rules, next_clear)
 clear_behind (suc (suc place)) more exchanges rest le is wrong c = absurd (omega (arith, le))
 
@@ -144,13 +155,15 @@ not_four one_exchange le = search rules
 -- if few exchanges go wrong, none restarts the programmer
 few_steady : (exchanges : List Exchange) → AtMostThreeBadOfSeven exchanges → AreSteady exchanges
 few_steady [] few = tt
-few_steady (one_exchange ∷ exchanges) few = (not_four one_exchange (let le = few.0 in omega (arith, le)), few_steady exchanges few.1)
+few_steady (one_exchange ∷ exchanges) few =
+    (not_four one_exchange (let le = few.0 in omega (arith, le)), few_steady exchanges few.1)
 
 -- ---- attempts and steps of a programmer that never restarts
 
 -- whenever the dialog ends with a reply, an attempt of `size` frames was tried
 abbrev Tries : ℕ → List Exchange → List ℕ → Dialog ⊥ Reply → Spot → Type 0
-Tries size exchanges got d z = Runs steady (λ y. ⊤) (λ reply y. Tried size exchanges got reply y.1 × AtMostThreeBadOfSeven y.1) d z
+Tries size exchanges got d z = Runs steady (λ y. ⊤) (λ reply y. Tried size exchanges got reply y.1
+    × AtMostThreeBadOfSeven y.1) d z
 
 module _ (go_on : List ℕ → Dialog ⊥ Reply) (go : List ℕ → Reply) (size : ℕ) (exchanges : List Exchange) (got : List ℕ)
     (few : AtMostThreeBadOfSeven (later_exchanges exchanges)) where
@@ -158,15 +171,20 @@ module _ (go_on : List ℕ → Dialog ⊥ Reply) (go : List ℕ → Reply) (size
   answered : (q : Programmer) (reply : Reply)
       → ((bytes : List ℕ) → go bytes ≡ Data got
       → Tries size (later_exchanges exchanges) got (go_on bytes) (q, later_exchanges exchanges))
-      → on_data reply go ≡ Data got → Tries (suc size) exchanges got (with_data go_on reply) (q, later_exchanges exchanges)
+      → on_data reply go ≡ Data got → Tries (suc size) exchanges got (with_data go_on reply) (
+        q,
+        later_exchanges exchanges,
+      )
   answered q (Data bytes) each has = wider (λ b y x. x) (λ e y x. x)
       (λ reply y x. (well size exchanges got reply y.1 x.0, x.1)) (each bytes has)
   answered q reply each has = search rules
 
-  by_exchange : (one_exchange : Exchange) (command : Command) (p : Programmer) → badness (first_exchange exchanges) ≡ badness one_exchange → IsSteady one_exchange
-      → ((bytes : List ℕ) → go bytes ≡ Data got
-      → Tries size (later_exchanges exchanges) got (go_on bytes) (steady.after (body command) p, later_exchanges exchanges))
-      → on_data (reply_to steady command p) go ≡ Data got
+  by_exchange : (one_exchange : Exchange) (command : Command) (p : Programmer) → badness (first_exchange exchanges)
+      ≡ badness one_exchange → IsSteady one_exchange → ((bytes : List ℕ) → go bytes ≡ Data got
+      → Tries size (later_exchanges exchanges) got (go_on bytes) (
+        steady.after (body command) p,
+        later_exchanges exchanges,
+      )) → on_data (reply_to steady command p) go ≡ Data got
       → Tries (suc size) exchanges got
       (with_data go_on (reply_from_reading command (reading_of_exchange one_exchange (steady.answer (body command) p))))
       (after_exchange one_exchange (steady.after (body command) p) p steady.reset, later_exchanges exchanges)
@@ -182,8 +200,8 @@ attempt_tried (command ∷ commands) before z got few has =
     let left = others_few z.1 few in
     let q = steady.after (body command) z.0 in
     ask tt (λ move. by_exchange (λ bytes. attempt commands (before ++ bytes))
-    (λ bytes. joined_reply steady commands (before ++ bytes) q) (length commands) z.1 got left (first_exchange z.1) command
-    z.0 refl (first_steady z.1 (few_steady z.1 few))
+    (λ bytes. joined_reply steady commands (before ++ bytes) q) (length commands) z.1 got left (first_exchange z.1)
+    command z.0 refl (first_steady z.1 (few_steady z.1 few))
     (λ bytes f. attempt_tried commands (before ++ bytes) (q, later_exchanges z.1) got left f) has)
 
 -- a step of at most two commands, which have these data under either condition
@@ -199,13 +217,14 @@ module _ (Before After : Programmer → Type 0) (commands : List Command) (got :
   Begins (suc more) z = (Before z.0 ⊎ After z.0) × (AtMostThreeBadOfSeven z.1 × Clear more z.1)
 
   again : (more : ℕ) (place : ℕ) (exchanges : List Exchange) (y : Spot) → suc place ≤ length commands
-      → 1 ≤ badness (first_exchange (behind place exchanges)) → y.1 ≡ later_exchanges (behind place exchanges) → Clear more exchanges
-      → Before y.0 ⊎ After y.0 → AtMostThreeBadOfSeven y.1 → Begins more y
+      → 1 ≤ badness (first_exchange (behind place exchanges)) → y.1 ≡ later_exchanges (behind place exchanges)
+      → Clear more exchanges → Before y.0 ⊎ After y.0 → AtMostThreeBadOfSeven y.1 → Begins more y
   again more place exchanges y near wrong is clear stood few = search (rules, clear_behind)
 
   after_try : (more : ℕ) (exchanges : List Exchange) → Clear more exchanges → (reply : Reply) (y : Spot)
       → OnReply (λ q. Before q ⊎ After q) (AfterStep steady commands Before After fits) reply y.0
-      × (Tried (length commands) exchanges got reply y.1 × AtMostThreeBadOfSeven y.1) → OnReply (Begins more) Whole reply y
+      × (Tried (length commands) exchanges got reply y.1 × AtMostThreeBadOfSeven y.1)
+      → OnReply (Begins more) Whole reply y
   after_try more exchanges clear (Data bytes) y (stood, (inl is, few)) =
       ((ap (λ x. Ok x) (same_data bytes got is), stood.0), few)
   after_try more exchanges clear (Data bytes) y (stood, (inr s, few)) = absurd (again_not s.fault bytes (sym s.again))
@@ -220,13 +239,22 @@ module _ (Before After : Programmer → Type 0) (commands : List Command) (got :
       (λ more y begins. wider (λ bytes y x. tt) (λ e y x. x) (after_try more y.1 begins.1.1)
       (both steady (on_link steady (try_goes steady commands Before After fits y.0 begins.0))
       (attempt_tried commands [] y got begins.1.0 (gathered_steady commands [] y.0 ∙ has y.0 begins.0))))
-      (λ fault y none. absurd none) 4 NoAnswer z
-      (inl before, (few, record { here = in_seven z.1 few; next = in_seven (later_exchanges z.1) (others_few z.1 few) }))
+      (λ fault y none. absurd none) 4 NoAnswer z (
+        inl before,
+        (
+          few,
+          record {
+            here = in_seven z.1 few;
+            next =
+                in_seven (later_exchanges z.1) (others_few z.1 few);
+          },
+        ),
+      )
 
 pub few_sure : IsSure AtMostThreeBadOfSeven
 few_sure commands got Before After fits short has z before few = record {
-  holds = on_steady (λ o y. ((o ≡ Ok got) × After y.0) × AtMostThreeBadOfSeven y.1) (step commands) z (few_steady z.1 few)
-      (step_steady Before After commands got fits short has z before few).holds;
+  holds = on_steady (λ o y. ((o ≡ Ok got) × After y.0) × AtMostThreeBadOfSeven y.1) (step commands) z
+      (few_steady z.1 few) (step_steady Before After commands got fits short has z before few).holds;
 }
 
 -- ---- the steps of a host
@@ -242,23 +270,27 @@ module _ (part : Part) (sound : IsPart part) where
       done_within (4 * length commands) k (step commands) p exchanges (step_most commands) (omega (arith, short, le)) in
       within.1 ∙ ap (λ x. Done x)
       (where_done device (step commands) (p, exchanges)
-      (brings_one part sound AtMostThreeBadOfSeven few_sure commands m is f (p, exchanges) ready few) k within.0 within.1).0.0
+      (brings_one part sound AtMostThreeBadOfSeven few_sure commands m is f (p, exchanges) ready few) k within.0
+      within.1).0.0
 
   pub play_few : (steps : List (List Command)) (m : Memories) (k : ℕ) (before : List ℕ) (p : Programmer)
-      (exchanges : List Exchange) (o : StepOutcome) → AreSteps part steps → FitsPart part m → Ready part m p → AtMostThreeBadOfSeven exchanges
-      → (state_after device k (play steps before) p exchanges).dialog ≡ Done o → o ≡ Ok (before ++ data_of_steps part steps m)
+      (exchanges : List Exchange) (o : StepOutcome) → AreSteps part steps → FitsPart part m → Ready part m p
+      → AtMostThreeBadOfSeven exchanges → (state_after device k (play steps before) p exchanges).dialog ≡ Done o → o
+      ≡ Ok (before ++ data_of_steps part steps m)
   play_few steps m k before p exchanges o are f ready few e =
       (where_done device (play steps before) (p, exchanges)
       (brings_play part sound AtMostThreeBadOfSeven few_sure steps m before are f (p, exchanges) ready few) k o e).0.0
 
 -- four bad frames of seven are too many, both in a row and if each second one is bad
 pub four_too_many : (command : Command) (commands : List Command) (p : Programmer)
-    → (state_after device 4 (step (command ∷ commands)) p (lost_command ∷ lost_command ∷ lost_command ∷ lost_command ∷ [])).dialog ≡ Done (Err NoAnswer)
+    → (state_after device 4 (step (command ∷ commands)) p (lost_command ∷ lost_command ∷ lost_command ∷ lost_command
+    ∷ [])).dialog ≡ Done (Err NoAnswer)
 unfolding attempts_or_fault attempt exchange
 four_too_many command commands p = refl
 
 pub second_too_many : (address : ℕ) (command : Command) (commands : List Command) (p : Programmer)
-    → (state_after device 7 (step (LoadAddress address ∷ command ∷ commands)) p every_second_lost).dialog ≡ Done (Err NoAnswer)
+    → (state_after device 7 (step (LoadAddress address ∷ command ∷ commands)) p every_second_lost).dialog
+    ≡ Done (Err NoAnswer)
 unfolding attempts_or_fault attempt exchange
 second_too_many address command commands p = refl
 

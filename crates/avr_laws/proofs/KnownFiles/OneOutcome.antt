@@ -35,7 +35,8 @@ ended_more : {E R : Type 0} (d : Dialog E R) (seq : ℕ) (t u : Tape) (r : R) (n
     → (played d seq t).outcome ≡ Some (r, n, left)
     → played d seq (t ++ u) ≡ record { events = (played d seq t).events; outcome = Some (r, n, left ++ u) }
 ended_more (Done a) seq t u r n left is = search rules
-ended_more (Emit emitted d) seq t u r n left is = ap (prepend_events (Emitted emitted ∷ [])) (ended_more d seq t u r n left is)
+ended_more (Emit emitted d) seq t u r n left is =
+    ap (prepend_events (Emitted emitted ∷ [])) (ended_more d seq t u r n left is)
 ended_more {E = E} {R = R} (Ask body answered) seq t u r n left is =
     by_reading (answer seq t) (λ reading rest ended. ended_more (answered reading) (next seq) rest u r n left ended)
     refl is
@@ -44,9 +45,9 @@ ended_more {E = E} {R = R} (Ask body answered) seq t u r n left is =
         → ((reading : Reading) (rest : Tape) → (played (answered reading) (next seq) rest).outcome ≡ Some (r, n, left)
         → played (answered reading) (next seq) (rest ++ u)
         ≡ record { events = (played (answered reading) (next seq) rest).events; outcome = Some (r, n, left ++ u) })
-        → answer seq t ≡ o → (continue_with_reading (λ reading. played (answered reading) (next seq)) o).outcome ≡ Some (r, n, left)
-        → prepend_events (Frame (frame seq body) ∷ []) (continue_with_reading (λ reading. played (answered reading) (next seq))
-        (answer seq (t ++ u)))
+        → answer seq t ≡ o → (continue_with_reading (λ reading. played (answered reading) (next seq)) o).outcome
+        ≡ Some (r, n, left) → prepend_events (Frame (frame seq body)
+        ∷ []) (continue_with_reading (λ reading. played (answered reading) (next seq)) (answer seq (t ++ u)))
         ≡ record {
           events = Frame (frame seq body)
               ∷ (continue_with_reading (λ reading. played (answered reading) (next seq)) (answer seq t)).events;

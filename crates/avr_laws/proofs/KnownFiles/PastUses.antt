@@ -34,7 +34,8 @@ past_on uses (Opens (Absent name)) r past = put_by uses (Opened (Absent name) âˆ
 past_on uses (Opens (Found x)) r past = put_by uses [] r (after (Opens (Found x)) r) past
     (sym (append-nil (all_uses r)))
 past_on uses (PrintsLine bytes) r past = past
-past_on uses (CreatesFile name) r past = put_by uses [] r (after (CreatesFile name) r) past (sym (append-nil (all_uses r)))
+past_on uses (CreatesFile name) r past =
+    put_by uses [] r (after (CreatesFile name) r) past (sym (append-nil (all_uses r)))
 past_on uses output r past = search rules
 
 pub past_all : (uses : List FileUse) (emits : List OutputEvent) (r : Record) â†’ ArePast uses r

@@ -49,7 +49,8 @@ opened_uses stock (Opened opening ∷ uses) none are = (are.0, opened_uses stock
 opened_uses stock (Created file ∷ uses) none are = absurd (cc)
 
 -- the openings among these output events
-seen_outputs : (stock : Stock) (emits : List OutputEvent) → AreOpened stock (openings_in emits) → AreTrueOpenings stock emits
+seen_outputs : (stock : Stock) (emits : List OutputEvent) → AreOpened stock (openings_in emits)
+    → AreTrueOpenings stock emits
 seen_outputs stock [] are = tt
 seen_outputs stock (Opens opening ∷ emits) are = (are.0, seen_outputs stock emits are.1)
 seen_outputs stock (output ∷ emits) are = seen_outputs stock emits are
@@ -122,7 +123,12 @@ seen_before stock emits stage_outcome seen = search (rules, seen_first)
 module _ (settings : Settings) (stock : Stock) (old m : DeskState) (stage_outcome : StageOutcome Plan)
     (unused : old.kept ≡ nothing_kept) (are : OpeningsAreTrue stock [] (all_uses m.kept))
     (verdict : stage_outcome ≡ NotReadToEnd → ⊥) (went : StageCompleted (planned settings) old m stage_outcome) where
-  planned_is : planned settings (went.passed ++ []) ≡ record { emits = went.emits; stage_outcome = stage_outcome; openings_left = [] }
+  planned_is : planned settings (went.passed ++ []) ≡ record {
+    emits = went.emits;
+    stage_outcome =
+        stage_outcome;
+    openings_left = [];
+  }
   planned_is = went.comes []
 
   abbrev notice : List OutputEvent
@@ -145,13 +151,15 @@ module _ (settings : Settings) (stock : Stock) (old m : DeskState) (stage_outcom
       (opened_uses stock (all_uses m.kept) (files_used m.kept ∙ no_files) are))
 
   both : ((planned_from_files settings stock).stage_outcome ≡ (planned settings (went.passed ++ [])).stage_outcome)
-      × (lines_in (all_events_of (planned_from_files settings stock)) ≡ lines_in (all_events_of (planned settings (went.passed ++ []))))
+      × (lines_in (all_events_of (planned_from_files settings stock))
+      ≡ lines_in (all_events_of (planned settings (went.passed ++ []))))
   both = search (rules, seen_is_planned, seen_before, seen)
 
   same_answer : (planned_from_files settings stock).stage_outcome ≡ stage_outcome
   same_answer = both.0 ∙ ap (λ (p : StageResult Plan). p.stage_outcome) planned_is
 
-  same_left : left_in (after_events (events_with_refusal (planned_from_files settings stock).emits stage_outcome) nothing_kept) ≡ left_in m.kept
+  same_left : left_in (after_events (events_with_refusal (planned_from_files settings stock).emits stage_outcome)
+      nothing_kept) ≡ left_in m.kept
   same_left =
       let whole = all_events_of (planned_from_files settings stock) in
       search (rules, both, same_answer, planning_left, only_reads, only_read, kept_is)
@@ -194,12 +202,14 @@ module _ (settings : Settings) (old new : MemDeskState) (before after : LinkStat
       let verdict : ◌≡◌ {A = StageOutcome Plan} (Produced plan) NotReadToEnd → ⊥ = λ e. cc in
       let are = all_true stock between holds in
       let stage_outcome : p.stage_outcome ≡ Produced plan =
-      same_answer settings stock (memory_state old) (memory_state between) (Produced plan) unused.desk_is are verdict went in
+      same_answer settings stock (memory_state old) (memory_state between) (Produced plan) unused.desk_is are verdict
+      went in
       let alike = same_left settings stock (memory_state old) (memory_state between) (Produced plan) unused.desk_is are
       verdict went in
       let during : after.transcript ≡ ran.during =
       ran.grows ∙ ap (λ transcript. transcript ++ ran.during) silent_before in
-      let left : left_by (map Emitted p.emits ++ ran.events) status ≡ outcome_shown status (sent after.transcript) new.kept =
+      let left : left_by (map Emitted p.emits ++ ran.events) status ≡ outcome_shown status (sent after.transcript)
+      new.kept =
       left_is status p.emits ran.events between.kept new.kept after.transcript alike ran.kept
       (ran.plays.all_sent ∙ ap sent (sym during)) in search rules
 
@@ -215,9 +225,11 @@ module _ (settings : Settings) (old new : MemDeskState) (before after : LinkStat
       same_answer settings stock (memory_state old) (memory_state new) (Refused line) unused.desk_is are verdict went in
       let alike = same_left settings stock (memory_state old) (memory_state new) (Refused line) unused.desk_is are
       verdict went in
-      let events : map Emitted (p.emits ++ PrintsLine line ∷ []) ++ [] ≡ map Emitted p.emits ++ Emitted (PrintsLine line) ∷ [] =
+      let events : map Emitted (p.emits ++ PrintsLine line ∷ []) ++ [] ≡ map Emitted p.emits
+      ++ Emitted (PrintsLine line) ∷ [] =
       append-nil (map Emitted (p.emits ++ PrintsLine line ∷ [])) ∙ map-append Emitted p.emits (PrintsLine line ∷ []) in
-      let left : left_by (map Emitted p.emits ++ Emitted (PrintsLine line) ∷ []) 1 ≡ outcome_shown 1 (sent after.transcript) new.kept =
+      let left : left_by (map Emitted p.emits ++ Emitted (PrintsLine line) ∷ []) 1
+      ≡ outcome_shown 1 (sent after.transcript) new.kept =
       ap (λ (es : List (Event OutputEvent)). left_by es 1) (sym events)
       ∙ left_is 1 (p.emits ++ PrintsLine line ∷ []) [] new.kept new.kept after.transcript alike refl
       (ap sent (sym (silent ∙ silent_before))) in search rules
@@ -249,8 +261,9 @@ module _ (settings : Settings) (old new : MemDeskState) (before after : LinkStat
 
 module _ (settings : Settings) (old new : MemDeskState) (status : ℕ) where
   over_tape : (before after : TapeState) → before.transcript ≡ [] → ConsumesTape before after
-      → RunLeaves settings (stock_of old) (heard after.transcript) (outcome_shown status (sent after.transcript) new.kept)
-      → LeavesOutcome settings (stock_of old) before.left (outcome_shown status (sent after.transcript) new.kept)
+      → RunLeaves settings (stock_of old) (heard after.transcript) (outcome_shown status (sent after.transcript)
+      new.kept) → LeavesOutcome settings (stock_of old) before.left (outcome_shown status (sent after.transcript)
+      new.kept)
   over_tape before after silent of_tape left = search (rules, append_assoc)
 
   pub run_is_over_tape : (before after : TapeState) (between : MemDeskState)

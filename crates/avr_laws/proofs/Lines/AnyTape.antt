@@ -27,8 +27,9 @@ IsExchangeOf m bytes p execution reading one_exchange =
 not_anew : (execution : Execution) → ◌≡◌ {A = Execution} (ThenRestarted execution) Executed → ⊥
 not_anew execution e = cc
 
-pub authentic_exchange : {P : Type 0} (m : Device P) (bytes : List ℕ) (p : P) (execution : Execution) (reading : Reading)
-    → IsAuthentic m bytes p execution reading → IsExchangeOf m bytes p execution reading (exchange_by execution reading)
+pub authentic_exchange : {P : Type 0} (m : Device P) (bytes : List ℕ) (p : P) (execution : Execution)
+    (reading : Reading) → IsAuthentic m bytes p execution reading → IsExchangeOf m bytes p execution reading
+    (exchange_by execution reading)
 authentic_exchange m bytes p execution reading h = search (rules, bytes_eq-Decides, not_anew)
 
 -- without a further question the programmer stays as it is
@@ -40,8 +41,8 @@ none_asked m (Ask bytes go_on) p exchanges = refl
 
 -- A run over a tape is the run along these exchanges, of which `answered` are read. If it is done, these are as many as
 -- its frames. After any first frames the programmer is as the list of what happened to it gives.
-record HeardAs {E R P : Type 0} (m : Device P) (d : Dialog E R) (n : ℕ) (tape : Tape) (p : P) (executions : List Execution)
-    (exchanges : List Exchange) : Type 0 where
+record HeardAs {E R P : Type 0} (m : Device P) (d : Dialog E R) (n : ℕ) (tape : Tape) (p : P)
+    (executions : List Execution) (exchanges : List Exchange) : Type 0 where
   answered : ℕ
   left : Tape
   play : played d n tape ≡ played_along m answered d n p exchanges left
@@ -61,10 +62,12 @@ module _ {P : Type 0} (m : Device P) where
     on_time = after_execution execution (m.after bytes p) p m.reset
 
     arrives : on_time ≡ after_execution execution (after_frame m (frame n bytes) p) p m.reset
-    arrives = ap (λ q. after_execution execution q p m.reset) (sym (search (rules, cond-true, frame_is_good, body_of_frame)))
+    arrives = ap (λ q. after_execution execution q p m.reset)
+        (sym (search (rules, cond-true, frame_is_good, body_of_frame)))
 
     abbrev on_asking : Option (Reading × Tape) → Played E R
-    on_asking o = prepend_events (Frame (frame n bytes) ∷ []) (continue_with_reading (λ reading. played (go_on reading) (next n)) o)
+    on_asking o = prepend_events (Frame (frame n bytes)
+        ∷ []) (continue_with_reading (λ reading. played (go_on reading) (next n)) o)
 
     -- a question that waits for its reply
     waiting : answer n tape ≡ None → HeardAs m (Ask bytes go_on) n tape p executions (Disturbed execution NoReply ∷ [])
@@ -77,8 +80,8 @@ module _ {P : Type 0} (m : Device P) where
         (goes : HeardAs m (go_on (reading_of_exchange one_exchange (m.answer bytes p))) (next n) left
         (after_exchange one_exchange (m.after bytes p) p m.reset) (later_executions executions) later) where
       abbrev fs : List (List ℕ)
-      fs = frames_in (played_along m goes.answered (go_on (reading_of_exchange one_exchange (m.answer bytes p))) (next n)
-          (after_exchange one_exchange (m.after bytes p) p m.reset) later goes.left).events
+      fs = frames_in (played_along m goes.answered (go_on (reading_of_exchange one_exchange (m.answer bytes p)))
+          (next n) (after_exchange one_exchange (m.after bytes p) p m.reset) later goes.left).events
 
       stands : (k : ℕ) → k ≤ suc (length fs) → (state_after m k (Ask bytes go_on) p (one_exchange ∷ later)).programmer
           ≡ after_sent_frames m (take k (frame n bytes ∷ fs)) executions p
@@ -94,17 +97,18 @@ module _ {P : Type 0} (m : Device P) where
       }
 
     asked : (o : Option (Reading × Tape)) → answer n tape ≡ o
-        → ((reading : Reading) (left : Tape) → RepliesAreAuthentic m (go_on reading) (next n) left on_time (later_executions executions)
-        → HeardAs m (go_on reading) (next n) left on_time (later_executions executions)
+        → ((reading : Reading) (left : Tape) → RepliesAreAuthentic m (go_on reading) (next n) left on_time
+        (later_executions executions) → HeardAs m (go_on reading) (next n) left on_time (later_executions executions)
         (exchanges_heard (go_on reading) (next n) left (later_executions executions)))
         → on_reading (λ reading left. IsAuthentic m bytes p execution reading
         × RepliesAreAuthentic m (go_on reading) (next n) left on_time (later_executions executions)) o
         → HeardAs m (Ask bytes go_on) n tape p executions
-        (exchanges_from execution (λ reading left. exchanges_heard (go_on reading) (next n) left (later_executions executions)) o)
+        (exchanges_from execution (λ reading left. exchanges_heard (go_on reading) (next n) left
+        (later_executions executions)) o)
     asked o e each h = search (rules, waiting, authentic_exchange, by_exchange)
 
-  heard_as : {E R : Type 0} (d : Dialog E R) (n : ℕ) (tape : Tape) (p : P) (executions : List Execution) → SendsValidBodies d
-      → RepliesAreAuthentic m d n tape p executions
+  heard_as : {E R : Type 0} (d : Dialog E R) (n : ℕ) (tape : Tape) (p : P) (executions : List Execution)
+      → SendsValidBodies d → RepliesAreAuthentic m d n tape p executions
       → HeardAs m d n tape p executions (exchanges_heard d n tape executions)
   heard_as (Done r) n tape p executions asks h =
       record { answered = 0; left = tape; play = refl; all = λ q seq rest o. refl; programmer = none_sent }
@@ -119,8 +123,8 @@ module _ {P : Type 0} (m : Device P) where
       inner) h
 
   -- THE LAW
-  pub goes_as : {E R : Type 0} (d : Dialog E R) (n : ℕ) (tape : Tape) (p : P) (executions : List Execution) → SendsValidBodies d
-      → RepliesAreAuthentic m d n tape p executions → GoesAlongExchanges m d n tape p executions
+  pub goes_as : {E R : Type 0} (d : Dialog E R) (n : ℕ) (tape : Tape) (p : P) (executions : List Execution)
+      → SendsValidBodies d → RepliesAreAuthentic m d n tape p executions → GoesAlongExchanges m d n tape p executions
   goes_as {R = R} d n tape p executions asks h = search (rules, heard_as, emitted_played, done_played, waits_played)
 
 -- ---- the first readings of an authentic tape
@@ -130,8 +134,8 @@ abbrev pub AuthenticReading : {E R P : Type 0} → Device P → List ℕ → (Re
     → Option (Reading × Tape) → Type 0
 AuthenticReading m bytes go_on n p executions = on_reading (λ reading left.
     IsAuthentic m bytes p (first_execution executions) reading
-    × RepliesAreAuthentic m (go_on reading) (next n) left (after_execution (first_execution executions) (m.after bytes p) p m.reset)
-    (later_executions executions))
+    × RepliesAreAuthentic m (go_on reading) (next n) left (after_execution (first_execution executions)
+    (m.after bytes p) p m.reset) (later_executions executions))
 
 module _ {P : Type 0} (m : Device P) where
   shorter : {E R : Type 0} (bytes : List ℕ) (go_on : Reading → Dialog E R) (n : ℕ) (t u : Tape) (p : P)
@@ -178,7 +182,8 @@ module _ {P : Type 0} (m : Device P) where
   getting_after (ThenRestarted execution) piece g p = getting_after execution piece ([], g.0 ∷ g.1) p
 
   let_through_after : (executions : List Execution) (sent : List (List ℕ)) (p : P)
-      → after_got (received_frames executions sent).0 (received_frames executions sent).1 p ≡ after_sent_frames m sent executions p
+      → after_got (received_frames executions sent).0 (received_frames executions sent).1 p
+      ≡ after_sent_frames m sent executions p
   let_through_after [] [] p = refl
   let_through_after [] (piece ∷ sent) p = let_through_after [] sent p
   let_through_after (first ∷ more) [] p = refl
@@ -191,7 +196,8 @@ module _ {P : Type 0} (m : Device P) where
   good_later got (first ∷ later) p = good_later first later (m.reset (after_frames m (frames got) p))
       ∙ ap (λ (q : P). after_got (good_frames first) (map good_frames later) (m.reset q)) (good_alone (frames got) p)
 
-  pub through_after : (got : List ℕ) (later : List (List ℕ)) (sent : List (List ℕ)) (executions : List Execution) (p : P)
-      → ReceivedSentFrames got later sent executions → after_received_bytes m got later p ≡ after_sent_frames m sent executions p
+  pub through_after : (got : List ℕ) (later : List (List ℕ)) (sent : List (List ℕ)) (executions : List Execution)
+      (p : P) → ReceivedSentFrames got later sent executions → after_received_bytes m got later p
+      ≡ after_sent_frames m sent executions p
   through_after got later sent executions p c = good_later got later p
       ∙ (ap (λ (g : FramesByRestart). after_got g.0 g.1 p) (sym c.good) ∙ let_through_after executions sent p)

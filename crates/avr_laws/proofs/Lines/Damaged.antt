@@ -88,8 +88,8 @@ good_kept : (piece : List ℕ) (pieces : List (List ℕ)) → is_good piece ≡ 
 good_kept piece pieces good =
     let framed : is_frame piece ≡ true = (and_parts (is_frame piece) (xor_all piece == 0) good).0 in
     ap (filter is_good) (cond-true (is_frame piece) (piece ∷ filter is_frame pieces) (filter is_frame pieces) framed)
-    ∙ cond-true (is_good piece) (piece ∷ filter is_good (filter is_frame pieces)) (filter is_good (filter is_frame pieces))
-    good
+    ∙ cond-true (is_good piece) (piece ∷ filter is_good (filter is_frame pieces))
+    (filter is_good (filter is_frame pieces)) good
 
 bad_dropped : (piece : List ℕ) (pieces : List (List ℕ)) → (is_good piece ≡ true → ⊥)
     → filter is_good (filter is_frame (piece ∷ pieces)) ≡ filter is_good (filter is_frame pieces)
@@ -111,7 +111,8 @@ bad_dropped piece pieces bad = elim (cases_Bool (is_frame piece)) [
 abbrev IsGood : List ℕ → Type 0
 IsGood piece = is_good piece ≡ true
 
-came_by : (piece more got : List ℕ) → IsPiece piece → got ≡ piece ++ more → frames got ≡ filter is_frame (piece ∷ cut more)
+came_by : (piece more got : List ℕ) → IsPiece piece → got ≡ piece ++ more → frames got
+    ≡ filter is_frame (piece ∷ cut more)
 came_by piece more got whole e = ap frames e ∙ ap (filter is_frame) (cut_first piece more whole)
 
 abbrev alone : List (List ℕ) → FramesByRestart
@@ -180,12 +181,16 @@ refused_body = record { some = omega arith; few = omega arith }
 
 refuses : (piece : List ℕ) → IsSomeRefusal piece → Sound (λ p. body_of p ≡ refusal) piece
 refuses piece (n, inl same) =
-    inr (subst IsPiece (sym same) (whole_frame n refusal refused_body), λ good. ap body_of same ∙ body_of_frame n refusal)
+    inr (
+      subst IsPiece (sym same) (whole_frame n refusal refused_body),
+      λ good. ap body_of same ∙ body_of_frame n
+          refusal,
+    )
 refuses piece (n, inr d) =
     let bad = damaged_frame n refusal piece refused_body d in inr (bad.0, λ good. absurd (bad.1 good))
 
-was_sent : (sent : List (List ℕ)) (piece : List ℕ) → AllReplies sent → IsReplyOfFirst 256 sent piece ⊎ IsSomeRefusal piece
-    → (piece ≡ []) ⊎ (IsPiece piece × IsNotForged sent piece)
+was_sent : (sent : List (List ℕ)) (piece : List ℕ) → AllReplies sent → IsReplyOfFirst 256 sent piece
+    ⊎ IsSomeRefusal piece → (piece ≡ []) ⊎ (IsPiece piece × IsNotForged sent piece)
 was_sent sent piece all (inl is) = elim (one_of 256 sent piece all is) [
   | inl none ↦ inl none
   | inr (whole, among) ↦ inr (whole, λ good. inr (among good))
@@ -249,19 +254,22 @@ bytes_behind (b ∷ piece) tape = ap (λ bs. b ∷ bs) (bytes_behind piece tape)
 
 burst_bytes : (come : List Arrival) → leading_bytes (tape_of_arrivals come) ≡ concat (frames_before_pause come)
 burst_bytes [] = refl
-burst_bytes (FrameArrives piece ∷ come) = bytes_behind piece (tape_of_arrivals come) ∙ ap (λ bs. piece ++ bs) (burst_bytes come)
+burst_bytes (FrameArrives piece ∷ come) = bytes_behind piece (tape_of_arrivals come) ∙ ap (λ bs. piece
+    ++ bs) (burst_bytes come)
 burst_bytes (PauseArrives ∷ come) = refl
 burst_bytes (EndArrives ∷ come) = refl
 
 -- the awaited reply comes, as the end of these bytes
 abbrev Found : ℕ → List Arrival → List ℕ → Type 0
 Found n come bytes = (body : List ℕ) × (left : List Arrival) × (first_reading n come ≡ Some (Answered body, left))
-    × (tape_of_arrivals come ≡ on_tape bytes ++ tape_of_arrivals left) × (first_answer n (cut bytes) ≡ Some (body, length bytes))
+    × (tape_of_arrivals come ≡ on_tape bytes ++ tape_of_arrivals left) × (first_answer n (cut bytes)
+    ≡ Some (body, length bytes))
 
 -- it doesn't come in these bytes, before a pause or the end
 abbrev Lost : ℕ → List Arrival → List ℕ → Type 0
-Lost n come bytes = (left : List Arrival) × (first_reading n come ≡ first_reading n left) × (frames_before_pause left ≡ [])
-    × (tape_of_arrivals come ≡ on_tape bytes ++ tape_of_arrivals left) × (first_answer n (cut bytes) ≡ None)
+Lost n come bytes = (left : List Arrival) × (first_reading n come ≡ first_reading n left)
+    × (frames_before_pause left ≡ []) × (tape_of_arrivals come ≡ on_tape bytes ++ tape_of_arrivals left)
+    × (first_answer n (cut bytes) ≡ None)
 
 joined : (piece bytes : List ℕ) (tape left : Tape) → tape ≡ on_tape bytes ++ left
     → on_tape piece ++ tape ≡ on_tape (piece ++ bytes) ++ left
@@ -308,19 +316,22 @@ behind n piece bytes come whole other (inr (left, is, none, tape, first)) =
       further_first n piece bytes whole other ∙ ap (past_skipped (length piece)) first,
     )
 
-looked : (n : ℕ) (sent : List (List ℕ)) (come : List Arrival) → AllReplies sent → AreRecentReplies n sent (frames_before_pause come)
-    → Found n come (bytes_up_to_reply n (frames_before_pause come)) ⊎ Lost n come (bytes_up_to_reply n (frames_before_pause come))
+looked : (n : ℕ) (sent : List (List ℕ)) (come : List Arrival) → AllReplies sent
+    → AreRecentReplies n sent (frames_before_pause come) → Found n come (bytes_up_to_reply n (frames_before_pause come))
+    ⊎ Lost n come (bytes_up_to_reply n (frames_before_pause come))
 looked n sent [] all replies = inr ([], refl, refl, refl, refl)
 looked n sent (PauseArrives ∷ come) all replies = inr (PauseArrives ∷ come, refl, refl, refl, refl)
 looked n sent (EndArrives ∷ come) all replies = inr (EndArrives ∷ come, refl, refl, refl, refl)
 looked n sent (FrameArrives piece ∷ come) all (is, later) = elim (cases_Bool (is_answer n piece)) [
-  | inl found ↦ subst (λ bs. Found n (FrameArrives piece ∷ come) (piece ++ bs) ⊎ Lost n (FrameArrives piece ∷ come) (piece ++ bs))
+  | inl found ↦ subst (λ bs. Found n (FrameArrives piece ∷ come) (piece ++ bs)
+      ⊎ Lost n (FrameArrives piece ∷ come) (piece ++ bs))
       (sym (cond-true (is_answer n piece) [] (bytes_up_to_reply n (frames_before_pause come)) found))
       (inl (taken found (was_sent sent piece all is)))
-  | inr other ↦ subst (λ bs. Found n (FrameArrives piece ∷ come) (piece ++ bs) ⊎ Lost n (FrameArrives piece ∷ come) (piece ++ bs))
+  | inr other ↦ subst (λ bs. Found n (FrameArrives piece ∷ come) (piece ++ bs)
+      ⊎ Lost n (FrameArrives piece ∷ come) (piece ++ bs))
       (sym (cond-false (is_answer n piece) [] (bytes_up_to_reply n (frames_before_pause come)) other))
-      (behind n piece (bytes_up_to_reply n (frames_before_pause come)) come (shape piece (was_sent sent piece all is)) other
-      (looked n sent come all (later other)))
+      (behind n piece (bytes_up_to_reply n (frames_before_pause come)) come (shape piece (was_sent sent piece all is))
+      other (looked n sent come all (later other)))
 ]
   where
     taken : is_answer n piece ≡ true → (piece ≡ []) ⊎ (IsPiece piece × IsNotForged sent piece)
@@ -339,40 +350,44 @@ abbrev on_the_tape : Option (Reading × List Arrival) → Option (Reading × Tap
 on_the_tape None = None
 on_the_tape (Some (reading, come)) = Some (reading, tape_of_arrivals come)
 
-lost : (n : ℕ) (bytes : List ℕ) (left : List Arrival) → frames_before_pause left ≡ [] → first_answer n (cut bytes) ≡ None
-    → length bytes < reply_byte_limit → answer n (on_tape bytes ++ tape_of_arrivals left) ≡ on_the_tape (first_reading n left)
+lost : (n : ℕ) (bytes : List ℕ) (left : List Arrival) → frames_before_pause left ≡ [] → first_answer n (cut bytes)
+    ≡ None → length bytes < reply_byte_limit → answer n (on_tape bytes ++ tape_of_arrivals left)
+    ≡ on_the_tape (first_reading n left)
 lost n bytes [] none first lt = ap (answer n) (append-nil (on_tape bytes)) ∙ answer_waits n bytes first lt
 lost n bytes (PauseArrives ∷ left) none first lt = answer_silent n bytes (tape_of_arrivals left) first lt
 lost n bytes (EndArrives ∷ left) none first lt = answer_ended n bytes (tape_of_arrivals left) first lt
 lost n bytes (FrameArrives piece ∷ left) none first lt = cc
 
-read : (n : ℕ) (come : List Arrival) (bytes : List ℕ) → Found n come bytes ⊎ Lost n come bytes → length bytes < reply_byte_limit
-    → answer n (tape_of_arrivals come) ≡ on_the_tape (first_reading n come)
+read : (n : ℕ) (come : List Arrival) (bytes : List ℕ) → Found n come bytes ⊎ Lost n come bytes
+    → length bytes < reply_byte_limit → answer n (tape_of_arrivals come) ≡ on_the_tape (first_reading n come)
 read n come bytes (inl (body, left, is, tape, first)) lt =
-    ap (answer n) tape ∙ (answer_found n bytes (tape_of_arrivals left) body first (omega (arith, lt)) ∙ ap on_the_tape (sym is))
+    ap (answer n) tape ∙ (answer_found n bytes (tape_of_arrivals left) body first (omega (arith, lt)) ∙ ap on_the_tape
+    (sym is))
 read n come bytes (inr (left, is, none, tape, first)) lt =
     ap (answer n) tape ∙ (lost n bytes left none first lt ∙ ap on_the_tape (sym is))
 
 -- ---- the law
 
 module _ {P : Type 0} (m : Device P) (bodies : (bytes : List ℕ) (p : P) → IsFrameBody (m.answer bytes p)) where
-  given_reply : (n : ℕ) (bytes : List ℕ) (p : P) (execution : Execution) → IsReply (frame_of_reply m n bytes p execution)
+  given_reply : (n : ℕ) (bytes : List ℕ) (p : P) (execution : Execution)
+      → IsReply (frame_of_reply m n bytes p execution)
   given_reply n bytes p NotExecuted = inl refl
   given_reply n bytes p Executed = inr (n, m.answer bytes p, bodies bytes p, refl)
   given_reply n bytes p (ThenRestarted execution) = inl refl
 
-  pub brings_no_frame : {E R : Type 0} (d : Dialog E R) (n : ℕ) (come : List Arrival) (p : P) (executions : List Execution)
-      (before : List (List ℕ)) → AllReplies before → BringsReplies m d n come p executions before
-      → ForgesNoFrame m d n (tape_of_arrivals come) p executions before
+  pub brings_no_frame : {E R : Type 0} (d : Dialog E R) (n : ℕ) (come : List Arrival) (p : P)
+      (executions : List Execution) (before : List (List ℕ)) → AllReplies before
+      → BringsReplies m d n come p executions before → ForgesNoFrame m d n (tape_of_arrivals come) p executions before
   brings_no_frame (Done r) n come p executions before all brings = tt
-  brings_no_frame (Emit e d) n come p executions before all brings = brings_no_frame d n come p executions before all brings
+  brings_no_frame (Emit e d) n come p executions before all brings =
+      brings_no_frame d n come p executions before all brings
   brings_no_frame (Ask bytes go_on) n come p executions before all (lt, replies, later) =
       subst (on_reading (λ reading left.
       AreNotForged n now (cut (take reply_byte_limit (leading_bytes (tape_of_arrivals come))))
       × ForgesNoFrame m (go_on reading) (next n) left afterwards (later_executions executions) now))
       (sym (read n come (bytes_up_to_reply n (frames_before_pause come)) (looked n now come all_now replies) lt))
-      (by (λ reading left claim. brings_no_frame (go_on reading) (next n) left afterwards (later_executions executions) now all_now claim)
-      (first_reading n come) later)
+      (by (λ reading left claim. brings_no_frame (go_on reading) (next n) left afterwards (later_executions executions)
+      now all_now claim) (first_reading n come) later)
     where
       now : List (List ℕ)
       now = frame_of_reply m n bytes p (first_execution executions) ∷ before
@@ -389,10 +404,10 @@ module _ {P : Type 0} (m : Device P) (bodies : (bytes : List ℕ) (p : P) → Is
 
       by : ((reading : Reading) (left : List Arrival)
           → BringsReplies m (go_on reading) (next n) left afterwards (later_executions executions) now
-          → ForgesNoFrame m (go_on reading) (next n) (tape_of_arrivals left) afterwards (later_executions executions) now)
-          → (o : Option (Reading × List Arrival))
-          → IfRead (λ reading left. BringsReplies m (go_on reading) (next n) left afterwards (later_executions executions) now) o
-          → on_reading (λ reading left.
+          → ForgesNoFrame m (go_on reading) (next n) (tape_of_arrivals left) afterwards (later_executions executions)
+          now) → (o : Option (Reading × List Arrival))
+          → IfRead (λ reading left. BringsReplies m (go_on reading) (next n) left afterwards
+          (later_executions executions) now) o → on_reading (λ reading left.
           AreNotForged n now (cut (take reply_byte_limit (leading_bytes (tape_of_arrivals come))))
           × ForgesNoFrame m (go_on reading) (next n) left afterwards (later_executions executions) now) (on_the_tape o)
       by each None claim = tt

@@ -26,7 +26,8 @@ forged_run_succeeds = refl
 
 pub promise_void : (p q : Programmer) (exchanges : List Exchange) (bytes : List ℕ) (events : List (Event OutputEvent))
     → (p.chip.lfuse ≡ 0xE2 → ⊥) → WholeSessionOverExchanges fuse_plan p q exchanges bytes events 0 → ⊥
-promise_void p q exchanges bytes events other over = other ((over.1.comes.done refl).agrees.1.0 0 0xE2 refl (omega arith))
+promise_void p q exchanges bytes events other over =
+    other ((over.1.comes.done refl).agrees.1.0 0 0xE2 refl (omega arith))
 
 -- So such a frame was forged: with a chip whose fuse differs, no link that forges none brings this tape.
 pub frame_is_forged : (s : chips.ChipState) (got : List ℕ) (later : List (List ℕ)) (executions : List Execution)

@@ -50,8 +50,8 @@ abbrev body_read : Option (Reading × Tape) → List ℕ
 body_read (Some (Answered body, left)) = body
 body_read other = []
 
-further_body : (count : ℕ) (o : Option (List ℕ × ℕ)) (body : List ℕ) (used : ℕ) → past_skipped count o ≡ Some (body, used)
-    → (u : ℕ) × (o ≡ Some (body, u))
+further_body : (count : ℕ) (o : Option (List ℕ × ℕ)) (body : List ℕ) (used : ℕ) → past_skipped count o
+    ≡ Some (body, used) → (u : ℕ) × (o ≡ Some (body, u))
 further_body count None body used e = cc
 further_body count (Some (b, u)) body used e = (u, ap (λ x. Some (x, u)) (ap body_in e))
 
@@ -82,8 +82,9 @@ found n tape left body e = search (rules, found_by)
 
 module _ {P : Type 0} (m : Device P) where
   -- of the replies to the last 256 frames only the one to this question has its number
-  own : (n : ℕ) (bytes : List ℕ) (p : P) (execution : Execution) (before : List (List ℕ)) (body : List ℕ) → Past n 1 before
-      → Taken n (frame_of_reply m n bytes p execution ∷ before) body → IsAuthentic m bytes p execution (Answered body)
+  own : (n : ℕ) (bytes : List ℕ) (p : P) (execution : Execution) (before : List (List ℕ)) (body : List ℕ)
+      → Past n 1 before → Taken n (frame_of_reply m n bytes p execution ∷ before) body
+      → IsAuthentic m bytes p execution (Answered body)
   own n bytes p execution before body past t = by_sent execution (t.3 good)
     where
       good : is_good t.0 ≡ true
@@ -92,7 +93,8 @@ module _ {P : Type 0} (m : Device P) where
       number : seq_of t.0 ≡ n
       number = eqb-true (seq_of t.0) n (and_parts (is_good t.0) (seq_of t.0 == n) t.1).1
 
-      by_sent : (execution : Execution) → (body_of t.0 ≡ refusal) ⊎ IsAmongFirst 256 (frame_of_reply m n bytes p execution ∷ before) t.0
+      by_sent : (execution : Execution) → (body_of t.0 ≡ refusal)
+          ⊎ IsAmongFirst 256 (frame_of_reply m n bytes p execution ∷ before) t.0
           → IsAuthentic m bytes p execution (Answered body)
       by_sent execution (inl e) = inr (sym t.2 ∙ e)
       by_sent execution (inr (inr among)) = absurd
@@ -102,8 +104,8 @@ module _ {P : Type 0} (m : Device P) where
 
   by_reading : (n : ℕ) (bytes : List ℕ) (p : P) (execution : Execution) (before : List (List ℕ)) (reading : Reading)
       (tape left : Tape) → answer n tape ≡ Some (reading, left) → Past n 1 before
-      → AreNotForged n (frame_of_reply m n bytes p execution ∷ before) (cut (take reply_byte_limit (leading_bytes tape)))
-      → IsAuthentic m bytes p execution reading
+      → AreNotForged n (frame_of_reply m n bytes p execution
+      ∷ before) (cut (take reply_byte_limit (leading_bytes tape))) → IsAuthentic m bytes p execution reading
   by_reading n bytes p execution before (Answered body) tape left e past were =
       let f = found n tape left body e in
       own n bytes p execution before body past (search (rules, taken))
@@ -117,28 +119,30 @@ module _ {P : Type 0} (m : Device P) where
       (executions : List Execution) (before : List (List ℕ)) (o : Option (Reading × Tape)) → answer n tape ≡ o
       → Past n 1 before
       → ((reading : Reading) (left : Tape)
-      → ForgesNoFrame m (go_on reading) (next n) left (after_execution (first_execution executions) (m.after bytes p) p m.reset)
-      (later_executions executions) (frame_of_reply m n bytes p (first_execution executions) ∷ before)
-      → RepliesAreAuthentic m (go_on reading) (next n) left (after_execution (first_execution executions) (m.after bytes p) p m.reset)
-      (later_executions executions))
+      → ForgesNoFrame m (go_on reading) (next n) left (after_execution (first_execution executions) (m.after bytes p) p
+      m.reset) (later_executions executions) (frame_of_reply m n bytes p (first_execution executions) ∷ before)
+      → RepliesAreAuthentic m (go_on reading) (next n) left (after_execution (first_execution executions)
+      (m.after bytes p) p m.reset) (later_executions executions))
       → on_reading (λ reading left.
-      AreNotForged n (frame_of_reply m n bytes p (first_execution executions) ∷ before) (cut (take reply_byte_limit (leading_bytes tape)))
-      × ForgesNoFrame m (go_on reading) (next n) left (after_execution (first_execution executions) (m.after bytes p) p m.reset)
-      (later_executions executions) (frame_of_reply m n bytes p (first_execution executions) ∷ before)) o
+      AreNotForged n (frame_of_reply m n bytes p (first_execution executions)
+      ∷ before) (cut (take reply_byte_limit (leading_bytes tape))) × ForgesNoFrame m (go_on reading) (next n) left
+      (after_execution (first_execution executions) (m.after bytes p) p m.reset) (later_executions executions)
+      (frame_of_reply m n bytes p (first_execution executions) ∷ before)) o
       → AuthenticReading m bytes go_on n p executions o
   authentic_by bytes go_on n tape p executions before o e past each made = search (rules, by_reading)
 
   -- THE LAW
-  pub no_forged_frame_authentic : {E R : Type 0} (d : Dialog E R) (n : ℕ) (tape : Tape) (p : P) (executions : List Execution)
-      (before : List (List ℕ)) → Past n 1 before → ForgesNoFrame m d n tape p executions before
-      → RepliesAreAuthentic m d n tape p executions
+  pub no_forged_frame_authentic : {E R : Type 0} (d : Dialog E R) (n : ℕ) (tape : Tape) (p : P)
+      (executions : List Execution) (before : List (List ℕ)) → Past n 1 before
+      → ForgesNoFrame m d n tape p executions before → RepliesAreAuthentic m d n tape p executions
   no_forged_frame_authentic (Done r) n tape p executions before past made = tt
-  no_forged_frame_authentic (Emit e d) n tape p executions before past made = no_forged_frame_authentic d n tape p executions before past made
+  no_forged_frame_authentic (Emit e d) n tape p executions before past made =
+      no_forged_frame_authentic d n tape p executions before past made
   no_forged_frame_authentic (Ask bytes go_on) n tape p executions before past made =
       authentic_by bytes go_on n tape p executions before (answer n tape) refl past
       (λ reading left inner. no_forged_frame_authentic (go_on reading) (next n) left _ (later_executions executions)
-      (frame_of_reply m n bytes p (first_execution executions) ∷ before) (more_past n bytes p (first_execution executions) before past)
-      inner) made
+      (frame_of_reply m n bytes p (first_execution executions)
+      ∷ before) (more_past n bytes p (first_execution executions) before past) inner) made
 
 -- ---- a programmer that got a prefix of the bytes sent, as over a link that keeps their order
 

@@ -117,10 +117,11 @@ pub touched_made : (plan : Plan) (before after : Memories) (addr : ℕ) → addr
 touched_made plan before after addr l touched =
     let m : IsMadeByImages (take touched.count (write_operations plan)) addr (get_or before.flash addr 0)
     (get_or after.flash addr 0) =
-    subst (λ (n : Memories). IsMadeByImages (take touched.count (write_operations plan)) addr (get_or before.flash addr 0)
-    (get_or n.flash addr 0)) (sym touched.memories)
+    subst (λ (n : Memories). IsMadeByImages (take touched.count (write_operations plan)) addr
+    (get_or before.flash addr 0) (get_or n.flash addr 0)) (sym touched.memories)
     (made plan.part addr (take touched.count (write_operations plan)) before l) in
-    let first_is : (m.first ≡ get_or before.flash addr 0) ⊎ ((m.first ≡ 255) × (has_erase (write_operations plan) ≡ true)) =
+    let first_is : (m.first ≡ get_or before.flash addr 0)
+    ⊎ ((m.first ≡ 255) × (has_erase (write_operations plan) ≡ true)) =
     elim m.first_is [
       | inl same ↦ inl same
       | inr blank ↦ inr (blank.0, erase_of touched.count (write_operations plan) blank.1)

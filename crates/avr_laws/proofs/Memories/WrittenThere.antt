@@ -89,7 +89,8 @@ module _ (part : Part) (image : Image) (first : List Item) (before : Memories) (
   lock_blank erased b is = erased_is_blank part Lock 0 (λ m inside. refl) (λ m. refl) first before (omega arith)
       (erased.1 0 b is) erased.0
 
-  there : (mem : Mem) → WriteTakesEffect mem image first mid → MemoryHoldsImage part mem image (write_effect mem image mid)
+  there : (mem : Mem) → WriteTakesEffect mem image first mid
+      → MemoryHoldsImage part mem image (write_effect mem image mid)
   there mem taken = search (rules, flash_there, flash_blank, eeprom_there, true≢false, anded_blank, lock_blank)
 
 pub written_there : (part : Part) (before now : Memories) (mem : Mem) (image : Image) (first : List Item)

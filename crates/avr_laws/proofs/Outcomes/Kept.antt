@@ -37,13 +37,14 @@ module _ {P : Type 0} (m : Device P) where
       (after_execution (first_execution executions) (m.after bytes p) p m.reset) (later_executions executions)
       (frame_of_reply m n bytes p (first_execution executions) ∷ before))
       → on_reading (λ reading left.
-      AreNotForged n (frame_of_reply m n bytes p (first_execution executions) ∷ before) (cut (take reply_byte_limit (leading_bytes tape)))
+      AreNotForged n (frame_of_reply m n bytes p (first_execution executions)
+      ∷ before) (cut (take reply_byte_limit (leading_bytes tape)))
       × NoneForged m (frames_in (continue_with_reading (λ reading. played (go_on reading) (next n)) o).events) left
       (after_execution (first_execution executions) (m.after bytes p) p m.reset) (later_executions executions)
       (frame_of_reply m n bytes p (first_execution executions) ∷ before)) o
       → on_reading (λ reading left.
-      AreNotForged n (frame_of_reply m n bytes p (first_execution executions) ∷ before) (cut (take reply_byte_limit (leading_bytes tape)))
-      × ForgesNoFrame m (go_on reading) (next n) left
+      AreNotForged n (frame_of_reply m n bytes p (first_execution executions)
+      ∷ before) (cut (take reply_byte_limit (leading_bytes tape))) × ForgesNoFrame m (go_on reading) (next n) left
       (after_execution (first_execution executions) (m.after bytes p) p m.reset) (later_executions executions)
       (frame_of_reply m n bytes p (first_execution executions) ∷ before)) o
   asked bytes go_on n tape p executions before None each forged = tt
@@ -60,10 +61,11 @@ module _ {P : Type 0} (m : Device P) where
       (λ reading left inner. none_forged (go_on reading) (next n) left _ (later_executions executions)
       (frame_of_reply m n bytes p (first_execution executions) ∷ before) inner)
       (subst (λ (b : List ℕ). on_reading (λ reading left.
-      AreNotForged n (frame_of_reply m n b p (first_execution executions) ∷ before) (cut (take reply_byte_limit (leading_bytes tape)))
-      × NoneForged m (frames_in (continue_with_reading (λ reading. played (go_on reading) (next n)) (answer n tape)).events) left
-      (after_execution (first_execution executions) (m.after b p) p m.reset) (later_executions executions)
-      (frame_of_reply m n b p (first_execution executions) ∷ before)) (answer n tape))
+      AreNotForged n (frame_of_reply m n b p (first_execution executions)
+      ∷ before) (cut (take reply_byte_limit (leading_bytes tape)))
+      × NoneForged m (frames_in (continue_with_reading (λ reading. played (go_on reading) (next n))
+      (answer n tape)).events) left (after_execution (first_execution executions) (m.after b p) p m.reset)
+      (later_executions executions) (frame_of_reply m n b p (first_execution executions) ∷ before)) (answer n tape))
       (body_of_frame n bytes) forged)
 
 -- ---- so with status 0 the plan is kept
@@ -80,7 +82,8 @@ module _ (s : Settings) (plan : Plan) (x y : Devices) (r : IsRun s x y 0)
   pub kept : IsKept plan y.link.transcript x.desk y.desk
   kept p got later executions sound part_is came none =
       let is : y.link.transcript ≡ r.during = same s x y r plan made_is silent in
-      let bodies : SendsValidBodies (session plan) = asks plan p sound part_is (plan_fitted s r.openings plan made_is) in
+      let bodies : SendsValidBodies (session plan) =
+      asks plan p sound part_is (plan_fitted s r.openings plan made_is) in
       let forged : NoneForged device (frames_in (done s x y r plan made_is silent)) (heard r.during) p executions [] =
       subst (λ (fs : List (List ℕ)). NoneForged device fs (heard r.during) p executions []) (frames_are bodies)
       (subst (λ (t : Transcript). NoneForged device (frames (sent y.link.transcript)) (heard t) p executions []) is

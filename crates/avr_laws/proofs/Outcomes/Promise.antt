@@ -51,7 +51,8 @@ module _ (s : Settings) (x y : Devices) (r : IsRun s x y 0) where
   pub made : (plan : Plan) × ((planned s r.openings).stage_outcome ≡ Produced plan)
   made = search (rules, over)
 
-  module _ (plan : Plan) (made_is : (planned s r.openings).stage_outcome ≡ Produced plan) (silent : x.link.transcript ≡ []) where
+  module _ (plan : Plan) (made_is : (planned s r.openings).stage_outcome ≡ Produced plan) (silent : x.link.transcript
+      ≡ []) where
     pub same : y.link.transcript ≡ r.during
     same = r.grows ∙ ap (λ (t : Transcript). t ++ r.during) silent
 
@@ -60,7 +61,8 @@ module _ (s : Settings) (x y : Devices) (r : IsRun s x y 0) where
 
     over_plan : prepend_events before (played (session plan) 1 tape)
         ≡ record { events = r.events; outcome = Some (0, r.next, left_over) }
-    over_plan = sym (ap (λ (stage_outcome : StageOutcome Plan). prepend_events before (run_after_planning stage_outcome tape)) made_is) ∙ over
+    over_plan = sym (ap (λ (stage_outcome : StageOutcome Plan). prepend_events before (run_after_planning stage_outcome
+        tape)) made_is) ∙ over
 
     played_is : played (session plan) 1 tape ≡ record { events = done; outcome = Some (0, r.next, left_over) }
     played_is = ap (λ (p : Played OutputEvent ℕ). record { events = done; outcome = p.outcome }) over_plan
@@ -73,8 +75,8 @@ module _ (s : Settings) (x y : Devices) (r : IsRun s x y 0) where
         ∙ emitted_outputs (planned s r.openings).emits done
 
     only_read : OnlyReads (planned s r.openings).emits
-    only_read = subst (λ (stage_outcome : StageOutcome Plan). OnlyReads (events_with_refusal (planned s r.openings).emits stage_outcome)) made_is
-        (only_reads s r.openings)
+    only_read = subst (λ (stage_outcome : StageOutcome Plan). OnlyReads
+        (events_with_refusal (planned s r.openings).emits stage_outcome)) made_is (only_reads s r.openings)
 
     keeps_files : (m : Memories) → (expected_run plan m).status ≡ 0 → outputs done ≡ (expected_run plan m).emits
         → FilesAreSaved (saved_files plan m) x.desk y.desk
@@ -91,15 +93,15 @@ module _ (s : Settings) (x y : Devices) (r : IsRun s x y 0) where
     asked = desk_asked s r.openings plan x.desk y.desk (outputs done) made_is
         (subst (λ (emits : List OutputEvent). ChangesRecord (after_events emits) x.desk y.desk) outputs_are r.kept)
 
-    pub promise : (p : Programmer) (got : List ℕ) (later : List (List ℕ)) (executions : List Execution) → IsSoundChip p.chip
-        → p.chip.part ≡ plan.part → ReceivedSentFrames got later (frames (sent y.link.transcript)) executions
-        → ForgesNoFrame device (session plan) 1 (heard y.link.transcript) p executions []
+    pub promise : (p : Programmer) (got : List ℕ) (later : List (List ℕ)) (executions : List Execution)
+        → IsSoundChip p.chip → p.chip.part ≡ plan.part → ReceivedSentFrames got later (frames (sent y.link.transcript))
+        executions → ForgesNoFrame device (session plan) 1 (heard y.link.transcript) p executions []
         → Keeps plan (memories_of p.chip) (memories_of (after_received_bytes device got later p).chip) x.desk y.desk
     promise p got later executions sound part_is came none =
         let whole : WholeSessionOverExchanges plan p (after_received_bytes device got later p)
         (exchanges_heard (session plan) 1 tape executions) (sent r.during) done 0 =
-        over_bytes plan p sound part_is (plan_fitted s r.openings plan made_is) got (sent r.during) later executions tape
-        (subst (λ (t : Transcript). ReceivedSentFrames got later (frames (sent t)) executions) same came)
+        over_bytes plan p sound part_is (plan_fitted s r.openings plan made_is) got (sent r.during) later executions
+        tape (subst (λ (t : Transcript). ReceivedSentFrames got later (frames (sent t)) executions) same came)
         (subst (λ (t : Transcript). ForgesNoFrame device (session plan) 1 (heard t) p executions []) same none)
         left_over done 0 r.next played_is sent_is in
         let come = whole.1.comes in

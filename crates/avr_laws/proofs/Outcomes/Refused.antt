@@ -27,8 +27,8 @@ some_is : {A : Type 0} (a b : A) → ◌≡◌ {A = Option A} (Some a) (Some b) 
 some_is a b e = cc
 
 pub too_much : (plan : Plan) (w v : WiredState) (d e : DeskState) (status : ℕ) (weight : Weight)
-    → 4 * total_weight weight (bodies_in (run_steps plan)) < total_weight weight (map body_of (frames (sent v.transcript)))
-    → SessionOverWire plan w v d e status → ⊥
+    → 4 * total_weight weight (bodies_in (run_steps plan)) < total_weight weight
+    (map body_of (frames (sent v.transcript))) → SessionOverWire plan w v d e status → ⊥
 too_much plan w v d e status weight more over = let most = over.line.four weight in absurd (omega (arith, more, most))
 
 pub not_all_written : (plan : Plan) (w v : WiredState) (d e : DeskState)
@@ -50,11 +50,13 @@ pub answered_due : (openings : List Opening) → (run worked_settings openings w
 unfolding session opening handshake operation closing play attempts_or_fault attempt exchange answer
 answered_due openings = refl
 
-pub sent_due : (openings : List Opening) → bytes_sent (run worked_settings openings worked_replies).events ≡ worked_frames
+pub sent_due : (openings : List Opening) → bytes_sent (run worked_settings openings worked_replies).events
+    ≡ worked_frames
 unfolding session opening handshake operation closing play attempts_or_fault attempt exchange answer
 sent_due openings = refl
 
-pub emitted_due : (openings : List Opening) → outputs (run worked_settings openings worked_replies).events ≡ worked_lines
+pub emitted_due : (openings : List Opening) → outputs (run worked_settings openings worked_replies).events
+    ≡ worked_lines
 unfolding session opening handshake operation closing play attempts_or_fault attempt exchange answer
 emitted_due openings = refl
 

@@ -42,7 +42,8 @@ put_joined (f ∷ fs) gs = search (rules, cases_Bool, append_assoc, put_joined f
 none : WritesFiles [] []
 none = record { created = λ r. sym (append-nil (all_files r)); output = λ r. sym (append-nil r.output) }
 
-pub both : (a b : List OutputEvent) (fs gs : List Writing) → WritesFiles a fs → WritesFiles b gs → WritesFiles (a ++ b) (fs ++ gs)
+pub both : (a b : List OutputEvent) (fs gs : List Writing) → WritesFiles a fs → WritesFiles b gs
+    → WritesFiles (a ++ b) (fs ++ gs)
 both a b fs gs first second = record {
   created = λ r. ap all_files (after_append a b r) ∙ (second.created (after_events a r)
       ∙ (ap (λ (files : List Writing). files ++ named_files gs) (first.created r)
@@ -66,11 +67,23 @@ opened (Absent name) = record {
   created = λ r. files_absent name r ∙ sym (append-nil (all_files r));
   output = λ r. sym (append-nil r.output);
 }
-opened (Found reading) = record { created = λ r. files_opened (ToRead reading) r; output = λ r. sym (append-nil r.output) }
+opened (Found reading) = record {
+  created = λ r. files_opened (ToRead reading) r;
+  output =
+      λ r. sym (append-nil r.output);
+}
 
 saved_as : (b : Bool) (file text : Bytes) → is_dash file ≡ b
-    → WritesFiles (if b then WritesOutput text ∷ [] else CreatesFile file ∷ WritesFile text ∷ []) (record { name = file; bytes = text } ∷ [])
-saved_as true file text is = record { created = λ r. search (rules, is, append-nil); output = λ r. search (rules, is, append-nil) }
+    → WritesFiles (if b then WritesOutput text ∷ [] else CreatesFile file ∷ WritesFile text ∷ []) (record {
+      name =
+          file;
+      bytes = text;
+    } ∷ [])
+saved_as true file text is = record {
+  created = λ r. search (rules, is, append-nil);
+  output =
+      λ r. search (rules, is, append-nil);
+}
 saved_as false file text is =
     record { created = λ r. search (rules, is, files_used); output = λ r. search (rules, is, append-nil) }
 
@@ -78,8 +91,10 @@ saved_as false file text is =
 
 pub reading_writes : (emits : List OutputEvent) → OnlyReads emits → WritesFiles emits []
 reading_writes [] reads = none
-reading_writes (Opens opening ∷ emits) reads = both (Opens opening ∷ []) emits [] [] (opened opening) (reading_writes emits reads)
-reading_writes (PrintsLine bytes ∷ emits) reads = both (PrintsLine bytes ∷ []) emits [] [] (line bytes) (reading_writes emits reads)
+reading_writes (Opens opening ∷ emits) reads =
+    both (Opens opening ∷ []) emits [] [] (opened opening) (reading_writes emits reads)
+reading_writes (PrintsLine bytes ∷ emits) reads =
+    both (PrintsLine bytes ∷ []) emits [] [] (line bytes) (reading_writes emits reads)
 reading_writes (output ∷ emits) reads = absurd reads
 
 -- ---- the actions of the expected run
@@ -107,7 +122,8 @@ same_signature true emits writes = none
 same_signature false emits writes = writes
 
 module _ (part : Part) (s : Switches) where
-  of_action : (action : Action) (m : Memories) → WritesFiles (action_expected part s action m).emits (action_files part s action m)
+  of_action : (action : Action) (m : Memories) → WritesFiles (action_expected part s action m).emits
+      (action_files part s action m)
   of_action OpenSession m = search (rules, both, informed, warned, same_signature)
   of_action EraseChip m = search (rules, informed)
   of_action (WriteImage mem image) m = search (rules, informed)
@@ -128,7 +144,8 @@ module _ (part : Part) (s : Switches) where
   in_turn : (first : Expected) (standing : Standing) (next : Memories → Expected) (fs gs : List Writing)
       → first.standing ≡ standing → WritesFiles first.emits fs
       → ((next first.memories).standing ≡ NoFault → WritesFiles (next first.memories).emits gs)
-      → (then_from first standing next).standing ≡ NoFault → WritesFiles (then_from first standing next).emits (fs ++ gs)
+      → (then_from first standing next).standing ≡ NoFault → WritesFiles (then_from first standing next).emits (fs
+      ++ gs)
   in_turn first NoFault next fs gs is one more fine = both _ _ fs gs one (more fine)
   in_turn first Faulty next fs gs is one more fine = absurd (cc (sym is ∙ fine))
   in_turn first Over next fs gs is one more fine = absurd (cc (sym is ∙ fine))
@@ -141,8 +158,8 @@ module _ (part : Part) (s : Switches) where
       in_turn first first.standing (actions_expected part s all) (action_files part s action m)
       (actions_files part s all (effects part (action_items action) m)) refl (of_action action m)
       (subst (λ (n : Memories). (actions_expected part s all n).standing ≡ NoFault
-      → WritesFiles (actions_expected part s all n).emits (actions_files part s all (effects part (action_items action) m)))
-      (sym (leaves action m)) (of_actions all (effects part (action_items action) m))) fine
+      → WritesFiles (actions_expected part s all n).emits (actions_files part s all (effects part (action_items action)
+      m))) (sym (leaves action m)) (of_actions all (effects part (action_items action) m))) fine
 
 fine_by : (standing : Standing) → status_of standing ≡ 0 → standing ≡ NoFault
 fine_by NoFault is = refl

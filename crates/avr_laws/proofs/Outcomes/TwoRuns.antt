@@ -54,7 +54,8 @@ module _ (plan : Plan) (first second : Transcript) (old now : DeskState) (p q : 
           (memories_of (after_received_bytes device over more q).chip) (its_part plan p sound part_is fitted) fitted
           (its_sizes plan p sound part_is fitted) keeping
           (record { count = ended.leaves.write_operations.count; memories = ended.leaves.write_operations.memories })
-          (subst (λ (m : Memories). IsDone plan m (memories_of (after_received_bytes device over more q).chip)) left keeps.done)
+          (subst (λ (m : Memories). IsDone plan m (memories_of (after_received_bytes device over more q).chip)) left
+          keeps.done)
 
       pub images_there : plan.switches.no_verify ≡ false → (mem : Mem)
           → MemoryHoldsImage plan.part mem (written_to plan.part mem (asked_items plan))

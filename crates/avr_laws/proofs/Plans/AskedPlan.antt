@@ -150,7 +150,8 @@ module _ (Gives : GivesText) where
     tasks before (u ∷ updates) openings made saw =
         let first = saw_first (task_stage switches part u)
         (λ task. tasks_stage switches part (before ++ task ∷ []) updates) openings made saw in
-        let rest = tasks (before ++ first.0 ∷ []) updates (task_stage switches part u openings).openings_left made first.1.1 in
+        let rest = tasks (before ++ first.0 ∷ []) updates (task_stage switches part u openings).openings_left made
+        first.1.1 in
         search (rules, append_assoc, operation)
 
     all_tasks : (updates : List Update) (openings : List Opening) (made : List Task)

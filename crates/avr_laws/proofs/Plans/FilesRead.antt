@@ -60,7 +60,12 @@ module _ (stock : Stock) where
   settled_fixed result openings rest seen read = same_verdict result result openings rest refl
 
   output_fixed : (emits : List OutputEvent) → Sees (output_stage emits) []
-  output_fixed emits openings rest seen read = record { stage_outcome = refl; lines = refl; openings_left = λ made is. refl }
+  output_fixed emits openings rest seen read = record {
+    stage_outcome = refl;
+    lines = refl;
+    openings_left =
+        λ made is. refl;
+  }
 
   onward : {A B : Type 0} (stage : Stage A) (go_on : A → Stage B) (prefix back : List Bytes) → Sees stage prefix
       → ((a : A) → Sees (go_on a) back)
@@ -69,7 +74,8 @@ module _ (stock : Stock) where
       search (rules, map-append, append_assoc, of_first, whole)
     where
       of_first : (p : StageResult A) (stage_outcome : StageOutcome A) → p.stage_outcome ≡ stage_outcome
-          → AreTrueOpenings stock (continued_stage p.emits p.openings_left go_on stage_outcome).emits → AreTrueOpenings stock p.emits
+          → AreTrueOpenings stock (continued_stage p.emits p.openings_left go_on stage_outcome).emits
+          → AreTrueOpenings stock p.emits
       of_first p (Produced a) is seen = seen_first stock p.emits (go_on a p.openings_left).emits seen
       of_first p (Refused line) is seen = seen
       of_first p NotReadToEnd is seen = seen
@@ -77,7 +83,8 @@ module _ (stock : Stock) where
       whole : (p q : StageResult A) → IsSame p q (openings_of_files stock back ++ rest)
           → AreTrueOpenings stock (continued_stage p.emits p.openings_left go_on p.stage_outcome).emits
           → ((continued_stage p.emits p.openings_left go_on p.stage_outcome).stage_outcome ≡ NotReadToEnd → ⊥)
-          → IsSame (continued_stage p.emits p.openings_left go_on p.stage_outcome) (continued_stage q.emits q.openings_left go_on q.stage_outcome) rest
+          → IsSame (continued_stage p.emits p.openings_left go_on p.stage_outcome)
+          (continued_stage q.emits q.openings_left go_on q.stage_outcome) rest
       whole p q same seen read = search (rules, seen_second, lines_append)
 
   -- ---- a file
@@ -89,10 +96,12 @@ module _ (stock : Stock) where
   module _ {A : Type 0} (name : Bytes) (limit : ℕ) (judge : Bytes → Result A Bytes)
       (limited : IsLimited limit judge) where
     -- the bytes seen of it, and the whole of it
-    of_opening : (opening : Opening) (openings rest : List Opening) → IsTrueOpening stock [] (renamed_opening name opening)
+    of_opening : (opening : Opening) (openings rest : List Opening)
+        → IsTrueOpening stock [] (renamed_opening name opening)
         → ((content_stage name limit judge (renamed_opening name opening) openings).stage_outcome ≡ NotReadToEnd → ⊥)
         → IsSame (content_stage name limit judge (renamed_opening name opening) openings)
-        (content_stage name limit judge (renamed_opening name (read_whole name (content_of_name stock [] name))) rest) rest
+        (content_stage name limit judge (renamed_opening name (read_whole name (content_of_name stock [] name))) rest)
+        rest
     of_opening opening openings rest is read = search (rules, same_verdict)
 
     -- the same, after its opening
@@ -130,7 +139,8 @@ module _ (stock : Stock) where
       past_limit : (found whole : FoundKind) → nat_le (length bytes) LARGEST_IMAGE_FILE ≡ false
           → nat_le (length (bytes ++ more)) LARGEST_IMAGE_FILE ≡ false
           → take LARGEST_IMAGE_FILE (bytes ++ more) ≡ take LARGEST_IMAGE_FILE bytes → whole ≡ found
-          → image_of_file_within LARGEST_IMAGE_FILE whole (bytes ++ more) size ≡ image_of_file_within LARGEST_IMAGE_FILE found bytes size
+          → image_of_file_within LARGEST_IMAGE_FILE whole (bytes ++ more) size ≡ image_of_file_within LARGEST_IMAGE_FILE
+          found bytes size
       past_limit found whole one other prefix same = rw (one, other, prefix, same) refl
 
   plan_sees : (s : Settings) → Sees (planned s) (files_read s)

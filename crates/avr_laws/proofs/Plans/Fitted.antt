@@ -35,7 +35,8 @@ Image = List (Option ℕ)
 
 abbrev Earlier : {A B : Type 0} → Stage A → (A → Stage B) → List Opening → B → Type 0
 Earlier {A} stage go_on openings b =
-    (a : A) × (((stage openings).stage_outcome ≡ Produced a) × ((go_on a (stage openings).openings_left).stage_outcome ≡ Produced b))
+    (a : A) × (((stage openings).stage_outcome ≡ Produced a) × ((go_on a (stage openings).openings_left).stage_outcome
+    ≡ Produced b))
 
 earlier : {A B : Type 0} (stage : Stage A) (go_on : A → Stage B) (openings : List Opening) (b : B)
     → ((stage >>= go_on) openings).stage_outcome ≡ Produced b → Earlier stage go_on openings b
@@ -90,8 +91,8 @@ value_size text size image is = search (rules, from_zero_is_a_span, laid_size, l
 
 module _ (switches : Switches) (part : Part) where
   imaged : (u : Update) (make : Image → Task) (openings : List Opening) (task : Task)
-      → ((update_image switches part u >>= λ image. result_stage (Ok (make image))) openings).stage_outcome ≡ Produced task
-      → (image : Image) × ((length image ≡ size_of u.memory part) × (task ≡ make image))
+      → ((update_image switches part u >>= λ image. result_stage (Ok (make image))) openings).stage_outcome
+      ≡ Produced task → (image : Image) × ((length image ≡ size_of u.memory part) × (task ≡ make image))
   imaged u make openings task is =
       let first = earlier (update_image switches part u) (λ image. result_stage (Ok (make image))) openings task
       is in search (rules, value_size, file_size)
@@ -120,7 +121,14 @@ module _ (switches : Switches) (part : Part) where
   tasks before (u ∷ updates) openings made fitted is =
       let first = earlier (task_stage switches part u) (λ task. tasks_stage switches part (before ++ task ∷ []) updates)
       openings made is in
-      search (rules, all_one, operation, tasks (before ++ first.0 ∷ []) updates (task_stage switches part u openings).openings_left made (All-append (IsFitted part) before (first.0 ∷ []) fitted (all_one (IsFitted part) first.0 (operation u u.op openings first.0 first.1.0))) first.1.1)
+      search (
+        rules,
+        all_one,
+        operation,
+        tasks (before ++ first.0 ∷ []) updates
+            (task_stage switches part u openings).openings_left made (All-append (IsFitted part) before (first.0 ∷ []) fitted
+            (all_one (IsFitted part) first.0 (operation u u.op openings first.0 first.1.0))) first.1.1,
+      )
 
 pub plan_fitted : (s : Settings) (openings : List Opening) (plan : Plan)
     → (planned s openings).stage_outcome ≡ Produced plan → All (IsFitted plan.part) plan.tasks

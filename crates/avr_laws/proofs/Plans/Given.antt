@@ -37,7 +37,8 @@ pub seen_asked : (stock : Stock) (s : Settings) (openings : List Opening) (plan 
     → AreTrueOpenings stock (planned s openings).emits
     → (planned s openings).stage_outcome ≡ Produced plan → IsAsked s (FileHolds (content_of_name stock [])) plan
 seen_asked stock s openings plan seen made =
-    plan_asked (FileHolds (content_of_name stock [])) s openings plan (seen_given stock (planned s openings).emits seen) made
+    plan_asked (FileHolds (content_of_name stock [])) s openings plan (seen_given stock (planned s openings).emits seen)
+    made
 
 -- ---- by a desk's record
 

@@ -20,8 +20,9 @@ both (Opens opening ∷ xs) ys f g = both xs ys f g
 both (PrintsLine bytes ∷ xs) ys f g = both xs ys f g
 both (output ∷ xs) ys f g = absurd f
 
-going : {A B : Type 0} (emits : List OutputEvent) (openings_left : List Opening) (go_on : A → Stage B) (stage_outcome : StageOutcome A)
-    → OnlyReads emits → ((a : A) → Reads (go_on a)) → OnlyReads (continued_stage emits openings_left go_on stage_outcome).emits
+going : {A B : Type 0} (emits : List OutputEvent) (openings_left : List Opening) (go_on : A
+    → Stage B) (stage_outcome : StageOutcome A) → OnlyReads emits → ((a : A) → Reads (go_on a))
+    → OnlyReads (continued_stage emits openings_left go_on stage_outcome).emits
 going emits openings_left go_on (Produced a) f g = both emits (go_on a openings_left).emits f (g a openings_left)
 going emits openings_left go_on stage_outcome f g = f
 

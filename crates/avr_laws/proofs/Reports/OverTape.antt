@@ -21,7 +21,8 @@ use Rattle.avr_laws.specs.TrueReports.{ReportsTrue, EmittedTrue}
 abbrev pub ByExchanges : ℕ → List Execution → List Exchange → Type 0
 ByExchanges zero executions exchanges = Unit {0}
 ByExchanges (suc k) executions exchanges =
-    (first_execution executions ≡ execution_in (first_exchange exchanges)) × ByExchanges k (later_executions executions) (later_exchanges exchanges)
+    (first_execution executions ≡ execution_in (first_exchange exchanges)) × ByExchanges k (later_executions executions)
+    (later_exchanges exchanges)
 
 pub by_fates : (k : ℕ) (fates : List Fate) → ByExchanges k (executions_of_fates k fates) (exchanges_of_fates fates)
 by_fates zero fates = tt
@@ -35,7 +36,8 @@ by_answered : {E R : Type 0} (executions : List Execution) (go_on : Reading → 
     (more : Reading → Tape → List Exchange) (o : Option (Reading × Tape))
     → ((reading : Reading) (left : Tape)
     → ByExchanges (length (frames_in (go_on reading left).events)) (later_executions executions) (more reading left))
-    → ByExchanges (suc (length (frames_in (continue_with_reading go_on o).events))) executions (exchanges_from (first_execution executions) more o)
+    → ByExchanges (suc (length (frames_in (continue_with_reading go_on o).events))) executions
+    (exchanges_from (first_execution executions) more o)
 by_answered executions go_on more o each = search (rules, by_reading)
 
 pub by_tape : {E R : Type 0} (d : Dialog E R) (n : ℕ) (tape : Tape) (executions : List Execution)
@@ -53,8 +55,8 @@ module _ {P : Type 0} (m : Device P) where
   AlwaysTrue T d p = (k : ℕ) (exchanges : List Exchange) → ReportsTrue m T k d p exchanges
 
   asked : {E R : Type 0} (T : P → E → Type 0) (bytes : List ℕ) (go_on : Reading → Dialog E R) (n : ℕ) (tape : Tape)
-      (p : P) (executions : List Execution) (exchanges : List Exchange) (o : Option (Reading × Tape)) → answer n tape ≡ o
-      → IsFrameBody bytes → AlwaysTrue T (Ask bytes go_on) p
+      (p : P) (executions : List Execution) (exchanges : List Exchange) (o : Option (Reading × Tape)) → answer n tape
+      ≡ o → IsFrameBody bytes → AlwaysTrue T (Ask bytes go_on) p
       → ((reading : Reading) (left : Tape) (q : P) → AlwaysTrue T (go_on reading) q
       → RepliesAreAuthentic m (go_on reading) (next n) left q (later_executions executions)
       → ByExchanges (length (frames_in (played (go_on reading) (next n) left).events)) (later_executions executions)
@@ -62,11 +64,12 @@ module _ {P : Type 0} (m : Device P) where
       → EmittedTrue m T (played (go_on reading) (next n) left).events (later_exchanges exchanges) q)
       → on_reading (λ reading left.
       IsAuthentic m bytes p (first_execution executions) reading
-      × RepliesAreAuthentic m (go_on reading) (next n) left (after_execution (first_execution executions) (m.after bytes p) p m.reset)
-      (later_executions executions)) o
-      → ByExchanges (suc (length (frames_in (continue_with_reading (λ reading. played (go_on reading) (next n)) o).events))) executions
-      exchanges
-      → EmittedTrue m T (Frame (frame n bytes) ∷ (continue_with_reading (λ reading. played (go_on reading) (next n)) o).events) exchanges p
+      × RepliesAreAuthentic m (go_on reading) (next n) left (after_execution (first_execution executions)
+      (m.after bytes p) p m.reset) (later_executions executions)) o
+      → ByExchanges (suc (length (frames_in (continue_with_reading (λ reading. played (go_on reading) (next n))
+      o).events))) executions exchanges
+      → EmittedTrue m T (Frame (frame n bytes)
+      ∷ (continue_with_reading (λ reading. played (go_on reading) (next n)) o).events) exchanges p
   asked T bytes go_on n tape p executions exchanges None e b is_reported each h same = tt
   asked T bytes go_on n tape p executions exchanges (Some (reading, left)) e b is_reported each h same =
       let execution = first_execution executions in
@@ -74,20 +77,24 @@ module _ {P : Type 0} (m : Device P) where
       let t = authentic_exchange m bytes p execution reading h.0 in
       let inner : AlwaysTrue T (go_on reading) q =
       λ k exchanges. subst (λ r. ReportsTrue m T k (go_on reading) r exchanges) t.1
-      (subst (λ x. ReportsTrue m T k (go_on x) (after_exchange (exchange_by execution reading) (m.after bytes p) p m.reset) exchanges)
-      t.0 (is_reported (suc k) (exchange_by execution reading ∷ exchanges))) in search (rules, cond-true, frame_is_good, body_of_frame)
+      (subst (λ x. ReportsTrue m T k (go_on x) (after_exchange (exchange_by execution reading) (m.after bytes p) p
+      m.reset) exchanges) t.0 (is_reported (suc k) (exchange_by execution reading ∷ exchanges))) in
+      search (rules, cond-true, frame_is_good, body_of_frame)
 
   pub reported_any : {E R : Type 0} (T : P → E → Type 0) (d : Dialog E R) (n : ℕ) (tape : Tape) (p : P)
       (executions : List Execution) (exchanges : List Exchange) → SendsValidBodies d → AlwaysTrue T d p
-      → RepliesAreAuthentic m d n tape p executions → ByExchanges (length (frames_in (played d n tape).events)) executions exchanges
-      → EmittedTrue m T (played d n tape).events exchanges p
+      → RepliesAreAuthentic m d n tape p executions → ByExchanges (length (frames_in (played d n tape).events))
+      executions exchanges → EmittedTrue m T (played d n tape).events exchanges p
   reported_any T (Done r) n tape p executions exchanges asks is_reported h same = tt
-  reported_any T (Emit e d) n tape p executions exchanges asks is_reported h same =
-      ((is_reported 0 []).0, reported_any T d n tape p executions exchanges asks (λ k exchanges. (is_reported k exchanges).1) h same)
+  reported_any T (Emit e d) n tape p executions exchanges asks is_reported h same = (
+    (is_reported 0 []).0,
+    reported_any T d n tape p executions exchanges asks
+        (λ k exchanges. (is_reported k exchanges).1) h same,
+  )
   reported_any T (Ask bytes go_on) n tape p executions exchanges asks is_reported h same =
       asked T bytes go_on n tape p executions exchanges (answer n tape) refl asks.0 is_reported
-      (λ reading left q inner is_authentic alike. reported_any T (go_on reading) (next n) left q (later_executions executions)
-      (later_exchanges exchanges) (asks.1 reading) inner is_authentic alike) h same
+      (λ reading left q inner is_authentic alike. reported_any T (go_on reading) (next n) left q
+      (later_executions executions) (later_exchanges exchanges) (asks.1 reading) inner is_authentic alike) h same
 
   -- so of a prefix of the events
   pub results_prefix : {E : Type 0} (T : P → E → Type 0) (x y : List (Event E)) (exchanges : List Exchange) (p : P)

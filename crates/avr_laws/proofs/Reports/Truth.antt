@@ -43,8 +43,9 @@ abbrev link : World Spot ⊤
 link = this_link device
 
 -- each output event of a dialog that prints what is true is true at that moment
-all_true : (True : OutputEvent → Programmer → Type 0) {R : Type 0} (Now : Moment) (After : End R) (k : ℕ) (d : Dialog OutputEvent R) (z : Spot)
-    → PrintsFrom True Now After d z → ReportsTrue device (λ q output. True output q) k d z.0 z.1
+all_true : (True : OutputEvent → Programmer → Type 0) {R : Type 0} (Now : Moment) (After : End R) (k : ℕ)
+    (d : Dialog OutputEvent R) (z : Spot) → PrintsFrom True Now After d z
+    → ReportsTrue device (λ q output. True output q) k d z.0 z.1
 all_true True Now After k (Done r) z h = tt
 all_true True Now After k (Emit output d) z h =
     (h.0, all_true True (λ x. Now (output ∷ x)) (λ r x. After r (output ∷ x)) k d z h.1)
@@ -74,7 +75,8 @@ module _ (plan : Plan) (sound : IsPart plan.part) (m0 : Memories) (f0 : FitsPart
       → AllTrue T (bytes_output plan.switches.quiet mem count done_text) q
   counts_hold mem count done_text q t = search (rules, informs_hold)
 
-  failed : (fault : StepFault) (q : Programmer) → AllTrue T (PrintsLine (fault_line plan.part (host_fault fault)) ∷ []) q
+  failed : (fault : StepFault) (q : Programmer) → AllTrue T (PrintsLine (fault_line plan.part (host_fault fault))
+      ∷ []) q
   failed fault q = (StepFailed fault refl, tt)
 
   -- ---- the opening
@@ -152,8 +154,8 @@ module _ (plan : Plan) (sound : IsPart plan.part) (m0 : Memories) (f0 : FitsPart
           (counts_hold mem (length (saved_bytes plan mem (memories_of q.chip))) (codes " bytes read") q
           (BytesRead mem format file has refl)))
       by_kind (SkipAction SkippedErase) fits has order = λ q is.
-          hold_unless T (nat_lt 1 plan.switches.quiet) (PrintsLine (warning (codes "chip not erased because of -n" ∷ []))) q
-          (EraseLeftOut has refl)
+          hold_unless T (nat_lt 1 plan.switches.quiet) (PrintsLine (warning (codes "chip not erased because of -n"
+          ∷ []))) q (EraseLeftOut has refl)
       by_kind (SkipAction (SkippedWrite mem image)) fits has order = λ q is.
           counts_hold mem (byte_count image) (codes " bytes not written") q (WriteLeftOut mem image has refl)
 
@@ -186,11 +188,13 @@ module _ (plan : Plan) (sound : IsPart plan.part) (m0 : Memories) (f0 : FitsPart
       (λ q is. own_signature plan.switches.quiet q)
       (actions_true (work plan) (OpenSession ∷ []) (work_fits plan fitted) refl) z opened
 
-  pub session_goes : All (IsFitted plan.part) plan.tasks → (p : Programmer) (exchanges : List Exchange) → HasMemories plan.part m0 p
-      → Prints T (AtMoment plan m0) (AtEnd plan m0 ⊤) (session plan) (p, exchanges)
+  pub session_goes : All (IsFitted plan.part) plan.tasks → (p : Programmer) (exchanges : List Exchange)
+      → HasMemories plan.part m0 p → Prints T (AtMoment plan m0) (AtEnd plan m0 ⊤) (session plan) (p, exchanges)
   session_goes fitted p exchanges idle =
-      session_prints_true fitted (λ m z. Settled plan.part m z.0) ⊤ (anyhow plan.part sound plan.switches) (p, exchanges)
-      (on_link device (opening_comes plan.part sound plan.switches m0 f0 p idle))
+      session_prints_true fitted (λ m z. Settled plan.part m z.0) ⊤ (anyhow plan.part sound plan.switches) (
+        p,
+        exchanges,
+      ) (on_link device (opening_comes plan.part sound plan.switches m0 f0 p idle))
 
   pub session_reports : All (IsFitted plan.part) plan.tasks → (k : ℕ) (p : Programmer) (exchanges : List Exchange)
       → HasMemories plan.part m0 p

@@ -39,7 +39,8 @@ worked_came = record { good = refl }
 
 -- and each reply is the programmer's own
 abbrev first : List ℕ
-first = 0x1B ∷ 0x01 ∷ 0x00 ∷ 0x0B ∷ 0x0E ∷ 0x01 ∷ 0x00 ∷ 0x08 ∷ 0x53 ∷ 0x54 ∷ 0x4B ∷ 0x35 ∷ 0x30 ∷ 0x30 ∷ 0x5F ∷ 0x32 ∷ 0x02 ∷ []
+first = 0x1B ∷ 0x01 ∷ 0x00 ∷ 0x0B ∷ 0x0E ∷ 0x01 ∷ 0x00 ∷ 0x08 ∷ 0x53 ∷ 0x54 ∷ 0x4B ∷ 0x35 ∷ 0x30 ∷ 0x30 ∷ 0x5F ∷ 0x32
+    ∷ 0x02 ∷ []
 
 abbrev second : List ℕ
 second = 0x1B ∷ 0x02 ∷ 0x00 ∷ 0x02 ∷ 0x0E ∷ 0x10 ∷ 0x00 ∷ 0x05 ∷ []
@@ -58,8 +59,8 @@ sixth = 0x1B ∷ 0x06 ∷ 0x00 ∷ 0x02 ∷ 0x0E ∷ 0x11 ∷ 0x00 ∷ 0x00 ∷ 
 
 own : (piece reply : List ℕ) (pieces others : List (List ℕ)) (tape left : Tape) (p : Programmer)
     (executions : List Execution) (before : List (List ℕ)) (reading : Reading)
-    → answer (seq_of piece) tape ≡ Some (reading, left) → cut (take reply_byte_limit (leading_bytes tape)) ≡ reply ∷ others
-    → frame (seq_of piece) (device.answer (body_of piece) p) ≡ reply → is_answer (seq_of piece) reply ≡ true
+    → answer (seq_of piece) tape ≡ Some (reading, left) → cut (take reply_byte_limit (leading_bytes tape)) ≡ reply
+    ∷ others → frame (seq_of piece) (device.answer (body_of piece) p) ≡ reply → is_answer (seq_of piece) reply ≡ true
     → NoneForged device pieces left (device.after (body_of piece) p) executions
     (frame (seq_of piece) (device.answer (body_of piece) p) ∷ before)
     → NoneForged device (piece ∷ pieces) tape p (Executed ∷ executions) before
@@ -78,7 +79,8 @@ abbrev asked_first : List ℕ
 asked_first = 0x1B ∷ 0x01 ∷ 0x00 ∷ 0x01 ∷ 0x0E ∷ 0x01 ∷ 0x14 ∷ []
 
 abbrev asked_second : List ℕ
-asked_second = 0x1B ∷ 0x02 ∷ 0x00 ∷ 0x0C ∷ 0x0E ∷ 0x10 ∷ 0xC8 ∷ 0x64 ∷ 0x19 ∷ 0x20 ∷ 0x00 ∷ 0x53 ∷ 0x03 ∷ 0xAC ∷ 0x53 ∷ 0x00 ∷ 0x00 ∷ 0x31 ∷ []
+asked_second = 0x1B ∷ 0x02 ∷ 0x00 ∷ 0x0C ∷ 0x0E ∷ 0x10 ∷ 0xC8 ∷ 0x64 ∷ 0x19 ∷ 0x20 ∷ 0x00 ∷ 0x53 ∷ 0x03 ∷ 0xAC ∷ 0x53
+    ∷ 0x00 ∷ 0x00 ∷ 0x31 ∷ []
 
 abbrev asked_third : List ℕ
 asked_third = 0x1B ∷ 0x03 ∷ 0x00 ∷ 0x06 ∷ 0x0E ∷ 0x1B ∷ 0x04 ∷ 0x30 ∷ 0x00 ∷ 0x00 ∷ 0x00 ∷ 0x3F ∷ []
@@ -128,16 +130,20 @@ sent_sixth = frame (seq_of asked_sixth) (device.answer (body_of asked_sixth) at_
 pub worked_forges_none : NoneForged device (frames worked_frames) worked_replies programmer executed []
 unfolding answer
 worked_forges_none =
-    own asked_first first (asked_second ∷ asked_third ∷ asked_fourth ∷ asked_fifth ∷ asked_sixth ∷ []) (second ∷ third ∷ fourth ∷ fifth ∷ sixth ∷ []) (on_tape (first ++ second ++ third ++ fourth ++ fifth ++ sixth)) (on_tape (second ++ third ++ fourth ++ fifth ++ sixth)) programmer (Executed ∷ Executed ∷ Executed ∷ Executed ∷ Executed ∷ []) []
-    (Answered (body_of first)) refl refl refl refl (
-    own asked_second second (asked_third ∷ asked_fourth ∷ asked_fifth ∷ asked_sixth ∷ []) (third ∷ fourth ∷ fifth ∷ sixth ∷ []) (on_tape (second ++ third ++ fourth ++ fifth ++ sixth)) (on_tape (third ++ fourth ++ fifth ++ sixth)) at_second (Executed ∷ Executed ∷ Executed ∷ Executed ∷ []) sent_first
-    (Answered (body_of second)) refl refl refl refl (
-    own asked_third third (asked_fourth ∷ asked_fifth ∷ asked_sixth ∷ []) (fourth ∷ fifth ∷ sixth ∷ []) (on_tape (third ++ fourth ++ fifth ++ sixth)) (on_tape (fourth ++ fifth ++ sixth)) at_third (Executed ∷ Executed ∷ Executed ∷ []) sent_second
-    (Answered (body_of third)) refl refl refl refl (
-    own asked_fourth fourth (asked_fifth ∷ asked_sixth ∷ []) (fifth ∷ sixth ∷ []) (on_tape (fourth ++ fifth ++ sixth)) (on_tape (fifth ++ sixth)) at_fourth (Executed ∷ Executed ∷ []) sent_third
-    (Answered (body_of fourth)) refl refl refl refl (
-    own asked_fifth fifth (asked_sixth ∷ []) (sixth ∷ []) (on_tape (fifth ++ sixth)) (on_tape (sixth)) at_fifth (Executed ∷ []) sent_fourth
-    (Answered (body_of fifth)) refl refl refl refl (
+    own asked_first first (asked_second ∷ asked_third ∷ asked_fourth ∷ asked_fifth ∷ asked_sixth ∷ []) (second ∷ third
+    ∷ fourth ∷ fifth ∷ sixth ∷ []) (on_tape (first ++ second ++ third ++ fourth ++ fifth ++ sixth))
+    (on_tape (second ++ third ++ fourth ++ fifth ++ sixth)) programmer (Executed ∷ Executed ∷ Executed ∷ Executed
+    ∷ Executed ∷ []) [] (Answered (body_of first)) refl refl refl refl (
+    own asked_second second (asked_third ∷ asked_fourth ∷ asked_fifth ∷ asked_sixth ∷ []) (third ∷ fourth ∷ fifth
+    ∷ sixth ∷ []) (on_tape (second ++ third ++ fourth ++ fifth ++ sixth)) (on_tape (third ++ fourth ++ fifth ++ sixth))
+    at_second (Executed ∷ Executed ∷ Executed ∷ Executed ∷ []) sent_first (Answered (body_of second)) refl refl refl
+    refl (own asked_third third (asked_fourth ∷ asked_fifth ∷ asked_sixth ∷ []) (fourth ∷ fifth ∷ sixth
+    ∷ []) (on_tape (third ++ fourth ++ fifth ++ sixth)) (on_tape (fourth ++ fifth ++ sixth)) at_third (Executed
+    ∷ Executed ∷ Executed ∷ []) sent_second (Answered (body_of third)) refl refl refl refl (
+    own asked_fourth fourth (asked_fifth ∷ asked_sixth ∷ []) (fifth ∷ sixth ∷ []) (on_tape (fourth ++ fifth ++ sixth))
+    (on_tape (fifth ++ sixth)) at_fourth (Executed ∷ Executed ∷ []) sent_third (Answered (body_of fourth)) refl refl
+    refl refl (own asked_fifth fifth (asked_sixth ∷ []) (sixth ∷ []) (on_tape (fifth ++ sixth)) (on_tape (sixth))
+    at_fifth (Executed ∷ []) sent_fourth (Answered (body_of fifth)) refl refl refl refl (
     own asked_sixth sixth [] [] (on_tape (sixth)) [] at_sixth [] sent_fifth
     (Answered (body_of sixth)) refl refl refl refl (
     tt))))))

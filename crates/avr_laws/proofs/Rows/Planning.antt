@@ -71,7 +71,8 @@ begins =
 
 -- a line and a text that differ at this place
 differs : (place : ℕ) (line notice : Bytes) (old new : DeskState)
-    → ((back : Bytes) → get_or (notice ++ back) place 0 ≡ get_or line place 0 → ⊥) → ReportsLineAs line notice old new → ⊥
+    → ((back : Bytes) → get_or (notice ++ back) place 0 ≡ get_or line place 0 → ⊥) → ReportsLineAs line notice old new
+    → ⊥
 differs place line notice old new apart (inl whole) =
     apart [] (ap (λ (bytes : Bytes). get_or bytes place 0) (append-nil notice ∙ whole.0))
 differs place line notice old new apart (inr part) = search rules
@@ -91,13 +92,17 @@ begins_mixed : (passed : List Opening) (emitted : List OutputEvent) (done : List
     (more : List Update)
     (made : Plan)
     → of_values ∷ of_file ∷ [] ≡ done ++ due ∷ more → op_allocates due due.op ≡ true
-    → planned (record mixed { updates = done }) passed ≡ record { emits = emitted; stage_outcome = Produced made; openings_left = [] }
-    → (passed ≡ []) × (emitted ≡ [])
+    → planned (record mixed { updates = done }) passed ≡ record {
+      emits = emitted;
+      stage_outcome =
+          Produced made;
+      openings_left = [];
+    } → (passed ≡ []) × (emitted ≡ [])
 begins_mixed passed emitted [] due more made is takes planned_so = search rules
 begins_mixed passed emitted (x ∷ done) due more made is takes planned_so = search (rules, only_due)
 
-takes_first : (passed : List Opening) (emitted : List OutputEvent) → AtAllocatingUpdate mixed passed emitted → (passed ≡ [])
-    × (emitted ≡ [])
+takes_first : (passed : List Opening) (emitted : List OutputEvent) → AtAllocatingUpdate mixed passed emitted
+    → (passed ≡ []) × (emitted ≡ [])
 takes_first passed emitted at =
     begins_mixed passed emitted at.done at.due at.more at.plan at.updates_are at.takes at.is_planned
 
@@ -111,16 +116,18 @@ takes_behind_parts passed at = search rules
 module _ (r : Record) (k l m n status : ℕ) where
   -- the messages grew by this, and the status is that of a refusal
   abbrev Ends : Bytes → Type 0
-  Ends notice = RunsStage (AtAllocatingUpdate wanted) (planned wanted) (showing r k m) (showing (after_err notice r) l n) (Err status)
+  Ends notice = RunsStage (AtAllocatingUpdate wanted) (planned wanted) (showing r k m) (showing (after_err notice r) l
+      n) (Err status)
 
   abbrev ReportedAs : Bytes → Type 0
   ReportedAs notice = ReportsFailureAs (not_opened_line file) notice (showing r k m) (showing (after_err notice r) l n)
 
   notice_by : (notice : Bytes) → Ends notice → ReportedAs notice
-  notice_by notice ends = of_file_alone (unopened (AtAllocatingUpdate wanted) file notice (planned wanted) begins r k l m n status ends)
+  notice_by notice ends = of_file_alone (unopened (AtAllocatingUpdate wanted) file notice (planned wanted) begins r k l
+      m n status ends)
     where
-      of_file_alone : ReportedAs notice ⊎ (ReportsLineAs memory_line notice (showing r k m) (showing (after_err notice r) l n)
-          × ((passed : List Opening) × AtAllocatingUpdate wanted passed []))
+      of_file_alone : ReportedAs notice ⊎ (ReportsLineAs memory_line notice (showing r k m)
+          (showing (after_err notice r) l n) × ((passed : List Opening) × AtAllocatingUpdate wanted passed []))
           → ReportedAs notice
       of_file_alone (inl failure) = failure
       of_file_alone (inr memory) = absurd (search (rules, only_due))
@@ -141,14 +148,16 @@ module _ (r : Record) (k l m n status : ℕ) where
   half_a_line one few ends = search (rules, notice_by)
 
   -- no message, if the desk has not failed
-  reported_silence : RunsStage (AtAllocatingUpdate wanted) (planned wanted) (showing r k m) (showing r l n) (Err status) → ReportedAs []
+  reported_silence : RunsStage (AtAllocatingUpdate wanted) (planned wanted) (showing r k m) (showing r l n) (Err status)
+      → ReportedAs []
   reported_silence ends = search (rules, notice_by)
 
-  silence : NoFailureCounted k l → RunsStage (AtAllocatingUpdate wanted) (planned wanted) (showing r k m) (showing r l n) (Err status) → ⊥
+  silence : NoFailureCounted k l → RunsStage (AtAllocatingUpdate wanted) (planned wanted) (showing r k m)
+      (showing r l n) (Err status) → ⊥
   silence sound ends = search (rules, reported_silence)
 
-  silence_behind_a_file : NoFailureCounted m n → RunsStage (AtAllocatingUpdate wanted) (planned wanted) (showing r k m) (showing r l n)
-      (Err status) → ⊥
+  silence_behind_a_file : NoFailureCounted m n → RunsStage (AtAllocatingUpdate wanted) (planned wanted) (showing r k m)
+      (showing r l n) (Err status) → ⊥
   silence_behind_a_file sound ends = search (rules, reported_silence)
 
   half_behind_a_file : NoFailureCounted m n → Ends half → ⊥
@@ -180,7 +189,8 @@ lacks openings = refl
 
 module _ (r : Record) (k l m n status : ℕ) where
   -- a failed allocation, after the line of the refusal
-  refused_twice : ReportsOne refusal (refusal ++ memory_line) (planned lacking) lacks (AtAllocatingUpdate lacking) r k l m n → ⊥
+  refused_twice : ReportsOne refusal (refusal ++ memory_line) (planned lacking) lacks (AtAllocatingUpdate lacking) r k l
+      m n → ⊥
   refused_twice x0 = search rules
 
   two_faults : RunsStage (AtAllocatingUpdate lacking) (planned lacking) (showing r k m)

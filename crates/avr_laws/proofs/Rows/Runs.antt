@@ -119,7 +119,8 @@ whole_page = refl
 abbrev sign_on : List ℕ
 sign_on = frame 1 (0x01 ∷ [])
 
-no_more : (execution : Execution) (piece : List ℕ) (g : FramesByRestart) → length (adding_received execution piece g).0 ≤ suc (length g.0)
+no_more : (execution : Execution) (piece : List ℕ) (g : FramesByRestart) → length (adding_received execution piece g).0
+    ≤ suc (length g.0)
 no_more NotExecuted piece g = omega arith
 no_more Executed piece g = omega arith
 no_more (ThenRestarted execution) piece g = let one = no_more execution piece ([], g.0 ∷ g.1) in omega (arith, one)
@@ -137,7 +138,8 @@ once (execution ∷ more) =
 pub twice : (executions : List Execution) → ReceivedSentFrames (sign_on ++ sign_on) [] (sign_on ∷ []) executions → ⊥
 twice executions came =
     let few = once executions in
-    let two : length (received_frames executions (sign_on ∷ [])).0 ≡ 2 = ap (λ (g : FramesByRestart). length g.0) came.good in
+    let two : length (received_frames executions (sign_on ∷ [])).0 ≡ 2 =
+    ap (λ (g : FramesByRestart). length g.0) came.good in
     omega (arith, few, two)
 
 -- 6. Status 0 with a wrong byte, or with a byte missing.
@@ -173,7 +175,8 @@ fuse_plan byte = record { part = m328p; tasks = tasks byte; switches = switches 
 
 -- 2. An image of another update: the plan has the byte of the named file,
 pub the_file_named : (planned (settings false)
-    (Found (record { name = codes "low"; bytes = 0xE2 ∷ []; ended = true }) ∷ [])).stage_outcome ≡ Produced (fuse_plan 0xE2)
+    (Found (record { name = codes "low"; bytes = 0xE2 ∷ []; ended = true }) ∷ [])).stage_outcome
+    ≡ Produced (fuse_plan 0xE2)
 the_file_named = refl
 
 abbrev first_byte : List Task → ℕ

@@ -99,7 +99,8 @@ module _ (part : Part) where
     write_operations_mild : (xs : List Item) → AllMild part want xs → MildSteps (steps_of_items part xs)
     write_operations_mild [] f = tt
     write_operations_mild (Erase ∷ xs) f = absurd f.0
-    write_operations_mild (Write mem image ∷ xs) f = search (rules, steps_join, write_mild, write_operations_mild xs f.1)
+    write_operations_mild (Write mem image ∷ xs) f =
+        search (rules, steps_join, write_mild, write_operations_mild xs f.1)
 
 -- ---- the items of a plan
 
@@ -132,8 +133,8 @@ some_writes_again part sound xs k m fits f writes =
 items_again : (part : Part) (sound : IsPart part) (due : Bool) (xs : List Item) (k : ℕ) (m : Memories)
     → ItemsFit part (erase_if due ++ xs) → FitsPart part m → has_erase xs ≡ false
     → (due ≡ true → erase_keeps_eeprom part m ≡ true → ItemsKeepEeprom part (erase_if due ++ xs))
-    → effects part (erase_if due ++ xs) (effects part (take k (write_operations_of (steps_of_items part (erase_if due ++ xs)))) m)
-    ≡ effects part (erase_if due ++ xs) m
+    → effects part (erase_if due ++ xs) (effects part
+    (take k (write_operations_of (steps_of_items part (erase_if due ++ xs)))) m) ≡ effects part (erase_if due ++ xs) m
 items_again part sound due xs k m fits f writes kept =
     grind (arith, common_steps, some_write_operations_again, some_writes_again)
 
@@ -146,8 +147,8 @@ plan_again plan k m sound fitted f kept =
     let part = plan.part in
     let due = has_erase (items plan) in
     let are = items_are plan in
-    subst (λ all. effects part all (effects part (take k (write_operations_of (steps_of_items part all))) m) ≡ effects part all m)
-    (sym are)
+    subst (λ all. effects part all (effects part (take k (write_operations_of (steps_of_items part all))) m)
+    ≡ effects part all m) (sym are)
     (items_again part sound due (writes plan) k m
     (subst (ItemsFit part) are (items_fit part (work plan) (work_fits plan fitted))) f
     (tasks_write plan.switches plan.tasks)

@@ -69,7 +69,8 @@ module _ (part : Part) where
   write_between other image z o m t = λ mem.
       let zeros = keeps_zeros mem in
       let left : Memories → List ℕ = λ x.
-      if leaves_memory other mem (are_locked z) then memory_in part mem x else laid zeros image (memory_in part mem x) in
+      if leaves_memory other mem (are_locked z) then memory_in part mem x else laid zeros image (memory_in part mem x)
+      in
       let is : (x : Memories) → x.lock ∷ [] ≡ z.lock ∷ [] → left x ≡ memory_in part mem (write_effect other image x) =
       search (rules, leaves_memory, laid, write_is) in
       let each : Alike zeros (left z) (left o) (left m) =
@@ -102,7 +103,14 @@ module _ (part : Part) where
   actions_between [] z o m none t hz ho = tt
   actions_between (action ∷ actions) z o m none t hz ho =
       let next = items_between action actions z o m none t in
-      search (rules, action_between, no_more, actions_between actions (effects part (action_items action) z) (effects part (action_items action) o) (effects part (action_items action) m) (no_more action actions none) next hz.1 ho.1)
+      search (
+        rules,
+        action_between,
+        no_more,
+        actions_between actions (effects part (action_items action) z)
+            (effects part (action_items action) o) (effects part (action_items action) m) (no_more action actions none) next
+            hz.1 ho.1,
+      )
 
   -- ---- after an erase
 

@@ -21,7 +21,8 @@ chip_fits : (part : Part) (byte : ℕ) → byte < 256 → FitsPart part (chip_fi
 chip_fits part byte l = grind (arith, common_steps, length-replicate)
 
 -- a plan that agrees on every chip agrees on the two
-pub two_of_all : (plan : Plan) → ((m : Memories) → FitsPart plan.part m → ComparisonsAgree plan m) → AgreesOnTwoChips plan
+pub two_of_all : (plan : Plan) → ((m : Memories) → FitsPart plan.part m → ComparisonsAgree plan m)
+    → AgreesOnTwoChips plan
 two_of_all plan all = search (rules, chip_fits)
 
 pub run_repairs : (plan : Plan) (k : ℕ) (m : Memories) → IsPart plan.part → All (IsFitted plan.part) plan.tasks
@@ -32,19 +33,21 @@ pub run_repairs : (plan : Plan) (k : ℕ) (m : Memories) → IsPart plan.part �
 run_repairs plan k m sound fitted f erases both kept =
     search (rules, agrees_anyway, effects_sizes, expected_status, expected_memories, plan_again)
 
-pub first_writes_repaired : (plan : Plan) (before after : Memories) → IsPart plan.part → All (IsFitted plan.part) plan.tasks
-    → FitsPart plan.part before
+pub first_writes_repaired : (plan : Plan) (before after : Memories) → IsPart plan.part
+    → All (IsFitted plan.part) plan.tasks → FitsPart plan.part before
     → has_erase (items plan) ≡ true → AgreesOnTwoChips plan
     → (erase_keeps_eeprom plan.part before ≡ true → ItemsKeepEeprom plan.part (items plan))
     → HasFirstOperations plan before after → RunRepairs plan before after
 first_writes_repaired plan before after sound fitted f erases both kept touched =
-    subst (RunRepairs plan before) (sym touched.memories) (run_repairs plan touched.count before sound fitted f erases both kept)
+    subst (RunRepairs plan before) (sym touched.memories) (run_repairs plan touched.count before sound fitted f erases
+    both kept)
 
 -- a second run that did everything has the outcome that the first one would have had
 pub done_again : (plan : Plan) (before left after : Memories) → IsPart plan.part → All (IsFitted plan.part) plan.tasks
     → FitsPart plan.part before
-    → (has_erase (items plan) ≡ true → erase_keeps_eeprom plan.part before ≡ true → ItemsKeepEeprom plan.part (items plan))
-    → HasFirstOperations plan before left → IsDone plan left after → after ≡ effects plan.part (items plan) before
+    → (has_erase (items plan) ≡ true → erase_keeps_eeprom plan.part before ≡ true
+    → ItemsKeepEeprom plan.part (items plan)) → HasFirstOperations plan before left → IsDone plan left after → after
+    ≡ effects plan.part (items plan) before
 done_again plan before left after sound fitted f kept touched all = search (rules, plan_again)
 
 -- an expected run that succeeds, whatever the chip was

@@ -48,8 +48,8 @@ shorter : (prefix more piece later : List ℕ) → length prefix < piece_size pr
 shorter prefix more piece later part whole e = search rules
 
 -- if every byte was received, no piece is missing
-none_missing : (prefix unreceived : List ℕ) (pieces : List (List ℕ)) → length prefix < piece_size prefix → AreShort pieces
-    → prefix ++ unreceived ≡ concat pieces → unreceived ≡ [] → pieces ≡ []
+none_missing : (prefix unreceived : List ℕ) (pieces : List (List ℕ)) → length prefix < piece_size prefix
+    → AreShort pieces → prefix ++ unreceived ≡ concat pieces → unreceived ≡ [] → pieces ≡ []
 none_missing prefix unreceived [] part short e none = refl
 none_missing prefix unreceived (piece ∷ pieces) part short e none = search (rules, length-append)
 

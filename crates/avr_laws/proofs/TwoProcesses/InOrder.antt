@@ -93,120 +93,122 @@ module _ {P : Type 0} (m : Device P) (sound : RepliesFitFrames m) where
       → reply_frame m (frame n bytes) p ≡ frame n (m.answer bytes p)
   answer_is n bytes p b = search (rules, frame_is_good, body_of_frame)
 
-  pub after_is : (n : ℕ) (bytes : List ℕ) (p : P) → IsFrameBody bytes → after_frame m (frame n bytes) p ≡ m.after bytes p
+  pub after_is : (n : ℕ) (bytes : List ℕ) (p : P) → IsFrameBody bytes → after_frame m (frame n bytes) p
+      ≡ m.after bytes p
   after_is n bytes p b = search (rules, frame_is_good, body_of_frame)
 
-  module _ {E R : Type 0} (bytes : List ℕ) (go_on : Reading → Dialog E R) (n : ℕ) (p : P) (body : IsFrameBody bytes) where
-    -- the frames after the first, by what is read
-    abbrev frames_by : Option (Reading × Tape) → List (List ℕ)
-    frames_by o = frames_in (continue_with_reading (λ reading. played (go_on reading) (next n)) o).events
+  module _ {E R : Type 0} (bytes : List ℕ) (go_on : Reading → Dialog E R) (n : ℕ) (p : P) (body : IsFrameBody bytes)
+    where
+      -- the frames after the first, by what is read
+      abbrev frames_by : Option (Reading × Tape) → List (List ℕ)
+      frames_by o = frames_in (continue_with_reading (λ reading. played (go_on reading) (next n)) o).events
 
-    -- the replies that are due, by how many frames were received
-    abbrev due : ℕ → Option (Reading × Tape) → List (List ℕ)
-    due h o = answer_list m (first_of h (frame n bytes ∷ frames_by o)) p
+      -- the replies that are due, by how many frames were received
+      abbrev due : ℕ → Option (Reading × Tape) → List (List ℕ)
+      due h o = answer_list m (first_of h (frame n bytes ∷ frames_by o)) p
 
-    own_due : (h : ℕ) (o : Option (Reading × Tape)) (piece : List ℕ) (later : List (List ℕ)) → due h o ≡ piece ∷ later
-        → IsOwn n piece
-    own_due h o piece later e = search (rules, answer_is)
+      own_due : (h : ℕ) (o : Option (Reading × Tape)) (piece : List ℕ) (later : List (List ℕ)) → due h o ≡ piece ∷ later
+          → IsOwn n piece
+      own_due h o piece later e = search (rules, answer_is)
 
-    -- its own reply is found
-    finds : (h : ℕ) (tape : Tape) (last : List ℕ) (stub : IsStub last) (more : List (List ℕ)) (t : Tape) → t ≡ tape
-        → Finds n t last more (due h (answer n tape)) → ComesOwn m bytes go_on n tape p h more
-    finds zero tape last stub more t same f = absurd (cons_none _ f.later f.answers_are)
-    finds (suc h) tape last stub more t same f =
-        let left : Tape = slots_tape f.slots last in
-        let own : frame n f.bytes ≡ frame n (m.answer bytes p) =
-        sym (head_is _ (frame n f.bytes) _ f.later f.answers_are) ∙ answer_is n bytes p body in
-        let own_body : f.bytes ≡ m.answer bytes p =
-        sym (body_of_frame n f.bytes) ∙ (ap body_of own ∙ body_of_frame n (m.answer bytes p)) in
-        let is : answer n tape ≡ Some (Answered (m.answer bytes p), left) =
-        ap (answer n) (sym same) ∙ (f.is ∙ ap (λ b. Some (Answered b, left)) own_body) in
-        let comes : came f.slots ++ more ≡ answer_list m
-        (first_of h (frames_by (Some (Answered (m.answer bytes p), left)))) (m.after bytes p) =
-        search (rules, after_is) in
-        record {
-          left = left;
-          execution = refl;
-          is = is;
-          brings = record {
-            slots = f.slots;
-            last = last;
-            stub = stub;
-            tape_is = refl;
-            missed = 0;
-            count = refl;
-            old = [];
-            are_old = tt;
-            few = omega arith;
-            comes = comes;
-          };
-        }
+      -- its own reply is found
+      finds : (h : ℕ) (tape : Tape) (last : List ℕ) (stub : IsStub last) (more : List (List ℕ)) (t : Tape) → t ≡ tape
+          → Finds n t last more (due h (answer n tape)) → ComesOwn m bytes go_on n tape p h more
+      finds zero tape last stub more t same f = absurd (cons_none _ f.later f.answers_are)
+      finds (suc h) tape last stub more t same f =
+          let left : Tape = slots_tape f.slots last in
+          let own : frame n f.bytes ≡ frame n (m.answer bytes p) =
+          sym (head_is _ (frame n f.bytes) _ f.later f.answers_are) ∙ answer_is n bytes p body in
+          let own_body : f.bytes ≡ m.answer bytes p =
+          sym (body_of_frame n f.bytes) ∙ (ap body_of own ∙ body_of_frame n (m.answer bytes p)) in
+          let is : answer n tape ≡ Some (Answered (m.answer bytes p), left) =
+          ap (answer n) (sym same) ∙ (f.is ∙ ap (λ b. Some (Answered b, left)) own_body) in
+          let comes : came f.slots ++ more ≡ answer_list m
+          (first_of h (frames_by (Some (Answered (m.answer bytes p), left)))) (m.after bytes p) =
+          search (rules, after_is) in
+          record {
+            left = left;
+            execution = refl;
+            is = is;
+            brings = record {
+              slots = f.slots;
+              last = last;
+              stub = stub;
+              tape_is = refl;
+              missed = 0;
+              count = refl;
+              old = [];
+              are_old = tt;
+              few = omega arith;
+              comes = comes;
+            };
+          }
 
-    -- a timeout
-    finds_none : (h count missed : ℕ) (tape : Tape) (last : List ℕ) (stub : IsStub last) (more : List (List ℕ))
-        (t : Tape) (length_old : ℕ) → t ≡ tape → missed + suc count ≡ 8 → length_old ≤ missed
-        → FindsNone n missed length_old t last more (due h (answer n tape))
-        → ComesNone m bytes go_on n tape p h count more
-    finds_none zero count missed tape last stub more t length_old same counts le f =
-        let few = f.few in
-        record {
-          left = slots_tape f.slots last;
-          is = ap (answer n) (sym same) ∙ f.is;
-          brings = record {
-            slots = f.slots;
-            last = last;
-            stub = stub;
-            tape_is = refl;
-            missed = suc missed;
-            count = omega (arith, counts);
-            old = f.old;
-            are_old = all_older n missed f.old f.are_old;
-            few = omega (arith, few, le);
-            comes = f.left;
-          };
-        }
-    finds_none (suc h) count missed tape last stub more t length_old same counts le f =
-        let few = f.few in
-        let left : Tape = slots_tape f.slots last in
-        let is : answer n tape ≡ Some (Silent, left) = ap (answer n) (sym same) ∙ f.is in
-        let own : List ℕ = reply_frame m (frame n bytes) p in
-        record {
-          left = left;
-          is = is;
-          brings = record {
-            slots = f.slots;
-            last = last;
-            stub = stub;
-            tape_is = refl;
-            missed = suc missed;
-            count = omega (arith, counts);
-            old = f.old ++ own ∷ [];
-            are_old = old_and_own n missed f.old own f.are_old (own_due (suc h) (answer n tape) own _ refl);
-            few = rw (length-append f.old (own ∷ [])) (omega (arith, few, le));
-            comes =
-                search (rules, after_is, append_assoc);
-          };
-        }
+      -- a timeout
+      finds_none : (h count missed : ℕ) (tape : Tape) (last : List ℕ) (stub : IsStub last) (more : List (List ℕ))
+          (t : Tape) (length_old : ℕ) → t ≡ tape → missed + suc count ≡ 8 → length_old ≤ missed
+          → FindsNone n missed length_old t last more (due h (answer n tape))
+          → ComesNone m bytes go_on n tape p h count more
+      finds_none zero count missed tape last stub more t length_old same counts le f =
+          let few = f.few in
+          record {
+            left = slots_tape f.slots last;
+            is = ap (answer n) (sym same) ∙ f.is;
+            brings = record {
+              slots = f.slots;
+              last = last;
+              stub = stub;
+              tape_is = refl;
+              missed = suc missed;
+              count = omega (arith, counts);
+              old = f.old;
+              are_old = all_older n missed f.old f.are_old;
+              few = omega (arith, few, le);
+              comes = f.left;
+            };
+          }
+      finds_none (suc h) count missed tape last stub more t length_old same counts le f =
+          let few = f.few in
+          let left : Tape = slots_tape f.slots last in
+          let is : answer n tape ≡ Some (Silent, left) = ap (answer n) (sym same) ∙ f.is in
+          let own : List ℕ = reply_frame m (frame n bytes) p in
+          record {
+            left = left;
+            is = is;
+            brings = record {
+              slots = f.slots;
+              last = last;
+              stub = stub;
+              tape_is = refl;
+              missed = suc missed;
+              count = omega (arith, counts);
+              old = f.old ++ own ∷ [];
+              are_old = old_and_own n missed f.old own f.are_old (own_due (suc h) (answer n tape) own _ refl);
+              few = rw (length-append f.old (own ∷ [])) (omega (arith, few, le));
+              comes =
+                  search (rules, after_is, append_assoc);
+            };
+          }
 
-    waits_for : (h : ℕ) (tape : Tape) (more : List (List ℕ)) (t : Tape) → t ≡ tape
-        → Waits n t more (due h (answer n tape)) → StillWaits n tape h more
-    waits_for h tape more t same f = search (rules, no_middle)
+      waits_for : (h : ℕ) (tape : Tape) (more : List (List ℕ)) (t : Tape) → t ≡ tape
+          → Waits n t more (due h (answer n tape)) → StillWaits n tape h more
+      waits_for h tape more t same f = search (rules, no_middle)
 
-    by_reads : (h count missed length_old : ℕ) (tape : Tape) (last : List ℕ) (stub : IsStub last) (more : List (List ℕ))
-        (t : Tape) → t ≡ tape → missed + suc count ≡ 8 → length_old ≤ missed
-        → Reads n missed length_old t last more (due h (answer n tape)) → Comes m bytes go_on n tape p h count more
-    by_reads h count missed length_old tape last stub more t same counts le x12 =
-        search (rules, finds, finds_none, waits_for)
+      by_reads : (h count missed length_old : ℕ) (tape : Tape) (last : List ℕ) (stub : IsStub last) (more : List (List ℕ))
+          (t : Tape) → t ≡ tape → missed + suc count ≡ 8 → length_old ≤ missed
+          → Reads n missed length_old t last more (due h (answer n tape)) → Comes m bytes go_on n tape p h count more
+      by_reads h count missed length_old tape last stub more t same counts le x12 =
+          search (rules, finds, finds_none, waits_for)
 
-    pub asked : (h count : ℕ) (tape : Tape) (more : List (List ℕ))
-        → Brings m (Ask bytes go_on) n tape p h (suc count) more → Comes m bytes go_on n tape p h count more
-    asked h count tape more b =
-        let few = b.few in
-        let counts = b.count in
-        by_reads h count b.missed (length b.old) tape b.last b.stub more (slots_tape b.slots b.last) b.tape_is b.count
-        b.few
-        (reads n b.missed (omega (arith, counts)) b.last b.stub more [] b.slots b.old (due h (answer n tape))
-        (none_skipped n) (omega (arith, few, counts)) b.are_old (own_due h (answer n tape)) b.comes)
+      pub asked : (h count : ℕ) (tape : Tape) (more : List (List ℕ))
+          → Brings m (Ask bytes go_on) n tape p h (suc count) more → Comes m bytes go_on n tape p h count more
+      asked h count tape more b =
+          let few = b.few in
+          let counts = b.count in
+          by_reads h count b.missed (length b.old) tape b.last b.stub more (slots_tape b.slots b.last) b.tape_is b.count
+          b.few
+          (reads n b.missed (omega (arith, counts)) b.last b.stub more [] b.slots b.old (due h (answer n tape))
+          (none_skipped n) (omega (arith, few, counts)) b.are_old (own_due h (answer n tape)) b.comes)
 
   -- ---- the whole run
 
@@ -217,11 +219,11 @@ module _ {P : Type 0} (m : Device P) (sound : RepliesFitFrames m) where
   abbrev Reading_is : {E R : Type 0} → List ℕ → (Reading → Dialog E R) → ℕ → P → ℕ → Reading → Tape → Type 0
   Reading_is bytes go_on n p h reading left =
       IsAuthentic m bytes p (first_execution (all_executed h)) reading
-      × RepliesAreAuthentic m (go_on reading) (next n) left (after_execution (first_execution (all_executed h)) (m.after bytes p) p m.reset)
-      (later_executions (all_executed h))
+      × RepliesAreAuthentic m (go_on reading) (next n) left (after_execution (first_execution (all_executed h))
+      (m.after bytes p) p m.reset) (later_executions (all_executed h))
 
-  authentic_by : {E R : Type 0} (bytes : List ℕ) (go_on : Reading → Dialog E R) (n : ℕ) (tape : Tape) (p : P) (h count : ℕ)
-      (more : List (List ℕ)) → ((reading : Reading) → Authentic (go_on reading) (next n))
+  authentic_by : {E R : Type 0} (bytes : List ℕ) (go_on : Reading → Dialog E R) (n : ℕ) (tape : Tape) (p : P)
+      (h count : ℕ) (more : List (List ℕ)) → ((reading : Reading) → Authentic (go_on reading) (next n))
       → Comes m bytes go_on n tape p h count more
       → MissesFew (suc count) (Ask bytes go_on) → SendsValidBodies (Ask bytes go_on)
       → on_reading (Reading_is bytes go_on n p h) (answer n tape)
@@ -231,16 +233,16 @@ module _ {P : Type 0} (m : Device P) (sound : RepliesFitFrames m) where
         subst (RepliesAreAuthentic m (go_on (Answered (m.answer bytes p))) (next n) c.left
             (after_execution (first_execution (all_executed h)) (m.after bytes p) p m.reset)) (sym (search rules))
             (each (Answered (m.answer bytes p)) c.left
-            (after_execution (first_execution (all_executed h)) (m.after bytes p) p m.reset) (one_less h) 8 more c.brings
-            (few.0 (m.answer bytes p)) (asks.1 (Answered (m.answer bytes p)))),
+            (after_execution (first_execution (all_executed h)) (m.after bytes p) p m.reset) (one_less h) 8 more
+            c.brings (few.0 (m.answer bytes p)) (asks.1 (Answered (m.answer bytes p)))),
       )
   authentic_by bytes go_on n tape p h count more each (inr (inl c)) few asks =
       subst (on_reading (Reading_is bytes go_on n p h)) (sym c.is) (
         tt,
         subst (RepliesAreAuthentic m (go_on Silent) (next n) c.left
             (after_execution (first_execution (all_executed h)) (m.after bytes p) p m.reset)) (sym (search rules))
-            (each Silent c.left (after_execution (first_execution (all_executed h)) (m.after bytes p) p m.reset) (one_less h) count
-            more c.brings few.1 (asks.1 Silent)),
+            (each Silent c.left (after_execution (first_execution (all_executed h)) (m.after bytes p) p m.reset)
+            (one_less h) count more c.brings few.1 (asks.1 Silent)),
       )
   authentic_by bytes go_on n tape p h count more each (inr (inr c)) few asks = search rules
 
@@ -263,16 +265,17 @@ module _ {P : Type 0} (m : Device P) (sound : RepliesFitFrames m) where
   ends_by : {E R : Type 0} (bytes : List ℕ) (go_on : Reading → Dialog E R) (n : ℕ) (tape : Tape) (p : P) (h count : ℕ)
       → ((reading : Reading) → Ends (go_on reading) (next n)) → Comes m bytes go_on n tape p h count []
       → MissesFew (suc count) (Ask bytes go_on) → SendsValidBodies (Ask bytes go_on)
-      → suc (length (frames_in (continue_with_reading (λ reading. played (go_on reading) (next n)) (answer n tape)).events)) ≤ h
-      → (continue_with_reading (λ reading. played (go_on reading) (next n)) (answer n tape)).outcome ≡ None → ⊥
+      → suc (length (frames_in (continue_with_reading (λ reading. played (go_on reading) (next n))
+      (answer n tape)).events)) ≤ h → (continue_with_reading (λ reading. played (go_on reading) (next n))
+      (answer n tape)).outcome ≡ None → ⊥
   ends_by bytes go_on n tape p h count each (inl c) few asks all none =
-      each (Answered (m.answer bytes p)) c.left (after_execution (first_execution (all_executed h)) (m.after bytes p) p m.reset)
-      (one_less h) 8 c.brings (few.0 (m.answer bytes p)) (asks.1 (Answered (m.answer bytes p)))
+      each (Answered (m.answer bytes p)) c.left (after_execution (first_execution (all_executed h)) (m.after bytes p) p
+      m.reset) (one_less h) 8 c.brings (few.0 (m.answer bytes p)) (asks.1 (Answered (m.answer bytes p)))
       (search rules)
       (ap (λ o. (continue_with_reading (λ reading. played (go_on reading) (next n)) o).outcome) (sym c.is) ∙ none)
   ends_by bytes go_on n tape p h count each (inr (inl c)) few asks all none =
-      each Silent c.left (after_execution (first_execution (all_executed h)) (m.after bytes p) p m.reset) (one_less h) count
-      c.brings few.1 (asks.1 Silent)
+      each Silent c.left (after_execution (first_execution (all_executed h)) (m.after bytes p) p m.reset) (one_less h)
+      count c.brings few.1 (asks.1 Silent)
       (search rules)
       (ap (λ o. (continue_with_reading (λ reading. played (go_on reading) (next n)) o).outcome) (sym c.is) ∙ none)
   ends_by bytes go_on n tape p h count each (inr (inr c)) few asks all none = search rules

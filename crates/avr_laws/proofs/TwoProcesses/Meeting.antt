@@ -48,7 +48,8 @@ answers_short (piece ∷ pieces) p = (answer_short piece p, answers_short pieces
 -- ---- the server's end
 
 pub all_served : (p : Programmer) (transcript : Transcript) (left : EmulatorState)
-    → RepliesToAll p [] (bytes_on_tape (heard transcript)) (sent transcript) left → HasServed p transcript left.programmer
+    → RepliesToAll p [] (bytes_on_tape (heard transcript)) (sent transcript) left
+    → HasServed p transcript left.programmer
 all_served p transcript left all = search (rules, append-nil (bytes_on_tape (heard transcript)))
 
 broken_served : (p : Programmer) (transcript : Transcript) (left : EmulatorState)
@@ -114,7 +115,8 @@ module _ {E R : Type 0} (d : Dialog E R) (asks : SendsValidBodies d) (p left : P
 
     -- what the host reads is authentic, by what arrived
     pub meet_authentic : RepliesAreAuthentic device d 1 (heard host) p (all_executed arrived)
-    meet_authentic = in_order_authentic device replies_fit_frames d 1 (heard host) p arrived 8 slots.more brings few asks
+    meet_authentic = in_order_authentic device replies_fit_frames d 1 (heard host) p arrived 8 slots.more brings few
+        asks
 
     -- if all was received, the host doesn't wait
     pub meet_ends : unreceived ≡ [] → length (frames_in events) ≤ arrived → (played d 1 (heard host)).outcome ≡ None → ⊥

@@ -82,7 +82,8 @@ exchange_takes_few command commands before j le f = search (rules, weaker)
 attempt_few : (commands : List Command) (before : List ℕ) → Misses (AfterAttempt 7) 8 (attempt commands before)
 unfolding attempt
 attempt_few [] before = refl
-attempt_few (command ∷ commands) before = exchange_takes_few command commands before 7 (omega arith) (attempt_few commands)
+attempt_few (command ∷ commands) before =
+    exchange_takes_few command commands before 7 (omega arith) (attempt_few commands)
 
 abbrev AfterStep : ℕ → ℕ → StepOutcome → Type 0
 AfterStep r k (Ok bytes) = k ≡ 8

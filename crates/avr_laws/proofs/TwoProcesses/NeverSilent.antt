@@ -53,18 +53,24 @@ record ReadsOn (o : Option (Reading × Tape)) : Type 0 where
 end_on : (tape : Tape) → HasNoTimeout tape → ReadsOn (timeout_or_end tape)
 end_on tape p = search rules
 
-read_on : (o : Option (List ℕ × ℕ)) (bytes : List ℕ) (tape : Tape) → HasNoTimeout tape → ReadsOn (reading_from_first o bytes tape)
+read_on : (o : Option (List ℕ × ℕ)) (bytes : List ℕ) (tape : Tape) → HasNoTimeout tape
+    → ReadsOn (reading_from_first o bytes tape)
 read_on (Some (body, used)) bytes tape p = record { heard = refl; left = dropped used tape p }
 read_on None bytes tape p = elim (cases_Bool (nat_le reply_byte_limit (length bytes))) [
-  | inl full ↦ subst ReadsOn (sym (cond-true (nat_le reply_byte_limit (length bytes)) (Some (Babbled, drop reply_byte_limit tape))
-      (timeout_or_end (drop (length bytes) tape)) full)) (record { heard = refl; left = dropped reply_byte_limit tape p })
+  | inl full ↦ subst ReadsOn (sym (cond-true (nat_le reply_byte_limit (length bytes))
+      (Some (Babbled, drop reply_byte_limit tape)) (timeout_or_end (drop (length bytes) tape)) full)) (record {
+        heard =
+            refl;
+        left = dropped reply_byte_limit tape p;
+      })
   | inr few ↦ subst ReadsOn (search rules)
       (end_on (drop (length bytes) tape) (dropped (length bytes) tape p))
 ]
 
 answer_on : (n : ℕ) (tape : Tape) → HasNoTimeout tape → ReadsOn (answer n tape)
 unfolding answer
-answer_on n tape p = read_on (first_answer n (cut (take reply_byte_limit (leading_bytes tape)))) (take reply_byte_limit (leading_bytes tape)) tape p
+answer_on n tape p = read_on (first_answer n (cut (take reply_byte_limit (leading_bytes tape))))
+    (take reply_byte_limit (leading_bytes tape)) tape p
 
 -- The dialog goes along a perfect link.
 pub record Straight {E R P : Type 0} (m : Device P) (d : Dialog E R) (n : ℕ) (tape : Tape) (p : P) (h : ℕ) (r : R) :
@@ -93,8 +99,10 @@ module _ {P : Type 0} (m : Device P) (sound : RepliesFitFrames m) where
       → Straight m (Ask bytes go_on) n tape p h r
   straight_by {E} {R} bytes go_on n tape p h count more each (inl c) few asks prompt r seq unread e =
       let d = go_on (Answered (m.answer bytes p)) in
-      let first : played (Ask bytes go_on) n tape ≡ prepend_events (Frame (frame n bytes) ∷ []) (played d (next n) c.left) =
-      ap (λ o. prepend_events (Frame (frame n bytes) ∷ []) (continue_with_reading (λ reading. played (go_on reading) (next n)) o)) c.is in
+      let first : played (Ask bytes go_on) n tape ≡ prepend_events (Frame (frame n bytes)
+      ∷ []) (played d (next n) c.left) =
+      ap (λ o. prepend_events (Frame (frame n bytes)
+      ∷ []) (continue_with_reading (λ reading. played (go_on reading) (next n)) o)) c.is in
       let goes : HasNoTimeout c.left = subst (λ o. HasNoTimeout (left_of o)) c.is (answer_on n tape prompt).left in
       let inner = each (Answered (m.answer bytes p)) c.left
       (after_execution (first_execution (all_executed h)) (m.after bytes p) p m.reset) (one_less h) 8 more c.brings

@@ -48,21 +48,26 @@ calls_of (Ask bytes go_on) n p =
 
 -- at each moment what an end has received is a prefix of what the other has sent
 abbrev Joined : List ℕ → List ℕ → List ℕ → List ℕ → Type 0
-Joined emitted_up heard_up emitted_down heard_down = IsBytePrefixOf heard_up emitted_up × IsBytePrefixOf heard_down emitted_down
+Joined emitted_up heard_up emitted_down heard_down = IsBytePrefixOf heard_up emitted_up
+    × IsBytePrefixOf heard_down emitted_down
 
 abbrev JoinedFrom : List ℕ → List ℕ → List ℕ → List ℕ → List EndCall → Type 0
 JoinedFrom emitted_up heard_up emitted_down heard_down [] = Joined emitted_up heard_up emitted_down heard_down
 JoinedFrom emitted_up heard_up emitted_down heard_down (HostSends bytes ∷ calls) =
-    Joined emitted_up heard_up emitted_down heard_down × JoinedFrom (emitted_up ++ bytes) heard_up emitted_down heard_down calls
+    Joined emitted_up heard_up emitted_down heard_down × JoinedFrom (emitted_up ++ bytes) heard_up emitted_down
+    heard_down calls
 JoinedFrom emitted_up heard_up emitted_down heard_down (HostSendFails bytes ∷ calls) =
-    Joined emitted_up heard_up emitted_down heard_down × JoinedFrom (emitted_up ++ bytes) heard_up emitted_down heard_down calls
+    Joined emitted_up heard_up emitted_down heard_down × JoinedFrom (emitted_up ++ bytes) heard_up emitted_down
+    heard_down calls
 JoinedFrom emitted_up heard_up emitted_down heard_down (HostReceives items ∷ calls) =
     Joined emitted_up heard_up emitted_down heard_down
     × JoinedFrom emitted_up heard_up emitted_down (heard_down ++ bytes_on_tape items) calls
 JoinedFrom emitted_up heard_up emitted_down heard_down (ServerSends bytes ∷ calls) =
-    Joined emitted_up heard_up emitted_down heard_down × JoinedFrom emitted_up heard_up (emitted_down ++ bytes) heard_down calls
+    Joined emitted_up heard_up emitted_down heard_down × JoinedFrom emitted_up heard_up (emitted_down
+    ++ bytes) heard_down calls
 JoinedFrom emitted_up heard_up emitted_down heard_down (ServerSendFails bytes ∷ calls) =
-    Joined emitted_up heard_up emitted_down heard_down × JoinedFrom emitted_up heard_up (emitted_down ++ bytes) heard_down calls
+    Joined emitted_up heard_up emitted_down heard_down × JoinedFrom emitted_up heard_up (emitted_down
+    ++ bytes) heard_down calls
 JoinedFrom emitted_up heard_up emitted_down heard_down (ServerReceives items ∷ calls) =
     Joined emitted_up heard_up emitted_down heard_down
     × JoinedFrom emitted_up (heard_up ++ bytes_on_tape items) emitted_down heard_down calls
@@ -73,8 +78,8 @@ joined_now a b c d calls j = search rules
 
 -- after some first calls
 joined_behind : (a b c d : List ℕ) (first later : List EndCall) → JoinedFrom a b c d (first ++ later)
-    → Joined (a ++ sent (host_transcript first)) (b ++ bytes_on_tape (heard (server_transcript first))) (c ++ sent (server_transcript first))
-    (d ++ bytes_on_tape (heard (host_transcript first)))
+    → Joined (a ++ sent (host_transcript first)) (b ++ bytes_on_tape (heard (server_transcript first))) (c
+    ++ sent (server_transcript first)) (d ++ bytes_on_tape (heard (host_transcript first)))
 joined_behind a b c d [] later j = search (rules, joined_now)
 joined_behind a b c d (HostSends bytes ∷ first) later j =
     search (rules, append_assoc, joined_behind (a ++ bytes) b c d first later j.1)
@@ -126,7 +131,8 @@ calls_prompt (Ask bytes go_on) n p =
     bytes_prompt (frame n (device.answer bytes p)) _
     (calls_prompt (go_on (Answered (device.answer bytes p))) (next n) (device.after bytes p))
 
-calls_endless : {E R : Type 0} (d : Dialog E R) (n : ℕ) (p : Programmer) → HasNoEnd (heard (host_transcript (calls_of d n p)))
+calls_endless : {E R : Type 0} (d : Dialog E R) (n : ℕ) (p : Programmer)
+    → HasNoEnd (heard (host_transcript (calls_of d n p)))
 calls_endless (Done r) n p = tt
 calls_endless (Emit e d) n p = calls_endless d n p
 calls_endless (Ask bytes go_on) n p =
@@ -149,7 +155,8 @@ own_answer n bytes later b =
     let found : first_answer n (cut (frame n bytes)) ≡ Some (bytes, length (frame n bytes)) =
     ap (first_answer n) (cut_whole (frame n bytes) (frame_is_piece n bytes b.some b.few))
     ∙ (search (rules, frame_is_good, body_of_frame)) in
-    let few : length (frame n bytes) ≤ reply_byte_limit = let f = b.few in rw (length_frame n bytes) (omega (arith, f)) in
+    let few : length (frame n bytes) ≤ reply_byte_limit = let f = b.few in
+    rw (length_frame n bytes) (omega (arith, f)) in
     answer_found n (frame n bytes) later bytes found few
 
 -- a question with this reply
@@ -171,7 +178,15 @@ pub record IsWhole {E R : Type 0} (d : Dialog E R) (n : ℕ) (transcript : Trans
 
 pub host_plays : {E R : Type 0} (d : Dialog E R) (n : ℕ) (p : Programmer) → SendsValidBodies d
     → IsWhole d n (host_transcript (calls_of d n p))
-host_plays (Done r) n p asks = record { events = []; result = r; at = n; plays = λ later. refl; all_sent = refl; none_taken = tt }
+host_plays (Done r) n p asks = record {
+  events = [];
+  result = r;
+  at = n;
+  plays = λ later. refl;
+  all_sent =
+      refl;
+  none_taken = tt;
+}
 host_plays (Emit e d) n p asks =
     let inner = host_plays d n p asks in
     record {
@@ -219,7 +234,8 @@ host_in_turn (Ask bytes go_on) n p asks =
     let d = go_on (Answered reply) in
     let transcript = host_transcript (calls_of d (next n) (device.after bytes p)) in
     let waits : answer n [] ≡ None = answer_waits n [] refl (omega arith) in
-    let later : InTurnFrom (Ask bytes go_on) n (on_tape (frame n reply) ++ []) ((frame n bytes ++ []) ++ []) transcript =
+    let later : InTurnFrom (Ask bytes go_on) n (on_tape (frame n reply) ++ []) ((frame n bytes ++ [])
+    ++ []) transcript =
     in_turn_after (Ask bytes go_on) d n (next n) (on_tape (frame n reply)) (Frame (frame n bytes) ∷ [])
     (λ tape. asked bytes go_on n reply tape (replies_fit_frames bytes p asks.0)) transcript [] []
     (host_in_turn (go_on (Answered (device.answer bytes p))) (next n) (device.after bytes p)

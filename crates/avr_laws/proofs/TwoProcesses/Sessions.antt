@@ -51,7 +51,8 @@ answered_at : (p : Programmer) (text answered : List ℕ) (before after : Transc
 answered_at p text answered [] after items exchanges = search rules
 answered_at p text answered (Sent more ∷ before) after items exchanges =
     sym (append_assoc answered more (sent before)) ∙ answered_at p text (answered ++ more) before after items exchanges
-answered_at p text answered (Taken more ∷ before) after items exchanges = absurd (not_behind before after items exchanges)
+answered_at p text answered (Taken more ∷ before) after items exchanges =
+    absurd (not_behind before after items exchanges)
 answered_at p text answered (Got got ∷ before) after items exchanges =
     answered_at p (text ++ bytes_on_tape got) answered before after items exchanges.1
     ∙ ap (emulate p) (append_assoc text (bytes_on_tape got) (bytes_on_tape (heard before))
@@ -72,7 +73,8 @@ module _ (plan : Plan) (s : chips.ChipState) (is_sound : IsSoundChip s) (part_is
       (stalls : TimesOutBetweenReplies (heard host)) where
     pub is_authentic : (left : Programmer) (serves : HasServed (fresh_programmer s) server left) → IsJoined host server
         → IsBytePrefixOf (sent host) (bytes_sent (played (session plan) 1 (heard host)).events)
-        → RepliesAreAuthentic device (session plan) 1 (heard host) (fresh_programmer s) (all_executed (length (frames serves.used)))
+        → RepliesAreAuthentic device (session plan) 1 (heard host) (fresh_programmer s)
+        (all_executed (length (frames serves.used)))
     is_authentic left serves joined plays = search (rules, meet_authentic, asks, session_few)
 
     pub leaves : (left : Programmer) (serves : HasServed (fresh_programmer s) server left) → IsJoined host server
@@ -98,8 +100,8 @@ module _ (plan : Plan) (s : chips.ChipState) (is_sound : IsSoundChip s) (part_is
         } in
         let all : frames_in events ≡ frames (bytes_on_tape (heard server)) =
         search (rules, frames_sent, sends_whole, asks) in
-        meet_ends (session plan) asks p (after_frames device (frames (bytes_on_tape (heard server))) p) host server serves
-        (search rules) ([], append-nil (sent host) ∙ sym due.all_sent)
+        meet_ends (session plan) asks p (after_frames device (frames (bytes_on_tape (heard server))) p) host server
+        serves (search rules) ([], append-nil (sent host) ∙ sym due.all_sent)
         (session_few plan) endless stalls
         refl (let same = ap length all in omega (arith, same)) due.waits
 
@@ -118,8 +120,8 @@ module _ (plan : Plan) (s : chips.ChipState) (is_sound : IsSoundChip s) (part_is
         (played (session plan) 1 (heard host)).events
     touched left serves joined plays =
         let executions = all_executed (length (frames serves.used)) in
-        subst (λ q. ReportsOverExchanges plan (fresh_programmer s) q (exchanges_heard (session plan) 1 (heard host) executions)
-        (sent host) (played (session plan) 1 (heard host)).events)
+        subst (λ q. ReportsOverExchanges plan (fresh_programmer s) q (exchanges_heard (session plan) 1 (heard host)
+        executions) (sent host) (played (session plan) 1 (heard host)).events)
         (meet_sent (fresh_programmer s) left host server serves joined)
         (search (rules, over_any_end, is_authentic))
 
@@ -135,15 +137,15 @@ module _ (plan : Plan) (s : chips.ChipState) (is_sound : IsSoundChip s) (part_is
 
       pub whole : (left : Programmer) (serves : HasServed (fresh_programmer s) server left) → IsJoined host server
           → WholeSessionOverExchanges plan (fresh_programmer s) left
-          (exchanges_heard (session plan) 1 (heard host) (all_executed (length (frames serves.used)))) (sent host) events
-          status
+          (exchanges_heard (session plan) 1 (heard host) (all_executed (length (frames serves.used)))) (sent host)
+          events status
       whole left serves joined =
           let prefix : IsBytePrefixOf (sent host) (bytes_sent (played (session plan) 1 (heard host)).events) =
           ([], append-nil (sent host) ∙ sym all_sent) in
           let executions = all_executed (length (frames serves.used)) in
-          subst (λ q. WholeSessionOverExchanges plan (fresh_programmer s) q (exchanges_heard (session plan) 1 (heard host) executions)
-          (sent host) events status) (meet_sent (fresh_programmer s) left host server serves joined)
-          (search (rules, over_any_line, is_authentic, over))
+          subst (λ q. WholeSessionOverExchanges plan (fresh_programmer s) q (exchanges_heard (session plan) 1
+          (heard host) executions) (sent host) events status) (meet_sent (fresh_programmer s) left host server serves
+          joined) (search (rules, over_any_line, is_authentic, over))
 
       -- and one over a link without timeouts
       pub expected_of : (left : Programmer) → HasServed (fresh_programmer s) server left → IsJoined host server
@@ -171,20 +173,22 @@ module _ (plan : Plan) (s : chips.ChipState) (is_sound : IsSoundChip s) (part_is
       (after : Progress)
       (serves : HasServed (fresh_programmer s) server left) → IsJoined host server
       → Plays (session plan) start host events status after
-      → ForgesNoFrame device (session plan) 1 (heard host) (fresh_programmer s) (all_executed (length (frames serves.used))) []
-      → WholeSessionOverExchanges plan (fresh_programmer s) left
-      (exchanges_heard (session plan) 1 (heard host) (all_executed (length (frames serves.used)))) (sent host) events status
+      → ForgesNoFrame device (session plan) 1 (heard host) (fresh_programmer s)
+      (all_executed (length (frames serves.used))) [] → WholeSessionOverExchanges plan (fresh_programmer s) left
+      (exchanges_heard (session plan) 1 (heard host) (all_executed (length (frames serves.used)))) (sent host) events
+      status
   stalling left host server events status after serves joined plays made =
       let over : played (session plan) 1 (heard host)
       ≡ record { events = events; outcome = Some (status, after.next, on_tape after.unread ++ []) } =
       ap (played (session plan) 1) (sym (append-nil (heard host))) ∙ plays.plays [] in
       let executions = all_executed (length (frames serves.used)) in
-      subst (λ q. WholeSessionOverExchanges plan (fresh_programmer s) q (exchanges_heard (session plan) 1 (heard host) executions)
-      (sent host) events status) (meet_sent (fresh_programmer s) left host server serves joined)
+      subst (λ q. WholeSessionOverExchanges plan (fresh_programmer s) q (exchanges_heard (session plan) 1 (heard host)
+      executions) (sent host) events status) (meet_sent (fresh_programmer s) left host server serves joined)
       (search (rules, over_any_line, no_forged_frame_authentic))
 
   -- whatever happens to both
-  module _ (calls : List EndCall) (ordered : IsOrdered calls) (stalls : TimesOutBetweenReplies (heard (host_transcript calls)))
+  module _ (calls : List EndCall) (ordered : IsOrdered calls) (stalls : TimesOutBetweenReplies
+      (heard (host_transcript calls)))
       (left : Programmer) (serves : HasServed (fresh_programmer s) (server_transcript calls) left) where
     abbrev Ended : Type 0
     Ended = ReportsOverExchanges plan (fresh_programmer s) left
@@ -192,8 +196,8 @@ module _ (plan : Plan) (s : chips.ChipState) (is_sound : IsSoundChip s) (part_is
         (sent (host_transcript calls))
         (played (session plan) 1 (heard (host_transcript calls))).events
 
-    after_run : (old new : Devices) (status : ℕ) → old.link.transcript ≡ [] → new.link.transcript ≡ host_transcript calls
-        → RunsSession plan old new status → Ended
+    after_run : (old new : Devices) (status : ℕ) → old.link.transcript ≡ [] → new.link.transcript
+        ≡ host_transcript calls → RunsSession plan old new status → Ended
     after_run old new status host_old host_new runs =
         touched (host_transcript calls) (server_transcript calls) ordered.endless stalls left serves
         (ordered.joined calls [] (sym (append-nil calls)))
@@ -240,9 +244,10 @@ module _ (plan : Plan) (s : chips.ChipState) (is_sound : IsSoundChip s) (part_is
         × (outputs ran.events ≡ (expected_run plan (memories_of s)).emits)
         × (memories_of serves.left.programmer.chip ≡ (expected_run plan (memories_of s)).memories)
     one_expected after ordered prompt host_old host_new server_none server_some ran serves =
-        expected_of (host_transcript calls) (server_transcript calls) ordered.endless (prompt_stalls (heard (host_transcript calls)) prompt)
-        ran.events status after (played_all after host_old host_new ran) serves.left.programmer
-        (served_all server_none server_some serves) (ordered.joined calls [] (sym (append-nil calls))) prompt
+        expected_of (host_transcript calls) (server_transcript calls) ordered.endless
+        (prompt_stalls (heard (host_transcript calls)) prompt) ran.events status after
+        (played_all after host_old host_new ran) serves.left.programmer (served_all server_none server_some serves)
+        (ordered.joined calls [] (sym (append-nil calls))) prompt
 
     -- and however both end
     pub any_run : IsOrdered calls → TimesOutBetweenReplies (heard (host_transcript calls))

@@ -77,9 +77,10 @@ kind-prefix format prefix more len = search (rules, detected-prefix)
 
 -- the prefix, then the rest
 open_rest : (limit : ℕ) (format : Format) (size : ℕ) (name prefix : Bytes) (old mid now new : DeskState)
-    (given : ImageOrBadFile) → ChangesRecord (after_open name (Ok tt)) old mid → ChangesRecord (after_reading prefix false) mid now
-    → length prefix ≡ 1024 → ReadsRest limit (kind_of format prefix) size prefix now new given
-    → ReadsImage limit format size name old new given
+    (given : ImageOrBadFile) → ChangesRecord (after_open name (Ok tt)) old mid
+    → ChangesRecord (after_reading prefix false) mid now → length prefix ≡ 1024
+    → ReadsRest limit (kind_of format prefix) size prefix now new given → ReadsImage limit format size name old new
+    given
 open_rest limit format size name prefix old mid now new given opened first len rest = record {
   bytes = prefix ++ rest.bytes;
   ended = rest.ended;
@@ -90,9 +91,10 @@ open_rest limit format size name prefix old mid now new given opened first len r
 }
 
 pub image_is_rest : (limit : ℕ) (format : Format) (size : ℕ) (name prefix : Bytes) (old mid now new : DeskState)
-    (result : ImageOrFault) → ChangesRecord (after_open name (Ok tt)) old mid → ChangesRecord (after_reading prefix false) mid now
-    → length prefix ≡ 1024 → RestIsRead limit (kind_of format prefix) size prefix now new result
-    → ImageIsRead limit format size name old new result
+    (result : ImageOrFault) → ChangesRecord (after_open name (Ok tt)) old mid
+    → ChangesRecord (after_reading prefix false) mid now → length prefix ≡ 1024
+    → RestIsRead limit (kind_of format prefix) size prefix now new result → ImageIsRead limit format size name old new
+    result
 image_is_rest limit format size name prefix old mid now new (Ok good) opened first len rest = search (rules, open_rest)
 image_is_rest limit format size name prefix old mid now new (Err (Image bad)) opened first len rest =
     search (rules, open_rest)

@@ -39,7 +39,8 @@ decided-whole found size fault text d = sym (ap (λ t. image_of_file found t siz
 
 pub decided-long : (found : Found) (size : ℕ) (fault : BadFile) (text : Bytes) → HasCertainFault found size fault text
     → in_long_file fault ≡ fault_of_long_file found text size
-decided-long found size fault text d = sym (ap (λ t. fault_of_long_file found t size) (sym (append-nil text)) ∙ d.long [])
+decided-long found size fault text d = sym (ap (λ t. fault_of_long_file found t size) (sym (append-nil text)) ∙ d.long
+    [])
 
 sound-long : (kind : Kind) (size : ℕ) (text : Bytes) → ended_lines_fault kind text size ≡ None
     → TooLong ≡ fault_of_long_file (found_as kind) text size
@@ -58,4 +59,5 @@ records-long found size reader text takes =
 pub raw-too-long : (found : Found) (size : ℕ) (reader : raw_file.Holding) (text : Bytes)
     → RawReaderWasFed found size reader text
     → TooLong ≡ fault_of_long_file found text size
-raw-too-long found size reader text takes = subst (λ f. TooLong ≡ fault_of_long_file f text size) (sym takes.of_kind) refl
+raw-too-long found size reader text takes = subst (λ f. TooLong ≡ fault_of_long_file f text size) (sym takes.of_kind)
+    refl

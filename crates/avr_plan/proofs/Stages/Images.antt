@@ -26,16 +26,18 @@ Image = List (Option ℕ)
 
 -- what follows the file
 abbrev behind_file : Switches → Bytes → Image × Ending → Stage Image
-behind_file switches file given = output_stage (warning_events switches file given.1) >>= λ ok. result_stage (Ok given.0)
+behind_file switches file given = output_stage (warning_events switches file given.1) >>=
+    λ ok. result_stage (Ok given.0)
 
 went_file : (file : Bytes) (format : Format) (size : ℕ) (old mid : DeskState) (image : Image) (ending : Ending)
     → ReadsImage LARGEST_IMAGE_FILE format size file old mid (Ok (image, ending)) → HasSameCounts old mid
-    → StageCompleted (file_stage file LARGEST_IMAGE_FILE (checked_image file format size)) old mid (Produced (image, ending))
+    → StageCompleted (file_stage file LARGEST_IMAGE_FILE (checked_image file format size)) old mid
+    (Produced (image, ending))
 went_file file format size old mid image ending reads same =
     let judge = checked_image file format size in
     let given : judge reads.bytes ≡ Ok (image, ending) = ap (image_or_line file) (sym reads.gives) in
-    went_whole (OnlyAtStart false) file LARGEST_IMAGE_FILE judge reads.bytes reads.ended old mid (image, ending) reads.kept
-    reads.whole same (went_settled (judge reads.bytes) (image, ending) mid given)
+    went_whole (OnlyAtStart false) file LARGEST_IMAGE_FILE judge reads.bytes reads.ended old mid (image, ending)
+    reads.kept reads.whole same (went_settled (judge reads.bytes) (image, ending) mid given)
 
 module _ (switches : Switches) (file : Bytes) (format : Format) (size : ℕ) where
   -- a file that is an image, and its warning
@@ -44,8 +46,8 @@ module _ (switches : Switches) (file : Bytes) (format : Format) (size : ℕ) whe
       → StageCompleted (output_stage (warning_events switches file ending)) mid new (Produced tt)
       → StageCompleted (file_image_stage switches file format size) old new (Produced image)
   went_image old mid new image ending reads same warns =
-      completed_then (file_stage file LARGEST_IMAGE_FILE (checked_image file format size)) (behind_file switches file) old mid
-      new (image, ending) (Produced image)
+      completed_then (file_stage file LARGEST_IMAGE_FILE (checked_image file format size)) (behind_file switches file)
+      old mid new (image, ending) (Produced image)
       (went_file file format size old mid image ending reads same)
       (search rules)
 
@@ -55,8 +57,8 @@ module _ (switches : Switches) (file : Bytes) (format : Format) (size : ℕ) whe
       → RunsStage (OnlyAtStart false) (output_stage (warning_events switches file ending)) mid new (Err status)
       → RunsStage (OnlyAtStart false) (file_image_stage switches file format size) old new (Err status)
   goes_unwarned old mid new image ending status reads same warns =
-      runs_then (OnlyAtStart false) (OnlyAtStart false) (file_stage file LARGEST_IMAGE_FILE (checked_image file format size))
-      (behind_file switches file) old mid new
+      runs_then (OnlyAtStart false) (OnlyAtStart false) (file_stage file LARGEST_IMAGE_FILE
+      (checked_image file format size)) (behind_file switches file) old mid new
       (image, ending) (Err status) (went_file file format size old mid image ending reads same)
       (λ passed emitted never. absurd (never_allocates passed emitted never))
       (search (rules, runs_first_only))
@@ -73,8 +75,8 @@ module _ (switches : Switches) (file : Bytes) (format : Format) (size : ℕ) whe
 
   -- a file that was not read
   goes_unread : (old new : DeskState) (status : ℕ)
-      → RunsStage (OnlyAtStart false) (file_stage file LARGEST_IMAGE_FILE (checked_image file format size)) old new (Err status)
-      → RunsStage (OnlyAtStart false) (file_image_stage switches file format size) old new (Err status)
+      → RunsStage (OnlyAtStart false) (file_stage file LARGEST_IMAGE_FILE (checked_image file format size)) old new
+      (Err status) → RunsStage (OnlyAtStart false) (file_image_stage switches file format size) old new (Err status)
   goes_unread old new status goes = search (rules, runs_first_only)
 
   -- an image, but no room for its task
@@ -84,8 +86,8 @@ module _ (switches : Switches) (file : Bytes) (format : Format) (size : ℕ) whe
       → RunsStage (OnlyAtStart false) (file_image_stage switches file format size) old new (Err status)
   goes_without_room old mid new image ending status reads same one notice =
       goes_unread old new status
-      (goes_file_fault (OnlyAtStart false) file LARGEST_IMAGE_FILE (checked_image file format size) file_fault.Memory old mid
-      new status (reads.bytes, reads.ended, reads.kept) (follows_same old mid same) same one notice)
+      (goes_file_fault (OnlyAtStart false) file LARGEST_IMAGE_FILE (checked_image file format size) file_fault.Memory
+      old mid new status (reads.bytes, reads.ended, reads.kept) (follows_same old mid same) same one notice)
 
   -- the file gave no image
   pub goes_without_image : (old mid new : DeskState) (fault : ReadFault) (status : ℕ)

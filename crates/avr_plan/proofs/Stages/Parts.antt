@@ -21,8 +21,8 @@ use Rattle.avr_desk.specs.Stage.{Produced, file_stage}
 
 pub goes_long_parts : (file bytes : Bytes) (ended : Bool) (old mid new : DeskState) (status : ℕ)
     → ChangesRecord (with_read file bytes ended) old mid
-    → EndsOrExceedsLimit LARGEST_PART_FILE (record { bytes = bytes; ended = ended }) → ended ≡ false → HasSameCounts old mid
-    → status ≡ 1
+    → EndsOrExceedsLimit LARGEST_PART_FILE (record { bytes = bytes; ended = ended }) → ended ≡ false
+    → HasSameCounts old mid → status ≡ 1
     → ReportsLine mid new (too_long_line file LARGEST_PART_FILE)
     → RunsStage (OnlyAtStart false) (file_stage file LARGEST_PART_FILE (checked_parts file)) old new (Err status)
 goes_long_parts file bytes true old mid new status kept whole is same one notice = cc
@@ -33,8 +33,8 @@ goes_long_parts file bytes false old mid new status kept whole is same one notic
 
 pub went_parts : (file bytes : Bytes) (ended : Bool) (old mid : DeskState) (parts : List Part)
     → ChangesRecord (with_read file bytes ended) old mid
-    → EndsOrExceedsLimit LARGEST_PART_FILE (record { bytes = bytes; ended = ended }) → ended ≡ true → HasSameCounts old mid
-    → ReadsUnlessOutOfMemory (parts_of bytes) (Ok parts)
+    → EndsOrExceedsLimit LARGEST_PART_FILE (record { bytes = bytes; ended = ended }) → ended ≡ true
+    → HasSameCounts old mid → ReadsUnlessOutOfMemory (parts_of bytes) (Ok parts)
     → StageCompleted (file_stage file LARGEST_PART_FILE (checked_parts file)) old mid (Produced parts)
 went_parts file bytes false old mid parts kept whole is same gives = cc
 went_parts file bytes true old mid parts kept whole is same (inl gives) =
@@ -45,9 +45,13 @@ went_parts file bytes true old mid parts kept whole is same (inl gives) =
 went_parts file bytes true old mid parts kept whole is same (inr memory) = cc
 
 pub goes_bad_parts : (file bytes : Bytes) (ended : Bool) (old mid new : DeskState) (status : ℕ) (refused : NamedFault)
-    → ChangesRecord (with_read file bytes ended) old mid → EndsOrExceedsLimit LARGEST_PART_FILE (record { bytes = bytes; ended = ended })
-    → ended ≡ true → HasSameCounts old mid
-    → ReadsUnlessOutOfMemory (parts_of bytes) (Err refused) → status ≡ 1 → ReportsLine mid new (part_file_line file refused.fault)
+    → ChangesRecord (with_read file bytes ended) old mid → EndsOrExceedsLimit LARGEST_PART_FILE (record {
+      bytes =
+          bytes;
+      ended = ended;
+    }) → ended ≡ true → HasSameCounts old mid
+    → ReadsUnlessOutOfMemory (parts_of bytes) (Err refused) → status ≡ 1
+    → ReportsLine mid new (part_file_line file refused.fault)
     → RunsStage (OnlyAtStart false) (file_stage file LARGEST_PART_FILE (checked_parts file)) old new (Err status)
 goes_bad_parts file bytes false old mid new status refused kept whole is same gives one notice = cc
 goes_bad_parts file bytes true old mid new status refused kept whole is same (inl gives) one notice =

@@ -35,15 +35,15 @@ pub goes_without_part : (s : Settings) (old mid new : DeskState) (status : ℕ) 
     → RunsStage (OnlyAtStart false) (part_stage s.part parts) mid new (Err status)
     → RunsStage (AtAllocatingUpdate s) (planned s) old new (Err status)
 goes_without_part s old mid new status parts went goes =
-    runs_then (OnlyAtStart false) (AtAllocatingUpdate s) (parts_stage s.parts) (behind_parts s) old mid new parts (Err status) went
-    (λ passed emitted never. absurd (never_allocates passed emitted never))
+    runs_then (OnlyAtStart false) (AtAllocatingUpdate s) (parts_stage s.parts) (behind_parts s) old mid new parts
+    (Err status) went (λ passed emitted never. absurd (never_allocates passed emitted never))
     (runs_first_only (OnlyAtStart false) (part_stage s.part parts) (behind_part s) mid new status goes)
 
 -- an update that is due after the part is due in the plan
 at_due : (s : Settings) (old first mid : DeskState) (parts : List Part) (part : Part)
     (went : StageCompleted (parts_stage s.parts) old first (Produced parts))
-    (found : StageCompleted (part_stage s.part parts) first mid (Produced part)) (passed : List Opening) (emitted : List OutputEvent)
-    → AtAllocatingTask s.switches part [] s.updates passed emitted
+    (found : StageCompleted (part_stage s.part parts) first mid (Produced part)) (passed : List Opening)
+    (emitted : List OutputEvent) → AtAllocatingTask s.switches part [] s.updates passed emitted
     → AtAllocatingUpdate s (went.passed ++ (found.passed ++ passed)) (went.emits ++ (found.emits ++ emitted))
 at_due s old first mid parts part went found passed emitted due = search (rules, planned_so, before)
   where
@@ -53,11 +53,20 @@ at_due s old first mid parts part went found passed emitted due = search (rules,
     made : Stage Plan
     made = tasks_stage s.switches part [] due.done >>= λ tasks. result_stage (Ok (plan_of s part tasks))
 
-    made_so : made passed ≡ record { emits = emitted ++ []; stage_outcome = Produced (plan_of s part due.made); openings_left = [] }
-    made_so = ap (λ p. continued_stage p.emits p.openings_left (λ ts. result_stage (Ok (plan_of s part ts))) p.stage_outcome) due.are_made
+    made_so : made passed ≡ record {
+      emits = emitted ++ [];
+      stage_outcome = Produced (plan_of s part due.made);
+      openings_left = [];
+    }
+    made_so = ap (λ p. continued_stage p.emits p.openings_left (λ ts. result_stage (Ok (plan_of s part ts)))
+        p.stage_outcome) due.are_made
 
     planned_so : planned before (went.passed ++ (found.passed ++ passed))
-        ≡ record { emits = went.emits ++ (found.emits ++ emitted); stage_outcome = Produced (plan_of s part due.made); openings_left = [] }
+        ≡ record {
+          emits = went.emits ++ (found.emits ++ emitted);
+          stage_outcome = Produced (plan_of s part due.made);
+          openings_left = [];
+        }
     planned_so =
         search (rules, append-nil)
 
@@ -66,19 +75,19 @@ abbrev Behind : Settings → List Opening → List OutputEvent → AllocationPoi
 Behind s before emits passed emitted = AtAllocatingUpdate s (before ++ passed) (emits ++ emitted)
 
 pub goes_without_tasks : (s : Settings) (old first mid new : DeskState) (status : ℕ) (parts : List Part) (part : Part)
-    → StageCompleted (parts_stage s.parts) old first (Produced parts) → StageCompleted (part_stage s.part parts) first mid (Produced part)
-    → RunsStage (AtAllocatingTask s.switches part [] s.updates) (tasks_stage s.switches part [] s.updates) mid new (Err status)
-    → RunsStage (AtAllocatingUpdate s) (planned s) old new (Err status)
+    → StageCompleted (parts_stage s.parts) old first (Produced parts) → StageCompleted (part_stage s.part parts) first
+    mid (Produced part) → RunsStage (AtAllocatingTask s.switches part [] s.updates) (tasks_stage s.switches part []
+    s.updates) mid new (Err status) → RunsStage (AtAllocatingUpdate s) (planned s) old new (Err status)
 goes_without_tasks s old first mid new status parts part went found goes =
-    runs_then (Behind s went.passed went.emits) (AtAllocatingUpdate s) (parts_stage s.parts) (behind_parts s) old first new parts
-    (Err status) went (λ passed emitted there. there)
-    (runs_then (AtAllocatingTask s.switches part [] s.updates) (Behind s went.passed went.emits) (part_stage s.part parts)
-    (behind_part s) first mid new part (Err status) found (at_due s old first mid parts part went found)
-    (search (rules, runs_first_only)))
+    runs_then (Behind s went.passed went.emits) (AtAllocatingUpdate s) (parts_stage s.parts) (behind_parts s) old first
+    new parts (Err status) went (λ passed emitted there. there)
+    (runs_then (AtAllocatingTask s.switches part [] s.updates) (Behind s went.passed went.emits)
+    (part_stage s.part parts) (behind_part s) first mid new part (Err status) found (at_due s old first mid parts part
+    went found) (search (rules, runs_first_only)))
 
 pub went_whole_plan : (s : Settings) (old first mid new : DeskState) (parts : List Part) (part : Part)
     (tasks : List Task)
-    → StageCompleted (parts_stage s.parts) old first (Produced parts) → StageCompleted (part_stage s.part parts) first mid (Produced part)
-    → StageCompleted (tasks_stage s.switches part [] s.updates) mid new (Produced tasks)
+    → StageCompleted (parts_stage s.parts) old first (Produced parts) → StageCompleted (part_stage s.part parts) first
+    mid (Produced part) → StageCompleted (tasks_stage s.switches part [] s.updates) mid new (Produced tasks)
     → StageCompleted (planned s) old new (Produced (plan_of s part tasks))
 went_whole_plan s old first mid new parts part tasks went found made = search (rules, completed_then)

@@ -30,12 +30,14 @@ module _ (switches : Switches) (memory : Mem) (size size' : ℕ) (file file' : B
     (old new : DeskState) (result : Result (List (Option ℕ)) ℕ) (sizes : size ≡ size') (files : file ≡ file') where
   goes_of_same : (takes : Bool) → has_immediate_values format ≡ takes
       → RunsStage (OnlyAtStart takes) (image_stage switches memory size file format) old new result
-      → RunsStage (OnlyAtStart (has_immediate_values format)) (image_stage switches memory size' file' format) old new result
+      → RunsStage (OnlyAtStart (has_immediate_values format)) (image_stage switches memory size' file' format) old new
+      result
   goes_of_same takes values goes = search rules
 
   pub goes_of_file : (format ≡ Immediate → ⊥)
       → RunsStage (OnlyAtStart false) (file_image_stage switches file format size) old new result
-      → RunsStage (OnlyAtStart (has_immediate_values format)) (image_stage switches memory size' file' format) old new result
+      → RunsStage (OnlyAtStart (has_immediate_values format)) (image_stage switches memory size' file' format) old new
+      result
   goes_of_file other goes = goes_of_same false (search rules) (search (rules, file_stage-is))
 
 abbrev writes : Switches → Part → Update → Stage Task
@@ -73,8 +75,8 @@ module _ (switches : Switches) (part : Part) (tasks : List Task) (u : Update) (u
   }
 
   -- or a later update, whose task it is
-  at_later : (old mid : DeskState) (task : Task) (went : StageCompleted (task_stage switches part u) old mid (Produced task))
-      (passed : List Opening) (emitted : List OutputEvent)
+  at_later : (old mid : DeskState) (task : Task) (went : StageCompleted (task_stage switches part u) old mid
+      (Produced task)) (passed : List Opening) (emitted : List OutputEvent)
       → AtAllocatingTask switches part (tasks ++ task ∷ []) updates passed emitted
       → AtAllocatingTask switches part tasks (u ∷ updates) (went.passed ++ passed) (went.emits ++ emitted)
   at_later old mid task went passed emitted later = record {
@@ -93,17 +95,17 @@ module _ (switches : Switches) (part : Part) (tasks : List Task) (updates : List
       → drop i updates ≡ u ∷ drop (i + 1) updates → StageCompleted (task_stage switches part u) old mid (Produced task)
       → RunsStage (AtAllocatingTask switches part (tasks ++ task ∷ []) (drop (i + 1) updates))
       (tasks_stage switches part (tasks ++ task ∷ []) (drop (i + 1) updates)) mid new result
-      → RunsStage (AtAllocatingTask switches part tasks (drop i updates)) (tasks_stage switches part tasks (drop i updates)) old new
-      result
+      → RunsStage (AtAllocatingTask switches part tasks (drop i updates)) (tasks_stage switches part tasks
+      (drop i updates)) old new result
   goes_with_next old mid new task result is went goes = search (rules, runs_then, at_later, result, is, went, goes)
 
   pub goes_without_next : (old new : DeskState) (status : ℕ) → drop i updates ≡ u ∷ drop (i + 1) updates
       → RunsStage (OnlyAtStart (op_allocates u u.op)) (task_stage switches part u) old new (Err status)
-      → RunsStage (AtAllocatingTask switches part tasks (drop i updates)) (tasks_stage switches part tasks (drop i updates)) old new
-      (Err status)
+      → RunsStage (AtAllocatingTask switches part tasks (drop i updates)) (tasks_stage switches part tasks
+      (drop i updates)) old new (Err status)
   goes_without_next old new status is goes =
-      subst (λ (us : List Update). RunsStage (AtAllocatingTask switches part tasks us) (tasks_stage switches part tasks us) old new
-      (Err status)) (sym is)
+      subst (λ (us : List Update). RunsStage (AtAllocatingTask switches part tasks us) (tasks_stage switches part tasks
+      us) old new (Err status)) (sym is)
       (search (rules, goes_within, at_first, runs_first_only))
 
 pub all_one : (P : Task → Type 0) (task : Task) → P task → All P (task ∷ [])

@@ -31,11 +31,12 @@ went_values switches memory size text d image gives =
 
 pub goes_bad_values : (switches : Switches) (memory : Mem) (size : ℕ) (text : Bytes) (old new : DeskState) (status : ℕ)
     (fault : ImageFault)
-    → OrOutOfMemory (Err fault) (image_of_values text size) → status ≡ 1 → ReportsLine old new (values_line memory fault)
+    → OrOutOfMemory (Err fault) (image_of_values text size) → status ≡ 1
+    → ReportsLine old new (values_line memory fault)
     → RunsStage (OnlyAtStart true) (image_stage switches memory size text Immediate) old new (Err status)
 goes_bad_values switches memory size text old new status fault (inl is) one notice =
-    goes_unsettled (OnlyAtStart true) (values_or_line memory (image_of_values text size)) (values_line memory fault) old new status
-    (ap (values_or_line memory) (sym is)) one notice
+    goes_unsettled (OnlyAtStart true) (values_or_line memory (image_of_values text size)) (values_line memory fault) old
+    new status (ap (values_or_line memory) (sym is)) one notice
 goes_bad_values switches memory size text old new status fault (inr refused) one notice =
     search (rules, runs_without_memory)
 

@@ -38,7 +38,8 @@ walk-next kind e new text line left more is on w step = record {
   extent = search (rules, results-prefix, counts-next);
 }
 
-needed-is : (e : Extent) (emitted : List LineResult) → IsExtentOf largest_memory e (up_to_end emitted) → Ok e.end ≡ needed_by emitted
+needed-is : (e : Extent) (emitted : List LineResult) → IsExtentOf largest_memory e (up_to_end emitted) → Ok e.end
+    ≡ needed_by emitted
 needed-is e emitted m = rw (m.no_fault, ← m.end) refl
 
 -- nothing after an end record counts
@@ -49,7 +50,8 @@ walk-ended kind e text left done w =
     w.extent)
     ∙ ap needed_by (sym (emitted-all kind w.prefix left text w.cut))
 
-pub walk-last : (kind : Kind) (e : Extent) (text : List ℕ) → Walked kind e text [] → Ok e.end ≡ size_needed_in_text kind text
+pub walk-last : (kind : Kind) (e : Extent) (text : List ℕ) → Walked kind e text [] → Ok e.end
+    ≡ size_needed_in_text kind text
 walk-last kind e text w = grind (arith, nat_tests, append-nil)
 
 pub walk-fault : (kind : Kind) (e : Extent) (text line : List ℕ) (left more : List (List ℕ)) (fault : RecordFault)

@@ -158,8 +158,8 @@ no_fault_so_far kind p size part text same r = search (rules, reads-sound kind p
 
 -- ---- the whole text
 
-whole-emitted : (kind : Kind) (text : List ℕ) (prefix : List (List ℕ)) (last : List ℕ) → lines text ≡ prefix ++ last ∷ []
-    → map (line_result kind) (lines text) ≡ map (line_result kind) prefix ++ line_result kind last ∷ []
+whole-emitted : (kind : Kind) (text : List ℕ) (prefix : List (List ℕ)) (last : List ℕ) → lines text ≡ prefix ++ last
+    ∷ [] → map (line_result kind) (lines text) ≡ map (line_result kind) prefix ++ line_result kind last ∷ []
 whole-emitted kind text prefix last cut = ap (map (line_result kind)) cut ∙ results-prefix kind prefix last
 
 whole-next : (kind : Kind) (p new : Progress) (part text : List ℕ) (r : ReadsLines kind p part text)

@@ -21,12 +21,14 @@ use Rattle.avr_records.proofs.Readers.LaterLines.{with_lines_before-append, firs
 
 -- ---- one line after others
 
-fault-last : (size : ℕ) (emitted : List LineResult) (line : LineResult) → first_fault size (with_lines_before [] emitted) ≡ None
-    → fault_of_line size (emitted, line) ≡ None → first_fault size (with_lines_before [] (emitted ++ line ∷ [])) ≡ None
+fault-last : (size : ℕ) (emitted : List LineResult) (line : LineResult)
+    → first_fault size (with_lines_before [] emitted) ≡ None → fault_of_line size (emitted, line) ≡ None
+    → first_fault size (with_lines_before [] (emitted ++ line ∷ [])) ≡ None
 fault-last size emitted line none sound = grind (arith, nat_tests, with_lines_before-append, first_fault-append)
 
 end-last : (emitted : List LineResult) (line : LineResult)
-    → end_of_bytes (bytes_of_lines (emitted ++ line ∷ [])) ≡ end_after (end_of_bytes (bytes_of_lines emitted)) (bytes_of_line (emitted, line))
+    → end_of_bytes (bytes_of_lines (emitted ++ line ∷ [])) ≡ end_after (end_of_bytes (bytes_of_lines emitted))
+    (bytes_of_line (emitted, line))
 end-last emitted line = grind (arith, nat_tests, with_lines_before-append, flat_map-append, fold-append)
 
 count-last : (emitted : List LineResult) (line : LineResult) → count_by is_data_record (emitted ++ line ∷ [])
@@ -34,14 +36,16 @@ count-last : (emitted : List LineResult) (line : LineResult) → count_by is_dat
 count-last emitted line = grind (arith, nat_tests, sum_by-append)
 
 any_end-last : (emitted : List LineResult) (line : LineResult)
-    → (if is_end_record line then true else list_any is_end_record emitted) ≡ list_any is_end_record (emitted ++ line ∷ [])
+    → (if is_end_record line then true else list_any is_end_record emitted) ≡ list_any is_end_record (emitted ++ line
+    ∷ [])
 any_end-last emitted line = grind (arith, nat_tests, list_any-append)
 
 -- ---- one more line
 
 extent-bad : (size : ℕ) (e : Extent) (emitted more : List LineResult) (line : LineResult) (fault : RecordFault)
     → IsExtentOf size e emitted
-    → next_extent size e line ≡ Err fault → first_fault size (with_lines_before [] (emitted ++ line ∷ more)) ≡ Some fault
+    → next_extent size e line ≡ Err fault → first_fault size (with_lines_before [] (emitted ++ line ∷ more))
+    ≡ Some fault
 extent-bad size e emitted more line fault m is = grind (arith, nat_tests, with_lines_before-append, first_fault-append)
 
 -- ---- up to an end record
@@ -57,31 +61,34 @@ counts-next size e new emitted line on m is =
     search (rules, upto-last, fault-last, end-last, fold-append, count-last, length-append, any_end-last)
 
 -- nothing after an end record counts
-pub counts-more : (size : ℕ) (e : Extent) (emitted more : List LineResult) → e.ended ≡ true → IsExtentOf size e (up_to_end emitted)
-    → IsExtentOf size e (up_to_end (emitted ++ more))
+pub counts-more : (size : ℕ) (e : Extent) (emitted more : List LineResult) → e.ended ≡ true
+    → IsExtentOf size e (up_to_end emitted) → IsExtentOf size e (up_to_end (emitted ++ more))
 counts-more size e emitted more done m = grind (arith, nat_tests, up_to_end-done)
 
 -- the first line with a fault decides, whatever follows it
-pub counts-bad : (size : ℕ) (e : Extent) (emitted more : List LineResult) (line : LineResult) (fault : RecordFault) → e.ended ≡ false
-    → IsExtentOf size e (up_to_end emitted) → next_extent size e line ≡ Err fault
+pub counts-bad : (size : ℕ) (e : Extent) (emitted more : List LineResult) (line : LineResult) (fault : RecordFault)
+    → e.ended ≡ false → IsExtentOf size e (up_to_end emitted) → next_extent size e line ≡ Err fault
     → first_fault_among size (emitted ++ line ∷ more) ≡ Some fault
 counts-bad size e emitted more line fault on m is = grind (arith, nat_tests, up_to_end-open, extent-bad)
 
 -- ---- with the image
 
-length-with_bytes_at : (places : List (ℕ × ℕ)) (image : List (Option ℕ)) → length (with_bytes_at image places) ≡ length image
+length-with_bytes_at : (places : List (ℕ × ℕ)) (image : List (Option ℕ)) → length (with_bytes_at image places)
+    ≡ length image
 length-with_bytes_at [] image = refl
-length-with_bytes_at (p ∷ ps) image = length-with_bytes_at ps (with_byte image p.0 p.1) ∙ length-set image p.0 (Some p.1)
+length-with_bytes_at (p ∷ ps) image = length-with_bytes_at ps (with_byte image p.0 p.1) ∙ length-set image p.0
+    (Some p.1)
 
 with-good : (p new : Progress) (line : LineResult) (step : Result Extent RecordFault) → with_extent p line step ≡ Ok new
     → (step ≡ Ok new.extent) × (new.image ≡ with_bytes_at p.image (bytes_under_base p.extent.base line))
 with-good p new line step is = search (rules, nat_tests)
 
-pub holds-more : (p : Progress) (emitted more : List LineResult) → p.extent.ended ≡ true → HoldsLines p emitted → HoldsLines p (emitted ++ more)
+pub holds-more : (p : Progress) (emitted more : List LineResult) → p.extent.ended ≡ true → HoldsLines p emitted
+    → HoldsLines p (emitted ++ more)
 holds-more p emitted more done h = grind (arith, nat_tests, up_to_end-done)
 
-holds-on : (p new : Progress) (emitted : List LineResult) (line : LineResult) → p.extent.ended ≡ false → HoldsLines p emitted
-    → next_progress p line ≡ Ok new → HoldsLines new (emitted ++ line ∷ [])
+holds-on : (p new : Progress) (emitted : List LineResult) (line : LineResult) → p.extent.ended ≡ false
+    → HoldsLines p emitted → next_progress p line ≡ Ok new → HoldsLines new (emitted ++ line ∷ [])
 holds-on p new emitted line on h is =
     let parts = with-good p new line (next_extent (image_size p) p.extent line)
     (sym (cond-false p.extent.ended _ _ on) ∙ is) in
@@ -95,8 +102,8 @@ done-step : (p : Progress) (line : LineResult) (out : Result Progress RecordFaul
 done-step p line out done is = sym (cond-true p.extent.ended (Ok p) _ done) ∙ is
 
 -- a good line changes the state as the definitions say
-pub holds-next : (p new : Progress) (emitted : List LineResult) (line : LineResult) → HoldsLines p emitted → next_progress p line ≡ Ok new
-    → HoldsLines new (emitted ++ line ∷ [])
+pub holds-next : (p new : Progress) (emitted : List LineResult) (line : LineResult) → HoldsLines p emitted
+    → next_progress p line ≡ Ok new → HoldsLines new (emitted ++ line ∷ [])
 holds-next p new emitted line h is = elim (cases_Bool p.extent.ended) [
   | inl done ↦
       let same : p ≡ new = cc (done-step p line (Ok new) done is) in
@@ -105,8 +112,9 @@ holds-next p new emitted line h is = elim (cases_Bool p.extent.ended) [
 ]
 
 -- its fault is the fault of the file
-pub holds-bad : (p : Progress) (emitted more : List LineResult) (line : LineResult) (fault : RecordFault) → HoldsLines p emitted
-    → next_progress p line ≡ Err fault → first_fault_among (image_size p) (emitted ++ line ∷ more) ≡ Some fault
+pub holds-bad : (p : Progress) (emitted more : List LineResult) (line : LineResult) (fault : RecordFault)
+    → HoldsLines p emitted → next_progress p line ≡ Err fault → first_fault_among (image_size p) (emitted ++ line
+    ∷ more) ≡ Some fault
 holds-bad p emitted more line fault h is = grind (arith, nat_tests, counts-bad)
 
 -- a file of such lines has this image and ending

@@ -12,7 +12,8 @@ use Rattle.avr_records.specs.declared.fault.RecordFault.{RecordFault}
 pub with_lines_before-append : (before xs ys : List LineResult)
     → with_lines_before before (xs ++ ys) ≡ with_lines_before before xs ++ with_lines_before (before ++ xs) ys
 with_lines_before-append before [] ys = ap (λ (b : List LineResult). with_lines_before b ys) (sym (append-nil before))
-with_lines_before-append before (x ∷ xs) ys = grind (arith, nat_tests, with_lines_before-append (before ++ x ∷ []) xs ys, append_assoc)
+with_lines_before-append before (x ∷ xs) ys =
+    grind (arith, nat_tests, with_lines_before-append (before ++ x ∷ []) xs ys, append_assoc)
 
 pub or_later-none : (n : ℕ) (fault : Option LineFault) (later : Option RecordFault) → or_later n fault later ≡ None
     → (fault ≡ None) × (later ≡ None)
@@ -36,7 +37,8 @@ up_to_end-open (x ∷ xs) ys none =
           rw f (ap (λ (zs : List LineResult). x ∷ zs) (up_to_end-open xs ys more))
     ]
 
-pub up_to_end-done : (xs ys : List LineResult) → list_any is_end_record (up_to_end xs) ≡ true → up_to_end (xs ++ ys) ≡ up_to_end xs
+pub up_to_end-done : (xs ys : List LineResult) → list_any is_end_record (up_to_end xs) ≡ true → up_to_end (xs ++ ys)
+    ≡ up_to_end xs
 up_to_end-done [] ys some = absurd (grind arith)
 up_to_end-done (x ∷ xs) ys some =
     elim (cases_Bool (is_end_record x)) [

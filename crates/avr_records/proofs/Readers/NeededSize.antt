@@ -18,7 +18,8 @@ inside : (size end : ℕ) (places : List (ℕ × ℕ)) → end_after end places 
 inside size end [] l = (l, refl)
 inside size end (p ∷ ps) l = grind (arith, nat_tests, inside size (max end (p.0 + 1)) ps l)
 
-reaches : (size end : ℕ) (places : List (ℕ × ℕ)) → end ≤ size → first_outside size places ≡ None → end_after end places ≤ size
+reaches : (size end : ℕ) (places : List (ℕ × ℕ)) → end ≤ size → first_outside size places ≡ None
+    → end_after end places ≤ size
 reaches size end [] l none = l
 reaches size end (p ∷ ps) l none =
     elim (cases_Bool (nat_lt p.0 size)) [
@@ -29,8 +30,8 @@ reaches size end (p ∷ ps) l none =
     ]
 
 -- a line without a fault in one memory has none in each memory that has its addresses
-good : (size other : ℕ) (base : AddressBase) (count : ℕ) (line : LineResult) → fault_under_base size base count line ≡ None
-    → first_outside other (bytes_under_base base line) ≡ None → fault_under_base other base count line ≡ None
+good : (size other : ℕ) (base : AddressBase) (count : ℕ) (line : LineResult) → fault_under_base size base count line
+    ≡ None → first_outside other (bytes_under_base base line) ≡ None → fault_under_base other base count line ≡ None
 good size other base count line none lies' = search rules
 
 all-good : (size other : ℕ) (taken : List (List LineResult × LineResult)) → first_fault size taken ≡ None
@@ -63,7 +64,8 @@ pub enough : (kind : Kind) (text : List ℕ) (needed size : ℕ) → size_needed
     → (read : List (Option ℕ) × Ending) × (image_in_text kind text size ≡ Ok read)
 enough kind text needed size is l =
     let taken : List LineResult = taken_of kind text in
-    let parts = sized (first_fault largest_memory (with_lines_before [] taken)) (end_of_bytes (bytes_of_lines taken)) needed is in
+    let parts = sized (first_fault largest_memory (with_lines_before [] taken)) (end_of_bytes (bytes_of_lines taken))
+    needed is in
     let inside' = (inside size 0 (bytes_of_lines taken) (rw parts.1 l)).1 in
     let none = all-good largest_memory size (with_lines_before [] taken) parts.0 inside' in
     ((image_of_pairs size (bytes_of_lines taken), file_ending (map (line_result kind) (lines text))), rw none refl)
@@ -75,5 +77,9 @@ least kind text size read l is =
     let taken : List LineResult = taken_of kind text in
     let none = read-well (first_fault size (with_lines_before [] taken)) _ read is in
     let reach = reaches size 0 (bytes_of_lines taken) (omega arith) (all-lie size (with_lines_before [] taken) none) in
-    let inside' = (inside largest_memory 0 (bytes_of_lines taken) (omega (arith, l, reach))).1 in
-    (end_of_bytes (bytes_of_lines taken), rw (all-good size largest_memory (with_lines_before [] taken) none inside') refl, reach)
+    let inside' = (inside largest_memory 0 (bytes_of_lines taken) (omega (arith, l, reach))).1 in (
+      end_of_bytes (bytes_of_lines taken),
+      rw (all-good size largest_memory (with_lines_before [] taken) none inside')
+          refl,
+      reach,
+    )

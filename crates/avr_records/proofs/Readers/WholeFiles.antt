@@ -12,14 +12,14 @@ use Rattle.avr_records.specs.declared.fault.RecordFault.{RecordFault}
 use Rattle.avr_records.proofs.Readers.Fed.{but_last}
 use Rattle.avr_records.proofs.Readers.LaterLines.{with_lines_before-append, up_to_end-open, up_to_end-done, parts-some}
 
-first_fault-stands : (size : ℕ) (ps qs : List (List LineResult × LineResult)) (notice : RecordFault) → first_fault size ps ≡ Some notice
-    → first_fault size (ps ++ qs) ≡ Some notice
+first_fault-stands : (size : ℕ) (ps qs : List (List LineResult × LineResult)) (notice : RecordFault)
+    → first_fault size ps ≡ Some notice → first_fault size (ps ++ qs) ≡ Some notice
 first_fault-stands size [] qs notice is = absurd (cc is)
 first_fault-stands size (p ∷ ps) qs notice is = grind (arith, nat_tests, first_fault-stands size ps qs notice)
 
 -- lines after the first fault don't change it
-pub among-stands : (size : ℕ) (emitted more : List LineResult) (notice : RecordFault) → first_fault_among size emitted ≡ Some notice
-    → first_fault_among size (emitted ++ more) ≡ Some notice
+pub among-stands : (size : ℕ) (emitted more : List LineResult) (notice : RecordFault) → first_fault_among size emitted
+    ≡ Some notice → first_fault_among size (emitted ++ more) ≡ Some notice
 among-stands size emitted more notice is =
     grind (arith, nat_tests, up_to_end-done, up_to_end-open, with_lines_before-append, first_fault-stands)
 
@@ -34,17 +34,19 @@ ended_lines-fault kind size text notice is =
     let emitted : map (line_result kind) (lines text) ≡ map (line_result kind) closed ++ line_result kind cut.0 ∷ [] =
     ap (map (line_result kind)) same ∙ map-append (line_result kind) closed (cut.0 ∷ []) in
     let whole : first_fault_among size (map (line_result kind) (lines text)) ≡ Some notice =
-    ap (first_fault_among size) emitted ∙ among-stands size (map (line_result kind) closed) (line_result kind cut.0 ∷ []) notice
-    is in search rules
+    ap (first_fault_among size) emitted ∙ among-stands size (map (line_result kind) closed) (line_result kind cut.0
+    ∷ []) notice is in search rules
 
-pub none-or : (fault : Option RecordFault) (notice : RecordFault) → Err notice ≡ unit_unless_fault fault → fault ≡ Some notice
+pub none-or : (fault : Option RecordFault) (notice : RecordFault) → Err notice ≡ unit_unless_fault fault → fault
+    ≡ Some notice
 none-or fault notice is = search rules
 
 -- the fault that a new reader returns for a whole file
-pub new_reader-fault : (kind : Kind) (size : ℕ) (s : ReaderState) (text : List ℕ) (notice : RecordFault) → IsNewReader kind size s
-    → ((before : List ℕ) → MayHaveRead s before
+pub new_reader-fault : (kind : Kind) (size : ℕ) (s : ReaderState) (text : List ℕ) (notice : RecordFault)
+    → IsNewReader kind size s → ((before : List ℕ) → MayHaveRead s before
     → Err notice ≡ unit_unless_fault (ended_lines_fault s.kind (before ++ text) (memory_size s)))
     → Err notice ≡ image_in_text kind text size
 new_reader-fault kind size s text notice new is =
     let of_s : ended_lines_fault s.kind text (memory_size s) ≡ Some notice =
-    none-or (ended_lines_fault s.kind text (memory_size s)) notice (is [] new.nothing_fed) in search (rules, ended_lines-fault)
+    none-or (ended_lines_fault s.kind text (memory_size s)) notice (is [] new.nothing_fed) in
+    search (rules, ended_lines-fault)

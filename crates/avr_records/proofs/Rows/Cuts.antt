@@ -40,7 +40,12 @@ rows_behind-are taken size addr end [] wide is all = tt
 rows_behind-are (suc taken) size addr end (b ∷ bs) wide is all =
     rows_behind-are taken size (addr + 1) end bs wide (omega arith) (λ i. all (suc i))
 rows_behind-are zero size addr end (b ∷ bs) wide is all =
-    grind (arith, common_steps, rows_behind-are (size addr - 1) size (addr + 1) end bs wide (omega arith) (λ i. all (suc i)))
+    grind (
+      arith,
+      common_steps,
+      rows_behind-are (size addr - 1) size (addr + 1) end bs wide (omega arith)
+          (λ i. all (suc i)),
+    )
 
 pub enumerate-split : (n addr : ℕ) (bytes : List ℕ)
     → enumerate_from addr (take n bytes) ++ enumerate_from (addr + n) (drop n bytes) ≡ enumerate_from addr bytes

@@ -42,7 +42,11 @@ segment-from paragraph offset i [] addr is room = refl
 segment-from paragraph offset i (b ∷ []) addr is room = ap (λ (n : ℕ). (n, b) ∷ []) (sym is)
 segment-from paragraph offset i (b ∷ c ∷ bs) addr is room =
     let next : (offset + (i + 1)) % 65536 ≡ (offset + i) % 65536 + 1 = omega (arith, room) in
-    search (rules, segment-from paragraph offset (i + 1) (c ∷ bs) (addr + 1) (omega (arith, is, next)) (omega (arith, room, next)))
+    search (
+      rules,
+      segment-from paragraph offset (i + 1) (c ∷ bs) (addr + 1) (omega (arith, is, next))
+          (omega (arith, room, next)),
+    )
 
 -- they do so within a segment too
 pub places-segment : (paragraph offset : ℕ) (bytes : List ℕ) → offset % 65536 + length bytes ≤ 65536
@@ -75,7 +79,8 @@ places-wrapped-at paragraph offset n bytes full fits' short =
 
 -- ---- the first address out of range
 
-pub first_outside-append : (size : ℕ) (xs ys : List (ℕ × ℕ)) → first_outside size xs ≡ None → first_outside size (xs ++ ys) ≡ first_outside size ys
+pub first_outside-append : (size : ℕ) (xs ys : List (ℕ × ℕ)) → first_outside size xs ≡ None
+    → first_outside size (xs ++ ys) ≡ first_outside size ys
 first_outside-append size [] ys none = refl
 first_outside-append size (x ∷ xs) ys none =
     elim (cases_Bool (nat_lt x.0 size)) [
@@ -97,7 +102,8 @@ pub first_outside-parts : (size : ℕ) (xs ys : List (ℕ × ℕ)) → first_out
 first_outside-parts size [] ys none = (refl, none)
 first_outside-parts size (x ∷ xs) ys none =
     elim (cases_Bool (nat_lt x.0 size)) [
-      | inl t ↦ let more : first_outside size (xs ++ ys) ≡ None = rw t at none in rw t (first_outside-parts size xs ys more)
+      | inl t ↦ let more : first_outside size (xs ++ ys) ≡ None = rw t at none in
+          rw t (first_outside-parts size xs ys more)
       | inr f ↦ cc (rw f at none)
     ]
 
@@ -138,8 +144,9 @@ pub extends-outside : (limit end addr : ℕ) (bytes : List ℕ) → 0 < length b
 extends-outside limit end addr bytes some l = search (rules, first_outside-span-end, nat_tests)
 
 -- one span, then another
-pub extends-both : (limit end mid : ℕ) (xs ys : List (ℕ × ℕ)) (result : Result ℕ ℕ) → IsEndOrOutOfRange limit end xs (Ok mid)
-    → IsEndOrOutOfRange limit mid ys result → IsEndOrOutOfRange limit end (xs ++ ys) result
+pub extends-both : (limit end mid : ℕ) (xs ys : List (ℕ × ℕ)) (result : Result ℕ ℕ)
+    → IsEndOrOutOfRange limit end xs (Ok mid) → IsEndOrOutOfRange limit mid ys result → IsEndOrOutOfRange limit end (xs
+    ++ ys) result
 extends-both limit end mid xs ys result first second = search (rules, first_outside-append, fold-append)
 
 -- ---- bytes put into the image
@@ -149,7 +156,8 @@ pub lays-span : (old new : List (Option ℕ)) (addr : ℕ) (bytes : List ℕ) (r
     → first_outside (length old) (enumerate_from addr bytes) ≡ None
     → result ≡ (if fits addr bytes (length old) then Ok (addr + length bytes)
     else Err (OutOfRange (max addr (length old))))
-    → OnOk result (new ≡ with_bytes_at old (enumerate_from addr bytes)) → new ≡ with_bytes_at old (enumerate_from addr bytes)
+    → OnOk result (new ≡ with_bytes_at old (enumerate_from addr bytes)) → new
+    ≡ with_bytes_at old (enumerate_from addr bytes)
 lays-span old new addr bytes result none is laid = grind (arith, nat_tests, first_outside-span-end)
 
 -- ---- addresses in range

@@ -85,7 +85,15 @@ pub lines-results : (upper end : ℕ) (rows : List (ℕ × List ℕ)) → end �
 lines-results upper end [] fits all = search (rules, plain-line, lines-plain, emits-line)
 lines-results upper end (row ∷ rows) fits all =
     let high : ℕ = row.0 / 65536 in
-    search (rules, plain-line, emits-line, append_assoc, upper-lines, lines-written, lines-results high end rows fits all.1)
+    search (
+      rules,
+      plain-line,
+      emits-line,
+      append_assoc,
+      upper-lines,
+      lines-written,
+      lines-results high end rows fits all.1,
+    )
 
 pub rows-go_on : (upper : ℕ) (cut : List (ℕ × List ℕ)) → AllGoOn (row_results upper cut)
 rows-go_on upper [] = tt

@@ -17,7 +17,8 @@ first_outside-parts : (size : ℕ) (xs ys : List (ℕ × ℕ)) → first_outside
 first_outside-parts size [] ys none = (refl, none)
 first_outside-parts size (p ∷ xs) ys none =
     elim (cases_Bool (nat_lt p.0 size)) [
-      | inl t ↦ let more : first_outside size (xs ++ ys) ≡ None = rw t at none in rw t (first_outside-parts size xs ys more)
+      | inl t ↦ let more : first_outside size (xs ++ ys) ≡ None = rw t at none in
+          rw t (first_outside-parts size xs ys more)
       | inr f ↦ let no : Some p.0 ≡ None = rw f at none in absurd (cc no)
     ]
 
@@ -58,7 +59,8 @@ pub stops : (prefix more : List LineResult) → AllGoOn prefix → up_to_end (pr
 stops [] more on = refl
 stops (Ok Nothing ∷ prefix) more on = ap (λ (zs : List LineResult). Ok Nothing ∷ zs) (stops prefix more on.1)
 stops (Ok (Data offset bytes) ∷ prefix) more on = grind (arith, nat_tests, stops prefix more on.1)
-stops (Ok (Rebase base) ∷ prefix) more on = ap (λ (zs : List LineResult). Ok (Rebase base) ∷ zs) (stops prefix more on.1)
+stops (Ok (Rebase base) ∷ prefix) more on =
+    ap (λ (zs : List LineResult). Ok (Rebase base) ∷ zs) (stops prefix more on.1)
 stops x more on = absurd on.0
 
 has_end : (prefix more : List LineResult) → list_any is_end_record (prefix ++ Ok End ∷ more) ≡ true
@@ -81,8 +83,8 @@ first_fault-none size before (s ∷ prefix) on inside =
 -- doesn't matter.
 pub together-laid : (size : ℕ) (image : List (Option ℕ)) (places : List (ℕ × ℕ)) (prefix more : List LineResult)
     → AllGoOn prefix
-    → threaded (Linear 0) (then_end prefix) ≡ places → first_outside size places ≡ None → image_of_pairs size places ≡ image
-    → together size (prefix ++ Ok End ∷ more) ≡ Ok (image, Ended)
+    → threaded (Linear 0) (then_end prefix) ≡ places → first_outside size places ≡ None → image_of_pairs size places
+    ≡ image → together size (prefix ++ Ok End ∷ more) ≡ Ok (image, Ended)
 together-laid size image places prefix more on follow inside_is laid_is =
     grind (arith, nat_tests, placed-threaded, stops, first_fault-none, ended)
 

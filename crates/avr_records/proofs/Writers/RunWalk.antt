@@ -28,13 +28,15 @@ first-in base addr (b ∷ bytes) some = first-held addr base addr (b ∷ bytes) 
 leading_run-held : (base addr n : ℕ) (bytes : List ℕ) → addr ≡ base + n
     → leading_run (drop addr (held base bytes)) ≡ drop n bytes
 leading_run-held zero zero zero [] is = refl
-leading_run-held zero zero zero (b ∷ bytes) is = ap (λ (more : List ℕ). b ∷ more) (leading_run-held zero zero zero bytes is)
+leading_run-held zero zero zero (b ∷ bytes) is =
+    ap (λ (more : List ℕ). b ∷ more) (leading_run-held zero zero zero bytes is)
 leading_run-held zero (suc addr) (suc n) [] is = refl
 leading_run-held zero (suc addr) (suc n) (b ∷ bytes) is = leading_run-held zero addr n bytes (omega (arith, is))
 leading_run-held (suc base) (suc addr) n bytes is = leading_run-held base addr n bytes (omega (arith, is))
 leading_run-held x y z bytes is = absurd (omega (arith, is))
 
-leading_run-in : (base addr n : ℕ) (bytes : List ℕ) → addr ≡ base + n → leading_run (drop addr (run_at base bytes)) ≡ drop n bytes
+leading_run-in : (base addr n : ℕ) (bytes : List ℕ) → addr ≡ base + n → leading_run (drop addr (run_at base bytes))
+    ≡ drop n bytes
 leading_run-in base addr n [] is = ap leading_run (drop-nil addr) ∙ sym (drop-nil n)
 leading_run-in base addr n (b ∷ bytes) is = leading_run-held base addr n (b ∷ bytes) is
 
@@ -43,8 +45,10 @@ gap-held zero addr bytes before = absurd (omega (arith, before))
 gap-held (suc base) zero bytes before = refl
 gap-held (suc base) (suc addr) bytes before = gap-held base addr bytes (omega (arith, before))
 
-pub gap-in : (base addr most : ℕ) (bytes : List ℕ) → addr < base → take most (leading_run (drop addr (run_at base bytes))) ≡ []
-gap-in base addr most [] before = ap (λ (xs : List (Option ℕ)). take most (leading_run xs)) (drop-nil addr) ∙ take-nil most
+pub gap-in : (base addr most : ℕ) (bytes : List ℕ) → addr < base
+    → take most (leading_run (drop addr (run_at base bytes))) ≡ []
+gap-in base addr most [] before = ap (λ (xs : List (Option ℕ)). take most (leading_run xs)) (drop-nil addr) ∙ take-nil
+    most
 gap-in base addr most (b ∷ bytes) before = ap (take most) (gap-held base addr (b ∷ bytes) before) ∙ take-nil most
 
 -- the row that `row_at` returns: the next bytes, as many as fit

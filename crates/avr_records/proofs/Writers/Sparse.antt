@@ -126,9 +126,9 @@ reads-back Ihex image more fits bytes =
     let size : ℕ = length image + more in
     let cut : List (ℕ × List ℕ) = rows_of (row_size Ihex) (runs 0 image) in
     ap (together size)
-    (hex.lines-results 0 (last_held 0 0 image + 1) cut (omega (arith, last-below image fits)) (rows-are Ihex image bytes))
-    ∙ together-laid size (image ++ empty more) (flat_map places_of (runs 0 image)) (hex.row_results 0 cut)
-    (Ok Nothing ∷ []) (hex.rows-go_on 0 cut)
+    (hex.lines-results 0 (last_held 0 0 image + 1) cut (omega (arith, last-below image fits))
+    (rows-are Ihex image bytes)) ∙ together-laid size (image ++ empty more) (flat_map places_of (runs 0 image))
+    (hex.row_results 0 cut) (Ok Nothing ∷ []) (hex.rows-go_on 0 cut)
     (hex.rows-threaded 0 cut ∙ rows_of-hold (row_size Ihex) (runs 0 image) (wide_row Ihex))
     (first_outside-image image more) (laid-padded image more)
 reads-back Srec image more fits bytes =

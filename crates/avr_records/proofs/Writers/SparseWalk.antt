@@ -19,7 +19,8 @@ use Rattle.avr_records.proofs.Writers.Pieces.{rows-next, rows-upper, wide_row}
 abbrev after : List (Option ℕ) → List (Option ℕ)
 after image = drop (length (leading_run image)) image
 
-leading_run-drop : (n : ℕ) (image : List (Option ℕ)) → n ≤ length (leading_run image) → leading_run (drop n image) ≡ drop n (leading_run image)
+leading_run-drop : (n : ℕ) (image : List (Option ℕ)) → n ≤ length (leading_run image) → leading_run (drop n image)
+    ≡ drop n (leading_run image)
 leading_run-drop zero image l = refl
 leading_run-drop (suc n) (Some b ∷ image) l = leading_run-drop n image (omega (arith, l))
 leading_run-drop (suc n) x l = absurd (omega (arith, l))
@@ -37,7 +38,8 @@ rows-leading_run size addr image = grind (arith, common_steps, runs_first)
 -- the first row is the first bytes of the first run
 pub rows-step : (size : ℕ → ℕ) (addr n : ℕ) (image : List (Option ℕ)) → 0 < length (leading_run image) → 0 < size addr
     → n ≡ min (size addr) (length (leading_run image))
-    → rows_of size (runs addr image) ≡ (addr, take n (leading_run image)) ∷ rows_of size (runs (addr + n) (drop n image))
+    → rows_of size (runs addr image) ≡ (addr, take n (leading_run image))
+    ∷ rows_of size (runs (addr + n) (drop n image))
 rows-step size addr n image some wide is =
     grind (arith, nat_tests, length-drop, rows-leading_run, leading_run-drop, after-drop, rows-next)
 

@@ -33,11 +33,12 @@ Along {R = R} P (Ask body answered) = (reading : Reading) → Along P (answered 
 pub along_bind : {A R : Type 0} (P : List OutputEvent → A → Type 0) (Q : List OutputEvent → R
     → Type 0) (dialog : Dialog OutputEvent A)
     (go_on : A → Dialog OutputEvent R)
-    → Along P dialog → ((emitted : List OutputEvent) (a : A) → P emitted a → Along (λ more r. Q (emitted ++ more) r) (go_on a))
-    → Along Q (dialog >>= go_on)
+    → Along P dialog → ((emitted : List OutputEvent) (a : A) → P emitted a → Along (λ more r. Q (emitted ++ more) r)
+    (go_on a)) → Along Q (dialog >>= go_on)
 along_bind P Q (Done a) go_on f g = g [] a f
 along_bind P Q (Emit e dialog) go_on f g =
-    along_bind (λ emitted a. P (e ∷ emitted) a) (λ emitted r. Q (e ∷ emitted) r) dialog go_on f (λ emitted a p. g (e ∷ emitted) a p)
+    along_bind (λ emitted a. P (e ∷ emitted) a) (λ emitted r. Q (e ∷ emitted) r) dialog go_on f (λ emitted a p. g (e
+    ∷ emitted) a p)
 along_bind P Q (Ask body answered) go_on f g = λ reading. along_bind P Q (answered reading) go_on (f reading) g
 
 pub along_lifted : {R : Type 0} (dialog : Dialog ⊥ R) → Along (λ emitted r. emitted ≡ []) (lifted dialog)
@@ -61,8 +62,8 @@ along_play : {R : Type 0} (P : List OutputEvent → R → Type 0) (dialog : Dial
 along_play P (Done r) seq tape f = f
 along_play P (Emit e dialog) seq tape f = search (rules, along_play (λ emitted r. P (e ∷ emitted) r) dialog seq tape f)
 along_play {R = R} P (Ask body answered) seq tape f =
-    elim (answer seq tape) as (λ o. Ends P (outputs (continue_with_reading (λ r. played (answered r) (next seq)) o).events)
-    (continue_with_reading (λ r. played (answered r) (next seq)) o).outcome) [
+    elim (answer seq tape) as (λ o. Ends P (outputs (continue_with_reading (λ r. played (answered r) (next seq))
+    o).events) (continue_with_reading (λ r. played (answered r) (next seq)) o).outcome) [
       | None ↦ tt
       | Some got ↦ along_play P (answered got.0) (next seq) got.1 (f got.0)
     ]
@@ -76,7 +77,8 @@ abbrev pub Foretells : Dialog OutputEvent Standing → Type 0
 Foretells dialog = Along FaultAsInState dialog
 
 pub foretold : {dialog : Dialog OutputEvent Standing} {m n : Progress} {o p : Devices} {standing : Standing}
-    → Foretells dialog → (ran : RanWhole dialog m o p standing n) → reports_fault (outputs ran.events) ≡ has_fault standing
+    → Foretells dialog → (ran : RanWhole dialog m o p standing n) → reports_fault (outputs ran.events)
+    ≡ has_fault standing
 foretold {dialog = dialog} {m = m} f ran =
     subst (λ (p : Played OutputEvent Standing). Ends FaultAsInState (outputs p.events) p.outcome) (ran.plays.plays [])
     (along_play FaultAsInState dialog m.next (on_tape m.unread ++ (heard ran.during ++ [])) f)
@@ -91,12 +93,14 @@ foretells_reported : {A : Type 0} (operation : Dialog ⊥ (Result A HostFault))
     → Foretells (reported operation outcome_output)
 foretells_reported operation outcome_output f =
     along_bind (λ emitted outcome. emitted ≡ []) FaultAsInState (lifted operation)
-    (λ outcome. emits (outcome_output outcome) (Done (standing outcome))) (along_lifted operation) λ emitted outcome none.
-    along_output (λ more after. FaultAsInState (emitted ++ more) after) (outcome_output outcome) (Done (standing outcome))
-    (search rules)
+    (λ outcome. emits (outcome_output outcome) (Done (standing outcome))) (along_lifted operation) λ emitted outcome
+    none. along_output (λ more after. FaultAsInState (emitted ++ more) after) (outcome_output outcome)
+    (Done (standing outcome)) (search rules)
 
-foretells_output : (outputs : List OutputEvent) → reports_fault outputs ≡ false → Foretells (emits outputs (Done NoFault))
-foretells_output outputs f = along_output FaultAsInState outputs (Done NoFault) (ap reports_fault (append-nil outputs) ∙ f)
+foretells_output : (outputs : List OutputEvent) → reports_fault outputs ≡ false
+    → Foretells (emits outputs (Done NoFault))
+foretells_output outputs f = along_output FaultAsInState outputs (Done NoFault) (ap reports_fault (append-nil outputs) ∙
+    f)
 
 -- ---- lines that report no fault, and those that do
 
@@ -104,7 +108,8 @@ fault_reports : (part : Part) (fault : HostFault) → reports_fault (PrintsLine 
 unfolding fault_line
 fault_reports part fault = refl
 
-bytes_none : (quiet : ℕ) (mem : Mem) (count : ℕ) (done : Bytes) → reports_fault (bytes_output quiet mem count done) ≡ false
+bytes_none : (quiet : ℕ) (mem : Mem) (count : ℕ) (done : Bytes) → reports_fault (bytes_output quiet mem count done)
+    ≡ false
 bytes_none quiet mem count done = search rules
 
 pub read_none : (s : Switches) (mem : Mem) (format : Format) (file bytes : Bytes)

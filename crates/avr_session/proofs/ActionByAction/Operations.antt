@@ -58,10 +58,12 @@ line_at part stop = search rules
 
 -- a stop is reported, if the line of such a fault is the whole output for it
 pub cause_is_reported : {A : Type 0} (part : Part) (is_reported : Result A HostFault → List OutputEvent)
-    → ((stop : Stop) → is_reported (Err (fault_at stop)) ≡ PrintsLine (fault_line part (fault_at stop)) ∷ []) → {d e : DeskState}
-    {outcome : Result A HostFault} {emitted : Result (Unit {0}) DeskFault} → Reports PrintStops d e (is_reported outcome) emitted
-    → (stop : Stop) → StopsAs outcome stop → ReportsLine d e (cause_line (cause_at stop))
-cause_is_reported part is_reported line {d = d} {e = e} {emitted = emitted} reports stop is = search (rules, line_at, reported_some)
+    → ((stop : Stop) → is_reported (Err (fault_at stop)) ≡ PrintsLine (fault_line part (fault_at stop)) ∷ [])
+    → {d e : DeskState} {outcome : Result A HostFault} {emitted : Result (Unit {0}) DeskFault}
+    → Reports PrintStops d e (is_reported outcome) emitted → (stop : Stop) → StopsAs outcome stop
+    → ReportsLine d e (cause_line (cause_at stop))
+cause_is_reported part is_reported line {d = d} {e = e} {emitted = emitted} reports stop is =
+    search (rules, line_at, reported_some)
 
 pub opening_line : (quiet : ℕ) (part : Part) (stop : Stop)
     → opening_output quiet part (Err (fault_at stop)) ≡ PrintsLine (fault_line part (fault_at stop)) ∷ []
@@ -87,8 +89,8 @@ unfolding came_lifted
 operation_runs operation outcome_output m n {p = p} {d = d} outcome (Ok done) terms By why (inl played) few reports
     notice =
     rw played.1
-    (ran_from (came_on (came_lifted (λ outcome. emits (outcome_output outcome) (Done (standing outcome))) d played.0 few)
-    (came_emitted (outcome_output outcome) (Done (standing outcome)) n p reports)))
+    (ran_from (came_on (came_lifted (λ outcome. emits (outcome_output outcome) (Done (standing outcome))) d played.0
+    few) (came_emitted (outcome_output outcome) (Done (standing outcome)) n p reports)))
 operation_runs operation outcome_output m n {p = p} {d = d} outcome (Err _) terms By why (inl played) few reports
     notice =
     broke_quietly (came_lifted (λ outcome. emits (outcome_output outcome) (Done (standing outcome))) d played.0 few)

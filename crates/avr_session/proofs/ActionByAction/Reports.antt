@@ -70,8 +70,8 @@ module _ {D : Type 0} (desk : Ghosts D) (first more : List OutputEvent) where
 
 -- a prefix of one line was printed
 
-one_only : (l x : List ℕ) (whole more : List OutputEvent) → PrintsLine l ∷ [] ≡ whole ++ (PrintsLine x ∷ more) → (whole ≡ [])
-    × (x ≡ l)
+one_only : (l x : List ℕ) (whole more : List OutputEvent) → PrintsLine l ∷ [] ≡ whole ++ (PrintsLine x ∷ more)
+    → (whole ≡ []) × (x ≡ l)
 one_only l x [] more is = let e : PrintsLine l ≡ PrintsLine x = cc in let same : l ≡ x = cc in (refl, sym same)
 one_only l x (s ∷ []) more is = let e : [] ≡ PrintsLine x ∷ more = cc in absurd (cc)
 one_only l x (s ∷ t ∷ whole) more is = let e : [] ≡ t ∷ (whole ++ (PrintsLine x ∷ more)) = cc in absurd (cc)
@@ -85,8 +85,8 @@ one_line {d = d} {e = e} l prefix =
     search (rules, one_only)
 
 reported_line : (cause : Cause) (notice l : List ℕ) (old new between : DeskState) → CountsNeverFall old new
-    → OutputsPrefix cause old between (PrintsLine l ∷ []) → PrintStops old new cause notice → ChangesRecord (after_err notice) between new
-    → ReportsLine old new l
+    → OutputsPrefix cause old between (PrintsLine l ∷ []) → PrintStops old new cause notice
+    → ChangesRecord (after_err notice) between new → ReportsLine old new l
 reported_line PrintingFailed notice l old new between follows prefix stops kept = search (rules, one_line l prefix)
 reported_line cause notice l old new between follows prefix stops kept = absurd stops
 

@@ -38,8 +38,9 @@ save_is_desk file before now cause notice stops = search rules
 
 -- a file was created, and its bytes were written, or a prefix of them
 text_then : (old mid new : DeskState) (file text : List ℕ) (result : Result (Unit {0}) DeskFault)
-    → ChangesRecord (after_events (CreatesFile file ∷ [])) old mid → HasSameCounts old mid → WritesAll File file mid new text result
-    → OutputsOrStops (SaveStops file) old new (CreatesFile file ∷ WritesFile text ∷ []) result
+    → ChangesRecord (after_events (CreatesFile file ∷ [])) old mid → HasSameCounts old mid
+    → WritesAll File file mid new text result → OutputsOrStops (SaveStops file) old new (CreatesFile file
+    ∷ WritesFile text ∷ []) result
 text_then old mid new file text (Ok done) kept same writes = search rules
 text_then old mid new file text (Err _) kept same writes =
     search (rules, file_part old mid writes.between file text kept writes.part)
@@ -53,7 +54,8 @@ created_then old mid new file text created result is kept first last writes = se
 
 -- bytes were written to standard output, or a prefix of them
 put_out : (old new : DeskState) (file text : List ℕ) (result : Result (Unit {0}) DeskFault) → file ≡ codes "-"
-    → WritesAll Output file old new text result → OutputsOrStops (SaveStops file) old new (WritesOutput text ∷ []) result
+    → WritesAll Output file old new text result → OutputsOrStops (SaveStops file) old new (WritesOutput text
+    ∷ []) result
 put_out old new file text (Ok done) named writes = writes
 put_out old new file text (Err _) named writes =
     search (rules, output_part old writes.between file text named writes.part)

@@ -44,7 +44,8 @@ use Rattle.avr_session.proofs.ActionByAction.Actions.{actions_dialog-one, action
 use Rattle.avr_session.proofs.ActionByAction.Operations.{Stop, fault_at, cause_at, StopsAs, StopsOver, operation_runs, stop_come, cause_is_reported}
 
 -- a desk that failed in printing stops the run, whatever was reported
-printing_reports : (flag : Bool) (notice : List ℕ) (d : DeskState) → notice ≡ [] → ReportsCause flag PrintingFailed notice d d
+printing_reports : (flag : Bool) (notice : List ℕ) (d : DeskState) → notice ≡ []
+    → ReportsCause flag PrintingFailed notice d d
 unfolding cause_line
 printing_reports flag notice d none = search (rules, same_here)
 
@@ -78,23 +79,24 @@ pub calls_of : {A : Type 0} {takes : Bool} {a b : Dialog ⊥ (Result A HostFault
 calls_of {takes = takes} {old = old} {new = new} {o = o} {p = p} {outcome = outcome} is = search rules
 
 -- An operation of the host and the output about its outcome, for a call that ended and was reported like this.
-module _ {A : Type 0} (operation : Dialog ⊥ (Result A HostFault)) (outcome_output : Result A HostFault → List OutputEvent)
-    {old new : HostState} {o p : LinkState} {d e : DeskState} {outcome : Result A HostFault}
+module _ {A : Type 0} (operation : Dialog ⊥ (Result A HostFault)) (outcome_output : Result A HostFault
+    → List OutputEvent) {old new : HostState} {o p : LinkState} {d e : DeskState} {outcome : Result A HostFault}
     {notice : Result (Unit {0}) DeskFault} {result : Result (Unit {0}) End}
-    {By : DeskState → DeskState → Cause → List ℕ → Type 0} (reports : Reports By d e (outcome_output outcome) notice) where
-  action_performs : (terms : Terms) → StopsReport terms p d e (outcome_output outcome) By
-      → ((stop : Stop) → StopsAs outcome stop → StopsOver terms.takes operation old.progress o p stop
-      → ReportedBy terms (cause_at stop) (devices o d) (devices p e)) → old.broken ≡ None
-      → Calls terms.takes operation old new o p outcome → result ≡ conclusion outcome notice
-      → PerformsOnTerms terms (AtStartOnly terms.takes) (reported operation outcome_output) old new (devices o d) (devices p e)
-      (standing_after result)
-  action_performs terms why is_reported sound calls is = search (rules, operation_runs)
+    {By : DeskState → DeskState → Cause → List ℕ → Type 0} (reports : Reports By d e (outcome_output outcome) notice)
+  where
+    action_performs : (terms : Terms) → StopsReport terms p d e (outcome_output outcome) By
+        → ((stop : Stop) → StopsAs outcome stop → StopsOver terms.takes operation old.progress o p stop
+        → ReportedBy terms (cause_at stop) (devices o d) (devices p e)) → old.broken ≡ None
+        → Calls terms.takes operation old new o p outcome → result ≡ conclusion outcome notice
+        → PerformsOnTerms terms (AtStartOnly terms.takes) (reported operation outcome_output) old new (devices o d)
+        (devices p e) (standing_after result)
+    action_performs terms why is_reported sound calls is = search (rules, operation_runs)
 
-  pub operation_performs : (takes : Bool) → StopsReport (before_fault takes) p d e (outcome_output outcome) By
-      → ((stop : Stop) → StopsAs outcome stop → ReportsLine d e (cause_line (cause_at stop)))
-      → old.broken ≡ None → Calls takes operation old new o p outcome → result ≡ conclusion outcome notice
-      → Performs takes (reported operation outcome_output) old new (devices o d) (devices p e) (standing_after result)
-  operation_performs takes why some sound calls = search (rules, action_performs, notice_by)
+    pub operation_performs : (takes : Bool) → StopsReport (before_fault takes) p d e (outcome_output outcome) By
+        → ((stop : Stop) → StopsAs outcome stop → ReportsLine d e (cause_line (cause_at stop)))
+        → old.broken ≡ None → Calls takes operation old new o p outcome → result ≡ conclusion outcome notice
+        → Performs takes (reported operation outcome_output) old new (devices o d) (devices p e) (standing_after result)
+    operation_performs takes why some sound calls = search (rules, action_performs, notice_by)
 
 left_out_runs : (takes : Bool) (outputs : List OutputEvent) (m : Progress) (o : LinkState) (d e : DeskState)
     (notice : Result (Unit {0}) DeskFault) → Reports PrintStops d e outputs notice
@@ -111,8 +113,9 @@ left_out_performs takes outputs {host = host} {o = o} {d = d} {e = e} result sou
     search (rules, left_out_runs)
 
 -- the output in place of an action reports no fault
-pub ends_unreported : (part : Part) (view : DeskState) (notice : Result (Unit {0}) DeskFault) {result : Result (Unit {0}) End}
-    → result ≡ conclusion {A = Unit {0}} (Ok tt) notice → EndsWithFaultLine part view result
+pub ends_unreported : (part : Part) (view : DeskState) (notice : Result (Unit {0}) DeskFault)
+    {result : Result (Unit {0}) End} → result ≡ conclusion {A = Unit {0}} (Ok tt) notice
+    → EndsWithFaultLine part view result
 ends_unreported part view (Ok done) is = rw is tt
 ends_unreported part view (Err _) is = rw is tt
 
@@ -123,17 +126,17 @@ nothing_performs standing host o serves = search (rules, ran_from, came_here, fo
 -- after an action that was done a session goes on as its state chooses
 module _ {first : Dialog OutputEvent Standing} {K : MayAllocate} {x y : HostState} {o p : Devices} (takes : Bool)
     (standing : Standing) (done : PerformsOnTerms (before_fault takes) K first x y o p (Ok standing)) where
-  after_done : {terms : Terms} {L M : MayAllocate} {more whole : Dialog OutputEvent Standing} {z : HostState} {q : Devices}
-      {result : Result Standing (Unit {0})} → PerformsOnTerms terms M more y z p q result
+  after_done : {terms : Terms} {L M : MayAllocate} {more whole : Dialog OutputEvent Standing} {z : HostState}
+      {q : Devices} {result : Result Standing (Unit {0})} → PerformsOnTerms terms M more y z p q result
       → Runs whole x.progress o q (before_fault takes) L result z.progress
       → PerformsOnTerms (before_fault takes) L whole x z o q result
   after_done {q = q} rest runs = search rules
 
-  pub performs_on : {L M : MayAllocate} (more_takes : Bool) (go_on : Standing → Dialog OutputEvent Standing) {z : HostState}
-      {q : Devices} (result : Result Standing (Unit {0})) → (more_takes ≡ true → takes ≡ true) → Foretells first
-      → LacksLater L x.progress done.runs.during done.runs.events M y.progress
-      → PerformsOnTerms (record { takes = more_takes; has_reported = has_fault standing }) M (go_on standing) y z p q result
-      → PerformsOnTerms (before_fault takes) L (first >>= go_on) x z o q result
+  pub performs_on : {L M : MayAllocate} (more_takes : Bool) (go_on : Standing → Dialog OutputEvent Standing)
+      {z : HostState} {q : Devices} (result : Result Standing (Unit {0})) → (more_takes ≡ true → takes ≡ true)
+      → Foretells first → LacksLater L x.progress done.runs.during done.runs.events M y.progress
+      → PerformsOnTerms (record { takes = more_takes; has_reported = has_fault standing }) M (go_on standing) y z p q
+      result → PerformsOnTerms (before_fault takes) L (first >>= go_on) x z o q result
   unfolding came_part
   performs_on more_takes go_on (Ok then) both foretells lack rest =
       after_done rest (ran_on (came_part go_on done.runs) rest.runs)
@@ -141,10 +144,10 @@ module _ {first : Dialog OutputEvent Standing} {K : MayAllocate} {x y : HostStat
       after_done rest (broke_on (came_part go_on done.runs) (search (rules, stops_in, foretold)) lack rest.runs)
 
 -- the same run of the host and its devices, as another action
-abbrev performs_as : {terms all : Terms} {L M : MayAllocate} {first whole : Dialog OutputEvent Standing} {x y : HostState}
-    {o p : Devices} {one other : Result Standing (Unit {0})} → PerformsOnTerms terms L first x y o p one
-    → Runs whole x.progress o p all M other y.progress → HostIsUsable other y.broken
-    → PerformsOnTerms all M whole x y o p other
+abbrev performs_as : {terms all : Terms} {L M : MayAllocate} {first whole : Dialog OutputEvent Standing}
+    {x y : HostState} {o p : Devices} {one other : Result Standing (Unit {0})}
+    → PerformsOnTerms terms L first x y o p one → Runs whole x.progress o p all M other y.progress
+    → HostIsUsable other y.broken → PerformsOnTerms all M whole x y o p other
 performs_as done runs serves =
     record { runs = runs; serves = serves; part = done.part; link = done.link; desk = done.desk }
 
@@ -156,7 +159,8 @@ module _ (takes more_takes : Bool) where
       {x y : HostState}
       {o p : Devices} (end : End) → LacksLater L x.progress [] [] M x.progress
       → PerformsOnTerms (before_fault takes) M first x y o p (standing_after (Err end))
-      → PerformsOnTerms (before_fault (takes || more_takes)) L (first >>= unless_fault more) x y o p (standing_after (Err end))
+      → PerformsOnTerms (before_fault (takes || more_takes)) L (first >>=
+      unless_fault more) x y o p (standing_after (Err end))
   performs_last more {o = o} {p = p} ends.Stopped lack done = search (rules, broke_part, none_failed_here)
   performs_last more end lack done =
       performs_as done (ran_from (came_part (unless_fault more) done.runs)) done.serves
@@ -238,7 +242,8 @@ pub does_printed : (plan : Plan) (action : Action) {A : Type 0} {a b : Dialog �
     → DoesPlanActions plan (action ∷ []) x y (devices o d) (devices p e) (standing_after result)
 does_printed plan action {b = b} outcome_output dialog line sound same calls reports is =
     does_one plan action (rw dialog (operation_performs b outcome_output reports (action_allocates action)
-    (print_stops_report _ _ reports) (cause_is_reported plan.part outcome_output line reports) sound (calls_of same calls) is))
+    (print_stops_report _ _ reports) (cause_is_reported plan.part outcome_output line reports) sound
+    (calls_of same calls) is))
 
 module _ (plan : Plan) (xs ys : List Action) where
   does_both : {x y : HostState} {o p : Devices} {result : Result Standing (Unit {0})}
@@ -251,7 +256,8 @@ module _ (plan : Plan) (xs ys : List Action) where
       search (rules, list_any-append, actions_dialog-append)
 
   pub does_then : {x y z : HostState} {o p q : Devices} (result : Result Standing (Unit {0}))
-      → DoesPlanActions plan xs x y o p (Ok NoFault) → DoesPlanActions plan ys y z p q result → DoesPlanActions plan (xs ++ ys) x z o q result
+      → DoesPlanActions plan xs x y o p (Ok NoFault) → DoesPlanActions plan ys y z p q result
+      → DoesPlanActions plan (xs ++ ys) x z o q result
   does_then result done rest =
       does_both (performs_on {K = AtAllocation plan.part plan.switches xs}
       (list_any action_allocates xs || list_any action_allocates ys) NoFault
@@ -261,8 +267,9 @@ module _ (plan : Plan) (xs ys : List Action) where
       (actions_foretells plan.part plan.switches xs) (taking_then plan.part plan.switches xs ys done.runs) rest)
 
   -- the others are skipped
-  pub does_last : {x y : HostState} {o p : Devices} (end : End) → DoesPlanActions plan xs x y o p (standing_after (Err end))
-      → DoesPlanActions plan (xs ++ ys) x y o p (standing_after (Err end))
+  pub does_last : {x y : HostState} {o p : Devices} (end : End)
+      → DoesPlanActions plan xs x y o p (standing_after (Err end)) → DoesPlanActions plan (xs ++ ys) x y o p
+      (standing_after (Err end))
   does_last {x = x} end done = search (rules, does_both, performs_last, taking_prefix)
 
 -- a read, whose data are in a vector
@@ -277,7 +284,8 @@ pub given_reported : {A : Type 0} (a : A) (good : A → List OutputEvent) {d e :
     → Reports (ReadStops outcome) d e (fault_line_or part good (value_or_fault a outcome)) notice
     → (stop : Stop) → StopsAs (value_or_fault a outcome) stop → ReportsLine d e (cause_line (cause_at stop))
 given_reported a good part (Ok ok) reports stop is = absurd (cc)
-given_reported a good part (Err fault) reports stop is = cause_is_reported part (fault_line_or part good) (λ stop. refl) reports stop is
+given_reported a good part (Err fault) reports stop is =
+    cause_is_reported part (fault_line_or part good) (λ stop. refl) reports stop is
 
 -- only if bytes were read is there something to save, and they are reported without a fault
 pub read_stops_report : (part : Part) (good : List ℕ → List OutputEvent) (items : List ℕ) → reports_fault (good items)
@@ -285,7 +293,8 @@ pub read_stops_report : (part : Part) (good : List ℕ → List OutputEvent) (it
     → (outcome : Result (Unit {0}) HostFault) (takes : Bool) (o : LinkState) {d e : DeskState}
     {notice : Result (Unit {0}) DeskFault}
     → Reports (ReadStops outcome) d e (fault_line_or part good (value_or_fault items outcome)) notice
-    → StopsReport (before_fault takes) o d e (fault_line_or part good (value_or_fault items outcome)) (ReadStops outcome)
+    → StopsReport (before_fault takes) o d e (fault_line_or part good (value_or_fault items outcome))
+    (ReadStops outcome)
 read_stops_report part good items none (Ok done) takes o {d = d} {e = e} reports =
     search (rules, desk_stops_run, prefix_reports_none)
 read_stops_report part good items none (Err fault) takes o reports = print_stops_report (before_fault takes) o reports
@@ -327,8 +336,8 @@ reported_nothing dialog m o p d stop is over =
 pub quietly_performs : {old new : HostState} {o p : LinkState} (d : DeskState) {outcome : Result (Unit {0}) HostFault}
     {result : Result (Unit {0}) End} → old.broken ≡ None → Calls false closing old new o p outcome
     → result ≡ conclusion outcome (Ok tt)
-    → PerformsOnTerms reported_before (AtStartOnly false) (reported closing (λ _. [])) old new (devices o d) (devices p d)
-    (standing_after result)
+    → PerformsOnTerms reported_before (AtStartOnly false) (reported closing (λ _. [])) old new (devices o d)
+    (devices p d) (standing_after result)
 quietly_performs {old = old} {o = o} {p = p} d sound calls is =
     let reports : Reports PrintStops d d [] (Ok tt) =
     record { emits = (kept_none d.kept, same_here d); follows = follows_here d } in

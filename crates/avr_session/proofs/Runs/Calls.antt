@@ -160,42 +160,46 @@ placed_more {cause = cause} more none f = search (rules, append_assoc)
 
 -- this was reported of a cause, with no output before it
 abbrev pub ReportedBy : Terms → Cause → Devices → Devices → Type 0
-ReportedBy terms cause o p = (notice : List ℕ) × StopsAfterOutput terms o p [] cause notice × ChangesRecord (after_err notice) o.desk p.desk
+ReportedBy terms cause o p = (notice : List ℕ) × StopsAfterOutput terms o p [] cause notice
+    × ChangesRecord (after_err notice) o.desk p.desk
 
-module _ {R : Type 0} {dialog : Dialog OutputEvent R} {m : Progress} {o p : Devices} {terms : Terms} {L : MayAllocate} where
-  placed_of : (f : BrokeOff dialog m o p terms L) → Placed f.cause f.during f.shown (played_over dialog m f.during).events
-  placed_of f = search rules
+module _ {R : Type 0} {dialog : Dialog OutputEvent R} {m : Progress} {o p : Devices} {terms : Terms} {L : MayAllocate}
+  where
+    placed_of : (f : BrokeOff dialog m o p terms L)
+        → Placed f.cause f.during f.shown (played_over dialog m f.during).events
+    placed_of f = search rules
 
-  broke_off : (during : Transcript) (shown : List (Event OutputEvent)) (cause : Cause) (notice : List ℕ)
-      → Grows o.link.transcript during p.link.transcript
-      → Placed cause during shown (played_over dialog m during).events
-      → bytes_sent shown ≡ sent during → InTurn dialog m during
-      → Listens cause (played_over dialog m during).outcome → StopsAfterOutput terms o p (outputs shown) cause notice
-      → ChangesRecord (λ r. after_err notice (after_events (outputs shown) r)) o.desk p.desk
-      → (cause ≡ AllocationFailed → L m during shown) → BrokeOff dialog m o p terms L
-  broke_off during shown cause notice grows placed all_sent in_turn listens stops kept lacks = record {
-    during = during;
-    shown = shown;
-    cause = cause;
-    notice = notice;
-    grows = grows;
-    breaks = search rules;
-    place = placed.place;
-    listens = listens;
-    stops = stops;
-    lacks = lacks;
-    kept = kept;
-  }
+    broke_off : (during : Transcript) (shown : List (Event OutputEvent)) (cause : Cause) (notice : List ℕ)
+        → Grows o.link.transcript during p.link.transcript
+        → Placed cause during shown (played_over dialog m during).events
+        → bytes_sent shown ≡ sent during → InTurn dialog m during
+        → Listens cause (played_over dialog m during).outcome → StopsAfterOutput terms o p (outputs shown) cause notice
+        → ChangesRecord (λ r. after_err notice (after_events (outputs shown) r)) o.desk p.desk
+        → (cause ≡ AllocationFailed → L m during shown) → BrokeOff dialog m o p terms L
+    broke_off during shown cause notice grows placed all_sent in_turn listens stops kept lacks = record {
+      during = during;
+      shown = shown;
+      cause = cause;
+      notice = notice;
+      grows = grows;
+      breaks = search rules;
+      place = placed.place;
+      listens = listens;
+      stops = stops;
+      lacks = lacks;
+      kept = kept;
+    }
 
-  broke_silent : (during : Transcript) (shown : List (Event OutputEvent)) (cause : Cause) → outputs shown ≡ []
-      → ReportedBy terms cause o p → Grows o.link.transcript during p.link.transcript
-      → Placed cause during shown (played_over dialog m during).events → bytes_sent shown ≡ sent during
-      → InTurn dialog m during → Listens cause (played_over dialog m during).outcome
-      → (cause ≡ AllocationFailed → L m during shown) → BrokeOff dialog m o p terms L
-  broke_silent during shown cause quiet some grows placed all_sent in_turn listens lacks =
-      broke_off during shown cause some.0 grows placed all_sent in_turn listens
-      (subst (λ emitted. StopsAfterOutput terms o p emitted cause some.0) (sym quiet) some.1)
-      (subst (λ emitted. ChangesRecord (λ r. after_err some.0 (after_events emitted r)) o.desk p.desk) (sym quiet) some.2) lacks
+    broke_silent : (during : Transcript) (shown : List (Event OutputEvent)) (cause : Cause) → outputs shown ≡ []
+        → ReportedBy terms cause o p → Grows o.link.transcript during p.link.transcript
+        → Placed cause during shown (played_over dialog m during).events → bytes_sent shown ≡ sent during
+        → InTurn dialog m during → Listens cause (played_over dialog m during).outcome
+        → (cause ≡ AllocationFailed → L m during shown) → BrokeOff dialog m o p terms L
+    broke_silent during shown cause quiet some grows placed all_sent in_turn listens lacks =
+        broke_off during shown cause some.0 grows placed all_sent in_turn listens
+        (subst (λ emitted. StopsAfterOutput terms o p emitted cause some.0) (sym quiet) some.1)
+        (subst (λ emitted. ChangesRecord (λ r. after_err some.0 (after_events emitted r)) o.desk p.desk) (sym quiet)
+        some.2) lacks
 
 pub broke_on : {R : Type 0} {x y : Point R} {q : Devices} {some all : Terms} {L M : MayAllocate} (came : Came x y)
     → StopsWhole some all (outputs came.events) x.devices y.devices q
@@ -212,8 +216,8 @@ broke_on {R = R} {x = x} {y = y} {q = q} {all = all} came why lack broke =
     (grows_on o.link.transcript p.link.transcript q.link.transcript came.during broke.during came.grows broke.grows)
     (subst (λ (play : Played OutputEvent R). Placed broke.cause (came.during ++ broke.during)
     (came.events ++ broke.shown) play.events) (sym play)
-    (placed_behind came.during broke.during came.events came.leads.none_taken (placed_of broke))) whole.all_sent whole.in_turn
-    (subst (λ (play : Played OutputEvent R). Listens broke.cause play.outcome) (sym play) broke.listens)
+    (placed_behind came.during broke.during came.events came.leads.none_taken (placed_of broke))) whole.all_sent
+    whole.in_turn (subst (λ (play : Played OutputEvent R). Listens broke.cause play.outcome) (sym play) broke.listens)
     (search (rules, outputs_append))
     (search (rules, kept_on, after_both))
     (λ is. lack broke.during broke.shown (broke.lacks is))
@@ -316,13 +320,18 @@ no_bytes (x ∷ xs) = no_bytes xs
 abbrev pub StopsReport : Terms → LinkState → DeskState → DeskState → List OutputEvent
     → (DeskState → DeskState → Cause → List ℕ → Type 0) → Type 0
 StopsReport terms o d e outputs By = (mid : DeskState) (cause : Cause) (prefix : OutputsPrefix cause d mid outputs)
-    (notice : List ℕ) → By d e cause notice → StopsAfterOutput terms (devices o d) (devices o e) (prefix.whole ++ prefix.begun)
-    cause notice
+    (notice : List ℕ) → By d e cause notice → StopsAfterOutput terms (devices o d) (devices o e) (prefix.whole
+    ++ prefix.begun) cause notice
 
 module _ {R : Type 0} (xs : List OutputEvent) (dialog : Dialog OutputEvent R) (m : Progress) (o : LinkState) where
   pub came_emitted : {d e : DeskState} → ChangesRecord (after_events xs) d e × HasSameCounts d e
       → Came (point (emits xs dialog) m (devices o d)) (point dialog m (devices o e))
-  came_emitted {d = d} {e = e} emitted = search (rules, grows_none o.transcript, leads_output xs dialog m, outputs_emitted xs)
+  came_emitted {d = d} {e = e} emitted = search (
+    rules,
+    grows_none o.transcript,
+    leads_output xs dialog m,
+    outputs_emitted xs,
+  )
 
   pub broke_output : {By : DeskState → DeskState → Cause → List ℕ → Type 0} {terms : Terms} {L : MayAllocate}
       {d e : DeskState}

@@ -19,7 +19,8 @@ pub place_behind : (cause : Cause) (first during : Transcript) (before whole beg
     → NoneTaken first → StopsAt cause during whole begun later
     → StopsAt cause (first ++ during) (before ++ whole) begun later
 place_behind SendingFailed first during before whole begun later none x = search (rules, none_behind)
-place_behind ReceivingFailed first during before whole begun later none x = (none_append first during none x.0, x.1, x.2)
+place_behind ReceivingFailed first during before whole begun later none x =
+    (none_append first during none x.0, x.1, x.2)
 place_behind (FileFailed file NotWritten) first during before whole begun later none (inl x) =
     let again = ap (λ es. before ++ es) x.0.1 ∙ sym (append_assoc before x.0.0 (Emitted (CreatesFile file) ∷ [])) in
     inl ((before ++ x.0.0, again), x.1)
@@ -34,7 +35,8 @@ pub outputs_emitted : (xs : List OutputEvent) → outputs (map Emitted xs) ≡ x
 outputs_emitted [] = refl
 outputs_emitted (x ∷ xs) = ap (λ ss. x ∷ ss) (outputs_emitted xs)
 
-pub map_append : (x y : List OutputEvent) → map {B = Event OutputEvent} Emitted (x ++ y) ≡ map Emitted x ++ map Emitted y
+pub map_append : (x y : List OutputEvent) → map {B = Event OutputEvent} Emitted (x ++ y) ≡ map Emitted x
+    ++ map Emitted y
 map_append [] y = refl
 map_append (s ∷ x) y = ap (λ es. Emitted s ∷ es) (map_append x y)
 
@@ -44,15 +46,16 @@ pub outputs_by : (xs : List OutputEvent) (events : List (Event OutputEvent)) →
 outputs_by xs events is = sym (outputs_emitted xs) ∙ ap outputs is
 
 -- output events that were done, and a prefix of others after them
-pub prefix_behind : {cause : Cause} {d e f : DeskState} (done more : List OutputEvent) → ChangesRecord (after_events done) d e
-    → OutputsPrefix cause e f more → OutputsPrefix cause d f (done ++ more)
+pub prefix_behind : {cause : Cause} {d e f : DeskState} (done more : List OutputEvent)
+    → ChangesRecord (after_events done) d e → OutputsPrefix cause e f more → OutputsPrefix cause d f (done ++ more)
 prefix_behind {cause = cause} {d = d} {e = e} {f = f} done more kept x = record {
   whole = done ++ x.whole;
   begun = x.begun;
   later = x.later;
   outputs_are = ap (λ (ss : List OutputEvent). done ++ ss) x.outputs_are ∙ sym (append_assoc done x.whole x.later);
   place = subst (λ es. StopsAt cause [] es (map Emitted x.begun) (map Emitted x.later)) (sym (map_append done x.whole))
-      (place_behind cause [] [] (map Emitted done) (map Emitted x.whole) (map Emitted x.begun) (map Emitted x.later) tt x.place);
+      (place_behind cause [] [] (map Emitted done) (map Emitted x.whole) (map Emitted x.begun) (map Emitted x.later) tt
+      x.place);
   by_desk = x.by_desk;
   kept = search (rules, append_assoc, kept_append);
 }
@@ -81,8 +84,8 @@ line_part old new bytes part = record {
 }
 
 -- a file that was created, and of whose bytes a prefix was written
-pub file_part : (old mid new : DeskState) (file bytes : Bytes) → ChangesRecord (after_events (CreatesFile file ∷ [])) old mid
-    → SendsPart File mid new bytes
+pub file_part : (old mid new : DeskState) (file bytes : Bytes) → ChangesRecord (after_events (CreatesFile file ∷ []))
+    old mid → SendsPart File mid new bytes
     → OutputsPrefix (FileFailed file NotWritten) old new (CreatesFile file ∷ WritesFile bytes ∷ [])
 file_part old mid new file bytes created part = record {
   whole = CreatesFile file ∷ [];
@@ -91,7 +94,8 @@ file_part old mid new file bytes created part = record {
   outputs_are = refl;
   place = inl (([], refl), part_due WritesFile part.0 bytes);
   by_desk = tt;
-  kept = kept_append (CreatesFile file ∷ []) (WritesFile (take part.0 bytes) ∷ []) old.kept mid.kept new.kept created part.2;
+  kept = kept_append (CreatesFile file ∷ []) (WritesFile (take part.0 bytes) ∷ []) old.kept mid.kept new.kept created
+      part.2;
 }
 
 -- bytes of the output of which a prefix was written

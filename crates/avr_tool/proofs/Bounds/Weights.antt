@@ -79,9 +79,9 @@ module _ (w : Weight) where
   attempt_spends (command ∷ commands) before k left le =
       ask (omega (arith, le))
       (λ reading.
-      by_reply (λ bytes. attempt commands (before ++ bytes)) (reply_from_reading command reading) (left - w (body command))
-      (λ bytes. attempt_spends commands (before ++ bytes) k (left - w (body command)) (omega (arith, le)))
-      (λ other. omega (arith, le)))
+      by_reply (λ bytes. attempt commands (before ++ bytes)) (reply_from_reading command reading)
+      (left - w (body command)) (λ bytes. attempt_spends commands (before ++ bytes) k (left - w (body command))
+      (omega (arith, le))) (λ other. omega (arith, le)))
 
   step_spends : (commands : List Command) → Spends (4 * of_step commands) (step commands)
   step_spends commands k left le =
@@ -105,7 +105,8 @@ module _ (w : Weight) where
       let size = weighed_append (map body commands) (bodies_in steps) in
       bind (step_spends commands (4 * total steps + k) left (omega (arith, le, size))) behind
     where
-      behind : (o : StepOutcome) (t : ℕ) → 4 * total steps + k ≤ t → Call (λ r rest. k ≤ rest) (unless_step_fault go_on o) t
+      behind : (o : StepOutcome) (t : ℕ) → 4 * total steps + k ≤ t
+          → Call (λ r rest. k ≤ rest) (unless_step_fault go_on o) t
       behind (Ok bytes) t e = each bytes k t e
       behind (Err fault) t e = done (omega (arith, e))
 
@@ -145,7 +146,8 @@ module _ (w : Weight) where
   output_costs (output ∷ outputs) s k left le = emit tt (output_costs outputs s k left le)
 
   reported_costs : {A : Type 0} (n : ℕ) (operation : Dialog ⊥ (Result A HostFault))
-      (is_reported : Result A HostFault → List OutputEvent) → Spends n operation → Costs n (reported operation is_reported)
+      (is_reported : Result A HostFault → List OutputEvent) → Spends n operation
+      → Costs n (reported operation is_reported)
   reported_costs n operation is_reported asks k left le =
       bind (call (asks k left le)) (λ r t e. output_costs (is_reported r) (standing r) k t e)
 

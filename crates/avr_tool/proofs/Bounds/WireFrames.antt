@@ -27,8 +27,8 @@ module _ (w : Weight) where
       search (rules, body_of_frame)
 
   -- the same of a prefix of the bytes
-  pub prefix_weighs : {E R : Type 0} (n : ℕ) (d : Dialog E R) (seq : ℕ) (tape : Tape) (sent : List ℕ) → SendsValidBodies d
-      → WeighsAtMost w n d → IsBytePrefixOf sent (bytes_sent (played d seq tape).events)
+  pub prefix_weighs : {E R : Type 0} (n : ℕ) (d : Dialog E R) (seq : ℕ) (tape : Tape) (sent : List ℕ)
+      → SendsValidBodies d → WeighsAtMost w n d → IsBytePrefixOf sent (bytes_sent (played d seq tape).events)
       → total_weight w (map body_of (frames sent)) ≤ n
   prefix_weighs n d seq tape sent asks f prefix =
       let whole = frames_prefix (played d seq tape).events sent prefix.0 (sends_whole d seq tape asks) prefix.1 in

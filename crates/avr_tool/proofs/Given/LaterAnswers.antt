@@ -79,7 +79,8 @@ stops_more seq b tail u reading left stops none few e = search (rules, append_as
 
 given_more : (seq : ℕ) (t u : Tape) (o : Option (List ℕ × ℕ)) (reading : Reading) (left : Tape)
     → first_answer seq (cut (take reply_byte_limit (leading_bytes t))) ≡ o
-    → reading_from_first o (take reply_byte_limit (leading_bytes t)) t ≡ Some (reading, left) → answer seq (t ++ u) ≡ Some (reading, left ++ u)
+    → reading_from_first o (take reply_byte_limit (leading_bytes t)) t ≡ Some (reading, left) → answer seq (t ++ u)
+    ≡ Some (reading, left ++ u)
 given_more seq t u (Some (body, used)) reading left found e =
     let z = bytes_more t u in
     let y = take_more_bytes reply_byte_limit (leading_bytes t) z.0 in
@@ -95,7 +96,8 @@ given_more seq t u (Some (body, used)) reading left found e =
     ∙ (search (rules, drop_more_tape)))
 given_more seq t u None reading left none e =
     let x : List ℕ = take reply_byte_limit (leading_bytes t) in
-    let l : length x ≡ min reply_byte_limit (length (leading_bytes t)) = length-take reply_byte_limit (leading_bytes t) in
+    let l : length x ≡ min reply_byte_limit (length (leading_bytes t)) =
+    length-take reply_byte_limit (leading_bytes t) in
     let c : length (leading_bytes t) ≤ length t = bytes_few t in
     elim (cases_Bool (leb reply_byte_limit (length x))) [
       | inl full ↦

@@ -180,6 +180,6 @@ module _ (part : Part) (sound : IsPart part) where
           → joined_reply device commands [] q ≡ Data (data_of_step part commands m)
       from_either q (inl t) has = search (rules, step_data, in_mode_by_data)
       from_either q (inr t) has =
-          step_data part sound commands (memories_after_step part commands m) q is (changed_sizes part commands m sound f)
-          (settled_ready part (memories_after_step part commands m) q (in_mode_by_data part sound commands q got is has) t)
-          ∙ ap Data (given_same commands m is)
+          step_data part sound commands (memories_after_step part commands m) q is (changed_sizes part commands m sound
+          f) (settled_ready part (memories_after_step part commands m) q (in_mode_by_data part sound commands q got is
+          has) t) ∙ ap Data (given_same commands m is)

@@ -33,24 +33,27 @@ asks≢done bytes go_on r e = cc
 
 module _ {P : Type 0} (m : Device P) where
   -- what a dialog upholds holds along each link
-  module _ {E R : Type 0} (During : P → Type 0) (EmitsAll : E → P → Type 0) (After After' : R → P → Type 0)
+  module _ {E R : Type 0} (During : P → Type 0) (MayEmit : E → P → Type 0) (After After' : R → P → Type 0)
       (at_end : (r : R) (q : P) → After r q → During q × After' r q) where
     led : (d : Dialog E R) (k : ℕ) (p : P) (exchanges : List Exchange)
-        → HoldsFrom (over_any_exchange m) (λ bytes q. During q) EmitsAll After d p
+        → HoldsFrom (over_any_exchange m) (λ bytes q. During q) MayEmit After d p
         → During (state_after m k d p exchanges).programmer
-        × ((r : R) → (state_after m k d p exchanges).dialog ≡ Done r → After' r (state_after m k d p exchanges).programmer)
+        × ((r : R) → (state_after m k d p exchanges).dialog ≡ Done r
+        → After' r (state_after m k d p exchanges).programmer)
     led (Done a) k p exchanges h = search (rules, done_is)
     led (Emit e d) k p exchanges h = led d k p exchanges h.1
     led (Ask bytes go_on) zero p exchanges h = (h.0, λ r e. absurd (asks≢done bytes go_on r e))
-    led (Ask bytes go_on) (suc k) p exchanges h = led (go_on _) k _ (later_exchanges exchanges) (h.1 (first_exchange exchanges))
+    led (Ask bytes go_on) (suc k) p exchanges h =
+        led (go_on _) k _ (later_exchanges exchanges) (h.1 (first_exchange exchanges))
 
-  pub leads : {E R : Type 0} {During : P → Type 0} {EmitsAll : E → P → Type 0} {After After' : R → P → Type 0}
+  pub leads : {E R : Type 0} {During : P → Type 0} {MayEmit : E → P → Type 0} {After After' : R → P → Type 0}
       {d : Dialog E R} {p : P} {exchanges : List Exchange} → ((r : R) (q : P) → After r q → During q × After' r q)
-      → Upholds (over_any_exchange m) (λ bytes q. During q) EmitsAll After d p → Leads m d p exchanges During After'
-  leads {During = J} {EmitsAll = EmitsAll} {After = A} {After' = A'} {d = d} {p = p} {exchanges = exchanges} at_end l = record {
-    during = λ k. (led J EmitsAll A A' at_end d k p exchanges l.holds).0;
-    after = λ k. (led J EmitsAll A A' at_end d k p exchanges l.holds).1;
-  }
+      → Upholds (over_any_exchange m) (λ bytes q. During q) MayEmit After d p → Leads m d p exchanges During After'
+  leads {During = J} {MayEmit = MayEmit} {After = A} {After' = A'} {d = d} {p = p} {exchanges = exchanges} at_end l =
+      record {
+        during = λ k. (led J MayEmit A A' at_end d k p exchanges l.holds).0;
+        after = λ k. (led J MayEmit A A' at_end d k p exchanges l.holds).1;
+      }
 
   -- what a call upholds if one condition holds throughout
   abbrev pub Keeps : {R : Type 0} → (P → Type 0) → (R → P → Type 0) → Dialog ⊥ R → P → Type 0
@@ -58,7 +61,8 @@ module _ {P : Type 0} (m : Device P) where
 
   -- An attempt. If a condition holds after each prefix of its commands, also after a restart, it holds throughout. Its
   -- data are those of all commands, each executed and replied to.
-  module _ (Stands : P → Type 0) (After : StepOutcome → P → Type 0) (restart_keeps : (q : P) → Stands q → Stands (m.reset q))
+  module _ (Stands : P → Type 0) (After : StepOutcome → P → Type 0) (restart_keeps : (q : P) → Stands q
+      → Stands (m.reset q))
       (failed : (fault : StepFault) (q : P) → Stands q → After (Err fault) q) where
     abbrev Tries : Dialog ⊥ Reply → P → Type 0
     Tries d p = Keeps Stands (OnReply Stands After) d p
@@ -69,7 +73,8 @@ module _ {P : Type 0} (m : Device P) where
         → ((got : List ℕ) → on_data reply joined ≡ Data got → All got) → Tries (with_data go_on reply) q
     answered reply joined go_on q All stands each whole = search rules
 
-    lost : (execution : Execution) (executed p : P) → Stands executed → Stands p → Stands (after_execution execution executed p m.reset)
+    lost : (execution : Execution) (executed p : P) → Stands executed → Stands p
+        → Stands (after_execution execution executed p m.reset)
     lost NotExecuted executed p o s = s
     lost Executed executed p o s = o
     lost (ThenRestarted execution) executed p o s = restart_keeps _ (lost execution executed p o s)
@@ -77,8 +82,8 @@ module _ {P : Type 0} (m : Device P) where
     by_exchange : (one_exchange : Exchange) (command : Command) (go_on : List ℕ → Dialog ⊥ Reply) (p : P)
         → Stands (m.after (body command) p) → Stands p
         → Tries (with_data go_on (reply_to m command p)) (m.after (body command) p)
-        → Tries (with_data go_on (reply_from_reading command (reading_of_exchange one_exchange (m.answer (body command) p))))
-        (after_exchange one_exchange (m.after (body command) p) p m.reset)
+        → Tries (with_data go_on (reply_from_reading command (reading_of_exchange one_exchange
+        (m.answer (body command) p)))) (after_exchange one_exchange (m.after (body command) p) p m.reset)
     by_exchange one_exchange command go_on p o s right = search (rules, lost)
 
     attempt_goes : (commands : List Command) (before : List ℕ) (p : P)
@@ -127,10 +132,12 @@ module _ {P : Type 0} (m : Device P) where
     -- under one condition throughout, which a fault leaves
     pub step_leads : (During : P → Type 0) (Whole : StepOutcome → P → Type 0) (p : P) → ((q : P) → Before q → During q)
         → ((q : P) → After q → During q) → ((fault : StepFault) (q : P) → During q → Whole (Err fault) q) → Before p
-        → Keeps During (OnOutcome (λ got q. After q × IsDataOfAttempt m commands Before After got) Whole) (step commands) p
+        → Keeps During (OnOutcome (λ got q. After q × IsDataOfAttempt m commands Before After got) Whole)
+        (step commands) p
     step_leads During Whole p from to failed before = search (rules, wider, step_goes)
 
-    pub step_along : (p : P) (exchanges : List Exchange) → Before p → Leads m (step commands) p exchanges Either AfterStep
+    pub step_along : (p : P) (exchanges : List Exchange) → Before p → Leads m (step commands) p exchanges Either
+        AfterStep
     step_along p exchanges before = leads at_end (step_goes p before)
       where
         at_end : (o : StepOutcome) (q : P) → AfterStep o q → Either q × AfterStep o q

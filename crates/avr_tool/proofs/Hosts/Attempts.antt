@@ -11,19 +11,27 @@ use Rattle.stk_emu.specs.Fits.{IsRepeatable}
 use Rattle.avr_tool.proofs.Hosts.AnyExchange.{step_along}
 
 -- the next dialog, from where this one is
-abbrev pub along_next_dialog : {E A B P : Type 0} → Device P → (A → Dialog E B) → ℕ → List Exchange → P → Dialog E A → StateAfter E B P
+abbrev pub along_next_dialog : {E A B P : Type 0} → Device P → (A → Dialog E B) → ℕ → List Exchange → P → Dialog E A
+    → StateAfter E B P
 along_next_dialog m next left exchanges p (Done a) = state_after m left (next a) p exchanges
 along_next_dialog m next left exchanges p (Emit e dialog) =
     record { dialog = Emit e (dialog >>= next); programmer = p; exchanges = exchanges; left = left }
 along_next_dialog m next left exchanges p (Ask bytes go_on) =
-    record { dialog = Ask bytes (λ reading. go_on reading >>= next); programmer = p; exchanges = exchanges; left = left }
+    record {
+      dialog = Ask bytes (λ reading. go_on reading >>= next);
+      programmer = p;
+      exchanges = exchanges;
+      left =
+          left;
+    }
 
 abbrev pub onwards : {E A B P : Type 0} → Device P → (A → Dialog E B) → StateAfter E A P → StateAfter E B P
 onwards m next s = along_next_dialog m next s.left s.exchanges s.programmer s.dialog
 
 -- a dialog and the next one go along as the first does, and then the second from there
 pub along_bind : {E A B P : Type 0} (m : Device P) (k : ℕ) (d : Dialog E A) (next : A → Dialog E B) (p : P)
-    (exchanges : List Exchange) → state_after m k (d >>= next) p exchanges ≡ onwards m next (state_after m k d p exchanges)
+    (exchanges : List Exchange) → state_after m k (d >>= next) p exchanges
+    ≡ onwards m next (state_after m k d p exchanges)
 along_bind m k (Done a) next p exchanges = refl
 along_bind m k (Emit e d) next p exchanges = along_bind m k d next p exchanges
 along_bind m zero (Ask bytes go_on) next p exchanges = refl

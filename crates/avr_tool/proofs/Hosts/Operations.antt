@@ -99,8 +99,8 @@ module _ (part : Part) (sound : IsPart part) where
   unfolding handshake
   beginning_goes m p f idle =
       bind
-      (step_leads device (SignOn ∷ []) (HasMemories part m) (HasMemories part m) (sign_on_fits part m) (HasMemories part m)
-      (AfterBeginning part m) p (λ q i. i) (λ q i. i) (λ fault q i. i) idle)
+      (step_leads device (SignOn ∷ []) (HasMemories part m) (HasMemories part m) (sign_on_fits part m)
+      (HasMemories part m) (AfterBeginning part m) p (λ q i. i) (λ q i. i) (λ fault q i. i) idle)
       (on_data (over_any_exchange device) (λ bytes q. HasMemories part m q)
       (λ name. step (enter ∷ []) >>= unless_step_fault (λ nothing. play signature_steps []))
       (λ name q i.
@@ -118,8 +118,8 @@ module _ (part : Part) (sound : IsPart part) where
 abbrev pub IsClosed : Result ⊤ HostFault → Type 0
 IsClosed r = (r ≡ Ok tt) ⊎ ((fault : StepFault) × (r ≡ Err (host_fault fault)))
 
-pub closing_goes : (Stands : Programmer → Type 0) → IsRepeatable device (leave ∷ []) Stands Stands → (p : Programmer) → Stands p
-    → Keeps device Stands (λ r q. Stands q × IsClosed r) closing p
+pub closing_goes : (Stands : Programmer → Type 0) → IsRepeatable device (leave ∷ []) Stands Stands → (p : Programmer)
+    → Stands p → Keeps device Stands (λ r q. Stands q × IsClosed r) closing p
 unfolding closing
 closing_goes Stands fits p stands =
     notice without_bytes (step_leads device (leave ∷ []) Stands Stands fits Stands (λ o q. Stands q) p (λ q i. i)
@@ -144,5 +144,6 @@ reported report_line s = record {
 
 module _ {E P : Type 0} (m : Device P) where
   pub along_reported : {A B : Type 0} (k : ℕ) (d : Dialog E A) (report_line : A → B) (p : P) (exchanges : List Exchange)
-      → state_after m k (d >>= (λ a. Done (report_line a))) p exchanges ≡ reported report_line (state_after m k d p exchanges)
+      → state_after m k (d >>= (λ a. Done (report_line a))) p exchanges
+      ≡ reported report_line (state_after m k d p exchanges)
   along_reported {A = A} {B = B} k d report_line p exchanges = search (rules, along_bind, notice, along_next_dialog)

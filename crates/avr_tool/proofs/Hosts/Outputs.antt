@@ -56,8 +56,8 @@ module _ (True : OutputEvent → Programmer → Type 0) where
   pub record Prints {R : Type 0} (Now : Moment) (After : End R) (d : Dialog OutputEvent R) (z : Spot) : Type 0 where
     pub holds : PrintsFrom Now After d z
 
-  pub stops : {R : Type 0} {Now : Moment} (After : End R) (r : R) (emitted : List OutputEvent) (z : Spot) → After r emitted z
-      → Prints Now (λ b x. After b (emitted ++ x)) (Done r) z
+  pub stops : {R : Type 0} {Now : Moment} (After : End R) (r : R) (emitted : List OutputEvent) (z : Spot)
+      → After r emitted z → Prints Now (λ b x. After b (emitted ++ x)) (Done r) z
   stops After r emitted z a = record { holds = subst (λ x. After r x z) (sym (append-nil emitted)) a }
 
   on_outputs : {R : Type 0} (Now : Moment) (After : End R) (outputs : List OutputEvent) (r : R) (z : Spot)
@@ -127,6 +127,6 @@ module _ (True : OutputEvent → Programmer → Type 0) where
       record { now = more.now; after = more.after }
 
   pub at_moment : {R : Type 0} {Now : Moment} {After : End R} {d : Dialog OutputEvent R} {z : Spot}
-      → ((r : R) (emitted : List OutputEvent) (y : Spot) → After r emitted y → Now emitted y) → (k : ℕ) → Prints Now After d z
-      → Printed Now After k d z
+      → ((r : R) (emitted : List OutputEvent) (y : Spot) → After r emitted y → Now emitted y) → (k : ℕ)
+      → Prints Now After d z → Printed Now After k d z
   at_moment {Now = Now} {After = After} {d = d} {z = z} last k l = on_moment Now After last k d z l.holds

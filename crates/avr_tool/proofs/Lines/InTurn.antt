@@ -61,7 +61,8 @@ frames_sent (Emitted e ∷ events) whole = frames_sent events whole
 
 pub due_at : {E R : Type 0} (d : Dialog E R) (n : ℕ) (tape : Tape) (bytes : List ℕ) (before after : Transcript)
     (items : Tape)
-    → InTurnFrom d n tape bytes (before ++ Got items ∷ after) → IsDueToListen d n (tape ++ heard before) (bytes ++ sent before)
+    → InTurnFrom d n tape bytes (before ++ Got items ∷ after) → IsDueToListen d n (tape ++ heard before) (bytes
+    ++ sent before)
 due_at d n tape bytes [] after items half_duplex = search (rules, append-nil)
 due_at d n tape bytes (Sent more ∷ before) after items half_duplex =
     search (rules, append_assoc, due_at d n tape (bytes ++ more) before after items half_duplex)
@@ -79,7 +80,8 @@ never_idle d n p fates transcript asks lawful half_duplex before after items spl
     let play = played d n (brought p fates (sent before)) in
     let gone : frames_in play.events ≡ frames (sent before) =
     search (rules, frames_sent, sends_whole) in
-    let goes = over_wire device replies_fit_frames d n (fresh_wire p fates) (frames (sent before)) [] asks (none_clear n)
+    let goes = over_wire device replies_fit_frames d n (fresh_wire p fates) (frames (sent before)) [] asks
+    (none_clear n)
     lawful (gone ∙ sym (append-nil (frames (sent before)))) in
     search (rules, waits_played)
 
@@ -96,8 +98,10 @@ played_goes (Ask bytes go_on) n t u =
     λ o. frame n bytes ∷ frames_in (continue_with_reading (λ reading. played (go_on reading) (next n)) o).events in
     (elim (answer n t) as (λ o. answer n t ≡ o
     → (more : List (List ℕ)) × (sent_by (answer n (t ++ u)) ≡ sent_by o ++ more)) [
-      | None ↦ λ e.
-          (frames_in (continue_with_reading (λ reading. played (go_on reading) (next n)) (answer n (t ++ u))).events, refl)
+      | None ↦ λ e. (
+        frames_in (continue_with_reading (λ reading. played (go_on reading) (next n)) (answer n (t ++ u))).events,
+        refl,
+      )
       | Some got ↦ λ e.
           let g = played_goes (go_on got.0) (next n) got.1 u in
           (g.0, ap sent_by (answer_extends n t u got.0 got.1 e) ∙ ap (λ fs. frame n bytes ∷ fs) g.1)
@@ -139,8 +143,8 @@ frames_prefix (Frame f ∷ events) bytes back whole e = elim (cases_lt (length b
 ]
 
 -- the events of a run that broke off send a prefix of the bytes
-begun_prefix : {E : Type 0} (IsPartOfEvent : E → E → Type 0) (begun later : List (Event E)) → IsPartOfFirst IsPartOfEvent begun later
-    → IsBytePrefixOf (bytes_sent begun) (bytes_sent later)
+begun_prefix : {E : Type 0} (IsPartOfEvent : E → E → Type 0) (begun later : List (Event E))
+    → IsPartOfFirst IsPartOfEvent begun later → IsBytePrefixOf (bytes_sent begun) (bytes_sent later)
 begun_prefix IsPartOfEvent [] later part = (bytes_sent later, refl)
 begun_prefix IsPartOfEvent (Frame x ∷ []) (Frame y ∷ later) part =
     search (rules, append-nil x, append_assoc x part.0 (bytes_sent later))
@@ -161,7 +165,8 @@ module _ {E R : Type 0} (d : Dialog E R) (n : ℕ) (p : Programmer) (fates : Lis
   abbrev count : ℕ
   count = length (frames (sent w.transcript))
 
-  pub goes_along : SendsFirst → GoesOver device d n (fresh_wire p fates) (frames (sent w.transcript)) p (exchanges_of_fates fates)
+  pub goes_along : SendsFirst → GoesOver device d n (fresh_wire p fates) (frames (sent w.transcript)) p
+      (exchanges_of_fates fates)
   goes_along prefix =
       let f = frames_prefix (played d n (heard w.transcript)).events (sent w.transcript) prefix.0
       (sends_whole d n (heard w.transcript) asks) prefix.1 in
@@ -172,7 +177,8 @@ module _ {E R : Type 0} (d : Dialog E R) (n : ℕ) (p : Programmer) (fates : Lis
       (search (rules, never_idle, append_assoc))
 
   -- the programmer is where the link leads it
-  pub stands_along : SendsFirst → w.wire.programmer ≡ (state_after device count d p (exchanges_of_fates fates)).programmer
+  pub stands_along : SendsFirst → w.wire.programmer
+      ≡ (state_after device count d p (exchanges_of_fates fates)).programmer
   stands_along prefix = ap (λ x. x.programmer) keeps.stands ∙ (goes_along prefix).programmer
 
   -- a whole run has the same output and the same result there
@@ -183,7 +189,8 @@ module _ {E R : Type 0} (d : Dialog E R) (n : ℕ) (p : Programmer) (fates : Lis
     over = search (rules, goes_along, never_idle)
 
     pub whole_emitted : outputs events ≡ outputs_after device count d p (exchanges_of_fates fates)
-    whole_emitted = sym (ap (λ x. outputs x.events) over) ∙ emitted_played device count d n p (exchanges_of_fates fates) []
+    whole_emitted = sym (ap (λ x. outputs x.events) over) ∙ emitted_played device count d n p (exchanges_of_fates fates)
+        []
 
     pub whole_done : (state_after device count d p (exchanges_of_fates fates)).dialog ≡ Done r
     whole_done = search (rules, done_played, over)

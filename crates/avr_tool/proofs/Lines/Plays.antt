@@ -12,7 +12,11 @@ use Rattle.stk_emu.specs.DialogOverExchanges.{state_after, outputs_after}
 abbrev pub played_along : {E R P : Type 0} → Device P → ℕ → Dialog E R → ℕ → P → List Exchange → Tape → Played E R
 played_along m k (Done r) n p exchanges left = record { events = []; outcome = Some (r, n, left) }
 played_along m k (Emit e d) n p exchanges left = prepend_events (Emitted e ∷ []) (played_along m k d n p exchanges left)
-played_along m zero (Ask bytes go_on) n p exchanges left = record { events = Frame (frame n bytes) ∷ []; outcome = None }
+played_along m zero (Ask bytes go_on) n p exchanges left = record {
+  events = Frame (frame n bytes) ∷ [];
+  outcome =
+      None;
+}
 played_along m (suc k) (Ask bytes go_on) n p exchanges left =
     prepend_events (Frame (frame n bytes) ∷ [])
     (played_along m k (go_on (reading_of_exchange (first_exchange exchanges) (m.answer bytes p))) (next n)
@@ -53,7 +57,8 @@ module _ {E R P : Type 0} (m : Device P) where
   done_played zero (Ask bytes go_on) n p exchanges left r seq rest o = absurd (none-some (r, seq, rest) o)
   done_played (suc k) (Ask bytes go_on) n p exchanges left r seq rest o =
       done_played k (go_on (reading_of_exchange (first_exchange exchanges) (m.answer bytes p))) (next n)
-      (after_exchange (first_exchange exchanges) (m.after bytes p) p m.reset) (later_exchanges exchanges) left r seq rest o
+      (after_exchange (first_exchange exchanges) (m.after bytes p) p m.reset) (later_exchanges exchanges) left r seq
+      rest o
 
   pub waits_played : (k : ℕ) (d : Dialog E R) (n : ℕ) (p : P) (exchanges : List Exchange) (left : Tape)
       → (played_along m k d n p exchanges left).outcome ≡ None

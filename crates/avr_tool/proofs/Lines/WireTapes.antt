@@ -29,7 +29,8 @@ pub record GoesOver {E R P : Type 0} (m : Device P) (d : Dialog E R) (n : ℕ) (
     (exchanges : List Exchange) : Type 0 where
   pub programmer : (wire_after_frames m sent w).programmer ≡ (state_after m (length sent) d p exchanges).programmer
   pub play : played d n (tape_of m sent w) ≡ played_along m (length sent) d n p exchanges []
-  pub is_authentic : (j : ℕ) → length sent ≤ j → RepliesAreAuthentic m d n (tape_of m sent w) p (executions_of_fates j w.fates)
+  pub is_authentic : (j : ℕ) → length sent ≤ j → RepliesAreAuthentic m d n (tape_of m sent w) p
+      (executions_of_fates j w.fates)
 
 module _ {P : Type 0} (m : Device P) (answers : RepliesFitFrames m) where
   -- a question whose reply came, by its own exchange
@@ -40,23 +41,30 @@ module _ {P : Type 0} (m : Device P) (answers : RepliesFitFrames m) where
         reading_of_exchange (exchange_of_fate (first_fate w.fates)) (m.answer bytes w.programmer),
         tape_of m sent (wire_after_frame m (frame n bytes) w),
       )
-      → GoesOver m (go_on (reading_of_exchange (exchange_of_fate (first_fate w.fates)) (m.answer bytes w.programmer))) (next n)
-      (wire_after_frame m (frame n bytes) w) sent
-      (after_exchange (exchange_of_fate (first_fate w.fates)) (m.after bytes w.programmer) w.programmer m.reset) exchanges
-      → GoesOver m (Ask bytes go_on) n w (frame n bytes ∷ sent) w.programmer (exchange_of_fate (first_fate w.fates) ∷ exchanges)
+      → GoesOver m (go_on (reading_of_exchange (exchange_of_fate (first_fate w.fates)) (m.answer bytes w.programmer)))
+      (next n) (wire_after_frame m (frame n bytes) w) sent
+      (after_exchange (exchange_of_fate (first_fate w.fates)) (m.after bytes w.programmer) w.programmer m.reset)
+      exchanges → GoesOver m (Ask bytes go_on) n w (frame n bytes ∷ sent) w.programmer
+      (exchange_of_fate (first_fate w.fates) ∷ exchanges)
   answered bytes go_on n w sent exchanges read goes = search rules
 
   by_fates : {E R : Type 0} (bytes : List ℕ) (go_on : Reading → Dialog E R) (n : ℕ) (w : Wire P) (f : List ℕ)
       (sent : List (List ℕ)) (p : P) (fates : List Fate)
-      → GoesOver m (Ask bytes go_on) n w (f ∷ sent) p (exchange_of_fate (first_fate fates) ∷ exchanges_of_fates (other_fates fates))
-      → GoesOver m (Ask bytes go_on) n w (f ∷ sent) p (exchanges_of_fates fates)
+      → GoesOver m (Ask bytes go_on) n w (f ∷ sent) p (exchange_of_fate (first_fate fates)
+      ∷ exchanges_of_fates (other_fates fates)) → GoesOver m (Ask bytes go_on) n w (f
+      ∷ sent) p (exchanges_of_fates fates)
   by_fates bytes go_on n w f sent p fates goes = search rules
 
   pub over_wire : {E R : Type 0} (d : Dialog E R) (n : ℕ) (w : Wire P) (sent more : List (List ℕ)) → SendsValidBodies d
       → NoneHasNumber n w.late → AreLawful w.fates
       → frames_in (played d n (tape_of m sent w)).events ≡ sent ++ more
       → GoesOver m d n w sent w.programmer (exchanges_of_fates w.fates)
-  over_wire (Done r) n w [] more asks clear lawful e = record { programmer = refl; play = refl; is_authentic = λ j le. tt }
+  over_wire (Done r) n w [] more asks clear lawful e = record {
+    programmer = refl;
+    play = refl;
+    is_authentic =
+        λ j le. tt;
+  }
   over_wire (Done r) n w (f ∷ sent) more asks clear lawful e = absurd (cons_none f (sent ++ more) e)
   over_wire (Emit s d) n w sent more asks clear lawful e = search (rules, over_wire d n w sent more asks clear lawful e)
   over_wire (Ask bytes go_on) n w [] more asks clear lawful e =

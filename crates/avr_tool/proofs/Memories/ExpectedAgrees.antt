@@ -22,7 +22,8 @@ record EndsAsActionsAgree (c : Expected) (Agree : Type 0) (left : Memories) : Ty
   memories : c.standing ≡ NoFault → c.memories ≡ left
 
 agrees_in_sequence : (first : Expected) (next : Memories → Expected) (A B : Type 0) (between left : Memories)
-    → EndsAsActionsAgree first A between → EndsAsActionsAgree (next between) B left → EndsAsActionsAgree (first then next) (A × B) left
+    → EndsAsActionsAgree first A between → EndsAsActionsAgree (next between) B left
+    → EndsAsActionsAgree (first then next) (A × B) left
 agrees_in_sequence first next A B between left agreement more = search rules
 
 -- ---- an action
@@ -32,19 +33,21 @@ agrees_without_fault c is = record { if_fine = λ f. tt; is_fine = λ agree. is;
 
 module _ (part : Part) (s : Switches) where
   agrees_for_action : (action : Action) (m : Memories)
-      → EndsAsActionsAgree (action_expected part s action m) (ComparisonAgrees part action m) (effects part (action_items action) m)
+      → EndsAsActionsAgree (action_expected part s action m) (ComparisonAgrees part action m)
+      (effects part (action_items action) m)
   agrees_for_action action m = search (rules, no_difference, faulty_fine, held_same, agrees_without_fault)
 
   agrees_for_actions : (actions : List Action) (m : Memories)
-      → EndsAsActionsAgree (actions_expected part s actions m) (EachComparisonAgrees part actions m) (effects part (actions_items actions) m)
+      → EndsAsActionsAgree (actions_expected part s actions m) (EachComparisonAgrees part actions m)
+      (effects part (actions_items actions) m)
   agrees_for_actions [] m = record { if_fine = λ f. tt; is_fine = λ agree. refl; memories = λ f. refl }
   agrees_for_actions (action ∷ actions) m =
       let after = effects part (action_items action) m in
-      subst (EndsAsActionsAgree (actions_expected part s (action ∷ actions) m) (EachComparisonAgrees part (action ∷ actions) m))
-      (sym (effects_on part (action_items action) (actions_items actions) m))
-      (agrees_in_sequence (action_expected part s action m) (actions_expected part s actions) (ComparisonAgrees part action m)
-      (EachComparisonAgrees part actions after) after (effects part (actions_items actions) after)
-      (agrees_for_action action m) (agrees_for_actions actions after))
+      subst (EndsAsActionsAgree (actions_expected part s (action ∷ actions) m) (EachComparisonAgrees part (action
+      ∷ actions) m)) (sym (effects_on part (action_items action) (actions_items actions) m))
+      (agrees_in_sequence (action_expected part s action m) (actions_expected part s actions)
+      (ComparisonAgrees part action m) (EachComparisonAgrees part actions after) after
+      (effects part (actions_items actions) after) (agrees_for_action action m) (agrees_for_actions actions after))
 
 -- ---- the whole
 

@@ -30,7 +30,8 @@ length-over [] b = refl
 length-over (x ∷ a) [] = refl
 length-over (x ∷ a) (y ∷ b) = ap suc (length-over a b)
 
-byte_of_over : (a b : Image) (i : ℕ) → length b ≤ length a → byte_at (over a b) i ≡ byte_or_else (byte_at b i) (byte_at a i)
+byte_of_over : (a b : Image) (i : ℕ) → length b ≤ length a → byte_at (over a b) i
+    ≡ byte_or_else (byte_at b i) (byte_at a i)
 byte_of_over [] [] i l = refl
 byte_of_over [] (y ∷ b) i l = absurd (omega (arith, l))
 byte_of_over (x ∷ a) [] i l = refl
@@ -80,8 +81,8 @@ module _ (part : Part) where
   left_as_it_is : (mem : Mem) (size : ℕ) (m : Memories) → Left part mem (empty size) m m
   left_as_it_is mem size m = search (rules, byte_of_empty)
 
-  left_by_write : (mem : Mem) (image : Image) (m : Memories) → MemoryHoldsImage part mem image (write_effect mem image m)
-      → Left part mem image m (write_effect mem image m)
+  left_by_write : (mem : Mem) (image : Image) (m : Memories)
+      → MemoryHoldsImage part mem image (write_effect mem image m) → Left part mem image m (write_effect mem image m)
   left_by_write mem image m shows = search (rules, write_keeps)
 
   left_over : (mem : Mem) (first second : Image) (old between new : Memories) → length second ≤ length first
@@ -100,8 +101,8 @@ module _ (part : Part) where
   write_left : (mem other : Mem) (image more : Image) (m new : Memories) (same : Bool)
       → (memory_number other == memory_number mem) ≡ same
       → length image ≡ size_of other part → length more ≡ size_of mem part
-      → MemoryHoldsImage part other image (write_effect other image m) → Left part mem more (write_effect other image m) new
-      → Left part mem (if same then over image more else more) m new
+      → MemoryHoldsImage part other image (write_effect other image m) → Left part mem more (write_effect other image m)
+      new → Left part mem (if same then over image more else more) m new
   write_left mem other image more m new true e fits size shows left =
       let is = same_memory other mem e in
       search (rules, left_by_write, left_over)

@@ -82,8 +82,9 @@ module _ (part : Part) (s : Switches) (At : Memories → Spot → Type 0) (Fails
     pub idle : (m : Memories) (z : Spot) → At m z → HasMemories part m z.0
     pub calls : (action : Action) (m : Memories) (z : Spot) → FitsAction part action → FitsPart part m → At m z
         → Comes action m z
-    pub closes : (m : Memories) (z : Spot) → At m z → Runs device (λ y. HasMemories part m y.0) (λ r y. HasMemories part m y.0
-        × ((r ≡ Ok tt) ⊎ (Fails × ((fault : StepFault) × (r ≡ Err (host_fault fault)))))) closing z
+    pub closes : (m : Memories) (z : Spot) → At m z → Runs device (λ y. HasMemories part m y.0)
+        (λ r y. HasMemories part m y.0 × ((r ≡ Ok tt) ⊎ (Fails × ((fault : StepFault) × (r ≡ Err (host_fault fault))))))
+        closing z
 
 module _ (part : Part) (sound : IsPart part) (s : Switches) where
   -- the outcomes of a call over any link
@@ -119,7 +120,8 @@ module _ (part : Part) (sound : IsPart part) (s : Switches) where
       came got q (inr broke) = inr (tt, (broke.0, broke.1, rests q broke.2))
 
   -- the opening, with the part's own signature
-  pub opening_comes : (m : Memories) → FitsPart part m → (p : Programmer) → HasMemories part m p → ComesAnyhow OpenSession m p
+  pub opening_comes : (m : Memories) → FitsPart part m → (p : Programmer) → HasMemories part m p
+      → ComesAnyhow OpenSession m p
   unfolding opening
   opening_comes m f p idle =
       notice (signature_checked part.signature s.force)
@@ -179,8 +181,8 @@ module _ (part : Part) (sound : IsPart part) (s : Switches) (True : OutputEvent 
         → Prints True (λ emitted y. RestsIn part items m y × FirstActionsOutput part s (action ∷ rest) m emitted)
         (AfterOne part s At Fails action rest m) (action_dialog part s action) z
     action_prints z holds comes =
-        subst (λ d. Prints True (λ emitted y. RestsIn part items m y × FirstActionsOutput part s (action ∷ rest) m emitted)
-        (AfterOne part s At Fails action rest m) d z) (dialog_is part s action)
+        subst (λ d. Prints True (λ emitted y. RestsIn part items m y × FirstActionsOutput part s (action
+        ∷ rest) m emitted) (AfterOne part s At Fails action rest m) d z) (dialog_is part s action)
         (prints_reported True (outcome_output part s action) comes (λ y r. (r, none_done (action ∷ rest) m)) each)
       where
         each : (got : Result (Outcome action) HostFault) (y : Spot) → Came part s At Fails action m got y
@@ -206,7 +208,13 @@ module _ (part : Part) (sound : IsPart part) (s : Switches) (True : OutputEvent 
                   fails = broke.0;
                   faulty = subst (λ x. standing x ≡ NoFault → ⊥) (sym broke.1.1)
                       (after_fault (Outcome action) (λ at. at ≡ NoFault → ⊥) (host_fault fault) faulty_fine over_fine);
-                  line = record { notice = []; first = none_done (action ∷ rest) m; fault = fault; output_events_are = line };
+                  line = record {
+                    notice = [];
+                    first = none_done (action ∷ rest) m;
+                    fault = fault;
+                    output_events_are =
+                        line;
+                  };
                 }),
               ),
             )
@@ -262,8 +270,8 @@ module _ (part : Part) (sound : IsPart part) (s : Switches) (True : OutputEvent 
     goes_cons z holds comes more =
         prints_then True (λ emitted y x. (before y x.0, x.1)) (action_prints z holds comes) on
       where
-        on : (at : Standing) (emitted : List OutputEvent) (y : Spot) → AfterOne part s At Fails action rest m at emitted y
-            → Prints True (λ x. Now part s At Fails (action ∷ rest) m (emitted ++ x))
+        on : (at : Standing) (emitted : List OutputEvent) (y : Spot) → AfterOne part s At Fails action rest m at emitted
+            y → Prints True (λ x. Now part s At Fails (action ∷ rest) m (emitted ++ x))
             (λ b x. After part s At Fails (action ∷ rest) m b (emitted ++ x))
             (unless_fault (actions_dialog part s rest) at) y
         on NoFault emitted y (r, inl own) =

@@ -22,7 +22,8 @@ pub record Rests (part : Part) (steps : List (List Command)) (m : Memories) (q :
 pub changed_min : (part : Part) (count : ℕ) (steps : List (List Command)) (m : Memories)
     → memories_after_steps part (min count (length steps)) steps m ≡ memories_after_steps part count steps m
 changed_min part zero steps m = search rules
-changed_min part (suc count) [] m = ap (λ n. memories_after_steps part n [] m) (let e : min (suc count) 0 ≡ 0 = omega arith in e)
+changed_min part (suc count) [] m = ap (λ n. memories_after_steps part n [] m) (let e : min (suc count) 0 ≡ 0 =
+    omega arith in e)
 changed_min part (suc count) (commands ∷ steps) m =
     ap (λ n. memories_after_steps part n (commands ∷ steps) m)
     (let e : min (suc count) (suc (length steps)) ≡ suc (min count (length steps)) = omega arith in e)
@@ -38,19 +39,23 @@ changed_prefix part (suc count) (commands ∷ xs) ys m few =
 
 -- all these steps, and some of the next
 pub changed_behind : (part : Part) (count : ℕ) (xs ys : List (List Command)) (m : Memories)
-    → memories_after_steps part (count + length xs) (xs ++ ys) m ≡ memories_after_steps part count ys (memories_after_steps part (length xs) xs m)
-changed_behind part count [] ys m = ap (λ n. memories_after_steps part n ys m) (let e : count + 0 ≡ count = omega arith in e)
+    → memories_after_steps part (count + length xs) (xs ++ ys) m
+    ≡ memories_after_steps part count ys (memories_after_steps part (length xs) xs m)
+changed_behind part count [] ys m = ap (λ n. memories_after_steps part n ys m) (let e : count + 0 ≡ count =
+    omega arith in e)
 changed_behind part count (commands ∷ xs) ys m =
     ap (λ n. memories_after_steps part n (commands ∷ xs ++ ys) m)
     (let e : count + suc (length xs) ≡ suc (count + length xs) = omega arith in e)
     ∙ changed_behind part count xs ys (memories_after_step part commands m)
 
-pub all_on : (part : Part) (xs ys : List Item) → steps_of_items part (xs ++ ys) ≡ steps_of_items part xs ++ steps_of_items part ys
+pub all_on : (part : Part) (xs ys : List Item) → steps_of_items part (xs ++ ys) ≡ steps_of_items part xs
+    ++ steps_of_items part ys
 all_on part [] ys = refl
 all_on part (item ∷ xs) ys = search (rules, append_assoc, all_on part xs ys)
 
 module _ (part : Part) where
-  pub rests_here : (steps : List (List Command)) (m : Memories) (q : Programmer) → HasMemories part m q → Rests part steps m q
+  pub rests_here : (steps : List (List Command)) (m : Memories) (q : Programmer) → HasMemories part m q
+      → Rests part steps m q
   rests_here steps m q idle = record { count = 0; stands = idle }
 
   -- some first steps are some first of more
@@ -71,7 +76,8 @@ module _ (part : Part) where
 
   -- all steps of items do what the items do
   pub all_changed : (sound : IsPart part) (items : List Item) (m : Memories) → ItemsFit part items → FitsPart part m
-      → memories_after_steps part (length (steps_of_items part items)) (steps_of_items part items) m ≡ effects part items m
+      → memories_after_steps part (length (steps_of_items part items)) (steps_of_items part items) m
+      ≡ effects part items m
   all_changed sound items m fits f = changed_all part (steps_of_items part items) m ∙ items_do part sound items m fits f
 
   pub rests_all : (sound : IsPart part) (items : List Item) (m : Memories) (q : Programmer) → ItemsFit part items

@@ -52,6 +52,7 @@ module _ (part : Part) (sound : IsPart part) where
   actions_sendable (action ∷ actions) fits = search (rules, each_on, action_sendable, actions_sendable actions fits.1)
 
 -- every question of a session
-pub session_asks : (plan : Plan) → IsPart plan.part → All (IsFitted plan.part) plan.tasks → SendsValidBodies (session plan)
+pub session_asks : (plan : Plan) → IsPart plan.part → All (IsFitted plan.part) plan.tasks
+    → SendsValidBodies (session plan)
 session_asks plan sound fitted =
     search (rules, steps_light, each_on, actions_sendable, work_fits, asks_light, session_weighs)

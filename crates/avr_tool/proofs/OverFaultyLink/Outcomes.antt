@@ -27,8 +27,10 @@ module _ (plan : Plan) (sound : IsPart plan.part) (m0 : Memories) (f0 : FitsPart
     (fitted : All (IsFitted plan.part) plan.tasks) where
   anything : (actions : List Action) (m : Memories) → ActionsTrue plan.part plan.switches Anything actions m
   anything [] m = tt
-  anything (action ∷ actions) m =
-      (λ q is. any_outputs (outcome_output plan.part plan.switches action (outcome_of plan.part action m)) q, anything actions (effects plan.part (action_items action) m))
+  anything (action ∷ actions) m = (
+    λ q is. any_outputs (outcome_output plan.part plan.switches action (outcome_of plan.part action m)) q,
+    anything actions (effects plan.part (action_items action) m),
+  )
 
   -- over any link, or if no step fails
   pub session_passes : (At : Memories → Spot → Type 0) (Fails : Type 0) → Passes plan.part plan.switches At Fails
@@ -48,8 +50,9 @@ module _ (plan : Plan) (sound : IsPart plan.part) (m0 : Memories) (f0 : FitsPart
         (on_link device (opening_comes plan.part sound plan.switches m0 f0 p idle)))
 
     -- with status 0 it is its expected run
-    pub session_succeeds : (k status : ℕ) → (state_after device k (session plan) p exchanges).dialog ≡ Done status → status ≡ 0
-        → IsExpectedRun plan m0 (memories_of (state_after device k (session plan) p exchanges).programmer.chip)
+    pub session_succeeds : (k status : ℕ) → (state_after device k (session plan) p exchanges).dialog ≡ Done status
+        → status ≡ 0 → IsExpectedRun plan m0
+        (memories_of (state_after device k (session plan) p exchanges).programmer.chip)
         (outputs_after device k (session plan) p exchanges) status
     session_succeeds k status e zero = elim ((session_along k).after status e).1 [
       | inl own ↦ own

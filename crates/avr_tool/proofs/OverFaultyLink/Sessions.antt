@@ -75,7 +75,8 @@ module _ (plan : Plan) (sound : IsPart plan.part) (fitted : All (IsFitted plan.p
   abbrev w : Expected
   w = working_expected plan m
 
-  all_done : (emitted : List OutputEvent) → emitted ≡ w.emits → w.standing ≡ NoFault → FirstActionsOutput part s (actions plan) m emitted
+  all_done : (emitted : List OutputEvent) → emitted ≡ w.emits → w.standing ≡ NoFault
+      → FirstActionsOutput part s (actions plan) m emitted
   all_done emitted is fine = record {
     done = actions plan;
     more = [];

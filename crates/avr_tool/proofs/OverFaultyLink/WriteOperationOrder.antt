@@ -46,8 +46,8 @@ Strikes part m items made d = (p : Programmer) (exchanges : List Exchange) → S
 module _ (part : Part) (sound : IsPart part) (s : Switches) where
   action_leads : (action : Action) (m : Memories) (p : Programmer) (exchanges : List Exchange)
       → ItemsFit part (action_items action) → FitsPart part m → ComesAnyhow part sound s action m p
-      → Leads device (action_dialog part s action) p exchanges (Rests part (steps_of_items part (action_items action)) m)
-      (λ at q. at ≡ NoFault → Settled part (effects part (action_items action) m) q)
+      → Leads device (action_dialog part s action) p exchanges (Rests part (steps_of_items part (action_items action))
+      m) (λ at q. at ≡ NoFault → Settled part (effects part (action_items action) m) q)
   action_leads action m p exchanges fits f comes = record {
     during = λ k. (at_moment Anything (λ at emitted z x. x.0) k prints).now;
     after = λ k at e fine. elim ((at_moment Anything (λ at emitted z x. x.0) k prints).after at e).1 [
@@ -105,8 +105,8 @@ module _ (part : Part) (sound : IsPart part) (s : Switches) where
     closing_keeps : (outcome_output : Result ⊤ HostFault → List OutputEvent) (z : Spot) → HasMemories part m z.0
         → Kept (reported closing outcome_output) z
     closing_keeps outcome_output z i =
-        prints_reported Anything outcome_output (on_link device (closing_goes (HasMemories part m) (leave_fits part m) z.0 i))
-        (λ y i. i) (λ r y x. (any_outputs (outcome_output r) y.0, x.0))
+        prints_reported Anything outcome_output (on_link device (closing_goes (HasMemories part m) (leave_fits part m)
+        z.0 i)) (λ y i. i) (λ r y x. (any_outputs (outcome_output r) y.0, x.0))
 
     ending_keeps : (at : Standing) (z : Spot) → HasMemories part m z.0 → Kept (ending part s at) z
     ending_keeps NoFault z i = closing_keeps (closing_output s.quiet part) z i
@@ -146,8 +146,8 @@ module _ (plan : Plan) (sound : IsPart plan.part) (fitted : All (IsFitted plan.p
       let keeps = ending_keeps part sound plan.switches before s (z.programmer, z.exchanges) changed.stands in
       record {
         rest = tallies_none device (ending part plan.switches s) (λ j. At (made + j)) z.programmer z.exchanges
-            (λ l. subst (λ i. At i (state_after device l (ending part plan.switches s) z.programmer z.exchanges).programmer)
-            (let same : made ≡ made + 0 = omega arith in same) (record {
+            (λ l. subst (λ i. At i (state_after device l (ending part plan.switches s) z.programmer
+            z.exchanges).programmer) (let same : made ≡ made + 0 = omega arith in same) (record {
               few = changed.few;
               stands = (at_moment Anything (λ at emitted y i. i) l keeps).now;
             }));
@@ -163,7 +163,7 @@ module _ (plan : Plan) (sound : IsPart plan.part) (fitted : All (IsFitted plan.p
       (then_count device all_actions (operations_completed plan) (λ t. none_made)) (operations_completed plan) At
       (λ j q. memories_of q.chip ≡ effects plan.part (take j (write_operations plan)) m) p exchanges
       (λ k. (search rules))
-      (λ k j changed. ap (λ z. memories_of z.programmer.chip) (along_reported device k (session_dialog plan) status_of p exchanges)
-      ∙ (changed.stands.memories ∙ items_counted plan.part (items plan) j m))
-      (tallies_bind device all_actions (ending plan.part plan.switches) (operations_completed plan) (λ t. none_made) At p exchanges
-      makes_actions.tally (λ k s e. ends k s e))
+      (λ k j changed. ap (λ z. memories_of z.programmer.chip) (along_reported device k (session_dialog plan) status_of p
+      exchanges) ∙ (changed.stands.memories ∙ items_counted plan.part (items plan) j m))
+      (tallies_bind device all_actions (ending plan.part plan.switches) (operations_completed plan) (λ t. none_made) At
+      p exchanges makes_actions.tally (λ k s e. ends k s e))

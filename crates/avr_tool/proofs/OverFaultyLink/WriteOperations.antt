@@ -44,8 +44,8 @@ pub record Makes (part : Part) (m : Memories) (items : List Item) (d : Dialog Ou
       → made k p exchanges ≡ length (steps_of_items part items)
 
 -- nothing is made if the memories stay
-pub makes_none : (part : Part) (m : Memories) (d : Dialog OutputEvent Standing) (p : Programmer) (exchanges : List Exchange)
-    (After : Standing → Programmer → Type 0)
+pub makes_none : (part : Part) (m : Memories) (d : Dialog OutputEvent Standing) (p : Programmer)
+    (exchanges : List Exchange) (After : Standing → Programmer → Type 0)
     → Leads device d p exchanges (Rests part [] m) After → Makes part m [] d none_made p exchanges
 makes_none part m d p exchanges After l = record {
   tally = tallies_none device d (Changed part [] m) p exchanges (λ k.
@@ -61,7 +61,8 @@ steps_most : (steps : List (List Command)) (k : ℕ) (p : Programmer) (exchanges
     → steps_completed device steps k p exchanges ≤ length steps
 steps_most [] k p exchanges = omega arith
 steps_most (commands ∷ steps) k p exchanges =
-    let s = state_after device k (step commands) p exchanges in search (rules, steps_most steps s.left s.programmer s.exchanges)
+    let s = state_after device k (step commands) p exchanges in
+    search (rules, steps_most steps s.left s.programmer s.exchanges)
 
 module _ (part : Part) (sound : IsPart part) where
   module _ {A : Type 0} (m : Memories) (items : List Item) (judge : List ℕ → Result A HostFault)
@@ -73,11 +74,12 @@ module _ (part : Part) (sound : IsPart part) where
     abbrev notice : Dialog OutputEvent Standing
     notice = reported (operation steps judge) outcome_output
 
-    played : Tallies device (play steps []) (steps_completed device steps) (λ j. Settled part (memories_after_steps part j steps m)) p
-        exchanges
+    played : Tallies device (play steps []) (steps_completed device steps)
+        (λ j. Settled part (memories_after_steps part j steps m)) p exchanges
     played = (tallies_play part steps m [] p exchanges sound are settled).0
 
-    moved : (k : ℕ) → (state_after device k (play steps []) p exchanges).programmer ≡ (state_after device k notice p exchanges).programmer
+    moved : (k : ℕ) → (state_after device k (play steps []) p exchanges).programmer
+        ≡ (state_after device k notice p exchanges).programmer
     unfolding operation
     moved k = sym (reported_programmer device judge outcome_output k (play steps []) p exchanges)
 
@@ -138,17 +140,18 @@ module _ (part : Part) (sound : IsPart part) where
     At = Changed part (xs ++ ys) m
 
     -- if it is fine, it made all its write operations before the last question of what follows
-    whole : (k : ℕ) → (state_after device k d p exchanges).dialog ≡ Done NoFault → first.tally.count k ≡ length (steps_of_items part xs)
+    whole : (k : ℕ) → (state_after device k d p exchanges).dialog ≡ Done NoFault → first.tally.count k
+        ≡ length (steps_of_items part xs)
     whole k e = search rules
 
-    sharp : (k l : ℕ) → (state_after device k d p exchanges).dialog ≡ Done NoFault → (state_after device k d p exchanges).left ≡ suc l
-        → first.tally.count k ≤ made (k - 1) p exchanges
+    sharp : (k l : ℕ) → (state_after device k d p exchanges).dialog ≡ Done NoFault
+        → (state_after device k d p exchanges).left ≡ suc l → first.tally.count k ≤ made (k - 1) p exchanges
     sharp zero l e n = absurd (let z = none_left device d p exchanges in omega (arith, z, n))
     sharp (suc k) l e n = search (rules, along_before device k l d p exchanges NoFault e n)
 
     abbrev GoesFrom : ℕ → Standing → Type 0
-    GoesFrom k s = GoesOn device At (state_after device k d p exchanges) (first.tally.count k) (made (k - 1) p exchanges)
-        (unless_fault next s) (after s)
+    GoesFrom k s = GoesOn device At (state_after device k d p exchanges) (first.tally.count k)
+        (made (k - 1) p exchanges) (unless_fault next s) (after s)
 
     goes_fine : (k : ℕ) → (state_after device k d p exchanges).dialog ≡ Done NoFault
         → Settled part (effects part xs m) (state_after device k d p exchanges).programmer → GoesFrom k NoFault
@@ -186,7 +189,8 @@ module _ (part : Part) (sound : IsPart part) where
     abbrev Ends : ℕ → Dialog OutputEvent Standing → Type 0
     Ends k x = let s = state_after device k d p exchanges in
         (along_next_dialog device (unless_fault next) s.left s.exchanges s.programmer x).dialog ≡ Done NoFault
-        → with_next x (made k p exchanges) (λ a. after a s.left s.programmer s.exchanges) ≡ length (steps_of_items part (xs ++ ys))
+        → with_next x (made k p exchanges) (λ a. after a s.left s.programmer s.exchanges)
+        ≡ length (steps_of_items part (xs ++ ys))
 
     complete_fine : (k : ℕ) (s : Standing) → (state_after device k d p exchanges).dialog ≡ Done s → Ends k (Done s)
     complete_fine k NoFault e = λ done.
@@ -196,7 +200,8 @@ module _ (part : Part) (sound : IsPart part) where
         search (rules, size_on)
     complete_fine k at e = λ done. let same : at ≡ NoFault = done_is _ _ done in absurd (cc)
 
-    complete_from : (k : ℕ) (x : Dialog OutputEvent Standing) → (state_after device k d p exchanges).dialog ≡ x → Ends k x
+    complete_from : (k : ℕ) (x : Dialog OutputEvent Standing) → (state_after device k d p exchanges).dialog ≡ x
+        → Ends k x
     complete_from k x e = grind (arith, common_steps, complete_fine)
 
     pub makes_then : Makes part m (xs ++ ys) (d >>= unless_fault next) (then_count device d made after) p exchanges

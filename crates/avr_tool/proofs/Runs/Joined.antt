@@ -40,8 +40,8 @@ answered : {p q : StageResult Plan} → p ≡ q → p.stage_outcome ≡ q.stage_
 answered e = ap (λ (p : StageResult Plan). p.stage_outcome) e
 
 pub ran_whole : (settings : Settings) (plan : Plan) (x y : Devices) (between : DeskState) (status : ℕ)
-    → StageCompleted (planned settings) x.desk between (Produced plan) → RanToStatus (session plan) (devices x.link between) y status
-    → IsRun settings x y status
+    → StageCompleted (planned settings) x.desk between (Produced plan)
+    → RanToStatus (session plan) (devices x.link between) y status → IsRun settings x y status
 ran_whole settings plan x y between status went whole =
     let ran = whole.1 in
     record {
@@ -78,18 +78,21 @@ refused_whole settings x y same (line, went) = record {
   in_turn = λ later. subst (λ stage_outcome. IsInTurn stage_outcome []) (sym (answered (went.comes later))) refl;
   all_sent = emitted_bytes went.emits (Emitted (PrintsLine line) ∷ []);
   grows = subst (λ (l : LinkState). Grows x.link.transcript [] l.transcript) (sym same) (grows_none x.link.transcript);
-  kept = went.kept ∙ ap (λ emits. after_events emits x.desk.kept) (sym (emitted_outputs went.emits (Emitted (PrintsLine line) ∷ [])));
+  kept = went.kept ∙ ap (λ emits. after_events emits x.desk.kept)
+      (sym (emitted_outputs went.emits (Emitted (PrintsLine line) ∷ [])));
   few = omega arith;
   sound = (ap (λ (l : LinkState). l.failures) same, went.sound);
 }
 
-session_follows : (plan : Plan) (x y : Devices) (status : ℕ) → RunsSession plan x y status → CountsNeverFall x.desk y.desk
+session_follows : (plan : Plan) (x y : Devices) (status : ℕ) → RunsSession plan x y status
+    → CountsNeverFall x.desk y.desk
 session_follows plan x y status runs = search (rules, follows_same, follows_on)
 
 pub session_is_run : (settings : Settings) (plan : Plan) (x : Devices) (between : DeskState) (y : Devices) (status : ℕ)
-    (made : StageCompleted (planned settings) x.desk between (Produced plan)) → RunsSession plan (devices x.link between) y status
-    → CountsNeverFall between y.desk × (((r : IsRun settings x y status) × (r.openings ≡ made.passed))
-    ⊎ (StopsSession plan (devices x.link between) y × (status ≡ 1)))
+    (made : StageCompleted (planned settings) x.desk between (Produced plan))
+    → RunsSession plan (devices x.link between) y status → CountsNeverFall between y.desk
+    × (((r : IsRun settings x y status) × (r.openings ≡ made.passed)) ⊎ (StopsSession plan (devices x.link between) y
+    × (status ≡ 1)))
 session_is_run settings plan x between y status made runs =
     (session_follows plan (devices x.link between) y status runs, either runs)
   where
@@ -150,8 +153,10 @@ cause_part true AllocationFailed notice x y is_reported = absurd is_reported
 break_part : (break : BreakCause) (notice : Bytes) (x y : DeskState)
     → ReportsBreakAs break notice x y → IsPrefixOf notice (stop_line (InPlanning break))
 break_part (LineNotPrinted line) notice x y is_reported = is_reported.0
-break_part (NotOpened name) notice x y is_reported = line_part (not_opened_line name) notice is_reported.between y is_reported.is_reported
-break_part (NotRead name bytes) notice x y is_reported = line_part (not_read_line name) notice is_reported.between y is_reported.is_reported
+break_part (NotOpened name) notice x y is_reported =
+    line_part (not_opened_line name) notice is_reported.between y is_reported.is_reported
+break_part (NotRead name bytes) notice x y is_reported =
+    line_part (not_read_line name) notice is_reported.between y is_reported.is_reported
 break_part NoMemory notice x y is_reported = line_part memory_line notice x y is_reported
 break_part (NoMemoryForFile reading) notice x y is_reported = line_part memory_line notice x y is_reported
 
@@ -177,7 +182,8 @@ emitted_append : (whole later : List OutputEvent) (events : List (Event OutputEv
 emitted_append [] later events = refl
 emitted_append (output ∷ whole) later events = ap (λ rest. Emitted output ∷ rest) (emitted_append whole later events)
 
-last_is : (break : BreakCause) (notice : Bytes) → events_of_break break notice ≡ opened_at (InPlanning break) ++ PrintsLine notice ∷ []
+last_is : (break : BreakCause) (notice : Bytes) → events_of_break break notice ≡ opened_at (InPlanning break)
+    ++ PrintsLine notice ∷ []
 last_is (NotRead name bytes) notice = refl
 last_is (NoMemoryForFile reading) notice = refl
 last_is (LineNotPrinted line) notice = refl
@@ -189,8 +195,8 @@ broken_kept : (whole : List OutputEvent) (break : BreakCause) (notice : Bytes) (
     → t ≡ after_err notice (after_events (outputs (map Emitted whole ++ []) ++ opened_at (InPlanning break)) r)
 broken_kept whole break notice r t kept =
     kept ∙ ap (λ last. after_events (whole ++ last) r) (last_is break notice)
-    ∙ ap (λ done. after_events done r) (sym (append_assoc whole (opened_at (InPlanning break)) (PrintsLine notice ∷ [])))
-    ∙ after_append (whole ++ opened_at (InPlanning break)) (PrintsLine notice ∷ []) r
+    ∙ ap (λ done. after_events done r) (sym (append_assoc whole (opened_at (InPlanning break)) (PrintsLine notice
+    ∷ []))) ∙ after_append (whole ++ opened_at (InPlanning break)) (PrintsLine notice ∷ []) r
     ∙ ap (λ done. after_err notice (after_events (done ++ opened_at (InPlanning break)) r))
     (sym (emitted_outputs whole [] ∙ append-nil whole))
 

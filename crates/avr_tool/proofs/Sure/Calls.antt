@@ -41,44 +41,47 @@ module _ (Such : List Exchange → Type 0) (sure : IsSure Such) where
     operation_brings s action fits =
         let o = is_operation part s sound m f action fits in
         let steps = action_steps part action in
-        subst (λ d. Brings Such (Ready part m) d (outcome_of part action m) (Ready part (effects part (action_items action) m)))
-        o.call_is
-        (subst (λ r. Brings Such (Ready part m) (host.operation steps o.judge) r (Ready part (effects part (action_items action)
-        m))) o.gives
+        subst (λ d. Brings Such (Ready part m) d (outcome_of part action m)
+        (Ready part (effects part (action_items action) m))) o.call_is
+        (subst (λ r. Brings Such (Ready part m) (host.operation steps o.judge) r
+        (Ready part (effects part (action_items action) m))) o.gives
         (subst (λ left. Brings Such (Ready part m) (host.operation steps o.judge) (o.judge (data_of_steps part steps m))
         (Ready part left)) o.all
         (brings_reported Such (play steps []) (checked_by o.judge) (Ok (data_of_steps part steps m)) (Ready part m)
-        (Ready part (memories_after_steps part (length steps) steps m)) (brings_play part sound Such sure steps m [] o.are f))))
+        (Ready part (memories_after_steps part (length steps) steps m)) (brings_play part sound Such sure steps m []
+        o.are f))))
 
     handshake_brings : Brings Such (HasMemories part m) host.handshake (Ok part.signature) (Ready part m)
     unfolding host.handshake
     handshake_brings =
         let read : List ℕ → Dialog ⊥ StepOutcome = λ nothing. play signature_steps [] in
         let name : List ℕ = 0x53 ∷ 0x54 ∷ 0x4B ∷ 0x35 ∷ 0x30 ∷ 0x30 ∷ 0x5F ∷ 0x32 ∷ [] in
-        brings_bind Such (unless_step_fault (λ signed. step (enter ∷ []) >>= unless_step_fault read)) (Ok name) (Ok part.signature) (HasMemories part m)
-        (HasMemories part m) (Ready part m) (step (SignOn ∷ []))
+        brings_bind Such (unless_step_fault (λ signed. step (enter ∷ []) >>= unless_step_fault read)) (Ok name)
+        (Ok part.signature) (HasMemories part m) (HasMemories part m) (Ready part m) (step (SignOn ∷ []))
         (search (rules, sure, sign_on_steady))
-        (brings_bind Such (unless_step_fault read) (Ok []) (Ok part.signature) (HasMemories part m) (Ready part m) (Ready part m)
-        (step (enter ∷ []))
+        (brings_bind Such (unless_step_fault read) (Ok []) (Ok part.signature) (HasMemories part m) (Ready part m)
+        (Ready part m) (step (enter ∷ []))
         (sure (enter ∷ []) [] (HasMemories part m) (Ready part m) (enter_ready part m) (omega arith) (λ q stands. refl))
         (subst (λ bytes. Brings Such (Ready part m) (play signature_steps []) (Ok bytes) (Ready part m))
         (read_gives part sound m f Signature)
         (brings_play part sound Such sure signature_steps m [] (read_are_steps part sound Signature) f)))
 
-    opening_brings : (force : Bool) → Brings Such (HasMemories part m) (host.opening part.signature force) (Ok part.signature)
-        (Ready part m)
+    opening_brings : (force : Bool) → Brings Such (HasMemories part m) (host.opening part.signature force)
+        (Ok part.signature) (Ready part m)
     unfolding host.opening
     opening_brings force =
         subst (λ r. Brings Such (HasMemories part m) (host.opening part.signature force) r (Ready part m))
         (signature_taken part.signature force)
-        (brings_reported Such host.handshake (signature_checked part.signature force) (Ok part.signature) (HasMemories part m)
-        (Ready part m) handshake_brings)
+        (brings_reported Such host.handshake (signature_checked part.signature force) (Ok part.signature)
+        (HasMemories part m) (Ready part m) handshake_brings)
 
-  closing_brings : (part : Part) (m : Memories) → Brings Such (HasMemories part m) host.closing (Ok tt) (HasMemories part m)
+  closing_brings : (part : Part) (m : Memories) → Brings Such (HasMemories part m) host.closing (Ok tt)
+      (HasMemories part m)
   unfolding host.closing
   closing_brings part m =
       brings_reported Such (step (leave ∷ [])) without_bytes (Ok []) (HasMemories part m) (HasMemories part m)
-      (sure (leave ∷ []) [] (HasMemories part m) (HasMemories part m) (leave_steady part m) (omega arith) (λ q stands. refl))
+      (sure (leave ∷ []) [] (HasMemories part m) (HasMemories part m) (leave_steady part m) (omega arith)
+      (λ q stands. refl))
 
   -- ---- the calls of a session
 

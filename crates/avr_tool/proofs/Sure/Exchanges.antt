@@ -39,8 +39,9 @@ module _ (Such : List Exchange → Type 0) where
       → Brings Such Before (d >>= next) b After
   brings_bind next a b Before Between After d first more z before such = search (rules, bind)
 
-  pub brings_reported : {A B : Type 0} (d : Dialog ⊥ A) (report_line : A → B) (a : A) (Before After : Programmer → Type 0)
-      → Brings Such Before d a After → Brings Such Before (d >>= (λ outcome. Done (report_line outcome))) (report_line a) After
+  pub brings_reported : {A B : Type 0} (d : Dialog ⊥ A) (report_line : A → B) (a : A) (Before After : Programmer
+      → Type 0) → Brings Such Before d a After → Brings Such Before (d >>= (λ outcome. Done (report_line outcome)))
+      (report_line a) After
   brings_reported d report_line a Before After l z before such =
       notice report_line (l z before such) (λ got y x. ((ap report_line x.0.0, x.0.1), x.1))
 
@@ -60,7 +61,8 @@ module _ (part : Part) (sound : IsPart part) where
 
   module _ (Such : List Exchange → Type 0) (sure : IsSure Such) where
     pub brings_one : (commands : List Command) (m : Memories) → IsStep part commands → FitsPart part m
-        → Brings Such (Ready part m) (step commands) (Ok (data_of_step part commands m)) (Ready part (memories_after_step part commands m))
+        → Brings Such (Ready part m) (step commands) (Ok (data_of_step part commands m))
+        (Ready part (memories_after_step part commands m))
     brings_one commands m is f = search (rules, sure, step_ready, step_short, data_either)
 
     pub brings_play : (steps : List (List Command)) (m : Memories) (before : List ℕ) → AreSteps part steps

@@ -19,8 +19,9 @@ use Rattle.avr_tool.specs.Outcome.{IsExpectedRun}
 
 module _ (plan : Plan) (sound : IsPart plan.part) (fitted : All (IsFitted plan.part) plan.tasks)
     (Such : List Exchange → Type 0) (sure : IsSure Such) where
-  pub session_ends : (m : Memories) (p : Programmer) (exchanges : List Exchange) → FitsPart plan.part m → HasMemories plan.part m p
-      → Such exchanges → (k : ℕ) (status : ℕ) → (state_after device k (session plan) p exchanges).dialog ≡ Done status
+  pub session_ends : (m : Memories) (p : Programmer) (exchanges : List Exchange) → FitsPart plan.part m
+      → HasMemories plan.part m p → Such exchanges → (k : ℕ) (status : ℕ)
+      → (state_after device k (session plan) p exchanges).dialog ≡ Done status
       → IsExpectedRun plan m (memories_of (state_after device k (session plan) p exchanges).programmer.chip)
       (outputs_after device k (session plan) p exchanges) status
   session_ends m p exchanges sizes idle such k status e =

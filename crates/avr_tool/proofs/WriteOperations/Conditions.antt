@@ -46,8 +46,9 @@ module _ {P : Type 0} (m : Device P) where
         → (state_after m (suc k) (step commands) p exchanges).left ≡ left
         → Climbs m (λ j. At (suc j)) left steps (state_after m (suc k) (step commands) p exchanges).programmer
         (state_after m (suc k) (step commands) p exchanges).exchanges t
-        → Rest (suc (length steps)) t (suc (steps_completed m steps left (state_after m (suc k) (step commands) p exchanges).programmer
-        (state_after m (suc k) (step commands) p exchanges).exchanges)) (steps_completed m (commands ∷ steps) k p exchanges)
+        → Rest (suc (length steps)) t (suc (steps_completed m steps left (state_after m (suc k) (step commands) p
+        exchanges).programmer (state_after m (suc k) (step commands) p exchanges).exchanges))
+        (steps_completed m (commands ∷ steps) k p exchanges)
     behind zero k steps commands p exchanges bytes t e n c =
         search rules
     behind (suc left) k steps commands p exchanges bytes t e n c =
@@ -59,14 +60,15 @@ module _ {P : Type 0} (m : Device P) where
         → Stepped m (At 0) (At 1) (state_after m (suc k) (step commands) p exchanges)
         → ((bytes : List ℕ) → At 1 (state_after m (suc k) (step commands) p exchanges).programmer
         → Climbs m (λ j. At (suc j)) (state_after m (suc k) (step commands) p exchanges).left steps
-        (state_after m (suc k) (step commands) p exchanges).programmer (state_after m (suc k) (step commands) p exchanges).exchanges
-        (state_after m (state_after m (suc k) (step commands) p exchanges).left (go_on bytes)
-        (state_after m (suc k) (step commands) p exchanges).programmer (state_after m (suc k) (step commands) p exchanges).exchanges))
-        → Rest (suc (length steps)) (along_next_dialog m (unless_step_fault go_on) (state_after m (suc k) (step commands) p exchanges).left
-        (state_after m (suc k) (step commands) p exchanges).exchanges (state_after m (suc k) (step commands) p exchanges).programmer d)
+        (state_after m (suc k) (step commands) p exchanges).programmer (state_after m (suc k) (step commands) p
+        exchanges).exchanges (state_after m (state_after m (suc k) (step commands) p exchanges).left (go_on bytes)
+        (state_after m (suc k) (step commands) p exchanges).programmer (state_after m (suc k) (step commands) p
+        exchanges).exchanges)) → Rest (suc (length steps)) (along_next_dialog m (unless_step_fault go_on)
+        (state_after m (suc k) (step commands) p exchanges).left (state_after m (suc k) (step commands) p
+        exchanges).exchanges (state_after m (suc k) (step commands) p exchanges).programmer d)
         (step_count d (steps_completed m steps (state_after m (suc k) (step commands) p exchanges).left
-        (state_after m (suc k) (step commands) p exchanges).programmer (state_after m (suc k) (step commands) p exchanges).exchanges))
-        (steps_completed m (commands ∷ steps) k p exchanges)
+        (state_after m (suc k) (step commands) p exchanges).programmer (state_after m (suc k) (step commands) p
+        exchanges).exchanges)) (steps_completed m (commands ∷ steps) k p exchanges)
     climbs_from k steps commands p exchanges go_on (Done (Ok bytes)) e stepped rest =
         behind (state_after m (suc k) (step commands) p exchanges).left k steps commands p exchanges bytes _ e refl
         (rest bytes (stepped.whole bytes e))
@@ -91,7 +93,8 @@ module _ {P : Type 0} (m : Device P) where
       let cs = command ∷ commands in
       let s = state_after m (suc k) (step cs) p exchanges in
       let stepped : Stepped m (At 0) (At 1) s = step_stands m (At 0) (At 1) (suc k) cs p exchanges fit.0 at in
-      let r : Rest At (suc (length steps)) (along_next_dialog m (unless_step_fault (λ bytes. play steps (before ++ bytes))) s.left s.exchanges
+      let r : Rest At (suc (length steps))
+      (along_next_dialog m (unless_step_fault (λ bytes. play steps (before ++ bytes))) s.left s.exchanges
       s.programmer s.dialog) (step_count s.dialog (steps_completed m steps s.left s.programmer s.exchanges))
       (steps_completed m (cs ∷ steps) k p exchanges) =
       climbs_from At k steps cs p exchanges (λ bytes. play steps (before ++ bytes)) s.dialog refl stepped

@@ -37,9 +37,10 @@ module _ {P : Type 0} (m : Device P) where
 
   -- a count in other words, if both count alike
   abbrev pub tallies_as : {E F Q R : Type 0} (d : Dialog E Q) (e : Dialog F R) (made other : Count P)
-      (At At' : ℕ → P → Type 0) (p : P) (exchanges : List Exchange) → ((k : ℕ) → made k p exchanges ≡ other k p exchanges)
-      → ((k j : ℕ) → At j (state_after m k d p exchanges).programmer → At' j (state_after m k e p exchanges).programmer)
-      → Tallies m d made At p exchanges → Tallies m e other At' p exchanges
+      (At At' : ℕ → P → Type 0) (p : P) (exchanges : List Exchange) → ((k : ℕ) → made k p exchanges
+      ≡ other k p exchanges) → ((k j : ℕ) → At j (state_after m k d p exchanges).programmer
+      → At' j (state_after m k e p exchanges).programmer) → Tallies m d made At p exchanges
+      → Tallies m e other At' p exchanges
   tallies_as d e made other At At' p exchanges same at t = record {
     count = t.count;
     none = t.none;
@@ -57,7 +58,8 @@ module _ {P : Type 0} (m : Device P) where
     total k x e = t.count k
 
     with_more : (k : ℕ) (x : Dialog E A) → first k p exchanges ≤ with_next x (first k p exchanges)
-        (λ a. more a (state_after m k d p exchanges).left (state_after m k d p exchanges).programmer (state_after m k d p exchanges).exchanges)
+        (λ a. more a (state_after m k d p exchanges).left (state_after m k d p exchanges).programmer
+        (state_after m k d p exchanges).exchanges)
     with_more k x = search rules
 
     first_below : (k : ℕ) → first k p exchanges ≤ then_count m d first more k p exchanges
@@ -67,8 +69,8 @@ module _ {P : Type 0} (m : Device P) where
     none_from x e = search (rules, none_left)
 
     at_least_from : (k : ℕ) (x : Dialog E A) (e : (state_after m k d p exchanges).dialog ≡ x)
-        → with_next x (first k p exchanges) (λ a. more a (state_after m k d p exchanges).left (state_after m k d p exchanges).programmer
-        (state_after m k d p exchanges).exchanges) ≤ total k x e
+        → with_next x (first k p exchanges) (λ a. more a (state_after m k d p exchanges).left
+        (state_after m k d p exchanges).programmer (state_after m k d p exchanges).exchanges) ≤ total k x e
     at_least_from k x e = search rules
 
     quiet_most : (k n : ℕ) → n ≡ 0 → t.count k + n ≤ suc (then_count m d first more (k - 1) p exchanges)
@@ -79,14 +81,15 @@ module _ {P : Type 0} (m : Device P) where
         → total (suc k) (Done a) e ≤ suc (then_count m d first more (suc k - 1) p exchanges)
     sharp_most k l a e n exact = search (rules, along_before m k l d p exchanges a e n)
 
-    done_most : (k left : ℕ) (a : A) (e : (state_after m k d p exchanges).dialog ≡ Done a) → (state_after m k d p exchanges).left ≡ left
+    done_most : (k left : ℕ) (a : A) (e : (state_after m k d p exchanges).dialog ≡ Done a)
+        → (state_after m k d p exchanges).left ≡ left
         → total k (Done a) e ≤ suc (then_count m d first more (k - 1) p exchanges)
     done_most k zero a e n = search rules
     done_most zero (suc l) a e n = absurd (omega (arith, none_left m d p exchanges, n))
     done_most (suc k) (suc l) a e n = by_sharp (follow (suc k) a e).sharp
       where
-        by_sharp : ((j : ℕ) → (state_after m (suc k) d p exchanges).left ≡ suc j → t.count (suc k) ≤ first (suc k - 1) p exchanges)
-            ⊎ ((j : ℕ) → (follow (suc k) a e).rest.count j ≡ 0)
+        by_sharp : ((j : ℕ) → (state_after m (suc k) d p exchanges).left ≡ suc j
+            → t.count (suc k) ≤ first (suc k - 1) p exchanges) ⊎ ((j : ℕ) → (follow (suc k) a e).rest.count j ≡ 0)
             → total (suc k) (Done a) e ≤ suc (then_count m d first more (suc k - 1) p exchanges)
         by_sharp (inl exact) = sharp_most k l a e n (exact l n)
         by_sharp (inr quiet) = search (rules, quiet_most)
@@ -105,21 +108,23 @@ module _ {P : Type 0} (m : Device P) where
     }
 
   -- all steps of a completed run are done
-  all_on : (left : ℕ) (exchanges : List Exchange) (q : P) (x : Dialog ⊥ StepOutcome) (go_on : List ℕ → Dialog ⊥ StepOutcome)
-      (got : List ℕ) (rest total : ℕ)
+  all_on : (left : ℕ) (exchanges : List Exchange) (q : P) (x : Dialog ⊥ StepOutcome) (go_on : List ℕ
+      → Dialog ⊥ StepOutcome) (got : List ℕ) (rest total : ℕ)
       → ((bytes : List ℕ) → (state_after m left (go_on bytes) q exchanges).dialog ≡ Done (Ok got) → rest ≡ total)
-      → (along_next_dialog m (unless_step_fault go_on) left exchanges q x).dialog ≡ Done (Ok got) → step_count x rest ≡ suc total
+      → (along_next_dialog m (unless_step_fault go_on) left exchanges q x).dialog ≡ Done (Ok got) → step_count x rest
+      ≡ suc total
   all_on left exchanges q x go_on got rest total each e = search rules
 
-  pub steps_all : (steps : List (List Command)) (k : ℕ) (before : List ℕ) (p : P) (exchanges : List Exchange) (got : List ℕ)
-      → (state_after m k (play steps before) p exchanges).dialog ≡ Done (Ok got) → steps_completed m steps k p exchanges ≡ length steps
+  pub steps_all : (steps : List (List Command)) (k : ℕ) (before : List ℕ) (p : P) (exchanges : List Exchange)
+      (got : List ℕ) → (state_after m k (play steps before) p exchanges).dialog ≡ Done (Ok got)
+      → steps_completed m steps k p exchanges ≡ length steps
   unfolding play
   steps_all [] k before p exchanges got e = refl
   steps_all (commands ∷ steps) k before p exchanges got e =
       let s = state_after m k (step commands) p exchanges in
       let go_on : List ℕ → Dialog ⊥ StepOutcome = λ bytes. play steps (before ++ bytes) in
-      all_on s.left s.exchanges s.programmer s.dialog go_on got (steps_completed m steps s.left s.programmer s.exchanges)
-      (length steps)
+      all_on s.left s.exchanges s.programmer s.dialog go_on got (steps_completed m steps s.left s.programmer
+      s.exchanges) (length steps)
       (λ bytes f. steps_all steps s.left (before ++ bytes) s.programmer s.exchanges got f)
       (search (rules, along_bind))
 
@@ -137,7 +142,8 @@ module _ (part : Part) (steps : List (List Command)) (m : Memories) (before : Li
   play_sharp (suc k) l got e n =
       let then = along_before device k l (play steps before) p exchanges (Ok got) e n in
       let all : steps_completed device steps k p exchanges ≡ length steps =
-      steps_all device steps k before p exchanges got (ap (λ (z : StateAfter ⊥ StepOutcome Programmer). z.dialog) then) in
+      steps_all device steps k before p exchanges got (ap (λ (z : StateAfter ⊥ StepOutcome Programmer). z.dialog) then)
+      in
       search rules
 
   -- a run of steps; if it was completed, all its write operations were, before the last question of what follows

@@ -59,9 +59,13 @@ module _ (part : Part) (sound : IsPart part) where
       → effects part (write_operations_of (steps_of_items part items)) m ≡ effects part items m
   items_do [] m fits f = refl
   items_do (item ∷ items) m fits f =
-      ap (λ write_operations. effects part write_operations m) (write_operations_append (steps_of_item part item) (steps_of_items part items))
-      ∙ (effects_on part (write_operations_of (steps_of_item part item)) (write_operations_of (steps_of_items part items)) m
-      ∙ (search (rules, item_does, items_do items (effect part item m) fits.1 (effect_sizes item m f))))
+      ap (λ write_operations. effects part write_operations m) (write_operations_append (steps_of_item part item)
+      (steps_of_items part items)) ∙ (effects_on part (write_operations_of (steps_of_item part item))
+      (write_operations_of (steps_of_items part items)) m ∙ (search (
+        rules,
+        item_does,
+        items_do items (effect part item m) fits.1 (effect_sizes item m f),
+      )))
 
 pub changed_all : (part : Part) (steps : List (List Command)) (m : Memories)
     → memories_after_steps part (length steps) steps m ≡ effects part (write_operations_of steps) m

@@ -36,8 +36,8 @@ pub stop_no : (fault : StepFault) (bytes : List ℕ) → Stop fault ≡ Data byt
 stop_no fault bytes e = cc
 
 fails_by : (c : Command) (code : ℕ) (fault : StepFault) (p : Programmer) (done : Response)
-    → execute (body c) p ≡ cond p.mode done (fail code p) → reply_from_reading c (Answered (code ∷ 0xC0 ∷ [])) ≡ Stop fault
-    → p.mode ≡ false → Fails c p
+    → execute (body c) p ≡ cond p.mode done (fail code p) → reply_from_reading c (Answered (code ∷ 0xC0 ∷ []))
+    ≡ Stop fault → p.mode ≡ false → Fails c p
 fails_by c code fault p done is stops off =
     let failed : execute (body c) p ≡ fail code p = is ∙ cond-false p.mode done (fail code p) off in
     record {
@@ -54,8 +54,8 @@ erase_fails : FailsOutside erase
 erase_fails p off = fails_by erase 0x12 (Refused 0x12 0xC0) p _ refl refl off
 
 page_fails : (page : List ℕ) → length page < 65536 → FailsOutside (program_page page)
-page_fails page few p off = fails_by (program_page page) 0x13 (Refused 0x13 0xC0) p _ (executes_command (program_page page) p few)
-    refl off
+page_fails page few p off = fails_by (program_page page) 0x13 (Refused 0x13 0xC0) p _
+    (executes_command (program_page page) p few) refl off
 
 run_fails : (run : List ℕ) → length run < 65536 → FailsOutside (program_eeprom_block run)
 run_fails run few p off = fails_by (program_eeprom_block run) 0x15 (Refused 0x15 0xC0) p _
@@ -137,8 +137,8 @@ two_idles part address c few fails = record {
     keeps m p (suc zero) off s = kept m p s
     keeps m p (suc (suc i)) off s =
         let q = device.after (body (LoadAddress address)) p in
-        subst (Settled part m) (sym (executed_none device i (device.after (body c) q) ∙ (fails q (outside p off)).after))
-        (kept m p s)
+        subst (Settled part m) (sym (executed_none device i (device.after (body c) q) ∙
+        (fails q (outside p off)).after)) (kept m p s)
 
 -- if nothing restarts, the commands executed and replied to are the same
 executed_steady : (i : ℕ) (commands : List Command) (p : Programmer)
@@ -222,4 +222,8 @@ module _ (part : Part) (sound : IsPart part) where
   pub all_fit : (steps : List (List Command)) (m : Memories) → AreSteps part steps
       → AllFit device (λ j. Settled part (memories_after_steps part j steps m)) steps
   all_fit [] m are = tt
-  all_fit (commands ∷ steps) m are = (step_fits commands m are.0, all_fit steps (memories_after_step part commands m) are.1)
+  all_fit (commands ∷ steps) m are = (
+    step_fits commands m are.0,
+    all_fit steps (memories_after_step part commands m)
+        are.1,
+  )

@@ -19,7 +19,8 @@ use Rattle.stk_emu.proofs.Memories.LaidImages.{get_and_in, length-and_in, in_par
 use Rattle.stk_emu.proofs.Memories.Pages.{page_even}
 use Rattle.avr_tool.proofs.WriteOperations.Places.{Written, Changed, changed_first, gap_first, all_anded, placed_before, placed_behind}
 
-pub write_operations_append : (xs ys : List (List Command)) → write_operations_of (xs ++ ys) ≡ write_operations_of xs ++ write_operations_of ys
+pub write_operations_append : (xs ys : List (List Command)) → write_operations_of (xs ++ ys) ≡ write_operations_of xs
+    ++ write_operations_of ys
 write_operations_append [] ys = refl
 write_operations_append (x ∷ xs) ys = search (rules, append_assoc, write_operations_append xs ys)
 
@@ -89,7 +90,8 @@ module _ (part : Part) (sound : IsPart part) (image : Image) where
             cond-false (holds_any image start page) (page_step part image start ∷ []) [] unused in
             record {
               new = r.new;
-              is = ap (λ ss. effects part (write_operations_of (ss ++ others)) (record m { flash = old })) steps_are ∙ r.is;
+              is = ap (λ ss. effects part (write_operations_of (ss ++ others)) (record m { flash = old })) steps_are ∙
+                  r.is;
               written = gap_first and_with image start (start + page) old r.new (λ x. refl) (omega arith)
                   (unused_gap page image start unused) (search rules);
             }

@@ -24,15 +24,17 @@ one_more part [] others steps count m e rest = absurd (omega arith)
 one_more part items others steps count m e rest = grind (arith, common_steps)
 
 -- so the memories after the first `count` steps are those after the first `count` write operations
-pub counted_write_operations : (part : Part) (count : ℕ) (steps : List (List Command)) (m : Memories) → AreWriteOperations steps
-    → memories_after_steps part count steps m ≡ effects part (take count (write_operations_of steps)) m
+pub counted_write_operations : (part : Part) (count : ℕ) (steps : List (List Command)) (m : Memories)
+    → AreWriteOperations steps → memories_after_steps part count steps m
+    ≡ effects part (take count (write_operations_of steps)) m
 counted_write_operations part zero steps m are = refl
 counted_write_operations part (suc count) [] m are = refl
 counted_write_operations part (suc count) (commands ∷ steps) m are =
     one_more part (write_operation_of commands) (write_operations_of steps) steps count m are.0
     (λ n. counted_write_operations part count steps n are.1)
 
-either_are_write_operations : (b : Bool) (x : List (List Command)) → AreWriteOperations x → AreWriteOperations (cond b x [])
+either_are_write_operations : (b : Bool) (x : List (List Command)) → AreWriteOperations x
+    → AreWriteOperations (cond b x [])
 either_are_write_operations b x f = search rules
 
 image_write_operations : (part : Part) (mem : Mem) (image : Image) → AreWriteOperations (write_steps part mem image)
@@ -43,9 +45,11 @@ image_write_operations part mem image = search (rules, each_of, either_are_write
 pub all_are_write_operations : (part : Part) (items : List Item) → AreWriteOperations (steps_of_items part items)
 all_are_write_operations part [] = tt
 all_are_write_operations part (Erase ∷ items) = (refl, all_are_write_operations part items)
-all_are_write_operations part (Write mem image ∷ items) = search (rules, each_on, image_write_operations, all_are_write_operations part items)
+all_are_write_operations part (Write mem image ∷ items) =
+    search (rules, each_on, image_write_operations, all_are_write_operations part items)
 
 pub items_counted : (part : Part) (items : List Item) (count : ℕ) (m : Memories)
     → memories_after_steps part count (steps_of_items part items) m
     ≡ effects part (take count (write_operations_of (steps_of_items part items))) m
-items_counted part items count m = counted_write_operations part count (steps_of_items part items) m (all_are_write_operations part items)
+items_counted part items count m = counted_write_operations part count (steps_of_items part items) m
+    (all_are_write_operations part items)

@@ -42,7 +42,15 @@ module _ (part : Part) where
   sign_on_fits m = search (rules, one_fits, restart_keeps_memories)
 
   pub enter_fits : (m : Memories) → IsRepeatable device (enter ∷ []) (HasMemories part m) (Settled part m)
-  enter_fits m = search (rules, one_fits, ready_settled, enter_does, settled_idle, restart_keeps_memories, restart_is_settled)
+  enter_fits m = search (
+    rules,
+    one_fits,
+    ready_settled,
+    enter_does,
+    settled_idle,
+    restart_keeps_memories,
+    restart_is_settled,
+  )
 
   pub leave_fits : (m : Memories) → IsRepeatable device (leave ∷ []) (HasMemories part m) (HasMemories part m)
   leave_fits m = search (rules, one_fits, leave_keeps, restart_keeps_memories)
@@ -59,7 +67,8 @@ module _ (part : Part) where
   module _ (sound : IsPart part) where
     again_of : (commands : List Command) (m : Memories) (q : Programmer)
         → memories_after_step part commands (memories_after_step part commands m) ≡ memories_after_step part commands m
-        → Ready part (memories_after_step part commands (memories_after_step part commands m)) q → Ready part (memories_after_step part commands m) q
+        → Ready part (memories_after_step part commands (memories_after_step part commands m)) q
+        → Ready part (memories_after_step part commands m) q
     again_of commands m q twice s = subst (λ z. Ready part z q) twice s
 
     -- the address of a place in flash fits its command
@@ -97,7 +106,8 @@ module _ (part : Part) where
         let most = sound.eeprom_most in
         let few : start < 2 ^ 32 = omega arith in search (rules, two_steady, load_keeps, eeprom_read_keeps)
 
-    pub fuse_read_fits : (f : Fuse) (m : Memories) → IsRepeatable steady (read_fuse f ∷ []) (Ready part m) (Ready part m)
+    pub fuse_read_fits : (f : Fuse) (m : Memories) → IsRepeatable steady (read_fuse f ∷ []) (Ready part m)
+        (Ready part m)
     fuse_read_fits f m = quiet (read_fuse f) m (λ p s. subst (Ready part m) (sym (fuse_read_after f p s.mode)) s)
 
     by_commands : (written commands : List Command) (m : Memories) → commands ≡ written

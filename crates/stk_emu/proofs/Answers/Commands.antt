@@ -39,7 +39,8 @@ module _ {P : Type 0} (m : Device P) where
       → ((p : P) → After p → After (m.after (body d) (m.after (body c) p)))
       → ((p : P) → Before p → Before (m.reset p)) → ((p : P) → After p → After (m.reset p))
       → IsRepeatable m (c ∷ d ∷ []) Before After
-  two_fits c d Before After first first_again does again restart_keeps restart_keeps_after = search (rules, prefixes, agains)
+  two_fits c d Before After first first_again does again restart_keeps restart_keeps_after =
+      search (rules, prefixes, agains)
     where
       prefixes : (p : P) (i : ℕ) → Before p → Before (after_commands m i (c ∷ d ∷ []) p)
           ⊎ After (after_commands m i (c ∷ d ∷ []) p)
@@ -88,7 +89,8 @@ module _ (part : Part) where
   ready_idle m p s = settled_idle m p (ready_settled m p s)
 
   -- after a restart the memories are the same, and nothing is loaded
-  pub restart_keeps_memories : (m : Memories) (p : Programmer) → HasMemories part m p → HasMemories part m (device.reset p)
+  pub restart_keeps_memories : (m : Memories) (p : Programmer) → HasMemories part m p
+      → HasMemories part m (device.reset p)
   restart_keeps_memories m p s = search (rules, length-replicate)
 
   pub restart_is_settled : (m : Memories) (p : Programmer) → Settled part m p → Settled part m (device.reset p)
@@ -98,7 +100,8 @@ module _ (part : Part) where
   pub enter_does : (m : Memories) (p : Programmer) → HasMemories part m p → Ready part m (device.after (body enter) p)
   enter_does m p s = search rules
 
-  pub leave_keeps : (m : Memories) (p : Programmer) → HasMemories part m p → HasMemories part m (device.after (body leave) p)
+  pub leave_keeps : (m : Memories) (p : Programmer) → HasMemories part m p
+      → HasMemories part m (device.after (body leave) p)
   leave_keeps m p s = search rules
 
   pub load_keeps : (address : ℕ) (m : Memories) (p : Programmer) → address < 2 ^ 32 → Ready part m p

@@ -76,13 +76,13 @@ pub appends_all : (old new : EmulatorState) (bytes a b : List ℕ) (p : Programm
     → given ++ b ≡ emulate p (text ++ bytes)
 appends_all old new bytes a b p text given appends f all = search (rules, append_assoc, answers_more)
 
-pub is_fed : (old new : EmulatorState) (used out : List ℕ) (p : Programmer) (text : List ℕ) → RepliesToFrame old used new out
-    → WasFedText p text old → WasFedText p (text ++ used) new
+pub is_fed : (old new : EmulatorState) (used out : List ℕ) (p : Programmer) (text : List ℕ)
+    → RepliesToFrame old used new out → WasFedText p text old → WasFedText p (text ++ used) new
 is_fed old new used out p text a f =
     appends_fed old new used [] out p text (appends_one old new used out [] out a refl) f
 
-pub emulated : (old new : EmulatorState) (used out : List ℕ) (p : Programmer) (text : List ℕ) → RepliesToFrame old used new out
-    → WasFedText p text old → emulate p (text ++ used) ≡ emulate p text ++ out
+pub emulated : (old new : EmulatorState) (used out : List ℕ) (p : Programmer) (text : List ℕ)
+    → RepliesToFrame old used new out → WasFedText p text old → emulate p (text ++ used) ≡ emulate p text ++ out
 emulated old new used out p text a f =
     sym (appends_all old new used [] out p text (emulate p text) (appends_one old new used out [] out a refl) f
     (append-nil (emulate p text)))

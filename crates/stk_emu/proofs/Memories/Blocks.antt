@@ -3,7 +3,8 @@ use Rattle.std.proofs.Common.{true, if◌then◌else◌, ◌≡◌, ℕ, suc, �
 use Rattle.avr_part.specs.State.{ChipState, spi_of}
 use Rattle.stk_emu.specs.Programmer.{Programmer, if_programming, fail, with_address_moved, with_instructions, after_instructions, flash_loads, flash_reads, eeprom_reads, extension, at_address, for_half, word_at, byte_address}
 
-pub sent-append : (xs ys : List (List ℕ)) (chip : ChipState) → after_instructions (xs ++ ys) chip ≡ after_instructions ys (after_instructions xs chip)
+pub sent-append : (xs ys : List (List ℕ)) (chip : ChipState) → after_instructions (xs ++ ys) chip
+    ≡ after_instructions ys (after_instructions xs chip)
 sent-append [] ys chip = refl
 sent-append (x ∷ xs) ys chip = sent-append xs ys ((spi_of x chip).1)
 

@@ -49,8 +49,8 @@ all_loads wide a i d (b ∷ bs) s =
 pub block_is_loads : (wide : Bool) (cmd a last : ℕ) (bytes : List ℕ) (s loaded new : chip.ChipState) (done : Bool)
     → cmd ≡ 0x40 → 0 < length bytes
     → last ≡ word_at a (length bytes - 1)
-    → (done, loaded) ≡ load_block (a % 256) bytes s → done ≡ true → new ≡ after_instructions (extension wide last) loaded
-    → new ≡ after_instructions (flash_loads wide cmd a 0 bytes) s
+    → (done, loaded) ≡ load_block (a % 256) bytes s → done ≡ true → new ≡ after_instructions (extension wide last)
+    loaded → new ≡ after_instructions (flash_loads wide cmd a 0 bytes) s
 block_is_loads wide cmd a last [] s loaded new done c some l answer is ext = absurd (omega arith)
 block_is_loads wide cmd a last (d ∷ ds) s loaded new done c some l answer is ext =
     search (rules, keeps_extended, all_loads)

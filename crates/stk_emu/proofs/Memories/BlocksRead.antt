@@ -39,7 +39,8 @@ flash_place wide a i size s is few low_enough inside narrow = search (rules, mod
 
 pub flash_looked : (wide : Bool) (a i n size : ℕ) (s : chip.ChipState) → s.part.flash_size ≡ size
     → length s.flash ≡ size → size ≤ 262144 → size % 2 ≡ 0 → a * 2 + i + n ≤ size
-    → (wide ≡ false → (s.extended ≡ 0) × (size ≤ 131072)) → BytesAndChip wide (a * 2 + i) n s (flash_reads wide 0x20 a i n s)
+    → (wide ≡ false → (s.extended ≡ 0) × (size ≤ 131072))
+    → BytesAndChip wide (a * 2 + i) n s (flash_reads wide 0x20 a i n s)
 flash_looked wide a i zero size s is long most even fits narrow =
     record { bytes = refl; value = s.extended; kept = λ e. refl; is = refl }
 flash_looked wide a i (suc n) size s is long most even fits narrow =
@@ -48,7 +49,8 @@ flash_looked wide a i (suc n) size s is long most even fits narrow =
     let place = flash_place wide a i size s is (omega arith) (omega arith) (omega arith)
     (λ e. ((narrow e).0, (let l = (narrow e).1 in omega arith))) in
     let byte = get_or s.flash (a * 2 + i) 0 in
-    let spi : chip.spi_of (at_address (for_half 0x20 i) (word_at a i) 0) (after_instructions (extension wide (word_at a i)) s)
+    let spi : chip.spi_of (at_address (for_half 0x20 i) (word_at a i) 0)
+    (after_instructions (extension wide (word_at a i)) s)
     ≡ (0 ∷ for_half 0x20 i ∷ high (word_at a i) ∷ byte ∷ [], s₁) =
     rw (extended_is wide (word_at a i) s, look_byte i (high (word_at a i)) (low (word_at a i)) s₁, place) refl in
     let more : BytesAndChip wide (a * 2 + suc i) n s₁ (flash_reads wide 0x20 a (suc i) n s₁) =

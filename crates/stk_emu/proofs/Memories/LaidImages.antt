@@ -101,7 +101,8 @@ put_is f e (d ∷ ds) prefix place k at =
       rules,
       set_at,
       append_assoc,
-      put_is f e ds (prefix ++ f d ∷ []) (suc place) k (at_end prefix (f d) place at) ∙ append_assoc prefix (f d ∷ []) (map f ds ++ replicate k e),
+      put_is f e ds (prefix ++ f d ∷ []) (suc place) k (at_end prefix (f d) place at) ∙ append_assoc prefix (f d
+          ∷ []) (map f ds ++ replicate k e),
     )
 
 -- the bytes loaded for a run within a page, laid over a memory

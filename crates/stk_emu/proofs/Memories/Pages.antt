@@ -70,7 +70,8 @@ flash_loaded wide a i half (d ∷ ds) s e each =
     ap (λ h. low (word_at a i) % h * 2 + i % 2) e
     ∙ (ap (λ j. word_at a j % 256 % half * 2 + j % 2) (omega arith) ∙ (each 0 (omega arith) ∙ omega arith)) in
     let s₂ : chip.ChipState = record s { flash_buffer = set s.flash_buffer i d; extended = x } in
-    let one : after_instructions (flash_loads wide 0x40 a i (d ∷ ds)) s ≡ after_instructions (flash_loads wide 0x40 a (suc i) ds) s₂ =
+    let one : after_instructions (flash_loads wide 0x40 a i (d ∷ ds)) s
+    ≡ after_instructions (flash_loads wide 0x40 a (suc i) ds) s₂ =
     sent-append (extension wide (word_at a i)) _ s ∙ rw (extended_is wide (word_at a i) s)
     (rw (load_byte i (high (word_at a i)) (low (word_at a i)) d s₁, here) refl) in
     let more : Loaded wide (suc i) ds s₂ (after_instructions (flash_loads wide 0x40 a (suc i) ds) s₂) =

@@ -39,7 +39,14 @@ eeprom_loaded a i off page (d ∷ ds) s e each =
     let here : low (byte_address a i) % s.part.eeprom_page ≡ off =
     ap (λ q. low (byte_address a i) % q) e ∙
     (ap (λ j. byte_address a j % 256 % page) (omega arith) ∙ (each 0 (omega arith) ∙ omega arith)) in
-    search (rules, eeprom_loaded a (suc i) (suc off) page ds (record s { eeprom_buffer = set s.eeprom_buffer off (Some d) }) e (λ k l. ap (λ j. byte_address a j % 256 % page) (omega arith) ∙ (each (suc k) (omega arith) ∙ omega arith)))
+    search (
+      rules,
+      eeprom_loaded a (suc i) (suc off) page ds (record s {
+        eeprom_buffer =
+            set s.eeprom_buffer off (Some d);
+      }) e (λ k l. ap (λ j. byte_address a j % 256 % page) (omega arith) ∙
+          (each (suc k) (omega arith) ∙ omega arith)),
+    )
 
 module _ (part : Part) (sound : IsPart part) where
   -- the chip after a run

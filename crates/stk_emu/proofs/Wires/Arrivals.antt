@@ -44,7 +44,8 @@ pub both_skipped : (n : ℕ) (x y : List ℕ) → Skipped n x → Skipped n y �
 both_skipped n x y f g = search (rules, append_assoc, length-append)
 
 -- a reply to a frame before this one
-late_skipped : (k n : ℕ) (late : List ℕ) → ((seq : ℕ) → later k seq ≡ n → seq ≢ n) → IsEmptyOrEarlier k n late → Skipped n late
+late_skipped : (k n : ℕ) (late : List ℕ) → ((seq : ℕ) → later k seq ≡ n → seq ≢ n) → IsEmptyOrEarlier k n late
+    → Skipped n late
 late_skipped k n late other (inl e) = rw e (none_skipped n)
 late_skipped k n late other (inr l) = rw l.is (frame_skipped n l.seq l.bytes (other l.seq l.before) l.carried)
 
@@ -89,10 +90,10 @@ reads_silence n prefix noise more skipped short lawful =
 no_noise : IsLawful []
 no_noise = record { few = omega arith; no_frame = refl }
 
-reads_back : (n : ℕ) (fate : Fate) (late : Late) (bytes : List ℕ) (more : Tape) → NoneHasNumber n late → IsLawfulFate fate
-    → IsFrameBody bytes
-    → answer n ((on_tape (released_replies fate late) ++ brought_by_fate fate (frame n bytes) (frame n refusal)) ++ more)
-    ≡ Some (reading_of_exchange (exchange_of_fate fate) bytes, more)
+reads_back : (n : ℕ) (fate : Fate) (late : Late) (bytes : List ℕ) (more : Tape) → NoneHasNumber n late
+    → IsLawfulFate fate → IsFrameBody bytes
+    → answer n ((on_tape (released_replies fate late) ++ brought_by_fate fate (frame n bytes) (frame n refusal))
+    ++ more) ≡ Some (reading_of_exchange (exchange_of_fate fate) bytes, more)
 reads_back n Good late bytes more clear lawful b = search (rules, reads_frame, clear_skipped, clear_length)
 reads_back n HeldAnswer late bytes more clear lawful b =
     reads_silence n [] [] more (none_skipped n) (omega arith) no_noise
@@ -124,5 +125,6 @@ late_is : (n : ℕ) (fate : Fate) (bytes : List ℕ) (late : Late) → IsFrameBo
 late_is n fate bytes late b c = search rules
 
 pub arrival_late : {P : Type 0} (m : Device P) (n : ℕ) (bytes : List ℕ) (w : Wire P) → IsFrameBody bytes
-    → IsFrameBody (m.answer bytes w.programmer) → NoneHasNumber n w.late → NoneHasNumber (next n) (wire_after_frame m (frame n bytes) w).late
+    → IsFrameBody (m.answer bytes w.programmer) → NoneHasNumber n w.late
+    → NoneHasNumber (next n) (wire_after_frame m (frame n bytes) w).late
 arrival_late m n bytes w b a clear = search (rules, frame_is_good, body_of_frame, late_is)

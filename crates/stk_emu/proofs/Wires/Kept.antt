@@ -34,8 +34,8 @@ keeps_sending old new used p fates passes keeps =
     (sent old.transcript) passes.fed passes.are_frames
     keeps.held in search (rules, wire_more, tape_more, append_assoc)
 
-pub keeps_receiving : (old : WiredState) (items : Tape) (p : Programmer) (fates : List Fate) → IsReceivedNext items old.waits
-    → FollowsFates p fates old → FollowsFates p fates (after_receiving items old)
+pub keeps_receiving : (old : WiredState) (items : Tape) (p : Programmer) (fates : List Fate)
+    → IsReceivedNext items old.waits → FollowsFates p fates old → FollowsFates p fates (after_receiving items old)
 keeps_receiving old items p fates next keeps = search (rules, sent_append, heard_append, append_assoc, take-append-drop)
 
 pub heard_state : (w : WiredState) (transcript : Transcript) (waits items : Tape)

@@ -16,7 +16,8 @@ bytes_all : (xs : List ℕ) → leading_bytes (on_tape xs) ≡ xs
 bytes_all [] = refl
 bytes_all (x ∷ xs) = ap (λ ys. x ∷ ys) (bytes_all xs)
 
-pub bytes_taken : (tape : Tape) (n : ℕ) → n ≤ length (leading_bytes tape) → on_tape (take n (leading_bytes tape)) ≡ take n tape
+pub bytes_taken : (tape : Tape) (n : ℕ) → n ≤ length (leading_bytes tape) → on_tape (take n (leading_bytes tape))
+    ≡ take n tape
 bytes_taken tape zero le = refl
 bytes_taken [] (suc n) le = absurd (omega (arith, le))
 bytes_taken (Byte b ∷ tape) (suc n) le = ap (λ ys. Byte b ∷ ys) (bytes_taken tape n (omega (arith, le)))

@@ -60,7 +60,8 @@ frames_append (Emitted e ∷ x) y = frames_append x y
 -- a prefix of events has no more frames
 pub prefix_most : {E : Type 0} {IsPartOfEvent : E → E → Type 0} {shown events : List (Event E)}
     → IsPrefixOfEvents IsPartOfEvent shown events → length (frames_in shown) ≤ length (frames_in events)
-prefix_most {IsPartOfEvent = IsPartOfEvent} {shown = shown} {events = events} f = search (rules, frames_append, length-append)
+prefix_most {IsPartOfEvent = IsPartOfEvent} {shown = shown} {events = events} f =
+    search (rules, frames_append, length-append)
 
 -- what a dialog asks bounds what it sends
 pub sends_asked : {E R : Type 0} (IsPartOfEvent : E → E → Type 0) (n : ℕ) (d : Dialog E R) → AsksAtMost n d
@@ -97,8 +98,9 @@ unfolding attempts_or_fault
 tries_most zero commands fault = tt
 tries_most (suc more) commands fault =
     asks_bind (length commands) (more * length commands) (suc more * length commands) (attempt commands [])
-    (retry_or_end (attempts_or_fault more commands)) (omega (arith, suc-mul more (length commands))) (attempt_most commands [])
-    (λ reply. most_settled (more * length commands) (attempts_or_fault more commands) reply (tries_most more commands))
+    (retry_or_end (attempts_or_fault more commands)) (omega (arith, suc-mul more (length commands)))
+    (attempt_most commands []) (λ reply. most_settled (more * length commands) (attempts_or_fault more commands) reply
+    (tries_most more commands))
 
 pub step_most : (commands : List Command) → AsksAtMost (4 * length commands) (step commands)
 step_most commands = tries_most 4 commands NoAnswer
@@ -131,7 +133,8 @@ checked_most n d judge f = asks_bind n 0 n d (λ outcome. Done (judge outcome)) 
 pub operation_most : {A : Type 0} (steps : List (List Command)) (judge : List ℕ → Result A HostFault)
     → AsksAtMost (4 * commands_in steps) (operation steps judge)
 unfolding operation
-operation_most steps judge = checked_most (4 * commands_in steps) (play steps []) (checked_by judge) (play_most steps [])
+operation_most steps judge = checked_most (4 * commands_in steps) (play steps []) (checked_by judge)
+    (play_most steps [])
 
 beginning_most : AsksAtMost (4 * commands_in opening_steps) handshake
 unfolding handshake

@@ -25,19 +25,22 @@ use Rattle.stk_host.proofs.Transcripts.Reached.{reaches_on, reaches_from, played
 -- one command and its reply
 
 pub exchange_done : (seq then : ℕ) (command : Command) {u v : List ℕ} {o p q : LinkState} {reading : Reading}
-    → SendsExactly (frame seq (body command)) o.transcript p.transcript → ReceivesReply seq u p q reading v → then ≡ next seq
-    → q.failures ≡ o.failures
+    → SendsExactly (frame seq (body command)) o.transcript p.transcript → ReceivesReply seq u p q reading v → then
+    ≡ next seq → q.failures ≡ o.failures
     → RunsOverLink (exchange command) (record { next = seq; unread = u }) o q (reply_from_reading command reading)
     (record { next = then; unread = v })
 unfolding exchange
-exchange_done seq then command {u = u} {v = v} {o = o} {p = p} {q = q} {reading = reading} emits receives_next is same = record {
-  during = emits.during ++ receives_next.during;
-  events = Frame (frame seq (body command)) ∷ [];
-  grows = grows_on o.transcript p.transcript q.transcript emits.during receives_next.during emits.grows receives_next.grows;
-  plays = rw is (plays_from (leads_ask (body command) (λ r. Done (reply_from_reading command r)) seq u v emits.during
-      receives_next.during reading emits.quiet emits.none_taken emits.bytes_sent receives_next.waits receives_next.answers));
-  sound = same;
-}
+exchange_done seq then command {u = u} {v = v} {o = o} {p = p} {q = q} {reading = reading} emits receives_next is same =
+    record {
+      during = emits.during ++ receives_next.during;
+      events = Frame (frame seq (body command)) ∷ [];
+      grows = grows_on o.transcript p.transcript q.transcript emits.during receives_next.during emits.grows
+          receives_next.grows;
+      plays = rw is (plays_from (leads_ask (body command) (λ r. Done (reply_from_reading command r)) seq u v emits.during
+          receives_next.during reading emits.quiet emits.none_taken emits.bytes_sent receives_next.waits
+          receives_next.answers));
+      sound = same;
+    }
 
 pub exchange_unsent : (seq : ℕ) (command : Command) (u : List ℕ) {o p : LinkState}
     → SendsOnlyPart (frame seq (body command)) o.transcript p.transcript → HasFailed o p
@@ -58,7 +61,8 @@ unfolding exchange
 exchange_unreceived seq command {u = u} {o = o} {p = p} {q = q} emits receives_next failed = record {
   during = emits.during ++ receives_next.during;
   shown = Frame (frame seq (body command)) ∷ [];
-  grows = grows_on o.transcript p.transcript q.transcript emits.during receives_next.during emits.grows receives_next.grows;
+  grows = grows_on o.transcript p.transcript q.transcript emits.during receives_next.during emits.grows
+      receives_next.grows;
   breaks = search (rules, breaks_listening);
   failed = failed;
 }
@@ -66,8 +70,8 @@ exchange_unreceived seq command {u = u} {o = o} {p = p} {q = q} emits receives_n
 -- an attempt whose next command was sent and got its reply
 
 attempt_on : (command : Command) (commands : List Command) (before : List ℕ) {seq n : Progress} {o q : LinkState}
-    (reply : Reply) → RunsOverLink (exchange command) seq o q reply n → Reaches (attempt (command ∷ commands) before) seq o
-    (with_data (λ bytes. attempt commands (before ++ bytes)) reply) n q
+    (reply : Reply) → RunsOverLink (exchange command) seq o q reply n → Reaches (attempt (command ∷ commands) before)
+    seq o (with_data (λ bytes. attempt commands (before ++ bytes)) reply) n q
 unfolding attempt
 attempt_on command commands before reply f = then_reaches (with_data (λ bytes. attempt commands (before ++ bytes))) f
 
@@ -87,7 +91,8 @@ by_reply last reply bytes e = played_from (attempt_on last [] [] (reply_of reply
 
 pub gets_one : {L : Type 0} {link : Ghosts L} (last : Command) (m n : ConversationState) (o q : L)
     (result : Result emitted.Reply HostFault)
-    → ReturnsReply link (exchange last) last m n o q result → ReturnsReply link (attempt (last ∷ []) []) last m n o q result
+    → ReturnsReply link (exchange last) last m n o q result → ReturnsReply link (attempt (last ∷ []) []) last m n o q
+    result
 gets_one last m n o q (Ok reply) f = search (rules, by_reply)
 gets_one last m n o q (Err fault) f = search (rules, attempt_off)
 
@@ -95,8 +100,8 @@ gets_one last m n o q (Err fault) f = search (rules, attempt_off)
 pub gets_last : {L : Type 0} {link : Ghosts L} (first last : Command) (m n after : ConversationState) (o p q : L)
     (was : emitted.Reply) (none : List ℕ) (result : Result emitted.Reply HostFault)
     → RunsOverLink (exchange first) m.progress (link.view o) (link.view p) (reply_of was none) n.progress
-    → Preserves link.started_as o p → was ≡ replies.Data → none ≡ [] → ReturnsReply link (exchange last) last n after p q result
-    → ReturnsReply link (attempt (first ∷ last ∷ []) []) last m after o q result
+    → Preserves link.started_as o p → was ≡ replies.Data → none ≡ [] → ReturnsReply link (exchange last) last n after p
+    q result → ReturnsReply link (attempt (first ∷ last ∷ []) []) last m after o q result
 gets_last {link = link} first last m n after o p q was none result f stays is nothing g =
     by_result result (gets_one last n after p q result g)
   where
@@ -104,8 +109,8 @@ gets_last {link = link} first last m n after o p q was none result f stays is no
         (link.view p)
     begun = attempt_on first (last ∷ []) [] (Data []) (rw (is, nothing) at f)
 
-    by_result : (result : Result emitted.Reply HostFault) → ReturnsReply link (attempt (last ∷ []) []) last n after p q result
-        → ReturnsReply link (attempt (first ∷ last ∷ []) []) last m after o q result
+    by_result : (result : Result emitted.Reply HostFault) → ReturnsReply link (attempt (last ∷ []) []) last n after p q
+        result → ReturnsReply link (attempt (first ∷ last ∷ []) []) last m after o q result
     by_result (Ok reply) e = record {
       ok = played_from (reaches_on begun (reaches_from e.ok));
       err = tt;
@@ -134,7 +139,8 @@ gets_short first last was none bytes f short = search (rules, played_from, attem
 
 tries_on : (more : ℕ) (commands : List Command) (last : StepFault) {seq n : Progress} {o q : LinkState} (reply : Reply)
     → RunsOverLink (attempt commands []) seq o q reply n
-    → Reaches (attempts_or_fault (suc more) commands last) seq o (retry_or_end (attempts_or_fault more commands) reply) n q
+    → Reaches (attempts_or_fault (suc more) commands last) seq o (retry_or_end (attempts_or_fault more commands) reply)
+    n q
 unfolding attempts_or_fault
 tries_on more commands last reply f = then_reaches (retry_or_end (attempts_or_fault more commands)) f
 
@@ -143,7 +149,8 @@ unfolding attempts_or_fault
 tries_none commands last = refl
 
 tries_off : {by : HostFault} (more : ℕ) (commands : List Command) (last : StepFault) {seq : Progress} {o q : LinkState}
-    → BreaksOverLink by (attempt commands []) seq o q → BreaksOverLink by (attempts_or_fault (suc more) commands last) seq o q
+    → BreaksOverLink by (attempt commands []) seq o q → BreaksOverLink by (attempts_or_fault (suc more) commands last)
+    seq o q
 unfolding attempts_or_fault
 tries_off more commands last f = broken_bind (retry_or_end (attempts_or_fault more commands)) f
 
@@ -172,9 +179,11 @@ module _ {a : Dialog ⊥ StepOutcome} {l seq : Progress} {j o : LinkState} {k : 
       → RunsOverLink a l j q (Err fault) n
   try_stop {fault = fault} bytes f stop = played_from (try (Stop fault) (rw stop at f))
 
-  pub try_breaks : {by : HostFault} {q : LinkState} → BreaksOverLink by (attempt commands []) seq o q → BreaksOverLink by a l j q
+  pub try_breaks : {by : HostFault} {q : LinkState} → BreaksOverLink by (attempt commands []) seq o q
+      → BreaksOverLink by a l j q
   try_breaks f = broken_on next_try (tries_off more commands last f)
 
 pub try_end : {a : Dialog ⊥ StepOutcome} {l seq : Progress} {j o : LinkState} (k : ℕ) (commands : List Command)
-    (last : StepFault) → Reaches a l j (attempts_or_fault k commands last) seq o → k ≡ 0 → RunsOverLink a l j o (Err last) seq
+    (last : StepFault) → Reaches a l j (attempts_or_fault k commands last) seq o → k ≡ 0
+    → RunsOverLink a l j o (Err last) seq
 try_end k commands last f is = played_from (rw (is, tries_none commands last) at f)

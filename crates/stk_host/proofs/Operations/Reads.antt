@@ -12,7 +12,8 @@ read_before part mem number = min (number * read_unit mem) (size_of mem part)
 
 -- what one more step brings
 pub record BringsMore (part : Part) (mem : Mem) (number : ℕ) : Type 0 where
-  pub more : read_before part mem (number + 1) ≡ read_before part mem number + step_data_count (read_command_at part mem number)
+  pub more : read_before part mem (number + 1) ≡ read_before part mem number + step_data_count
+      (read_command_at part mem number)
   pub within : read_before part mem (number + 1) ≤ size_of mem part
 
 pub brings_more : (part : Part) (mem : Mem) (number : ℕ) → number < read_count part mem → BringsMore part mem number

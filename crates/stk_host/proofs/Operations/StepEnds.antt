@@ -25,7 +25,8 @@ stops_on k q fault f (inr (of, is, e)) = inr (of, is, played_from (reaches_on f 
 pub stops_there : (a : Dialog ⊥ StepOutcome) (go_on : List ℕ → Dialog ⊥ StepOutcome) (m n : Progress) (o p : LinkState)
     (fault : HostFault) → StopsSteps a m o p fault n → StopsSteps (a >>= unless_step_fault go_on) m o p fault n
 stops_there a go_on m n o p fault (inl e) = inl (broken_bind (unless_step_fault go_on) e)
-stops_there a go_on m n o p fault (inr (of, is, e)) = inr (of, is, played_from (then_reaches (unless_step_fault go_on) e))
+stops_there a go_on m n o p fault (inr (of, is, e)) =
+    inr (of, is, played_from (then_reaches (unless_step_fault go_on) e))
 
 -- steps that brought their data
 pub goes_on : {a : Dialog ⊥ StepOutcome} {m n : Progress} {o p : LinkState} (go_on : List ℕ → Dialog ⊥ StepOutcome)
@@ -63,8 +64,8 @@ stop_ends takes first judge notice RecvFailed m n o p (inl e) = broken_bind (λ 
 stop_ends takes first judge notice _ m n o p (inl e) = absurd e.breaks
 
 -- the checked signature is right or wrong; neither is a fault of the link
-checked_ends : {dialog : Dialog ⊥ (Result (List ℕ) HostFault)} {m n : Progress} {o p : LinkState} (wanted found : List ℕ)
-    (force same : Bool)
+checked_ends : {dialog : Dialog ⊥ (Result (List ℕ) HostFault)} {m n : Progress} {o p : LinkState}
+    (wanted found : List ℕ) (force same : Bool)
     → RunsOverLink dialog m o p (if force then Ok found else if same then Ok found else Err (WrongSignature found)) n
     → EndsCall false dialog m o p (if force then Ok found else if same then Ok found else Err (WrongSignature found)) n
 checked_ends wanted found force same e = search rules

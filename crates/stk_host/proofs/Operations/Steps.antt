@@ -29,7 +29,8 @@ counted_data of bytes counted sized = search rules
 
 -- a step that was run goes on with those that follow
 pub goes_with : (commands : List Command) (before bytes : List ℕ) {m n : Progress} {o p : LinkState}
-    → RunsOverLink (step commands) m o p (Ok bytes) n → CompletesStepsWithData (commands ∷ []) before (before ++ bytes) m o p (Ok tt) n
+    → RunsOverLink (step commands) m o p (Ok bytes) n → CompletesStepsWithData (commands ∷ []) before (before
+    ++ bytes) m o p (Ok tt) n
 goes_with commands before bytes f = λ steps. play_on commands steps before bytes f
 
 pub stops_with : (commands : List Command) (before : List ℕ) (m n : Progress) (o p : LinkState) (fault : HostFault)
@@ -70,7 +71,8 @@ module _ {a : Dialog ⊥ StepOutcome} {k m : Progress} {r o : LinkState} (steps_
   stops_next n p fault e = search (rules, stops_on, next_place)
 
 -- a place without steps
-pub passes : {these : List (List Command)} (m : Progress) (o : LinkState) → these ≡ [] → CompletesSteps these m o o (Ok tt) m
+pub passes : {these : List (List Command)} (m : Progress) (o : LinkState) → these ≡ []
+    → CompletesSteps these m o o (Ok tt) m
 passes m o none = λ steps. rw none (reaches_here (play steps []) m o)
 
 -- after the last place

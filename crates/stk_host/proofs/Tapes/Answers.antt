@@ -64,12 +64,13 @@ pub answer_waits : (seq : ℕ) (x : List ℕ) → first_answer seq (cut x) ≡ N
 answer_waits seq x none few = ap (answer seq) (sym (append-nil (on_tape x))) ∙ stopped_at seq x [] none few refl
 
 -- if the limit is reached
-pub answer_babbled : (seq : ℕ) (x : List ℕ) (more : Tape) → first_answer seq (cut x) ≡ None → length x ≡ reply_byte_limit
-    → answer seq (on_tape x ++ more) ≡ Some (Babbled, more)
+pub answer_babbled : (seq : ℕ) (x : List ℕ) (more : Tape) → first_answer seq (cut x) ≡ None → length x
+    ≡ reply_byte_limit → answer seq (on_tape x ++ more) ≡ Some (Babbled, more)
 answer_babbled seq x more none full =
     let bytes : take reply_byte_limit (leading_bytes (on_tape x ++ more)) ≡ x =
     ap (take reply_byte_limit) (bytes_in_tape x more) ∙
-    (take-append-le reply_byte_limit x (leading_bytes more) (omega arith) ∙ take_all reply_byte_limit x (omega arith)) in
+    (take-append-le reply_byte_limit x (leading_bytes more) (omega arith) ∙ take_all reply_byte_limit x (omega arith))
+    in
     answer_by seq (on_tape x ++ more) x bytes ∙ rw (none, le-leb reply_byte_limit (length x) (omega arith))
     (ap (λ t. Some (Babbled, t)) (ap (λ n. drop n (on_tape x ++ more)) (sym full) ∙ drop_tape x more))
 
@@ -147,10 +148,13 @@ pub answer_found : (seq : ℕ) (x : List ℕ) (more : Tape) (body : List ℕ)
     → first_answer seq (cut x) ≡ Some (body, length x) → length x ≤ reply_byte_limit
     → answer seq (on_tape x ++ more) ≡ Some (Answered body, more)
 answer_found seq x more body found few =
-    let bytes : take reply_byte_limit (leading_bytes (on_tape x ++ more)) ≡ x ++ take (reply_byte_limit - length x) (leading_bytes more) =
+    let bytes : take reply_byte_limit (leading_bytes (on_tape x ++ more)) ≡ x
+    ++ take (reply_byte_limit - length x) (leading_bytes more) =
     ap (take reply_byte_limit) (bytes_in_tape x more) ∙ take_over reply_byte_limit x (leading_bytes more) few in
     answer_by seq (on_tape x ++ more) (x ++ take (reply_byte_limit - length x) (leading_bytes more)) bytes
     ∙ (ap (λ o. reading_from_first o (x ++ take (reply_byte_limit - length x) (leading_bytes more)) (on_tape x ++ more))
     (ap (first_answer seq) (cut_append x (take (reply_byte_limit - length x) (leading_bytes more)))
-    ∙ first_answer_stays seq (cut x) (cut (rest x ++ take (reply_byte_limit - length x) (leading_bytes more))) (body, length x) found)
-    ∙ ap (λ t. Some (Answered body, t)) (drop_tape x more))
+    ∙ first_answer_stays seq (cut x) (cut (rest x ++ take (reply_byte_limit - length x) (leading_bytes more))) (
+      body,
+      length x,
+    ) found) ∙ ap (λ t. Some (Answered body, t)) (drop_tape x more))

@@ -40,8 +40,8 @@ bytes_append (Emitted e ∷ x) y = bytes_append x y
 
 -- sending and listening in turn
 
-in_turn_without_bytes : {E R : Type 0} (dialog : Dialog E R) (seq : ℕ) (tape : Tape) (bytes : List ℕ) (transcript : Transcript)
-    → NothingReceived transcript → InTurnFrom dialog seq tape bytes transcript
+in_turn_without_bytes : {E R : Type 0} (dialog : Dialog E R) (seq : ℕ) (tape : Tape) (bytes : List ℕ)
+    (transcript : Transcript) → NothingReceived transcript → InTurnFrom dialog seq tape bytes transcript
 in_turn_without_bytes dialog seq tape bytes [] quiet = tt
 in_turn_without_bytes dialog seq tape bytes (Sent more ∷ transcript) quiet =
     in_turn_without_bytes dialog seq tape (bytes ++ more) transcript quiet
@@ -85,7 +85,8 @@ module _ {E F A B : Type 0} (dialog : Dialog E A) (inner : Dialog F B) (m n : �
   in_turn_after transcript f =
       subst (λ t. InTurnFrom dialog m t before transcript) (append-nil tape)
       (subst (λ s. InTurnFrom dialog m (tape ++ []) s transcript) (append-nil before)
-      (in_turn_shifted [] [] transcript (subst (λ t. InTurnFrom inner n t [] transcript) (sym (append-nil inner_tape)) f)))
+      (in_turn_shifted [] [] transcript (subst (λ t. InTurnFrom inner n t [] transcript) (sym (append-nil inner_tape))
+      f)))
 
 in_turn_bind : {E A B : Type 0} (dialog : Dialog E A) (go_on : A → Dialog E B) (m : Progress) (transcript : Transcript)
     → InTurn dialog m transcript → InTurn (dialog >>= go_on) m transcript
@@ -110,8 +111,9 @@ in_turn_asking body answered seq u x y quiet none is waits =
 -- prefixes of events
 
 -- and a prefix after events that all happened
-pub prefix_behind : {E : Type 0} (IsPartOfEvent : E → E → Type 0) {shown events : List (Event E)} (before : List (Event E))
-    → IsPrefixOfEvents IsPartOfEvent shown events → IsPrefixOfEvents IsPartOfEvent (before ++ shown) (before ++ events)
+pub prefix_behind : {E : Type 0} (IsPartOfEvent : E → E → Type 0) {shown events : List (Event E)}
+    (before : List (Event E)) → IsPrefixOfEvents IsPartOfEvent shown events → IsPrefixOfEvents IsPartOfEvent (before
+    ++ shown) (before ++ events)
 prefix_behind IsPartOfEvent before f =
     search (rules, append_assoc before f.whole f.begun, append_assoc before f.whole f.later)
 
@@ -161,7 +163,8 @@ module _ {E R : Type 0} {a b : Dialog E R} {m n : Progress} {x : Transcript} {ev
   leads_bind go_on f = search (rules, played_bind, append_assoc, in_turn_bind)
 
   pub breaks_on : (IsPartOfEvent : E → E → Type 0) {y : Transcript} {shown : List (Event E)}
-      → TranscriptLeads a m x events b n → Breaks IsPartOfEvent b n y shown → Breaks IsPartOfEvent a m (x ++ y) (events ++ shown)
+      → TranscriptLeads a m x events b n → Breaks IsPartOfEvent b n y shown → Breaks IsPartOfEvent a m (x ++ y) (events
+      ++ shown)
   breaks_on IsPartOfEvent {y = y} {shown = shown} f g = search (rules, led, prefix_behind, led_bytes, led_in_turn, f, g)
 
 -- an output event
@@ -182,8 +185,8 @@ leads_from {events = events} f = search rules
 
 -- breaking off
 
-pub breaks_bind : {E A B : Type 0} (IsPartOfEvent : E → E → Type 0) {a : Dialog E A} {m : Progress} {transcript : Transcript}
-    {shown : List (Event E)} (go_on : A → Dialog E B)
+pub breaks_bind : {E A B : Type 0} (IsPartOfEvent : E → E → Type 0) {a : Dialog E A} {m : Progress}
+    {transcript : Transcript} {shown : List (Event E)} (go_on : A → Dialog E B)
     → Breaks IsPartOfEvent a m transcript shown → Breaks IsPartOfEvent (a >>= go_on) m transcript shown
 breaks_bind IsPartOfEvent {a = a} {m = m} {transcript = transcript} go_on f =
     search (rules, played_bind, append_assoc, in_turn_bind)
@@ -211,8 +214,8 @@ by_bind by a m transcript shown go_on f = search (rules, played_bind, in_turn_bi
 
 module _ {E R : Type 0} (body : List ℕ) (answered : Reading → Dialog E R) (seq : ℕ) (u : List ℕ) where
   -- its frame was sent and its reply read
-  pub leads_ask : (v : List ℕ) (x y : Transcript) (reading : Reading) → NothingReceived x → NoneTaken x → sent x ≡ frame seq body
-      → WaitsFrom seq (on_tape u) y
+  pub leads_ask : (v : List ℕ) (x y : Transcript) (reading : Reading) → NothingReceived x → NoneTaken x → sent x
+      ≡ frame seq body → WaitsFrom seq (on_tape u) y
       → ((more : Tape) → answer seq (on_tape u ++ (heard y ++ more)) ≡ Some (reading, on_tape v ++ more))
       → TranscriptLeads (Ask body answered) (progress_at seq u) (x ++ y) (Frame (frame seq body)
       ∷ []) (answered reading) (progress_at (next seq) v)
@@ -224,7 +227,8 @@ module _ {E R : Type 0} (body : List ℕ) (answered : Reading → Dialog E R) (s
       → frame seq body ≡ part ++ unsent → (NoneTaken x → 0 < length unsent)
       → BreaksSending (Ask body answered) (progress_at seq u) x (Frame part ∷ [])
   breaks_asking part unsent x quiet is frame_is not_whole =
-      let later = (continue_with_reading (λ r. played (answered r) (next seq)) (answer seq (on_tape u ++ heard x))).events in
+      let later = (continue_with_reading (λ r. played (answered r) (next seq)) (answer seq (on_tape u
+      ++ heard x))).events in
       record {
         whole = [];
         part = part;

@@ -99,8 +99,8 @@ module _ {seq : ℕ} {u : List ℕ} {o : LinkState} where
       answers = search (rules, heard_both, l, append_assoc, text_heard);
     })
 
-    pub heard_silence : {q : LinkState} {what : Heard} {new : List ℕ} → what ≡ heard.Silence → ReceivesPiece what new p q
-        → ReceivesReply seq u o q Silent new
+    pub heard_silence : {q : LinkState} {what : Heard} {new : List ℕ} → what ≡ heard.Silence
+        → ReceivesPiece what new p q → ReceivesReply seq u o q Silent new
     heard_silence is piece =
         stops Silence Silent (rw is at piece)
         (λ more. answer_silent seq l.text more l.no_answer (omega (arith, l.counted)))
@@ -124,7 +124,8 @@ module _ {seq : ℕ} {u : List ℕ} {o : LinkState} where
   -- listening whose reading is known
   gives : {held : List ℕ} {count : ℕ} {left : List ℕ} {p : LinkState} (x rest_left : List ℕ) (reading : Reading)
       → (l : Listening seq u o held count left p) → on_tape u ++ heard_in l.during ≡ on_tape (x ++ rest_left)
-      → ((more : Tape) → answer seq (on_tape x ++ more) ≡ Some (reading, more)) → ReceivesReply seq u o p reading rest_left
+      → ((more : Tape) → answer seq (on_tape x ++ more) ≡ Some (reading, more))
+      → ReceivesReply seq u o p reading rest_left
   gives x rest_left reading l all answers = record {
     during = l.during;
     grows = l.grows;
@@ -135,7 +136,8 @@ module _ {seq : ℕ} {u : List ℕ} {o : LinkState} where
 
   finds_in : {held : List ℕ} {count : ℕ} {p : LinkState} (used left new : List ℕ)
       → Listening seq u o held count (used ++ left) p → Fed held used new (new ∷ []) → HoldsFrame new
-      → is_answer seq new ≡ true → count + length used ≤ reply_byte_limit → ReceivesReply seq u o p (Answered (body_of new)) left
+      → is_answer seq new ≡ true → count + length used ≤ reply_byte_limit
+      → ReceivesReply seq u o p (Answered (body_of new)) left
   finds_in used left new l fed frame good few =
       let whole : rest (l.text ++ used) ≡ [] = fed.stands l.text l.stands ∙ rest_whole new frame.whole in
       let size : length (l.text ++ used) ≤ reply_byte_limit = rw length-append (omega (arith, l.counted)) in

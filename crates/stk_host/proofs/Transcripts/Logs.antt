@@ -50,7 +50,8 @@ out_more [] m = omega arith
 out_more (mark.Sent n ∷ marks) m = omega (arith, out_more marks m)
 out_more (other ∷ marks) m = out_more marks m
 
-pub back_more : (marks : List Mark) (m : Mark) → received_count (marks ++ m ∷ []) ≡ received_count marks + received_count (m ∷ [])
+pub back_more : (marks : List Mark) (m : Mark) → received_count (marks ++ m ∷ [])
+    ≡ received_count marks + received_count (m ∷ [])
 back_more [] m = omega arith
 back_more (mark.Heard h ∷ marks) m = omega (arith, back_more marks m)
 back_more (other ∷ marks) m = back_more marks m
@@ -86,8 +87,8 @@ count_received h buffer fits = search rules
 
 -- the whole log, as the code goes on: this mark and these bytes are new
 module _ (marks new_marks : List Mark) (out new_out back new_back x y : List ℕ) (m : Mark)
-    (o : sent_count marks ≡ length out) (b : received_count marks ≡ length back) (marks_are : new_marks ≡ marks ++ m ∷ [])
-    (out_is : new_out ≡ out ++ x) (back_is : new_back ≡ back ++ y) where
+    (o : sent_count marks ≡ length out) (b : received_count marks ≡ length back) (marks_are : new_marks ≡ marks ++ m
+    ∷ []) (out_is : new_out ≡ out ++ x) (back_is : new_back ≡ back ++ y) where
   pub log_adds : (old : Transcript) → transcript_of marks out back ≡ old
       → transcript_of new_marks new_out new_back ≡ old ++ transcript_of (m ∷ []) x y
   log_adds old view = search (rules, log_more)

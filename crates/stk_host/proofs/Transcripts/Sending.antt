@@ -9,7 +9,8 @@ use Rattle.stk_host.specs.Transcript.{Transcript, LinkState, Sent, NoneTaken, Is
 use Rattle.stk_host.specs.Reach.{SendsExactly, SendsOnlyPart}
 use Rattle.stk_host.proofs.Transcripts.Laws.{sent_append, grows_on, quiet_append, taken_quiet, none_append, none_behind}
 
-pub output_more : (x y : List ℕ) (o p q : Transcript) → SendsExactly x o p → Grows p (Sent y ∷ []) q → SendsExactly (x ++ y) o q
+pub output_more : (x y : List ℕ) (o p q : Transcript) → SendsExactly x o p → Grows p (Sent y ∷ []) q
+    → SendsExactly (x ++ y) o q
 output_more x y o p q emits g = grind (arith, common_steps, quiet_append, none_append, sent_append)
 
 -- one more part
@@ -31,13 +32,15 @@ part_of bytes n part o p q few emits is t =
       part = take n bytes ++ sent t.last;
       unsent = t.unsent;
       bytes_are = sym (take-append-drop n bytes)
-          ∙ (ap (λ bs. take n bytes ++ bs) (sym is ∙ t.bytes_are) ∙ sym (append_assoc (take n bytes) (sent t.last) t.unsent));
+          ∙ (ap (λ bs. take n bytes ++ bs) (sym is ∙ t.bytes_are) ∙ sym (append_assoc (take n bytes) (sent t.last)
+          t.unsent));
       some = omega arith;
       during = emits.during ++ t.last;
       grows = grows_on o p q emits.during t.last emits.grows t.grows;
       quiet = quiet_append emits.during t.last emits.none_taken emits.quiet (taken_quiet t.last t.is_taken);
       bytes_sent = sent_append emits.during t.last ∙ ap (λ bs. bs ++ sent t.last) emits.bytes_sent;
-      not_whole = λ none. some_unsent t.last part t.unsent t.is_taken (none_behind emits.during t.last none) t.bytes_are some;
+      not_whole = λ none. some_unsent t.last part t.unsent t.is_taken (none_behind emits.during t.last none) t.bytes_are
+          some;
     }
 
 -- nothing was taken

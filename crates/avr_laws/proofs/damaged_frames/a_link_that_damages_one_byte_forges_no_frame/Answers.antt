@@ -8,4 +8,5 @@ pub returns-clause-programmer : goal.returns-clause-programmer
 returns-clause-programmer g c = arrived_came
 
 pub returns-clause-host : goal.returns-clause-host
-returns-clause-host g c = λ d n come p executions brings. brings_no_frame device reply_fits_frame d n come p executions [] tt brings
+returns-clause-host g c = λ d n come p executions brings. brings_no_frame device reply_fits_frame d n come p executions
+    [] tt brings

@@ -6,6 +6,7 @@ returns c = λ plan first second old now p q fitted sound part_is keeping got la
     others sound_then part_then left kept came_then none_then. (
       as_one plan first second old now p q fitted sound part_is keeping got later executions prefix came none over more
           others sound_then part_then left kept came_then none_then,
-      images_there plan first second old now p q fitted sound part_is keeping got later executions prefix came none over more
+      images_there plan first second old now p q fitted sound part_is keeping got later executions prefix came none over
+          more
           others sound_then part_then left kept came_then none_then,
     )

@@ -7,7 +7,8 @@ use Rattle.avr_plan.proofs.image_file.read_rest.Given as goal
 
 abbrev pub invariant-pieces : goal.invariant-pieces
 invariant-pieces g l = record {
-  going : FedSoFar (g.D.Desk.view l.initial.desk) (g.D.Desk.view l.desk) l.initial.intake l.intake l.initial.left l.left;
+  going : FedSoFar (g.D.Desk.view l.initial.desk) (g.D.Desk.view l.desk) l.initial.intake l.intake l.initial.left
+      l.left;
   same : HasSameCounts (g.D.Desk.view l.initial.desk) (g.D.Desk.view l.desk);
   room : fed_count l.intake + l.left ≤ fed_count l.initial.intake + l.initial.left;
   stays : Preserves g.D.Desk.started_as l.initial.desk l.desk;

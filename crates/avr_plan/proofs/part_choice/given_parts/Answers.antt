@@ -13,8 +13,8 @@ returns-in_default-clause-goes g c = rw (c.in_default.is, c.none.ensures) (went_
 
 pub returns-in-Err-clause-goes : goal.returns-in-Err-clause-goes
 returns-in-Err-clause-goes g c =
-    rw (c.in-Some.is, ← c.as_str-file.ensures) (goes_file_fault (OnlyAtStart false) _ LARGEST_PART_FILE (checked_parts _)
-    _ _ _ _ _ (breaks_as _ _ _ _ c.in-Err.ensures.kept) c.in-Err.ensures.counts.0
+    rw (c.in-Some.is, ← c.as_str-file.ensures) (goes_file_fault (OnlyAtStart false) _ LARGEST_PART_FILE
+    (checked_parts _) _ _ _ _ _ (breaks_as _ _ _ _ c.in-Err.ensures.kept) c.in-Err.ensures.counts.0
     (counted_as _ _ _ _ _ c.in-Err.ensures.counts) refl (rw c.file_message.ensures at c.refuse.ensures.notice))
 
 pub returns-then-not-contents-clause-goes : goal.returns-then-not-contents-clause-goes

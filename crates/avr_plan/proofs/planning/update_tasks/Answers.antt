@@ -27,4 +27,11 @@ returns-in-Err-clause-notice g c = search (rules, slice_get, slice_get-get_or, f
 
 pub returns-clause-goes : goal.returns-clause-goes
 returns-clause-goes g c =
-    search (rules, drop_all, completed_without_events, c.loop-update-test.false, c.of.ensures, c.loop-update.invariant.goes)
+    search (
+      rules,
+      drop_all,
+      completed_without_events,
+      c.loop-update-test.false,
+      c.of.ensures,
+      c.loop-update.invariant.goes,
+    )

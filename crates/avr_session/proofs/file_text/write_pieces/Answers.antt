@@ -56,7 +56,8 @@ pieces-preserved g c =
       | else-len-remaining_capacity w ↦ rw (w.desk-is, w.waiting-is) ([], search (rules, sent_none))
     ] in
     let put = put_whole c.try_extend_from_slice.result
-    (c.try_extend_from_slice.ensures.variant.1 (rw c.as_slice-in-pieces.ensures.value w.1.4)) c.try_extend_from_slice.ensures.ok in
+    (c.try_extend_from_slice.ensures.variant.1 (rw c.as_slice-in-pieces.ensures.value w.1.4))
+    c.try_extend_from_slice.ensures.ok in
     record {
       sent = (
         i.0 ++ w.0,

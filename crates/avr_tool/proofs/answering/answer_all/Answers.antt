@@ -20,7 +20,8 @@ returns-in_default-clause-serves g c =
 pub returns-in-Ok-End-clause-serves : goal.returns-in-Ok-End-clause-serves
 returns-in-Ok-End-clause-serves g c =
     let grows = rw c.in-Ok-End.field-0-is at c.in-Ok-End.ensures.receives.ok in
-    let one : Serves c.loop-reads_done.emulator 1 Ended (g.L.Link.view c.loop-reads_done.link) (g.L.Link.view c.recv.new.self)
+    let one : Serves c.loop-reads_done.emulator 1 Ended (g.L.Link.view c.loop-reads_done.link)
+    (g.L.Link.view c.recv.new.self)
     c.loop-reads_done.emulator = search rules in
     let within : c.loop-reads_done.reads_done + 1 ≤ c.args.most_reads = omega arith in
     serves_within _ _ _ _ _ _ _ (λ e. cc) within (serves_more _ _ _ _ _ _ _ _ c.loop-reads_done.invariant.serves one)

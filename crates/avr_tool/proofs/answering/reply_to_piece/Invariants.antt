@@ -6,7 +6,8 @@ use Rattle.avr_tool.proofs.answering.reply_to_piece.Given as goal
 abbrev pub invariant-loop-used : goal.invariant-loop-used
 invariant-loop-used g l = record {
   in_range : l.used ≤ length l.piece;
-  replies : SendsAllReplies l.fn.emulator (take l.used l.piece) (g.L.Link.view l.fn.link) (g.L.Link.view l.link) l.emulator;
+  replies : SendsAllReplies l.fn.emulator (take l.used l.piece) (g.L.Link.view l.fn.link) (g.L.Link.view l.link)
+      l.emulator;
   counted : (g.L.Link.view l.link).failures ≡ (g.L.Link.view l.fn.link).failures;
   comes : Preserves g.L.Link.started_as l.fn.link l.link;
 }

@@ -9,13 +9,15 @@ loop-count-init g c = search (rules, begins)
 
 pub returns-in-Silence : goal.returns-in-Silence
 returns-in-Silence g c =
-    let receives_next = heard_silence c.loop-count.invariant.listening (c.is_empty.ensures.0 c.if-is_empty.true) (omega arith)
+    let receives_next = heard_silence c.loop-count.invariant.listening (c.is_empty.ensures.0 c.if-is_empty.true)
+    (omega arith)
     c.in-Silence.is c.in_ok-receive_piece.ensures.ok in
     search rules
 
 pub returns-in-End : goal.returns-in-End
 returns-in-End g c =
-    let receives_next = heard_end c.loop-count.invariant.listening (c.is_empty.ensures.0 c.if-is_empty.true) (omega arith)
+    let receives_next = heard_end c.loop-count.invariant.listening (c.is_empty.ensures.0 c.if-is_empty.true)
+    (omega arith)
     c.in-End.is c.in_ok-receive_piece.ensures.ok in
     search rules
 

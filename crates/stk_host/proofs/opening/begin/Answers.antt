@@ -21,7 +21,8 @@ entering = step (enter ∷ []) >>= unless_step_fault (λ nothing. play signature
 signed_on : {m n : Progress} {o p : LinkState} {name : List ℕ} → RunsOverLink (step (SignOn ∷ [])) m o p (Ok name) n
     → Reaches handshake m o entering n p
 unfolding handshake entering
-signed_on {name = name} f = goes_on (λ name. step (enter ∷ []) >>= unless_step_fault (λ nothing. play signature_steps [])) name f
+signed_on {name = name} f = goes_on (λ name. step (enter ∷ []) >>=
+    unless_step_fault (λ nothing. play signature_steps [])) name f
 
 -- after ENTER
 entered : {k m n : Progress} {r o p : LinkState} {nothing : List ℕ} {command : Command} → command ≡ enter

@@ -6,8 +6,8 @@ use Rattle.avr_desk.proofs.system.SystemDeskChipDesk.replace.Goals as goal
 pub returns-in-Ok-clause-call : goal.returns-in-Ok-clause-call
 returns-in-Ok-clause-call g c = is_call (search rules) (search rules)
     (let left = c.self-in-Ok.view_is ∙ c.leave_replacement.ensures.none in
-    from_inside _ _ _ _ _ _ c.self.view_is (replace_true _ _ _ _ _ _ c.replace_named.new.held c.as_bytes.ensures.value (ap (λ d. d.output) left)
-    (ap (λ d. d.messages) left) (ap (λ d. d.hold) left) c.open_next.ensures.opened
+    from_inside _ _ _ _ _ _ c.self.view_is (replace_true _ _ _ _ _ _ c.replace_named.new.held c.as_bytes.ensures.value
+    (ap (λ d. d.output) left) (ap (λ d. d.messages) left) (ap (λ d. d.hold) left) c.open_next.ensures.opened
     (c.then-self-inside.ensures ∙ ap (λ d. with_replaced c.as_bytes.result.now c.args.bytes.now d.kept) left)
     c.in-Ok.ensures.put c.in-Ok.ensures.stays
     _ (ap (λ d. d.opened) left) c.open_next.ensures.closed c.in-Ok.ensures.makes

@@ -14,7 +14,8 @@ returns-in-Ok-write_through-clause-write g c =
 pub returns-in-Err-write_through-clause-write : goal.returns-in-Err-write_through-clause-write
 returns-in-Err-write_through-clause-write g c =
     let took = c.in-Err-write_through.ensures.taken in
-    let stays = from_inside _ _ _ _ _ _ c.self.view_is (write_out_true _ _ _ _ _ _ _ c.in-Output.is took.2.0) in record {
+    let stays = from_inside _ _ _ _ _ _ c.self.view_is (write_out_true _ _ _ _ _ _ _ c.in-Output.is took.2.0) in
+    record {
       bound = search rules;
       kept = rw (← c.self.view_is) (took.0, took.1, took.2.0);
       call = record { counts = search rules; fault = search rules; stays = stays };

@@ -9,7 +9,8 @@ returns-then-switches-2 g c =
     let is_dry = rw c.switches-switches.ensures at c.if-switches.true in
     let is_asked = rw c.switches-switches.ensures at c.if-switches-2.true in
     let reports = rw c.switches-switches.ensures at c.warn-warned.ensures.reports in
-    let due : SkipAction SkippedErase ∷ [] ≡ erase_actions c.args.self.now.plan.now.switches c.args.self.now.plan.now.tasks =
+    let due : SkipAction SkippedErase ∷ [] ≡ erase_actions c.args.self.now.plan.now.switches
+    c.args.self.now.plan.now.tasks =
     rw (is_dry, is_asked) refl in
     search (rules, does_same, does_one, left_out_performs, ends_unreported)
 
