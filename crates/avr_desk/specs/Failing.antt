@@ -7,8 +7,8 @@ use Rattle.avr_desk.specs.declared.desk.DeskFault.TheVariants.{Failed}
 use Rattle.avr_desk.specs.declared.stream.Stream.{Stream}
 use Rattle.avr_desk.specs.declared.stream.Stream.TheVariants.{Messages}
 
--- `due` numbers the call that fails: 1 is the next one, 0 none. `planned` counts the planned failures, and `message_failures`
--- those at the messages.
+-- `due` numbers the call that fails: 1 is the next one, 0 none. `planned` counts the planned failures, and
+-- `message_failures` those at the messages.
 pub record Failing (D : Type 0) : Type 0 where
   pub inner : D
   pub due : ℕ

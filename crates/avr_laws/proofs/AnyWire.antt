@@ -105,8 +105,8 @@ module _ (plan : Plan) (w v : WiredState) (d e : DeskState) (status : ℕ) (over
     abbrev emitted : List OutputEvent
     emitted = outputs (events_over plan v)
 
-    pub came_to : status ≡ 0 → EndsOverExchanges plan (memories w) (memories v) (exchanges_of_fates w.wire.fates) emitted
-        status × ChangesRecord (after_events emitted) d e
+    pub came_to : status ≡ 0 → EndsOverExchanges plan (memories w) (memories v) (exchanges_of_fates w.wire.fates)
+        emitted status × ChangesRecord (after_events emitted) d e
     came_to zero = elim over.end [ inl came ↦ came | inr broke ↦ absurd (one_no (sym broke.1 ∙ zero)) ]
 
     pub untouched : frames (sent v.transcript) ≡ [] → memories v ≡ memories w

@@ -1,5 +1,5 @@
--- What holds of a session over a link that forges no frame, besides what avr_tool's OverFaultyLink says of it: its reports are
--- true and foretold, and few bad frames change nothing.
+-- What holds of a session over a link that forges no frame, besides what avr_tool's OverFaultyLink says of it: its
+-- reports are true and foretold, and few bad frames change nothing.
 use Rattle.std.specs.Prelude.{ℕ, ◌≡◌, ◌⊎◌, true, List}
 use Rattle.avr_desk.specs.Record.{DeskState, ChangesRecord}
 use Rattle.avr_desk.specs.OutputEvents.{OutputEvent, after_events}

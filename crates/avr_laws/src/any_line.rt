@@ -45,7 +45,8 @@ ghost use Rattle.avr_tool.specs.Outcome.{write_operations};
 
 /// States that over any link that forges no frame the memories are at each moment those of the plan's first write
 /// operations, in order. These are the completed ones, and perhaps one more.
-// Proof: avr_tool's `session_makes` (OverFaultyLink/WriteOperationOrder), by `makes_items` (OverFaultyLink/WriteOperations).
+// Proof: avr_tool's `session_makes` (OverFaultyLink/WriteOperationOrder), by `makes_items`
+// (OverFaultyLink/WriteOperations).
 pub fn a_run_makes_its_page_writes_in_order()
     ensures { (plan : Plan) (m : Memories) (p : Programmer) (exchanges : List Exchange)
         → IsPart plan.part → All (IsFitted plan.part) plan.tasks → FitsPart plan.part m → HasMemories plan.part m p
@@ -136,7 +137,8 @@ pub fn a_session_over_a_wire_can_be_believed()
 ///
 /// `end` holds however a session ends, so that any prefix of its bytes was sent. The memories are those of its first
 /// write operations. Its output is the expected run's, up to the line of a failed step.
-// Proof: `over_any_line`, `over_bytes` and `over_any_end` (AnyLink), by `ends_and_reports_over_exchanges` (ReportsOverExchanges).
+// Proof: `over_any_line`, `over_bytes` and `over_any_end` (AnyLink), by `ends_and_reports_over_exchanges`
+// (ReportsOverExchanges).
 pub fn a_session_over_any_link()
     ensures exchanges { (plan : Plan) (p : Programmer) (executions : List Execution) (bytes : List ℕ)
         (tape left : Tape) (events : List (Event OutputEvent)) (status next : ℕ)
@@ -167,7 +169,8 @@ pub fn a_session_over_any_link()
 /// States what a session leaves over a new link that forges no frame, whether it ran whole or broke off. The memories
 /// are those of its first write operations: those completed by what was received, and at most one more. Its output is
 /// the expected run's, up to the line of a failed step. This holds also if the link fails.
-// Proof: `over_any_run` (AnyLink); its write operations are avr_tool's `session_makes` (OverFaultyLink/WriteOperationOrder).
+// Proof: `over_any_run` (AnyLink); its write operations are avr_tool's `session_makes`
+// (OverFaultyLink/WriteOperationOrder).
 pub fn whatever_becomes_of_a_session_its_first_page_writes_were_made()
     ensures { (plan : Plan) (p : Programmer) (got : List ℕ) (later : List (List ℕ)) (executions : List Execution)
         (old new : Devices) (status : ℕ)

@@ -63,8 +63,9 @@ use stk_host::Link;
 /// restarted, and no reply was forged. Then the memories of its chip are what the plan's writes make of them, and all
 /// that the plan compares agreed. If the run was verified, each memory holds its images. Elsewhere it holds what it
 /// held before, or the FF of an erase. Each file that a memory was read into has the text of what the chip held then.
-// Proof: `promised` (Outcomes/Kept), by `over_bytes` (AnyLink) and avr_tool's `ends_over_exchanges` (OverExchanges). There the
-// memories are `session_leaves` (OverFaultyLink/Outcomes), the images `run_written` (Memories/VerifiedRuns). The files are
+// Proof: `promised` (Outcomes/Kept), by `over_bytes` (AnyLink) and avr_tool's `ends_over_exchanges` (OverExchanges).
+// There the memories are `session_leaves` (OverFaultyLink/Outcomes), the images `run_written` (Memories/VerifiedRuns).
+// The files are
 // `expected_writes` (Outcomes/Saved), the plan `desk_asked` (Plans/Given).
 pub fn status_0_means_the_images<D: Desk, L: Link>(
     alloc: Global,

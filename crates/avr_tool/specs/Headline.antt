@@ -1,7 +1,7 @@
 -- THE HEADLINE. What a run does, from settings to status. Each term is defined here, or one step below in the file
 -- that its `use` names. Sections 1 to 3 hold over any link, section 4 over a wire to the emulated programmer that
--- forges no frame. Beside this page are specs/OverFaultyLink (what a session leaves), specs/Program (from a command line) and
--- specs/Emulated (over a chip file). docs/PROOFS.md lists what is not proved.
+-- forges no frame. Beside this page are specs/OverFaultyLink (what a session leaves), specs/Program (from a command
+-- line) and specs/Emulated (over a chip file). docs/PROOFS.md lists what is not proved.
 use Rattle.std.specs.Prelude.{ℕ, ◌≡◌, ◌≤◌, ◌⊎◌, List, [], ◌∷◌, ◌++◌, map, length, Some, None}
 use Rattle.avr_cli.specs.declared.settings.Settings.{Settings}
 use Rattle.avr_desk.specs.Record.{DeskState, ChangesRecord, Bytes, after_err}
@@ -129,8 +129,8 @@ pub record IsPrefixOfRun (settings : Settings) (before now : Devices) : Type 0 w
 -- ---- 4. From settings to the bytes of the chip, over a fresh wire (stk_emu's `IsFresh`)
 
 -- The contract of `run_wired`. A plan was made, and its session was run: whole, or until it stopped, as above (law
--- `a_run_is_one_function`). If the chip is of the plan's part, `SessionOverWire` states what happened to it. Or there is no
--- plan, and the wire is untouched.
+-- `a_run_is_one_function`). If the chip is of the plan's part, `SessionOverWire` states what happened to it. Or there
+-- is no plan, and the wire is untouched.
 abbrev pub RunsWired : Settings → WiredState → WiredState → DeskState → DeskState → ℕ → Type 0
 RunsWired settings before after old now status =
     WithPlan settings old (λ plan between.

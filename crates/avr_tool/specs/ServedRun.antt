@@ -81,9 +81,9 @@ status_of_end RecvFailed = 1
 status_of_end SendFailed = 1
 status_of_end TooManyReads = 1
 
--- A fresh emulator with this chip served a link in at most `most_reads` reads. It sent its replies to what was received,
--- all of them before the next read, unless a send failed. How serving ended was reported. In each case the chip was
--- saved as the frames received have left it.
+-- A fresh emulator with this chip served a link in at most `most_reads` reads. It sent its replies to what was
+-- received, all of them before the next read, unless a send failed. How serving ended was reported. In each case the
+-- chip was saved as the frames received have left it.
 pub record ServesChip (chip : chips.ChipState) (file : Bytes) (most_reads : ℕ) (old new : Devices) (status : ℕ)
     : Type 0 where
   pub served : Served
@@ -112,8 +112,8 @@ ServesPart part file most_reads old new status =
     ServesLoaded part file most_reads old new status
     ⊎ (LocksAndLoads part file old.desk new.desk (Err status) × (new.link ≡ old.link))
 
--- The part of the settings was served in at most `most_reads` reads. Or there is no part: this was reported, and nothing
--- was received or sent.
+-- The part of the settings was served in at most `most_reads` reads. Or there is no part: this was reported, and
+-- nothing was received or sent.
 abbrev pub RunsServedFor : Settings → Bytes → ℕ → Devices → Devices → ℕ → Type 0
 RunsServedFor settings file most_reads old new status =
     WithPart settings old.desk (λ part desk. ServesPart part file most_reads (devices old.link desk) new status)

@@ -74,8 +74,8 @@ ServingLeaves SendFailed p text transcript now =
     × LastReplyFailed p text (bytes_on_tape (heard transcript)) transcript now
 ServingLeaves _ p text transcript now = RepliesToAll p text (bytes_on_tape (heard transcript)) (sent transcript) now
 
--- An emulator served a link between these states, in at most `most_reads` reads, and ended like this. This holds whatever
--- programmer it began with and whatever text it was fed before.
+-- An emulator served a link between these states, in at most `most_reads` reads, and ended like this. This holds
+-- whatever programmer it began with and whatever text it was fed before.
 pub record Serves (old : EmulatorState) (most_reads : ℕ) (served : Served) (before after : LinkState)
     (now : EmulatorState) : Type 0 where
   pub during : Transcript

@@ -43,19 +43,19 @@ fn reply_to_piece<L: Link>(
     Ok(())
 }
 
-/// Serves a link in at most `most_reads` reads: feeds what is received to the emulator, and sends all replies before the
+/// Serves a link in at most `turns` reads: feeds what is received to the emulator, and sends all replies before the
 /// next read.
 ///
 /// A timeout counts as a read. The bytes of the last read still get their replies.
 #[tactic(auto, using(crate::proofs::ReadByRead::read_answered, crate::proofs::ReadByRead::read_broken))]
-pub fn answer_all<L: Link>(emulator: &mut Emulator, link: &mut L, most_reads: u32) -> Served
-    ensures serves { Serves emulator.old most_reads result (L.view link.old) (L.view link.new) emulator.new }
+pub fn answer_all<L: Link>(emulator: &mut Emulator, link: &mut L, turns: u32) -> Served
+    ensures serves { Serves emulator.old turns result (L.view link.old) (L.view link.new) emulator.new }
     ensures counted { (L.view link.old).failures ≤ (L.view link.new).failures }
     ensures failed { FailsBy result (L.view link.old) (L.view link.new) }
     ensures comes { Preserves L.started_as link.old link.new }
 {
     let mut buffer = [0; LARGEST_FRAME];
-    for reads_done in 0..most_reads {
+    for reads_done in 0..turns {
         match link.recv(&mut buffer) {
             Ok(Heard::Bytes(count)) => {
                 let Ok(()) = reply_to_piece(emulator, link, &buffer[..count]) else {

@@ -64,7 +64,7 @@ pub fn check_part<D: ChipDesk>(alloc: Global, settings: &Settings, desk: &mut D)
     Ok(part)
 }
 
-/// Serves a chip over a link in at most `most_reads` reads, reports how that ended, and saves the chip to this file.
+/// Serves a chip over a link in at most `turns` reads, reports how that ended, and saves the chip to this file.
 ///
 /// A fresh programmer with this chip replies to what is received; all replies are sent before the next read. If the
 /// link ends, no line is printed; any other ending prints its line. In each case the chip is saved as the frames
@@ -77,9 +77,9 @@ pub fn serve_chip<D: ChipDesk, L: Link>(
     file: &str,
     desk: &mut D,
     link: &mut L,
-    most_reads: u32,
+    turns: u32,
 ) -> u8
-    ensures serves { ServesChip chip file.now most_reads (devices (L.view link.old) (D.view desk.old))
+    ensures serves { ServesChip chip file.now turns (devices (L.view link.old) (D.view desk.old))
         (devices (L.view link.new) (D.view desk.new)) result }
     ensures follows { CountsNeverFall (D.view desk.old) (D.view desk.new) }
     ensures counted { (L.view link.old).failures ≤ (L.view link.new).failures }
@@ -87,7 +87,7 @@ pub fn serve_chip<D: ChipDesk, L: Link>(
     ensures stays { Preserves D.started_as desk.old desk.new }
 {
     let mut emulator = Emulator::new(chip);
-    let served = answer_all(&mut emulator, link, most_reads);
+    let served = answer_all(&mut emulator, link, turns);
     report_end(desk, served);
     save_after(emulator.chip(), file, desk, status_of(served))
 }
@@ -102,9 +102,9 @@ pub fn serve_part<D: ChipDesk, L: Link>(
     file: &str,
     desk: &mut D,
     link: &mut L,
-    most_reads: u32,
+    turns: u32,
 ) -> u8
-    ensures runs { ServesPart part.now file.now most_reads
+    ensures runs { ServesPart part.now file.now turns
         (devices (L.view link.old) (D.view desk.old)) (devices (L.view link.new) (D.view desk.new)) result }
     ensures follows { CountsNeverFall (D.view desk.old) (D.view desk.new) }
     ensures counted { (L.view link.old).failures ≤ (L.view link.new).failures }
@@ -112,13 +112,13 @@ pub fn serve_part<D: ChipDesk, L: Link>(
     ensures stays { Preserves D.started_as desk.old desk.new }
 {
     match hold_chip(alloc, part, file, desk) {
-        Ok(chip) => serve_chip(alloc, chip, file, desk, link, most_reads),
+        Ok(chip) => serve_chip(alloc, chip, file, desk, link, turns),
         Err(status) => status,
     }
 }
 
 /// Serves the emulated programmer of the settings' part over a link, as [`serve_part`] does with the chip file of their
-/// port, in at most `most_reads` reads. The port must have a chip file.
+/// port, in at most `turns` reads. The port must have a chip file.
 ///
 /// If the part is refused, the status is 1. Nothing is received or sent, and no file is written.
 ///
@@ -136,10 +136,10 @@ pub fn serve_for<D: ChipDesk, L: Link>(
     settings: &Settings,
     desk: &mut D,
     link: &mut L,
-    most_reads: u32,
+    turns: u32,
 ) -> u8
     requires port { HasChip settings.now.port }
-    ensures runs { RunsServedFor settings.now (chip_file_of settings.now.port) most_reads
+    ensures runs { RunsServedFor settings.now (chip_file_of settings.now.port) turns
         (devices (L.view link.old) (D.view desk.old)) (devices (L.view link.new) (D.view desk.new)) result }
     ensures follows { CountsNeverFall (D.view desk.old) (D.view desk.new) }
     ensures counted { (L.view link.old).failures ≤ (L.view link.new).failures }
@@ -153,7 +153,7 @@ pub fn serve_for<D: ChipDesk, L: Link>(
             chip_file(&settings.port),
             desk,
             link,
-            most_reads,
+            turns,
         ),
         Err(status) => status,
     }

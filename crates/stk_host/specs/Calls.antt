@@ -45,7 +45,8 @@ ReceivesPiece heard.Silence unread old new =
     (unread ≡ []) × Grows old.transcript (Got (item.Silence ∷ []) ∷ []) new.transcript
 ReceivesPiece heard.End unread old new = (unread ≡ []) × Grows old.transcript (Got (item.End ∷ []) ∷ []) new.transcript
 
--- What `Unread::receive_piece` ensures: it receives a piece of at most `most` bytes, and only that piece is unread then.
+-- What `Unread::receive_piece` ensures: it receives a piece of at most `most` bytes, and only that piece is unread
+-- then.
 pub record ReceivesNextPiece {L : Type 0} (link : Ghosts L) (most : ℕ) (old new : L) (unread : List ℕ)
     (result : Result Heard LinkFault) : Type 0 where
   pub within : length unread ≤ most

@@ -60,8 +60,8 @@ pub record StreamState (R W : Type 0) : Type 0 where
 abbrev pub stream_state : {R W : Type 0} → StreamState R W → LinkState
 stream_state link = record { transcript = link.transcript; failures = link.failures }
 
--- The transcript since `old` is true: `started_as` of a `StreamLink`. The bytes received are those that the reader gave,
--- in order and none lost. The bytes sent are those that the writer took, also in a send that failed.
+-- The transcript since `old` is true: `started_as` of a `StreamLink`. The bytes received are those that the reader
+-- gave, in order and none lost. The bytes sent are those that the writer took, also in a send that failed.
 pub record IsTrueSince {R W : Type 0} (remaining : R → Option (List ℕ)) (contents : W → Option (List ℕ))
     (old new : StreamState R W) : Type 0 where
   pub during : Transcript

@@ -161,7 +161,8 @@ record ListensOnce (tape : Tape) (got : Option (Reading × Tape)) : Type 0 where
 
 -- ---- a run
 
--- A run of a dialog in which each frame cost one timeout and `reply_byte_limit` bytes at most. `listens_at_most` takes it to
+-- A run of a dialog in which each frame cost one timeout and `reply_byte_limit` bytes at most. `listens_at_most` takes
+-- it to
 -- `ListensAtMost`, which the law states of a session.
 record Listens {E R : Type 0} (p : Played E R) (tape : Tape) : Type 0 where
   waiting : p.outcome ≡ None → (timeouts_on tape < length (frames_in p.events))

@@ -126,8 +126,8 @@ module _ (switches : Switches) (part : Part) where
         all_one,
         operation,
         tasks (before ++ first.0 ∷ []) updates
-            (task_stage switches part u openings).openings_left made (All-append (IsFitted part) before (first.0 ∷ []) fitted
-            (all_one (IsFitted part) first.0 (operation u u.op openings first.0 first.1.0))) first.1.1,
+            (task_stage switches part u openings).openings_left made (All-append (IsFitted part) before (first.0
+            ∷ []) fitted (all_one (IsFitted part) first.0 (operation u u.op openings first.0 first.1.0))) first.1.1,
       )
 
 pub plan_fitted : (s : Settings) (openings : List Opening) (plan : Plan)

@@ -108,8 +108,8 @@ module _ (part : Part) where
         action_between,
         no_more,
         actions_between actions (effects part (action_items action) z)
-            (effects part (action_items action) o) (effects part (action_items action) m) (no_more action actions none) next
-            hz.1 ho.1,
+            (effects part (action_items action) o) (effects part (action_items action) m) (no_more action actions none)
+            next hz.1 ho.1,
       )
 
   -- ---- after an erase

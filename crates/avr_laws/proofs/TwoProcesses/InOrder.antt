@@ -194,8 +194,8 @@ module _ {P : Type 0} (m : Device P) (sound : RepliesFitFrames m) where
           → Waits n t more (due h (answer n tape)) → StillWaits n tape h more
       waits_for h tape more t same f = search (rules, no_middle)
 
-      by_reads : (h count missed length_old : ℕ) (tape : Tape) (last : List ℕ) (stub : IsStub last) (more : List (List ℕ))
-          (t : Tape) → t ≡ tape → missed + suc count ≡ 8 → length_old ≤ missed
+      by_reads : (h count missed length_old : ℕ) (tape : Tape) (last : List ℕ) (stub : IsStub last)
+          (more : List (List ℕ)) (t : Tape) → t ≡ tape → missed + suc count ≡ 8 → length_old ≤ missed
           → Reads n missed length_old t last more (due h (answer n tape)) → Comes m bytes go_on n tape p h count more
       by_reads h count missed length_old tape last stub more t same counts le x12 =
           search (rules, finds, finds_none, waits_for)

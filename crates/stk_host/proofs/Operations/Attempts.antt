@@ -36,8 +36,8 @@ exchange_done seq then command {u = u} {v = v} {o = o} {p = p} {q = q} {reading 
       events = Frame (frame seq (body command)) ∷ [];
       grows = grows_on o.transcript p.transcript q.transcript emits.during receives_next.during emits.grows
           receives_next.grows;
-      plays = rw is (plays_from (leads_ask (body command) (λ r. Done (reply_from_reading command r)) seq u v emits.during
-          receives_next.during reading emits.quiet emits.none_taken emits.bytes_sent receives_next.waits
+      plays = rw is (plays_from (leads_ask (body command) (λ r. Done (reply_from_reading command r)) seq u v
+          emits.during receives_next.during reading emits.quiet emits.none_taken emits.bytes_sent receives_next.waits
           receives_next.answers));
       sound = same;
     }

@@ -13,7 +13,7 @@ loop-reads_done-preserved g c = search (rules, serves_more, read_answered)
 pub returns-in_default-clause-serves : goal.returns-in_default-clause-serves
 returns-in_default-clause-serves g c =
     let grows = rw c.in-Ok-Bytes.field-0-is at c.in-Ok-Bytes.ensures.receives.ok in
-    let within : c.loop-reads_done.reads_done + 1 ≤ c.args.most_reads = omega arith in
+    let within : c.loop-reads_done.reads_done + 1 ≤ c.args.turns = omega arith in
     let one = read_broken _ _ _ _ _ _ grows c.in_default.ensures.err in
     serves_within _ _ _ _ _ _ _ (λ e. cc) within (serves_more _ _ _ _ _ _ _ _ c.loop-reads_done.invariant.serves one)
 
@@ -23,5 +23,5 @@ returns-in-Ok-End-clause-serves g c =
     let one : Serves c.loop-reads_done.emulator 1 Ended (g.L.Link.view c.loop-reads_done.link)
     (g.L.Link.view c.recv.new.self)
     c.loop-reads_done.emulator = search rules in
-    let within : c.loop-reads_done.reads_done + 1 ≤ c.args.most_reads = omega arith in
+    let within : c.loop-reads_done.reads_done + 1 ≤ c.args.turns = omega arith in
     serves_within _ _ _ _ _ _ _ (λ e. cc) within (serves_more _ _ _ _ _ _ _ _ c.loop-reads_done.invariant.serves one)
