@@ -28,7 +28,7 @@ BAR = (
     ("Definitions", "docs/definitions/README"), ("Code", "docs/ARCHITECTURE"),
 )
 # what the check searches for, and a page that has to be among the results
-SOUGHT = {"flash:w": "docs/USAGE.html", "HostFault::Differs": "docs/api/stk_host.html", "CameThrough": "docs/definitions/avr_laws.html"}
+SOUGHT = {"flash:w": "docs/USAGE.html", "HostFault::Differs": "docs/api/stk_host.html", "ReceivedSentFrames": "docs/definitions/avr_laws.html"}
 # the words of a section that can be found
 MOST = 2_000
 
