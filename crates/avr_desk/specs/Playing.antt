@@ -17,8 +17,7 @@ pub record StageCompleted {A : Type 0} (stage : Stage A) (old new : DeskState) (
     pub emits : List OutputEvent
     pub comes : (more : List Opening) → stage (passed ++ more) ≡ record {
       emits = emits;
-      stage_outcome =
-          stage_outcome;
+      stage_outcome = stage_outcome;
       openings_left = more;
     }
     pub kept : ChangesRecord (after_events (events_with_refusal emits stage_outcome)) old new

@@ -35,8 +35,7 @@ abbrev pub showing : Record → ℕ → ℕ → DeskState
 showing kept failures message_failures = record {
   kept = kept;
   failures = failures;
-  message_failures =
-      message_failures;
+  message_failures = message_failures;
 }
 
 -- The record of the desk changed like this. Most contracts over a desk cite it.
@@ -177,6 +176,5 @@ nothing_kept =
       tried = [];
       releases = 0;
       output = [];
-      messages =
-          [];
+      messages = [];
     }

@@ -35,8 +35,7 @@ abbrev pub with_events_before : {A : Type 0} → List OutputEvent → StageResul
 with_events_before emits p = record {
   emits = emits ++ p.emits;
   stage_outcome = p.stage_outcome;
-  openings_left =
-      p.openings_left;
+  openings_left = p.openings_left;
 }
 
 abbrev pub continued_stage : {A B : Type 0} → List OutputEvent → List Opening → (A → Stage B) → StageOutcome A
@@ -44,14 +43,12 @@ abbrev pub continued_stage : {A B : Type 0} → List OutputEvent → List Openin
 continued_stage emits openings_left go_on (Produced a) = with_events_before emits (go_on a openings_left)
 continued_stage emits openings_left go_on (Refused line) = record {
   emits = emits;
-  stage_outcome =
-      Refused line;
+  stage_outcome = Refused line;
   openings_left = openings_left;
 }
 continued_stage emits openings_left go_on NotReadToEnd = record {
   emits = emits;
-  stage_outcome =
-      NotReadToEnd;
+  stage_outcome = NotReadToEnd;
   openings_left = openings_left;
 }
 

@@ -49,7 +49,6 @@ pub record AtAllocatingTask (switches : Switches) (part : Part) (tasks : List Ta
   pub made : List Task
   pub are_made : tasks_stage switches part tasks done passed ≡ record {
     emits = emitted;
-    stage_outcome =
-        Produced made;
+    stage_outcome = Produced made;
     openings_left = [];
   }

@@ -37,8 +37,7 @@ abbrev pub with_extent : Progress → LineResult → Result Extent RecordFault �
 with_extent p emitted (Err fault) = Err fault
 with_extent p emitted (Ok e) = Ok (record {
   extent = e;
-  image =
-      with_bytes_at p.image (bytes_under_base p.extent.base emitted);
+  image = with_bytes_at p.image (bytes_under_base p.extent.base emitted);
 })
 
 -- Extent and image after one more line, or the line's fault. After an end record a line changes nothing.

@@ -62,10 +62,8 @@ more-put text whole room now after put gone count next is fit put_is =
     record {
       fits = omega (arith, fit, long, is.fits);
       most = most;
-      left =
-          sym (drop-drop count gone whole) ∙ ap (drop count) is.left ∙ drop-drop count put text;
-      stands =
-          grind (arith, nat_tests, append_assoc, take-more);
+      left = sym (drop-drop count gone whole) ∙ ap (drop count) is.left ∙ drop-drop count put text;
+      stands = grind (arith, nat_tests, append_assoc, take-more);
     }
 
 -- the room takes the whole line
@@ -77,8 +75,7 @@ line-out text whole room now put gone left next is past left_is =
     record {
       fits = is.fits;
       most = is.most;
-      left =
-          sym (drop-append-add next.line next.more left) ∙ ap₂ drop (sym there) (sym next.joined) ∙ is.left;
+      left = sym (drop-append-add next.line next.more left) ∙ ap₂ drop (sym there) (sym next.joined) ∙ is.left;
       stands = is.stands;
     }
 

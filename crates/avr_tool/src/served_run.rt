@@ -147,14 +147,7 @@ pub fn serve_for<D: ChipDesk, L: Link>(
     ensures stays { Preserves D.started_as desk.old desk.new }
 {
     match find_part(alloc, desk, settings) {
-        Ok(part) => serve_part(
-            alloc,
-            &part,
-            chip_file(&settings.port),
-            desk,
-            link,
-            turns,
-        ),
+        Ok(part) => serve_part(alloc, &part, chip_file(&settings.port), desk, link, turns),
         Err(status) => status,
     }
 }

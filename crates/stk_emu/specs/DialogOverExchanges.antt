@@ -20,8 +20,7 @@ state_after m k (Emit e dialog) p exchanges = state_after m k dialog p exchanges
 state_after m zero (Ask bytes go_on) p exchanges = record {
   dialog = Ask bytes go_on;
   programmer = p;
-  exchanges =
-      exchanges;
+  exchanges = exchanges;
   left = 0;
 }
 state_after m (suc k) (Ask bytes go_on) p exchanges =

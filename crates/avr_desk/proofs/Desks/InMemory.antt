@@ -83,8 +83,7 @@ pub used_true : (ok : Bool) (last : FileUse) (old new : MemDeskState)
     → new ≡ (if ok then record old {
       kept = record old.kept {
         uses = all_uses old.kept ++ last ∷ [];
-        current =
-            Closed;
+        current = Closed;
       };
     } else old)
     → Preserves HoldsTrue old new

@@ -381,8 +381,7 @@ module _ {S F I H O E : Type 0} (system : Ghosts S F I H) (reads : Reads F) (wri
   held_true {b = b} {c = c} {h = h} {own = own} same output messages is_open hold kept last holds does leaves also
       keeps =
       let now = Next b c.system c.failures c.message_failures c.last_error b.opened (Some h) (record b.kept {
-        held =
-            Some own;
+        held = Some own;
       }) in
       let is : c ≡ now = rw (← output, ← messages, ← hold, ← is_open, ← kept) refl in
       rw is (quiet refl refl (λ none. none) (λ none was. was) (λ are. record {

@@ -24,8 +24,7 @@ module _ {A : Type 0} (taking : AllocationPoints) (name : Bytes) (limit : ℕ) (
   pub goes_whole : (bytes : Bytes) (ended : Bool) (old mid new : DeskState) (result : Result A ℕ)
       → ChangesRecord (with_read name bytes ended) old mid → EndsOrExceedsLimit limit (record {
         bytes = bytes;
-        ended =
-            ended;
+        ended = ended;
       }) → HasSameCounts old mid
       → RunsStage (OnlyAtStart false) (result_stage (judge bytes)) mid new result
       → RunsStage taking (file_stage name limit judge) old new result
@@ -38,8 +37,7 @@ module _ {A : Type 0} (taking : AllocationPoints) (name : Bytes) (limit : ℕ) (
   pub went_whole : (bytes : Bytes) (ended : Bool) (old mid : DeskState) (a : A)
       → ChangesRecord (with_read name bytes ended) old mid → EndsOrExceedsLimit limit (record {
         bytes = bytes;
-        ended =
-            ended;
+        ended = ended;
       }) → HasSameCounts old mid
       → StageCompleted (result_stage (judge bytes)) mid mid (Produced a) → StageCompleted (file_stage name limit judge)
       old mid (Produced a)

@@ -24,8 +24,7 @@ abbrev after_opening : List Opening → Opening → StageResult Opening
 after_opening more opening = record {
   emits = Opens opening ∷ [];
   stage_outcome = Produced opening;
-  openings_left =
-      more;
+  openings_left = more;
 }
 
 -- the file of this name gave this, so the stage goes on

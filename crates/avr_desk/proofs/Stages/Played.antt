@@ -110,8 +110,7 @@ completed_without_events d a = record {
   emits = [];
   comes = λ more. refl;
   kept = kept_none d.kept;
-  sound =
-      same_here d;
+  sound = same_here d;
 }
 
 -- a line was printed whole
@@ -183,8 +182,7 @@ completed_silently d = record {
   emits = [];
   comes = λ more. refl;
   kept = kept_none d.kept;
-  sound =
-      same_here d;
+  sound = same_here d;
 }
 
 pub completed_output : (old new : DeskState) (line : List ℕ) → ChangesRecord (after_events (PrintsLine line ∷ [])) old

@@ -245,8 +245,7 @@ module _ (Before After : Programmer → Type 0) (commands : List Command) (got :
           few,
           record {
             here = in_seven z.1 few;
-            next =
-                in_seven (later_exchanges z.1) (others_few z.1 few);
+            next = in_seven (later_exchanges z.1) (others_few z.1 few);
           },
         ),
       )

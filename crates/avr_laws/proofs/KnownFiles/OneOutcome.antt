@@ -51,8 +51,7 @@ ended_more {E = E} {R = R} (Ask body answered) seq t u r n left is =
         ≡ record {
           events = Frame (frame seq body)
               ∷ (continue_with_reading (λ reading. played (answered reading) (next seq)) (answer seq t)).events;
-          outcome =
-              Some (r, n, left ++ u);
+          outcome = Some (r, n, left ++ u);
         }
     by_reading None behind_it found ended = search rules
     by_reading (Some (reading, rest)) behind_it found ended =

@@ -125,8 +125,7 @@ module _ (settings : Settings) (stock : Stock) (old m : DeskState) (stage_outcom
     (verdict : stage_outcome ≡ NotReadToEnd → ⊥) (went : StageCompleted (planned settings) old m stage_outcome) where
   planned_is : planned settings (went.passed ++ []) ≡ record {
     emits = went.emits;
-    stage_outcome =
-        stage_outcome;
+    stage_outcome = stage_outcome;
     openings_left = [];
   }
   planned_is = went.comes []

@@ -38,8 +38,7 @@ anded image xs addr before byte mid after at e m = elim m.first_is [
     first = m.first;
     bytes = m.bytes;
     first_is = inr is;
-    are_there =
-        are_later (Write Flash image) xs addr m.bytes m.are_there;
+    are_there = are_later (Write Flash image) xs addr m.bytes m.are_there;
     is = m.is;
   }
 ]

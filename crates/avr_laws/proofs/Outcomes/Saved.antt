@@ -69,20 +69,17 @@ opened (Absent name) = record {
 }
 opened (Found reading) = record {
   created = λ r. files_opened (ToRead reading) r;
-  output =
-      λ r. sym (append-nil r.output);
+  output = λ r. sym (append-nil r.output);
 }
 
 saved_as : (b : Bool) (file text : Bytes) → is_dash file ≡ b
     → WritesFiles (if b then WritesOutput text ∷ [] else CreatesFile file ∷ WritesFile text ∷ []) (record {
-      name =
-          file;
+      name = file;
       bytes = text;
     } ∷ [])
 saved_as true file text is = record {
   created = λ r. search (rules, is, append-nil);
-  output =
-      λ r. search (rules, is, append-nil);
+  output = λ r. search (rules, is, append-nil);
 }
 saved_as false file text is =
     record { created = λ r. search (rules, is, files_used); output = λ r. search (rules, is, append-nil) }

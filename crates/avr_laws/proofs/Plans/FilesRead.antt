@@ -63,8 +63,7 @@ module _ (stock : Stock) where
   output_fixed emits openings rest seen read = record {
     stage_outcome = refl;
     lines = refl;
-    openings_left =
-        λ made is. refl;
+    openings_left = λ made is. refl;
   }
 
   onward : {A B : Type 0} (stage : Stage A) (go_on : A → Stage B) (prefix back : List Bytes) → Sees stage prefix

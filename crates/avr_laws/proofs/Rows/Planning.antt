@@ -94,8 +94,7 @@ begins_mixed : (passed : List Opening) (emitted : List OutputEvent) (done : List
     → of_values ∷ of_file ∷ [] ≡ done ++ due ∷ more → op_allocates due due.op ≡ true
     → planned (record mixed { updates = done }) passed ≡ record {
       emits = emitted;
-      stage_outcome =
-          Produced made;
+      stage_outcome = Produced made;
       openings_left = [];
     } → (passed ≡ []) × (emitted ≡ [])
 begins_mixed passed emitted [] due more made is takes planned_so = search rules

@@ -29,8 +29,7 @@ erasing = record {
   dry = false;
   force = false;
   all = false;
-  quiet =
-      2;
+  quiet = 2;
 }
 
 abbrev plan_of : List Task → Plan

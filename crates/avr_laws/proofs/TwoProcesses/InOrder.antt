@@ -185,8 +185,7 @@ module _ {P : Type 0} (m : Device P) (sound : RepliesFitFrames m) where
               old = f.old ++ own ∷ [];
               are_old = old_and_own n missed f.old own f.are_old (own_due (suc h) (answer n tape) own _ refl);
               few = rw (length-append f.old (own ∷ [])) (omega (arith, few, le));
-              comes =
-                  search (rules, after_is, append_assoc);
+              comes = search (rules, after_is, append_assoc);
             };
           }
 

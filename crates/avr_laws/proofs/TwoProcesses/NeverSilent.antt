@@ -59,8 +59,7 @@ read_on (Some (body, used)) bytes tape p = record { heard = refl; left = dropped
 read_on None bytes tape p = elim (cases_Bool (nat_le reply_byte_limit (length bytes))) [
   | inl full ↦ subst ReadsOn (sym (cond-true (nat_le reply_byte_limit (length bytes))
       (Some (Babbled, drop reply_byte_limit tape)) (timeout_or_end (drop (length bytes) tape)) full)) (record {
-        heard =
-            refl;
+        heard = refl;
         left = dropped reply_byte_limit tape p;
       })
   | inr few ↦ subst ReadsOn (search rules)

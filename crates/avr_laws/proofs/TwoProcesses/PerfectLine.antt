@@ -183,8 +183,7 @@ host_plays (Done r) n p asks = record {
   result = r;
   at = n;
   plays = λ later. refl;
-  all_sent =
-      refl;
+  all_sent = refl;
   none_taken = tt;
 }
 host_plays (Emit e d) n p asks =

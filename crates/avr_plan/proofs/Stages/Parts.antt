@@ -46,8 +46,7 @@ went_parts file bytes true old mid parts kept whole is same (inr memory) = cc
 
 pub goes_bad_parts : (file bytes : Bytes) (ended : Bool) (old mid new : DeskState) (status : ℕ) (refused : NamedFault)
     → ChangesRecord (with_read file bytes ended) old mid → EndsOrExceedsLimit LARGEST_PART_FILE (record {
-      bytes =
-          bytes;
+      bytes = bytes;
       ended = ended;
     }) → ended ≡ true → HasSameCounts old mid
     → ReadsUnlessOutOfMemory (parts_of bytes) (Err refused) → status ≡ 1

@@ -86,8 +86,7 @@ module _ (switches : Switches) (part : Part) (tasks : List Task) (u : Update) (u
     updates_are = ap (λ (us : List Update). u ∷ us) later.updates_are;
     takes = later.takes;
     made = later.made;
-    are_made =
-        search rules;
+    are_made = search rules;
   }
 
 module _ (switches : Switches) (part : Part) (tasks : List Task) (updates : List Update) (i : ℕ) (u : Update) where

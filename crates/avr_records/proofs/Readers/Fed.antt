@@ -95,8 +95,7 @@ keeps-done kind p part new text more done r =
     record {
       prefix = r.prefix ++ closed;
       last = cut.0;
-      cut =
-          search (rules, goes-on, append_assoc);
+      cut = search (rules, goes-on, append_assoc);
       holds = search (rules, map-append, holds-more);
       keeps = λ on. cc (done, on);
     }

@@ -21,8 +21,7 @@ along_next_dialog m next left exchanges p (Ask bytes go_on) =
       dialog = Ask bytes (λ reading. go_on reading >>= next);
       programmer = p;
       exchanges = exchanges;
-      left =
-          left;
+      left = left;
     }
 
 abbrev pub onwards : {E A B P : Type 0} → Device P → (A → Dialog E B) → StateAfter E A P → StateAfter E B P

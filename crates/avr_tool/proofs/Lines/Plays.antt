@@ -14,8 +14,7 @@ played_along m k (Done r) n p exchanges left = record { events = []; outcome = S
 played_along m k (Emit e d) n p exchanges left = prepend_events (Emitted e ∷ []) (played_along m k d n p exchanges left)
 played_along m zero (Ask bytes go_on) n p exchanges left = record {
   events = Frame (frame n bytes) ∷ [];
-  outcome =
-      None;
+  outcome = None;
 }
 played_along m (suc k) (Ask bytes go_on) n p exchanges left =
     prepend_events (Frame (frame n bytes) ∷ [])

@@ -62,8 +62,7 @@ module _ {P : Type 0} (m : Device P) (answers : RepliesFitFrames m) where
   over_wire (Done r) n w [] more asks clear lawful e = record {
     programmer = refl;
     play = refl;
-    is_authentic =
-        λ j le. tt;
+    is_authentic = λ j le. tt;
   }
   over_wire (Done r) n w (f ∷ sent) more asks clear lawful e = absurd (cons_none f (sent ++ more) e)
   over_wire (Emit s d) n w sent more asks clear lawful e = search (rules, over_wire d n w sent more asks clear lawful e)

@@ -212,8 +212,7 @@ module _ (part : Part) (sound : IsPart part) (s : Switches) (True : OutputEvent 
                     notice = [];
                     first = none_done (action ∷ rest) m;
                     fault = fault;
-                    output_events_are =
-                        line;
+                    output_events_are = line;
                   };
                 }),
               ),

@@ -17,8 +17,7 @@ module _ {P : Type 0} (m : Device P) where
       → state_after m k d p exchanges ≡ record {
         dialog = Done r;
         programmer = (state_after m (suc k) d p exchanges).programmer;
-        exchanges =
-            (state_after m (suc k) d p exchanges).exchanges;
+        exchanges = (state_after m (suc k) d p exchanges).exchanges;
         left = left;
       }
   along_before k left (Done q) p exchanges r e n = search rules

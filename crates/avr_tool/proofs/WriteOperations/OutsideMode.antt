@@ -43,8 +43,7 @@ fails_by c code fault p done is stops off =
     record {
       fault = fault;
       reply = ap (λ (z : Response). reply_from_reading c (Answered z.0)) failed ∙ stops;
-      after =
-          ap (λ (z : Response). z.1) failed;
+      after = ap (λ (z : Response). z.1) failed;
     }
 
 abbrev FailsOutside : Command → Type 0
