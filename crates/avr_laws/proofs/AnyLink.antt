@@ -13,7 +13,7 @@ use Rattle.stk_host.specs.Play.{IsBytePrefixOf}
 use Rattle.stk_host.specs.Transcript.{Transcript, sent, heard}
 use Rattle.stk_host.specs.Tape.{Tape}
 use Rattle.stk_emu.specs.DialogOverExchanges.{state_after, outputs_after, SendsValidBodies}
-use Rattle.avr_laws.specs.AnyTape.{GoesAlongExchanges, ReceivedSentFrames, after_received_bytes, after_sent_frames, exchanges_heard}
+use Rattle.avr_laws.specs.AnyTape.{GoesAlongExchanges, ReceivedSentFrames, after_received_bytes, after_sent_frames, exchanges_on_tape}
 use Rattle.avr_tool.specs.Authentic.{RepliesAreAuthentic}
 use Rattle.avr_laws.specs.NoForgedFrame.{ForgesNoFrame}
 use Rattle.avr_laws.proofs.Lines.NoForgedFrame.{no_forged_frame_authentic}
@@ -36,7 +36,7 @@ module _ (plan : Plan) (begun : Programmer) (is_sound : IsSoundChip begun.chip) 
   module _ (tape : Tape) (executions : List Execution) (is_authentic : RepliesAreAuthentic device (session plan) 1 tape
       begun executions) where
     abbrev exchanges : List Exchange
-    exchanges = exchanges_heard (session plan) 1 tape executions
+    exchanges = exchanges_on_tape (session plan) 1 tape executions
 
     abbrev events_played : List (Event OutputEvent)
     events_played = (played (session plan) 1 tape).events
@@ -108,18 +108,18 @@ module _ (plan : Plan) (begun : Programmer) (is_sound : IsSoundChip begun.chip) 
         → played (session plan) 1 tape ≡ record { events = events; outcome = Some (status, next, left) }
         → bytes_sent events ≡ bytes
         → WholeSessionOverExchanges plan begun (after_received_bytes device got later begun)
-        (exchanges_heard (session plan) 1 tape executions) bytes events status
+        (exchanges_on_tape (session plan) 1 tape executions) bytes events status
     over_bytes left events status next is sent_is =
-        subst (λ q. WholeSessionOverExchanges plan begun q (exchanges_heard (session plan) 1 tape executions) bytes
+        subst (λ q. WholeSessionOverExchanges plan begun q (exchanges_on_tape (session plan) 1 tape executions) bytes
         events status) left_bytes
         (over_any_line tape executions authentic_bytes bytes left events status next is sent_is)
 
     pub end_bytes : IsBytePrefixOf bytes (bytes_sent (played (session plan) 1 tape).events)
         → ReportsOverExchanges plan begun (after_received_bytes device got later begun)
-        (exchanges_heard (session plan) 1 tape executions) bytes
+        (exchanges_on_tape (session plan) 1 tape executions) bytes
         (played (session plan) 1 tape).events
     end_bytes prefix =
-        subst (λ q. ReportsOverExchanges plan begun q (exchanges_heard (session plan) 1 tape executions) bytes
+        subst (λ q. ReportsOverExchanges plan begun q (exchanges_on_tape (session plan) 1 tape executions) bytes
         (played (session plan) 1 tape).events) left_bytes
         (over_any_end tape executions authentic_bytes bytes prefix)
 
@@ -133,7 +133,7 @@ module _ (plan : Plan) (begun : Programmer) (is_sound : IsSoundChip begun.chip) 
         → ReceivedSentFrames got later (frames (sent transcript)) executions
         → ForgesNoFrame device (session plan) 1 (heard transcript) begun executions []
         → ReportsOverExchanges plan begun (after_received_bytes device got later begun)
-        (exchanges_heard (session plan) 1 (heard transcript) executions) (sent transcript)
+        (exchanges_on_tape (session plan) 1 (heard transcript) executions) (sent transcript)
         (played (session plan) 1 (heard transcript)).events
     over_any_run runs came none =
         end_bytes got (sent transcript) later executions (heard transcript) came none

@@ -23,8 +23,8 @@ use Rattle.avr_laws.specs.TrueReports.{IsTrueReport, EmittedTrue}
 -- Everything reported among these events was true of the chip as the frames sent before had left it.
 abbrev pub ReportsWereTrue : Plan → Programmer → List Exchange → List (Event OutputEvent) → Type 0
 ReportsWereTrue plan p exchanges events =
-    EmittedTrue device (λ q output. IsTrueReport plan (memories_of p.chip) (memories_of q.chip) output) events exchanges
-    p
+    EmittedTrue device (λ q output. IsTrueReport plan (memories_of p.chip) (memories_of q.chip) output)
+    events exchanges p
 
 -- What holds of a session however it ends, also if it breaks off or waits forever. These are its events over what was
 -- received.

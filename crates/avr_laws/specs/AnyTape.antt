@@ -1,4 +1,4 @@
--- A dialog run over any tape, given what happened to the programmer at each question, as avr_tool's Honest.
+-- A dialog run over any tape, given what happened to the programmer at each command, as avr_tool's Authentic.
 use Rattle.std.specs.Prelude.{ℕ, suc, Bool, true, false, List, [], ◌∷◌, ◌≡◌, ◌≤◌, Option, Some, None, length, filter, map, take, if◌then◌else◌}
 use Rattle.std.specs.Str.{bytes_eq}
 use Rattle.stk_frame.specs.Cut.{frames, is_good}
@@ -16,13 +16,13 @@ after_sent_frames m (piece ∷ sent) executions p =
     after_sent_frames m sent (later_executions executions) (after_execution (first_execution executions)
     (after_frame m piece p) p m.reset)
 
--- The exchange of a question with a reply. The reply to a command that was obeyed is its own, unless it is the refusal.
-abbrev pub answered_exchange : Execution → List ℕ → Exchange
-answered_exchange Executed body = if bytes_eq body refusal then Disturbed Executed Refusal else AsIntended
-answered_exchange execution body = Disturbed execution Refusal
+-- The exchange of a command with a reply. The reply to a command that was executed is its own, unless it is the refusal.
+abbrev pub exchange_with_reply : Execution → List ℕ → Exchange
+exchange_with_reply Executed body = if bytes_eq body refusal then Disturbed Executed Refusal else AsIntended
+exchange_with_reply execution body = Disturbed execution Refusal
 
 abbrev pub exchange_by : Execution → Reading → Exchange
-exchange_by execution (Answered body) = answered_exchange execution body
+exchange_by execution (Answered body) = exchange_with_reply execution body
 exchange_by execution Silent = Disturbed execution NoReply
 exchange_by execution Ended = Disturbed execution Ending
 exchange_by execution Babbled = Disturbed execution Babble
@@ -33,14 +33,14 @@ exchanges_from execution more None = Disturbed execution NoReply ∷ []
 exchanges_from execution more (Some (reading, tape)) = exchange_by execution reading ∷ more reading tape
 
 -- THE EXCHANGES of a run over this tape, one for each frame sent.
-abbrev pub exchanges_heard : {E R : Type 0} → Dialog E R → ℕ → Tape → List Execution → List Exchange
-exchanges_heard (Done r) n tape executions = []
-exchanges_heard (Emit e dialog) n tape executions = exchanges_heard dialog n tape executions
-exchanges_heard (Ask bytes go_on) n tape executions =
+abbrev pub exchanges_on_tape : {E R : Type 0} → Dialog E R → ℕ → Tape → List Execution → List Exchange
+exchanges_on_tape (Done r) n tape executions = []
+exchanges_on_tape (Emit e dialog) n tape executions = exchanges_on_tape dialog n tape executions
+exchanges_on_tape (Ask bytes go_on) n tape executions =
     exchanges_from (first_execution executions)
-    (λ reading left. exchanges_heard (go_on reading) (next n) left (later_executions executions)) (answer n tape)
+    (λ reading left. exchanges_on_tape (go_on reading) (next n) left (later_executions executions)) (answer n tape)
 
--- A run that waits for a reply: its output is that along the exchanges of all questions but the last.
+-- A run that waits for a reply: its output is that along the exchanges of all commands but the last.
 pub record WaitsAlongExchanges {E R P : Type 0} (m : Device P) (d : Dialog E R) (p : P) (exchanges : List Exchange)
     (sent : List (List ℕ)) (emits : List E) : Type 0 where
   pub answered : ℕ
@@ -52,14 +52,14 @@ pub record WaitsAlongExchanges {E R P : Type 0} (m : Device P) (d : Dialog E R) 
 pub record GoesAlongExchanges {E R P : Type 0} (m : Device P) (d : Dialog E R) (n : ℕ) (tape : Tape) (p : P)
     (executions : List Execution) : Type 0 where
   pub programmer : (k : ℕ) → k ≤ length (frames_in (played d n tape).events)
-      → (state_after m k d p (exchanges_heard d n tape executions)).programmer
+      → (state_after m k d p (exchanges_on_tape d n tape executions)).programmer
       ≡ after_sent_frames m (take k (frames_in (played d n tape).events)) executions p
   pub outcome : (r : R) (seq : ℕ) (left : Tape) → (played d n tape).outcome ≡ Some (r, seq, left)
-      → ((state_after m (length (frames_in (played d n tape).events)) d p (exchanges_heard d n tape executions)).dialog
+      → ((state_after m (length (frames_in (played d n tape).events)) d p (exchanges_on_tape d n tape executions)).dialog
       ≡ Done r) × (outputs (played d n tape).events
-      ≡ outputs_after m (length (frames_in (played d n tape).events)) d p (exchanges_heard d n tape executions))
+      ≡ outputs_after m (length (frames_in (played d n tape).events)) d p (exchanges_on_tape d n tape executions))
   pub waits : (played d n tape).outcome ≡ None
-      → WaitsAlongExchanges m d p (exchanges_heard d n tape executions) (frames_in (played d n tape).events)
+      → WaitsAlongExchanges m d p (exchanges_on_tape d n tape executions) (frames_in (played d n tape).events)
       (outputs (played d n tape).events)
 
 -- Frames that the programmer receives: those up to its first restart, and those after each restart.

@@ -2,12 +2,12 @@
 use Rattle.std.specs.Prelude.{ℕ, zero, suc, ◌+◌, ◌≤◌, List, [], ◌∷◌}
 use Rattle.stk_emu.specs.Exchange.{Exchange, Execution, NotExecuted, Executed, ThenRestarted, OtherReading, Refusal, NoReply, Babble, Ending, AsIntended, Disturbed, first_exchange, later_exchanges}
 
--- For how many bad frames a question that goes wrong counts. A restart of the programmer or the end of the link counts
+-- For how many bad frames a command that goes wrong counts. A restart of the programmer or the end of the link counts
 -- 4, because no attempt can succeed after it.
-abbrev pub bad_became : Execution → ℕ
-bad_became NotExecuted = 1
-bad_became Executed = 1
-bad_became (ThenRestarted execution) = 4
+abbrev pub badness_of_execution : Execution → ℕ
+badness_of_execution NotExecuted = 1
+badness_of_execution Executed = 1
+badness_of_execution (ThenRestarted execution) = 4
 
 abbrev pub badness_of_reading : OtherReading → ℕ
 badness_of_reading Refusal = 0
@@ -17,7 +17,7 @@ badness_of_reading Ending = 3
 
 abbrev pub badness : Exchange → ℕ
 badness AsIntended = 0
-badness (Disturbed execution instead) = bad_became execution + badness_of_reading instead
+badness (Disturbed execution instead) = badness_of_execution execution + badness_of_reading instead
 
 -- How many of the first `n` frames go wrong, so counted.
 abbrev pub badness_of_first : ℕ → List Exchange → ℕ

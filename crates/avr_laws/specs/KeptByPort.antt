@@ -57,5 +57,5 @@ abbrev pub KeepsCommandLine : (List Bytes → Type 0) → ConnectionState → De
 KeepsCommandLine AreWords At old new =
     (words : List Bytes) × AreWords words
     × (takes avrstk words ≡ true
-    → (settings : Settings) × (Ok settings ≡ settings_from_arguments words) × KeepsPlanAt At settings.port settings old
-    new)
+    → (settings : Settings) × (Ok settings ≡ settings_from_arguments words)
+    × KeepsPlanAt At settings.port settings old new)

@@ -55,7 +55,7 @@ pub use Rattle.avr_tool.specs.ExpectedOutput
 pub use Rattle.avr_tool.specs.Headline
 pub use Rattle.avr_tool.specs.Authentic
 pub use Rattle.avr_tool.specs.Items
-pub use Rattle.avr_tool.specs.Made
+pub use Rattle.avr_tool.specs.Completed
 pub use Rattle.avr_tool.specs.Outcome
 pub use Rattle.avr_tool.specs.Saving
 pub use Rattle.avr_tool.specs.ServedNet
@@ -70,8 +70,8 @@ pub use Rattle.stk_emu.specs.DialogOverExchanges
 pub use Rattle.stk_emu.specs.Device
 pub use Rattle.stk_emu.specs.Effect
 pub use Rattle.stk_emu.specs.Emulator
-pub use Rattle.stk_emu.specs.Fits
-pub use Rattle.stk_emu.specs.Given
+pub use Rattle.stk_emu.specs.Repeatable
+pub use Rattle.stk_emu.specs.StepData
 pub use Rattle.stk_emu.specs.Lawful
 pub use Rattle.stk_emu.specs.WriteOperations
 pub use Rattle.stk_emu.specs.Programmer

@@ -8,7 +8,7 @@ use Rattle.stk_emu.specs.Device.{Device, refusal}
 use Rattle.stk_emu.specs.Exchange.{Execution, NotExecuted, Executed, ThenRestarted, after_execution}
 use Rattle.avr_tool.specs.Authentic.{first_execution, later_executions, on_reading}
 
--- The frame of the reply to a question; nothing if it wasn't obeyed, or if the programmer restarted after it.
+-- The frame of the reply to a command; nothing if it wasn't executed, or if the programmer restarted after it.
 abbrev pub frame_of_reply : {P : Type 0} → Device P → ℕ → List ℕ → P → Execution → List ℕ
 frame_of_reply m n bytes p NotExecuted = []
 frame_of_reply m n bytes p Executed = frame n (m.answer bytes p)
@@ -31,7 +31,7 @@ AreNotForged n sent [] = Unit {0}
 AreNotForged n sent (piece ∷ pieces) =
     IsNotForged sent piece × (is_answer n piece ≡ false → AreNotForged n sent pieces)
 
--- THE LINK FORGES NO FRAME: at a question, each good frame that the host cuts is the programmer's reply to one of the
+-- THE LINK FORGES NO FRAME: at a command, each good frame that the host cuts is the programmer's reply to one of the
 -- last 256 frames sent, or a refusal. The dialog is run over this tape. Anything else may be anywhere on the tape:
 -- parts of replies, noise, earlier replies, refusals, timeouts.
 abbrev pub ForgesNoFrame : {E R P : Type 0} → Device P → Dialog E R → ℕ → Tape → P → List Execution → List (List ℕ)

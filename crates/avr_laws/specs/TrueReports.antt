@@ -22,7 +22,7 @@ use Rattle.stk_emu.specs.Exchange.{Exchange, after_exchange, reading_of_exchange
 use Rattle.avr_tool.specs.ComparisonsAgree.{MemoryHoldsImage}
 use Rattle.avr_tool.specs.Items.{items}
 
--- Each output of a dialog along these exchanges holds of the programmer that obeyed the questions before it.
+-- Each output of a dialog along these exchanges holds of the programmer that executed the commands before it.
 abbrev pub ReportsTrue : {E R P : Type 0} → Device P → (P → E → Type 0) → ℕ → Dialog E R → P → List Exchange → Type 0
 ReportsTrue m IsTrueReport k (Done r) p exchanges = ⊤
 ReportsTrue m IsTrueReport k (Emit e dialog) p exchanges =

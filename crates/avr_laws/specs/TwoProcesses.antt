@@ -63,7 +63,7 @@ TimesOutBetweenReplies tape = (before after : Tape) → tape ≡ before ++ Silen
 
 -- ---- 2. The server's end
 
--- However serving ended, the server took a prefix of the bytes received and obeyed all frames in it. What it sent is a
+-- However serving ended, the server took a prefix of the bytes received and executed all frames in it. What it sent is a
 -- prefix of their replies.
 pub record HasServed (p : Programmer) (transcript : Transcript) (left : Programmer) : Type 0 where
   pub used : List ℕ
@@ -75,7 +75,7 @@ pub record HasServed (p : Programmer) (transcript : Transcript) (left : Programm
 
 -- ---- 3. What happened to the frames
 
--- The first `h` frames were obeyed, and the others never arrived.
+-- The first `h` frames were executed, and the others never arrived.
 abbrev pub all_executed : ℕ → List Execution
 all_executed zero = []
 all_executed (suc h) = Executed ∷ all_executed h

@@ -21,7 +21,7 @@ ghost use Rattle.stk_emu.specs.Wired.{WiredState, ComesOf, IsFresh, wired_link};
 ghost use Rattle.avr_tool.specs.Emulated.{RunsOverEmulator, new_wire};
 ghost use Rattle.ghosts.specs.Preserves.{Preserves};
 ghost use Rattle.stk_emu.specs.Exchange.{Exchange, Execution};
-ghost use Rattle.avr_laws.specs.AnyTape.{ReceivedSentFrames, after_received_bytes, after_sent_frames, exchanges_heard};
+ghost use Rattle.avr_laws.specs.AnyTape.{ReceivedSentFrames, after_received_bytes, after_sent_frames, exchanges_on_tape};
 ghost use Rattle.avr_tool.specs.Authentic.{RepliesAreAuthentic};
 ghost use Rattle.avr_laws.specs.NoForgedFrame.{ForgesNoFrame};
 ghost use Rattle.avr_part.specs.Sound.{IsSoundChip};
@@ -39,7 +39,7 @@ ghost use Rattle.avr_session.specs.PlanSteps.{run_steps};
 ghost use Rattle.avr_laws.specs.Bound.{ListensAtMost};
 ghost use Rattle.avr_tool.specs.ExpectedRun.{expected_run};
 ghost use Rattle.avr_tool.specs.ExpectedOutput.{FirstActionsOutput, IsExpectedOutput, EndsAsExpected};
-ghost use Rattle.avr_tool.specs.Made.{operations_completed};
+ghost use Rattle.avr_tool.specs.Completed.{operations_completed};
 ghost use Rattle.avr_laws.specs.TrueReports.{ReportsTrue, IsTrueReport};
 ghost use Rattle.avr_tool.specs.Outcome.{write_operations};
 
@@ -74,7 +74,8 @@ pub fn a_run_times_out_at_most_once_for_each_frame()
 pub fn what_a_run_reports_is_true()
     ensures { (plan : Plan) (m : Memories) (k : ℕ) (p : Programmer) (exchanges : List Exchange)
         → IsPart plan.part → All (IsFitted plan.part) plan.tasks → FitsPart plan.part m → HasMemories plan.part m p
-        → ReportsTrue device (λ q output. IsTrueReport plan m (memories_of q.chip) output) k (session plan) p exchanges }
+        → ReportsTrue device (λ q output. IsTrueReport plan m (memories_of q.chip) output) k (session plan) p
+        exchanges }
 {}
 
 /// States that everything reported over a wire was true of the chip at that moment, up to an output that was cut short.
@@ -128,7 +129,7 @@ pub fn a_session_over_a_wire_can_be_believed()
 {}
 
 /// States what a session does over any link that forges no frame, with a programmer in any state. The link may lose,
-/// spoil, cut, delay and hold anything, and repeat replies. The session goes along the exchanges of its questions.
+/// spoil, cut, delay and hold anything, and repeat replies. The session goes along the exchanges of its commands.
 /// These follow from what was read and what happened to the programmer.
 ///
 /// `bytes` states this in bytes. The programmer may have got any bytes whose good frames are some of those sent, in
@@ -147,7 +148,7 @@ pub fn a_session_over_any_link()
         → played (session plan) 1 tape ≡ record { events = events; outcome = Some (status, next, left) }
         → bytes_sent events ≡ bytes
         → WholeSessionOverExchanges plan p (after_sent_frames device (frames bytes) executions p)
-        (exchanges_heard (session plan) 1 tape executions) bytes events status }
+        (exchanges_on_tape (session plan) 1 tape executions) bytes events status }
     ensures bytes { (plan : Plan) (p : Programmer) (got bytes : List ℕ) (later : List (List ℕ))
         (executions : List Execution)
         (tape left : Tape) (events : List (Event OutputEvent)) (status next : ℕ)
@@ -157,13 +158,13 @@ pub fn a_session_over_any_link()
         → played (session plan) 1 tape ≡ record { events = events; outcome = Some (status, next, left) }
         → bytes_sent events ≡ bytes
         → WholeSessionOverExchanges plan p (after_received_bytes device got later p)
-        (exchanges_heard (session plan) 1 tape executions) bytes events status }
+        (exchanges_on_tape (session plan) 1 tape executions) bytes events status }
     ensures end { (plan : Plan) (p : Programmer) (executions : List Execution) (bytes : List ℕ) (tape : Tape)
         → IsSoundChip p.chip → p.chip.part ≡ plan.part → All (IsFitted plan.part) plan.tasks
         → RepliesAreAuthentic device (session plan) 1 tape p executions
         → IsBytePrefixOf bytes (bytes_sent (played (session plan) 1 tape).events)
         → ReportsOverExchanges plan p (after_sent_frames device (frames bytes) executions p)
-        (exchanges_heard (session plan) 1 tape executions) bytes (played (session plan) 1 tape).events }
+        (exchanges_on_tape (session plan) 1 tape executions) bytes (played (session plan) 1 tape).events }
 {}
 
 /// States what a session leaves over a new link that forges no frame, whether it ran whole or broke off. The memories
@@ -179,6 +180,6 @@ pub fn whatever_becomes_of_a_session_its_first_page_writes_were_made()
         → ReceivedSentFrames got later (frames (sent new.link.transcript)) executions
         → ForgesNoFrame device (session plan) 1 (heard new.link.transcript) p executions []
         → ReportsOverExchanges plan p (after_received_bytes device got later p)
-        (exchanges_heard (session plan) 1 (heard new.link.transcript) executions) (sent new.link.transcript)
+        (exchanges_on_tape (session plan) 1 (heard new.link.transcript) executions) (sent new.link.transcript)
         (played (session plan) 1 (heard new.link.transcript)).events }
 {}

@@ -35,7 +35,7 @@ pub fn a_run_finds_and_leaves_the_chip_of_its_file()
 /// and files ask for a plan. The chip file held a chip of its part, and holds what the plan makes of it. If the run was
 /// verified, these are the images. No other file has changed, except those that the plan reads into.
 // Proof: `promised` (ChipFile/Promised). The plan is `plan_asked` (Plans/AskedPlan), the memories are
-// avr_tool's `ends_over_exchanges` (OverExchanges), the other files are `lack_said` (ChipFile/Others).
+// avr_tool's `ends_over_exchanges` (OverExchanges), the other files are `stood_saved` (ChipFile/Others).
 pub fn the_chip_file_holds_the_images()
     ensures { (settings : Settings) (file : Bytes) (stock : Stock) (old new : MemDeskState)
         → is_dash file ≡ false → old.kept ≡ nothing_kept → HoldsTrue stock new

@@ -1,4 +1,4 @@
-//! Laws of a conversation with the emulated programmer over a bad link. What a link does to one question is an
+//! Laws of a conversation with the emulated programmer over a bad link. What a link does to one command is an
 //! exchange. A conversation goes along its exchanges, over a wire and over any tape without forged frames.
 
 ghost use Rattle.std.specs.Prelude.{filter, true, ◌≡◌, ◌++◌, ℕ, List, [], ◌∷◌, Ok, length, replicate, ◌<◌, ◌≤◌, Err};
@@ -25,7 +25,7 @@ ghost use Rattle.stk_emu.specs.DialogOverExchanges.{state_after, outputs_after, 
 ghost use Rattle.stk_emu.specs.Effect.{Memories};
 ghost use Rattle.stk_emu.specs.Settled.{Ready, FitsPart};
 ghost use Rattle.stk_emu.specs.WriteOperations.{IsStep, AreSteps};
-ghost use Rattle.stk_emu.specs.Given.{data_of_step, data_of_steps};
+ghost use Rattle.stk_emu.specs.StepData.{data_of_step, data_of_steps};
 ghost use Rattle.avr_laws.specs.FewBadFrames.{AtMostThreeBadOfSeven, AtMostThreeBadOf, lost_command, every_second_lost};
 ghost use Rattle.avr_tool.specs.OverFaultyLink.{AllArriveRight};
 ghost use Rattle.stk_host.specs.declared.fault.StepFault.TheVariants.{NoAnswer};
@@ -71,7 +71,7 @@ pub fn over_any_tape_a_conversation_follows_its_exchanges<E, R>()
 {}
 
 /// States that everything read on a link that forges no frame is authentic, from the first frame on. A reply that is
-/// taken has the number of its question, and of the last 256 frames only that question has it.
+/// taken has the number of its command, and of the last 256 frames only that command has it.
 // Proof: `no_forged_frame_authentic` (Lines/NoForgedFrame).
 pub fn a_link_that_forges_no_frame_is_authentic<E, R>()
     ensures { (d : Dialog E R) (n : ℕ) (tape : Tape) (p : Programmer) (executions : List Execution)

@@ -25,7 +25,7 @@ ghost use Rattle.avr_laws.specs.NoForgedFrame.{ForgesNoFrame};
 /// States when a link that loses, delays and damages frames forges none. It changes at most one byte of a frame, which
 /// isn't of the start, the size or the token: so the XOR is wrong.
 ///
-/// `programmer`: the good frames that arrive are those that arrived whole. `host`: at each question what comes are
+/// `programmer`: the good frames that arrive are those that arrived whole. `host`: at each command what comes are
 /// replies to the last 256 frames and refusals, damaged or not, of fewer than 4,096 bytes up to the awaited reply.
 // Proof: `arrived_came` and `brings_no_frame` (Lines/Damaged).
 pub fn a_link_that_damages_one_byte_forges_no_frame<E, R>()

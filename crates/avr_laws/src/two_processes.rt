@@ -22,7 +22,7 @@ ghost use Rattle.stk_emu.specs.Emulator.{EmulatorState};
 ghost use Rattle.stk_emu.specs.Effect.{memories_of};
 ghost use Rattle.stk_emu.specs.Programmer.{Programmer, fresh_programmer};
 ghost use Rattle.stk_frame.specs.Cut.{frames};
-ghost use Rattle.avr_laws.specs.AnyTape.{after_sent_frames, exchanges_heard};
+ghost use Rattle.avr_laws.specs.AnyTape.{after_sent_frames, exchanges_on_tape};
 ghost use Rattle.avr_tool.specs.Authentic.{RepliesAreAuthentic};
 ghost use Rattle.avr_laws.specs.NoForgedFrame.{ForgesNoFrame};
 ghost use Rattle.stk_host.specs.Dialog.{Event, played, frames_in, bytes_sent, outputs};
@@ -31,7 +31,7 @@ ghost use Rattle.stk_host.specs.Play.{Progress, Plays, IsBytePrefixOf, InTurn};
 ghost use Rattle.stk_host.specs.declared.link.Item.TheVariants.{Byte, Silence};
 ghost use Rattle.stk_host.specs.Tape.{Tape, bytes_on_tape};
 
-/// States that a server obeys all frames that it takes, and sends a prefix of their replies. It takes a prefix of the
+/// States that a server executes all frames that it takes, and sends a prefix of their replies. It takes a prefix of the
 /// bytes received. `all`: if it replied to all it received, it took and sent all.
 pub fn a_server_sends_the_answers_to_what_it_heard()
     ensures all { (p : Programmer) (transcript : Transcript) (left : EmulatorState)
@@ -43,7 +43,7 @@ pub fn a_server_sends_the_answers_to_what_it_heard()
 {}
 
 /// States that all a host reads from a server is authentic, over a link that keeps bytes in order and has timeouts
-/// only between replies. The frames that the server took were obeyed, and the others never arrived; the server's
+/// only between replies. The frames that the server took were executed, and the others never arrived; the server's
 /// programmer is as they left it. This holds at any moment of a session, however it ends.
 pub fn what_a_host_receives_of_a_server_is_authentic()
     ensures is_authentic { (plan : Plan) (s : Chip) (left : Programmer) (host server : Transcript)
@@ -90,7 +90,7 @@ pub fn a_session_and_a_server_are_one_run()
         → (serves : ServesChip s file most server_old server_new served_status)
         → (served : HasServed (fresh_programmer s) (server_transcript calls) serves.left.programmer)
         × WholeSessionOverExchanges plan (fresh_programmer s) serves.left.programmer
-        (exchanges_heard (session plan) 1 (heard (host_transcript calls)) (all_executed (length (frames served.used))))
+        (exchanges_on_tape (session plan) 1 (heard (host_transcript calls)) (all_executed (length (frames served.used))))
         (sent (host_transcript calls)) ran.events status }
     ensures anywhere { (plan : Plan) (s : Chip) (left : Programmer) (host server : Transcript)
         (events : List (Event OutputEvent))
@@ -101,7 +101,7 @@ pub fn a_session_and_a_server_are_one_run()
         → ForgesNoFrame device (session plan) 1 (heard host) (fresh_programmer s)
         (all_executed (length (frames serves.used))) []
         → WholeSessionOverExchanges plan (fresh_programmer s) left
-        (exchanges_heard (session plan) 1 (heard host) (all_executed (length (frames serves.used)))) (sent host) events
+        (exchanges_on_tape (session plan) 1 (heard host) (all_executed (length (frames serves.used)))) (sent host) events
         status }
     ensures saved { (s : Chip) (file : Bytes) (most : ℕ) (old new : Devices) (status : ℕ)
         → (serves : ServesChip s file most old new status) → status ≡ 0
@@ -145,7 +145,7 @@ pub fn whatever_becomes_of_both_some_page_writes_were_made()
         → (serves : ServesChip s file most server_old server_new served_status)
         → (served : HasServed (fresh_programmer s) (server_transcript calls) serves.left.programmer)
         × ReportsOverExchanges plan (fresh_programmer s) serves.left.programmer
-        (exchanges_heard (session plan) 1 (heard (host_transcript calls)) (all_executed (length (frames served.used))))
+        (exchanges_on_tape (session plan) 1 (heard (host_transcript calls)) (all_executed (length (frames served.used))))
         (sent (host_transcript calls)) (played (session plan) 1 (heard (host_transcript calls))).events }
 {}
 

@@ -12,7 +12,7 @@ all_but_last (line ∷ next ∷ more) = line ∷ all_but_last (next ∷ more)
 
 -- The first fault of some lines. Lines after an end record don't count.
 abbrev pub first_fault_among : ℕ → List LineResult → Option RecordFault
-first_fault_among size emitted = first_fault size (with_lines_before [] (up_to_end emitted))
+first_fault_among size meant = first_fault size (with_lines_before [] (up_to_end meant))
 
 -- The first fault of the text's ended lines, for a memory of this size.
 abbrev pub ended_lines_fault : Kind → List ℕ → ℕ → Option RecordFault

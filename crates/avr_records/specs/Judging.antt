@@ -2,7 +2,7 @@
 use Rattle.std.specs.Prelude.{◌≡◌, ℕ, ◌+◌, ◌%◌, ◌<◌, ◌≤◌, List, length, fold, Result, Ok, Err, MatchResult}
 use Rattle.avr_records.specs.Record.{RecordFields}
 use Rattle.avr_records.specs.Meaning.{Meaning}
-use Rattle.avr_records.specs.Meaning as emitted
+use Rattle.avr_records.specs.Meaning as meant
 use Rattle.avr_records.specs.declared.kind.Kind.{Kind}
 use Rattle.avr_records.specs.declared.kind.Kind.TheVariants.{Ihex, Srec}
 use Rattle.avr_records.specs.declared.fault.LineFault.{LineFault}
@@ -24,11 +24,11 @@ ReturnsRecord kind want result =
     MatchResult result (λ found. (want ≡ Ok (record_of found)) × FitsFields kind found) (λ fault. want ≡ Err fault)
 
 abbrev pub meaning_of : Line → Meaning
-meaning_of line.Nothing = emitted.Nothing
-meaning_of (line.Data offset bytes) = emitted.Data offset bytes.now
-meaning_of (line.Rebase base) = emitted.Rebase base
-meaning_of (line.Counted n) = emitted.Counted n
-meaning_of line.End = emitted.End
+meaning_of line.Nothing = meant.Nothing
+meaning_of (line.Data offset bytes) = meant.Data offset bytes.now
+meaning_of (line.Rebase base) = meant.Rebase base
+meaning_of (line.Counted n) = meant.Counted n
+meaning_of line.End = meant.End
 
 -- The meaning is one of this kind of file: offsets of Intel HEX have 16 bits, and S-records set no base.
 abbrev pub FitsKind : Kind → Line → Type 0

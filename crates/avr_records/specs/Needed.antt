@@ -22,8 +22,8 @@ size_or_fault None size = Ok size
 
 -- The size that a file of these lines needs, or its first fault.
 abbrev pub needed_by : List LineResult → Result ℕ RecordFault
-needed_by emitted =
-    let taken = up_to_end emitted in
+needed_by meant =
+    let taken = up_to_end meant in
     size_or_fault (first_fault largest_memory (with_lines_before [] taken)) (end_of_bytes (bytes_of_lines taken))
 
 -- One more than the file's highest byte address, or the first fault that a read into the largest memory returns.

@@ -11,15 +11,15 @@ abbrev pub image_size : Progress → ℕ
 image_size p = length p.image
 
 -- The extent is that of these lines. None is at fault in a memory of this size, and only the last may be an end record.
-pub record IsExtentOf (size : ℕ) (e : Extent) (emitted : List LineResult) : Type 0 where
-  pub no_fault : first_fault size (with_lines_before [] emitted) ≡ None
-  pub end : e.end ≡ end_of_bytes (bytes_of_lines emitted)
-  pub base : e.base ≡ base_after emitted
-  pub data_records : e.data_records ≡ count_by is_data_record emitted
-  pub lines : e.lines ≡ length emitted
-  pub ended : e.ended ≡ list_any is_end_record emitted
+pub record IsExtentOf (size : ℕ) (e : Extent) (meant : List LineResult) : Type 0 where
+  pub no_fault : first_fault size (with_lines_before [] meant) ≡ None
+  pub end : e.end ≡ end_of_bytes (bytes_of_lines meant)
+  pub base : e.base ≡ base_after meant
+  pub data_records : e.data_records ≡ count_by is_data_record meant
+  pub lines : e.lines ≡ length meant
+  pub ended : e.ended ≡ list_any is_end_record meant
 
 -- The extent and image are those of these lines, up to an end record among them.
-pub record HoldsLines (p : Progress) (emitted : List LineResult) : Type 0 where
-  pub extent : IsExtentOf (image_size p) p.extent (up_to_end emitted)
-  pub image : p.image ≡ image_of_pairs (image_size p) (bytes_of_lines (up_to_end emitted))
+pub record HoldsLines (p : Progress) (meant : List LineResult) : Type 0 where
+  pub extent : IsExtentOf (image_size p) p.extent (up_to_end meant)
+  pub image : p.image ≡ image_of_pairs (image_size p) (bytes_of_lines (up_to_end meant))

@@ -17,12 +17,12 @@ use Rattle.avr_records.specs.declared.fault.RecordFault.{RecordFault}
 use Rattle.avr_records.specs.declared.progress.Progress.{Progress}
 
 abbrev pub extended : Extent → LineResult → Extent
-extended e emitted = record {
-  base = next_base e.base emitted;
-  data_records = if is_data_record emitted then e.data_records + 1 else e.data_records;
+extended e meant = record {
+  base = next_base e.base meant;
+  data_records = if is_data_record meant then e.data_records + 1 else e.data_records;
   lines = e.lines + 1;
-  end = end_after e.end (bytes_under_base e.base emitted);
-  ended = if is_end_record emitted then true else e.ended;
+  end = end_after e.end (bytes_under_base e.base meant);
+  ended = if is_end_record meant then true else e.ended;
 }
 
 abbrev pub extent_unless : Option LineFault → Extent → Result Extent RecordFault
@@ -31,19 +31,19 @@ extent_unless None new = Ok new
 
 -- The extent after one more line, or the line's fault.
 abbrev pub next_extent : ℕ → Extent → LineResult → Result Extent RecordFault
-next_extent size e emitted = extent_unless (fault_under_base size e.base e.data_records emitted) (extended e emitted)
+next_extent size e meant = extent_unless (fault_under_base size e.base e.data_records meant) (extended e meant)
 
 abbrev pub with_extent : Progress → LineResult → Result Extent RecordFault → Result Progress RecordFault
-with_extent p emitted (Err fault) = Err fault
-with_extent p emitted (Ok e) = Ok (record {
+with_extent p meant (Err fault) = Err fault
+with_extent p meant (Ok e) = Ok (record {
   extent = e;
-  image = with_bytes_at p.image (bytes_under_base p.extent.base emitted);
+  image = with_bytes_at p.image (bytes_under_base p.extent.base meant);
 })
 
 -- Extent and image after one more line, or the line's fault. After an end record a line changes nothing.
 abbrev pub next_progress : Progress → LineResult → Result Progress RecordFault
-next_progress p emitted = if p.extent.ended then Ok p else with_extent p emitted (next_extent (image_size p) p.extent
-    emitted)
+next_progress p meant = if p.extent.ended then Ok p else with_extent p meant (next_extent (image_size p) p.extent
+    meant)
 
 abbrev pub ending_of : Extent → Ending
 ending_of e = if e.ended then Ended else NoEnd

@@ -78,8 +78,8 @@ bytes_output quiet mem count done = informs quiet (name_of mem ∷ codes ": " �
 
 -- The name `-` is standard output.
 abbrev pub saving_output : Bytes → Bytes → List OutputEvent
-saving_output file text = if bytes_eq file (codes "-") then WritesOutput text ∷ [] else CreatesFile file
-    ∷ WritesFile text ∷ []
+saving_output file text =
+    if bytes_eq file (codes "-") then WritesOutput text ∷ [] else CreatesFile file ∷ WritesFile text ∷ []
 
 -- Trailing FF of flash are dropped, unless `all` is set.
 abbrev pub bytes_to_save : Mem → Bool → Bytes → Bytes
@@ -90,12 +90,12 @@ abbrev pub erased_output : ℕ → Part → Result ⊤ HostFault → List Output
 erased_output quiet part = fault_line_or part (λ _. informs quiet (codes "chip erased" ∷ []))
 
 abbrev pub written_output : ℕ → Part → Mem → List (Option ℕ) → Result ⊤ HostFault → List OutputEvent
-written_output quiet part mem image = fault_line_or part (λ _. bytes_output quiet mem (byte_count image)
-    (done_text Written))
+written_output quiet part mem image =
+    fault_line_or part (λ _. bytes_output quiet mem (byte_count image) (done_text Written))
 
 abbrev pub verified_output : ℕ → Part → Mem → List (Option ℕ) → Result ⊤ HostFault → List OutputEvent
-verified_output quiet part mem image = fault_line_or part (λ _. bytes_output quiet mem (byte_count image)
-    (done_text Verified))
+verified_output quiet part mem image =
+    fault_line_or part (λ _. bytes_output quiet mem (byte_count image) (done_text Verified))
 
 abbrev pub closing_output : ℕ → Part → Result ⊤ HostFault → List OutputEvent
 closing_output quiet part = fault_line_or part (λ _. informs quiet (codes "done" ∷ []))
@@ -117,10 +117,10 @@ abbrev pub action_dialog : Part → Switches → Action → Dialog OutputEvent S
 action_dialog part s OpenSession = reported (opening part.signature s.force) (opening_output s.quiet part)
 action_dialog part s EraseChip = reported erasing (erased_output s.quiet part)
 action_dialog part s (WriteImage mem image) = reported (writing part mem image) (written_output s.quiet part mem image)
-action_dialog part s (CompareImage mem image) = reported (verifying part mem image)
-    (verified_output s.quiet part mem image)
-action_dialog part s (SaveMemory mem format file) = reported (reading part mem)
-    (fault_line_or part (read_output s mem format file))
+action_dialog part s (CompareImage mem image) =
+    reported (verifying part mem image) (verified_output s.quiet part mem image)
+action_dialog part s (SaveMemory mem format file) =
+    reported (reading part mem) (fault_line_or part (read_output s mem format file))
 action_dialog part s (SkipAction what) = emits (skipped_output s.quiet what) (Done NoFault)
 
 abbrev pub actions_dialog : Part → Switches → List Action → Dialog OutputEvent Standing

@@ -99,7 +99,7 @@ fn task_frames(switches: Switches, part: &Part, task: &Task) -> u64
 /// let Ok(plan) = plan(alloc, &settings, &mut MemDesk::empty(alloc)) else {
 ///     panic!(rt; "the part is built in");
 /// };
-/// // to sign on, to enter page_mode_block mode, three bytes of the signature, to leave
+/// // to sign on, to enter programming mode, three bytes of the signature, to leave
 /// assert_eq!(rt; frame_count(&plan), 6);
 /// ```
 pub fn frame_count(plan: &Plan) -> u64

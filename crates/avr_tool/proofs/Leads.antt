@@ -11,9 +11,9 @@ use Rattle.stk_emu.specs.DialogOverExchanges.{state_after, StateAfter}
 use Rattle.stk_emu.specs.Effect.{Memories}
 use Rattle.stk_emu.specs.Settled.{HasMemories, Settled}
 use Rattle.stk_emu.specs.WriteOperations.{memories_after_steps}
-use Rattle.stk_emu.specs.Given.{data_of_steps}
-use Rattle.stk_emu.specs.Fits.{IsRepeatable}
-use Rattle.avr_tool.specs.Made.{steps_completed}
+use Rattle.stk_emu.specs.StepData.{data_of_steps}
+use Rattle.stk_emu.specs.Repeatable.{IsRepeatable}
+use Rattle.avr_tool.specs.Completed.{steps_completed}
 use Rattle.avr_tool.specs.Tallies.{Count, Tallies}
 
 -- the first condition holds at each moment, and the second if the dialog has a result
@@ -50,8 +50,8 @@ AreSome [] = Unit {0}
 AreSome ([] ∷ steps) = ⊥
 AreSome ((command ∷ commands) ∷ steps) = AreSome steps
 
--- A run of steps after `k` questions: the condition of the first `count` steps holds. These are the completed steps and
--- perhaps one more. That one counts by the questions before the last, whose reply may not have come. If the run was
+-- A run of steps after `k` commands: the condition of the first `count` steps holds. These are the completed steps and
+-- perhaps one more. That one counts by the commands before the last, whose reply may not have come. If the run was
 -- completed, these are all steps.
 pub record Climbs {P : Type 0} (m : Device P) (At : ℕ → P → Type 0) (k : ℕ) (steps : List (List Command)) (p : P)
     (exchanges : List Exchange) (s : StateAfter ⊥ StepOutcome P) : Type 0 where
@@ -63,7 +63,7 @@ pub record Climbs {P : Type 0} (m : Device P) (At : ℕ → P → Type 0) (k : �
   pub whole : (bytes : List ℕ) → s.dialog ≡ Done (Ok bytes) → count ≡ length steps
 
 -- The next dialog makes its write operations after those already made. Either these were completed before the last
--- question, or the next dialog makes none.
+-- command, or the next dialog makes none.
 pub record GoesOn {E A B P : Type 0} (m : Device P) (At : ℕ → P → Type 0) (s : StateAfter E A P) (made earlier : ℕ)
     (next : Dialog E B) (more : Count P) : Type 0 where
   pub rest : Tallies m next more (λ j. At (made + j)) s.programmer s.exchanges

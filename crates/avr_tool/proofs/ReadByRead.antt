@@ -54,12 +54,12 @@ pub read_answered : (piece : List ℕ) (old now : EmulatorState) (a b c : LinkSt
     → Grows a.transcript (Got (on_tape piece) ∷ []) b.transcript → SendsAllReplies old piece b c now
     → Serves old 1 TooManyReads a c now
 read_answered piece old now a b c g r =
-    let transcript : Transcript = r.emits.during in
+    let transcript : Transcript = r.sends.during in
     record {
       during = Got (on_tape piece) ∷ transcript;
-      grows = grows_on a.transcript b.transcript c.transcript (Got (on_tape piece) ∷ []) transcript g r.emits.grows;
-      receives_next = search (rules, heard_quiet, append-nil, no_end_on_tape, reads_quiet);
-      sends = r.emits.none_taken;
+      grows = grows_on a.transcript b.transcript c.transcript (Got (on_tape piece) ∷ []) transcript g r.sends.grows;
+      receives = search (rules, heard_quiet, append-nil, no_end_on_tape, reads_quiet);
+      sends = r.sends.none_taken;
       in_turn = search (rules, in_turn_quiet);
       leaves = search (rules, bytes_of_on_tape, heard_quiet, append-nil);
     }
@@ -72,7 +72,7 @@ read_broken piece old now a b c g r =
     record {
       during = Got (on_tape piece) ∷ transcript;
       grows = grows_on a.transcript b.transcript c.transcript (Got (on_tape piece) ∷ []) transcript g r.grows;
-      receives_next = search (rules, heard_quiet, append-nil, no_end_on_tape, reads_quiet);
+      receives = search (rules, heard_quiet, append-nil, no_end_on_tape, reads_quiet);
       sends = tt;
       in_turn = search (rules, in_turn_quiet);
       leaves = search (rules, bytes_of_on_tape, heard_quiet, append-nil, breaks_prefix, breaks_heard);

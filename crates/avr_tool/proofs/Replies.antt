@@ -16,9 +16,9 @@ module _ (piece part out : List ℕ) (n used : ℕ) (old mid now : EmulatorState
     (r : SendsAllReplies old (take n piece) a b mid) (is : part ≡ drop n piece)
     (one : RepliesToFrame mid (take used part) now out) where
   pub replies_more : SendsExactly out b.transcript c.transcript → SendsAllReplies old (take (n + used) piece) a c now
-  replies_more emits = record {
+  replies_more sends = record {
     out = r.out ++ out;
-    emits = grind (arith, common_steps, grows_on, quiet_append, none_append, sent_append);
+    sends = grind (arith, common_steps, grows_on, quiet_append, none_append, sent_append);
     answers = λ p text f.
         let first = r.answers p text f in
         subst (λ bs. RepliesToAll p text bs (r.out ++ out) now)
@@ -28,13 +28,13 @@ module _ (piece part out : List ℕ) (n used : ℕ) (old mid now : EmulatorState
 
   pub replies_part : SendsOnlyPart out b.transcript c.transcript → SendsPartOfReplies old piece a c now
   replies_part s = record {
-    during = r.emits.during ++ s.during;
-    grows = grows_on a.transcript b.transcript c.transcript r.emits.during s.during r.emits.grows s.grows;
-    quiet = quiet_append r.emits.during s.during r.emits.none_taken r.emits.quiet s.quiet;
+    during = r.sends.during ++ s.during;
+    grows = grows_on a.transcript b.transcript c.transcript r.sends.during s.during r.sends.grows s.grows;
+    quiet = quiet_append r.sends.during s.during r.sends.none_taken r.sends.quiet s.quiet;
     breaks = λ p text f.
-        let first : RepliesToAll p text (take n piece) (sent r.emits.during) mid =
-        rw r.emits.bytes_sent (r.answers p text f) in
-        subst (λ bs. LastReplyFailed p text bs (r.emits.during ++ s.during) now)
+        let first : RepliesToAll p text (take n piece) (sent r.sends.during) mid =
+        rw r.sends.bytes_sent (r.answers p text f) in
+        subst (λ bs. LastReplyFailed p text bs (r.sends.during ++ s.during) now)
         (ap (λ bs. take n piece ++ bs) (take-append-drop used part ∙ is) ∙ take-append-drop n piece)
         (search (rules, breaks_more, breaks_here));
   }

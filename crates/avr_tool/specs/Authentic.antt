@@ -1,11 +1,11 @@
--- What is read over a link that forges no frame, given what happened to the programmer at each question.
+-- What is read over a link that forges no frame, given what happened to the programmer at each command.
 use Rattle.std.specs.Prelude.{ℕ, List, [], ◌∷◌, Option, Some, None}
 use Rattle.stk_host.specs.Tape.{Tape, Reading, answer}
 use Rattle.stk_host.specs.Dialog.{Dialog, Done, Emit, Ask, next}
 use Rattle.stk_emu.specs.Device.{Device}
 use Rattle.stk_emu.specs.Exchange.{Execution, NotExecuted, after_execution, IsAuthentic}
 
--- What happened to the programmer at the first question; after the list no command arrives.
+-- What happened to the programmer at the first command; after the list no command arrives.
 abbrev pub first_execution : List Execution → Execution
 first_execution [] = NotExecuted
 first_execution (execution ∷ executions) = execution
@@ -20,7 +20,7 @@ on_reading Claim None = Unit {0}
 on_reading Claim (Some (reading, tape)) = Claim reading tape
 
 -- WHATEVER THE LINK DOES, as long as it forges no frame: each reading of this dialog is authentic, given what happened
--- to the programmer at its question. The dialog is run over this tape, with frames numbered from `n`.
+-- to the programmer at its command. The dialog is run over this tape, with frames numbered from `n`.
 abbrev pub RepliesAreAuthentic : {E R P : Type 0} → Device P → Dialog E R → ℕ → Tape → P → List Execution → Type 0
 RepliesAreAuthentic m (Done r) n tape p executions = Unit {0}
 RepliesAreAuthentic m (Emit e dialog) n tape p executions = RepliesAreAuthentic m dialog n tape p executions

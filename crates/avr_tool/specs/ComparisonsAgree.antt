@@ -5,7 +5,7 @@ use Rattle.avr_part.specs.declared.part.Mem.{Mem}
 use Rattle.avr_plan.specs.Plan.{Plan}
 use Rattle.avr_session.specs.Actions.{Action, CompareImage, actions}
 use Rattle.stk_emu.specs.Effect.{Image, Memories, effects, memory_in}
-use Rattle.stk_emu.specs.Given.{HoldsImage}
+use Rattle.stk_emu.specs.StepData.{HoldsImage}
 use Rattle.avr_tool.specs.Items.{action_items}
 
 -- The memory holds the image's byte at every address of the image.

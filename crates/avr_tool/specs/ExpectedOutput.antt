@@ -25,10 +25,10 @@ pub record FirstActionsOutput (part : Part) (s : Switches) (actions : List Actio
 -- After this output the line of a failed step follows: of the next action, or of the closing after all of them.
 pub record OutputToFault (part : Part) (s : Switches) (actions : List Action) (m : Memories)
     (emits : List OutputEvent) : Type 0 where
-  pub notice : List OutputEvent
-  pub first : FirstActionsOutput part s actions m notice
+  pub before_fault : List OutputEvent
+  pub first : FirstActionsOutput part s actions m before_fault
   pub fault : StepFault
-  pub output_events_are : emits ≡ notice ++ PrintsLine (fault_line part (host_fault fault)) ∷ []
+  pub output_events_are : emits ≡ before_fault ++ PrintsLine (fault_line part (host_fault fault)) ∷ []
 
 -- The output at any moment of a session.
 abbrev pub IsExpectedOutput : Plan → Memories → List OutputEvent → Type 0

@@ -41,7 +41,7 @@ pub mod ExpectedRun
 pub mod ExpectedOutput
 pub mod Authentic
 pub mod Written
-pub mod Made
+pub mod Completed
 pub mod Outcome
 pub mod OverFaultyLink
 -- the chip file; serving; inside, contracts of private functions

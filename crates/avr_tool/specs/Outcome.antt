@@ -9,7 +9,7 @@ use Rattle.stk_emu.specs.WriteOperations.{steps_of_items, write_operations_of}
 use Rattle.avr_tool.specs.Items.{items}
 use Rattle.avr_tool.specs.ComparisonsAgree.{ComparisonsAgree}
 use Rattle.avr_tool.specs.ExpectedRun.{expected_run}
-use Rattle.avr_tool.specs.Made.{operations_completed}
+use Rattle.avr_tool.specs.Completed.{operations_completed}
 
 -- The write operations of a plan, in order: its erase, and for each write one for each page, EEPROM run, fuse or lock.
 abbrev pub write_operations : Plan → List Item

@@ -10,7 +10,7 @@ use Rattle.avr_tool.specs.Serving.{RepliesToAll, LastReplyFailed}
 pub record SendsAllReplies (old : EmulatorState) (bytes : List ℕ) (before after : LinkState) (now : EmulatorState) :
     Type 0 where
   pub out : List ℕ
-  pub emits : SendsExactly out before.transcript after.transcript
+  pub sends : SendsExactly out before.transcript after.transcript
   pub answers : (p : Programmer) (text : List ℕ) → WasFedText p text old → RepliesToAll p text bytes out now
 
 -- The emulator was fed a prefix of these bytes, and sending the last reply failed.

@@ -24,6 +24,6 @@ ServesOn over part port file old new status =
 abbrev pub ServesNet : Type 0 → (Option LinkState → Type 0) → Settings → Bytes → Bytes → DeskState → DeskState → ℕ
     → Type 0
 ServesNet unused over settings port file old new status =
-    ((part : Part) × (verdict : DeskState) × ChecksPart settings file old verdict (Ok part)
-    × ServesOn over part port file verdict new status)
+    ((part : Part) × (checked_desk : DeskState) × ChecksPart settings file old checked_desk (Ok part)
+    × ServesOn over part port file checked_desk new status)
     ⊎ (ChecksPart settings file old new (Err status) × unused)

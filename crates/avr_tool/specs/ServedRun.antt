@@ -33,7 +33,7 @@ pub record CheckedChip (part : Part) (file : Bytes) (old new : DeskState) : Type
   pub released_is : new ≡ released loaded_desk
 
 abbrev pub ChecksChip : Part → Bytes → DeskState → DeskState → Result Part ℕ → Type 0
-ChecksChip part file old new (Ok verdict) = (verdict ≡ part) × CheckedChip part file old new
+ChecksChip part file old new (Ok checked_part) = (checked_part ≡ part) × CheckedChip part file old new
 ChecksChip part file old new (Err status) = LocksAndLoads part file old new (Err status)
 
 -- The part of the settings was found, and then this holds.
@@ -51,8 +51,8 @@ pub record FindsNoPart (settings : Settings) (old new : DeskState) (status : ℕ
 -- The contract of `check_part`: the part of the settings was found and this file checked as a chip of it, or one of
 -- these is refused.
 abbrev pub ChecksPart : Settings → Bytes → DeskState → DeskState → Result Part ℕ → Type 0
-ChecksPart settings file old new (Ok verdict) =
-    WithPart settings old (λ part desk. ChecksChip part file desk new (Ok verdict))
+ChecksPart settings file old new (Ok checked_part) =
+    WithPart settings old (λ part desk. ChecksChip part file desk new (Ok checked_part))
 ChecksPart settings file old new (Err status) =
     FindsNoPart settings old new status
     ⊎ WithPart settings old (λ part desk. ChecksChip part file desk new (Err status))

@@ -80,7 +80,7 @@ pub record Serves (old : EmulatorState) (most_reads : ℕ) (served : Served) (be
     (now : EmulatorState) : Type 0 where
   pub during : Transcript
   pub grows : Grows before.transcript during after.transcript
-  pub receives_next : ReceivesUntil served most_reads during
+  pub receives : ReceivesUntil served most_reads during
   pub sends : NoSendFailed served during
   pub in_turn : (p : Programmer) (text : List ℕ) → WasFedText p text old → RepliesInTurn p text (emulate p text) during
   pub leaves : (p : Programmer) (text : List ℕ) → WasFedText p text old → ServingLeaves served p text during now

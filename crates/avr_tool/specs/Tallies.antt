@@ -5,7 +5,7 @@ use Rattle.stk_emu.specs.Exchange.{Exchange}
 use Rattle.stk_emu.specs.Device.{Device}
 use Rattle.stk_emu.specs.DialogOverExchanges.{state_after}
 
--- The number completed after `k` questions, from a programmer and the exchanges to come.
+-- The number completed after `k` commands, from a programmer and the exchanges to come.
 abbrev pub Count : Type 0 → Type 0
 Count P = ℕ → P → List Exchange → ℕ
 
@@ -21,7 +21,7 @@ then_count m d first more k p exchanges =
     with_next s.dialog (first k p exchanges) (λ a. more a s.left s.programmer s.exchanges)
 
 -- At each moment of a dialog `count` write operations are made: those completed, and perhaps one more. That one is
--- counted by the questions before the last, whose reply may not have come.
+-- counted by the commands before the last, whose reply may not have come.
 pub record Tallies {E R P : Type 0} (m : Device P) (d : Dialog E R) (done : Count P) (At : ℕ → P → Type 0)
     (p : P) (exchanges : List Exchange) : Type 0 where
   pub count : ℕ → ℕ

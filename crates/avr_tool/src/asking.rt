@@ -59,7 +59,7 @@ impl NotAsked {
 /// let Ok(settings) = asked(alloc, words.as_slice(), &mut desk) else {
 ///     panic!(rt; "the words are taken");
 /// };
-/// // whether there is such a part is verdict when a run is planned
+/// // whether there is such a part is checked when a run is planned
 /// assert!(rt; settings.part.as_str() == "nobody");
 /// assert!(rt; settings.updates.as_slice().len() == 1);
 /// ```

@@ -85,7 +85,8 @@ fn save_if_sent<D: ChipDesk, R: Recorder>(
 pub fn run_emu<D: ChipDesk>(alloc: Global, settings: &Settings, desk: &mut D) -> u8
     requires port { IsEmulated settings.now.port }
     // Proof: `runs_over_emulator` (Emulating), from the `line` of `drive_wired`.
-    ensures runs { RunsEmulator settings.now (chip_file_of settings.now.port) (D.view desk.old) (D.view desk.new) result }
+    ensures runs { RunsEmulator settings.now (chip_file_of settings.now.port) (D.view desk.old) (D.view desk.new)
+        result }
     ensures stays { Preserves D.started_as desk.old desk.new }
 {
     let plan = match plan(alloc, settings, desk) {

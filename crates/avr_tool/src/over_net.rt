@@ -23,7 +23,7 @@ use std::alloc::Global;
 /// let mut settings = Settings::for_link(alloc, "nobody")?;
 /// settings.port = Port::Network(Text::new(alloc, "localhost:5000")?);
 /// let mut desk = MemDesk::empty(alloc);
-/// // the part is verdict before a connection is opened
+/// // the part is checked before a connection is opened
 /// assert_eq!(rt; run_net(&rt, alloc, &settings, &mut desk), 1);
 /// ```
 pub fn run_net<N: Network, D: Desk>(

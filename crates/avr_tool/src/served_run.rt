@@ -26,7 +26,8 @@ pub const READS: u32 = 16_777_216;
 
 /// Finds the part of the settings: in their part file, if there is one, then in the built-in parts.
 fn find_part<D: Desk>(alloc: Global, desk: &mut D, settings: &Settings) -> Result<Part, u8>
-    ensures goes { RunsStage (OnlyAtStart false) (settings_part settings.now) (D.view desk.old) (D.view desk.new) result }
+    ensures goes { RunsStage (OnlyAtStart false) (settings_part settings.now) (D.view desk.old) (D.view desk.new)
+        result }
     ensures bare { settings.now.parts ≡ None
         → IfErr result (λ status. LacksPart settings.now.part [] (D.view desk.old) (D.view desk.new)) }
     ensures stays { Preserves D.started_as desk.old desk.new }
@@ -56,8 +57,8 @@ pub fn check_part<D: ChipDesk>(alloc: Global, settings: &Settings, desk: &mut D)
         Ok(part) => part,
         Err(status) => return Err(status),
     };
-    let _verdict = match hold_chip(alloc, &part, chip_file(&settings.port), desk) {
-        Ok(verdict) => verdict,
+    let _chip = match hold_chip(alloc, &part, chip_file(&settings.port), desk) {
+        Ok(checked) => checked,
         Err(status) => return Err(status),
     };
     desk.release();

@@ -121,7 +121,7 @@ fn serve_at<N: Network, D: ChipDesk>(
 /// let [port, chip] = [Text::new(alloc, "5000")?, Text::new(alloc, "chip.bin")?];
 /// settings.port = Port::Served { port, chip };
 /// let mut desk = MemDesk::empty(alloc);
-/// // the part is verdict before anybody is waited for
+/// // the part is checked before anybody is waited for
 /// assert_eq!(rt; serve_net(&rt, alloc, &settings, &mut desk), 1);
 /// ```
 pub fn serve_net<N: Network, D: ChipDesk>(

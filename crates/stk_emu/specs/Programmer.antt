@@ -236,8 +236,7 @@ spi_multi send_count receive_count receive_start bytes p =
     if_programming 0x1D p (if send_count == 4 && length bytes == 4 && nat_le (receive_start + receive_count) 4
     then (
       0x1D ∷ 0 ∷ (take receive_count (drop receive_start (spi_of bytes p.chip).0) ++ 0 ∷ []),
-      with_instructions
-          (bytes ∷ []) p,
+      with_instructions (bytes ∷ []) p,
     )
     else fail 0x1D p)
 

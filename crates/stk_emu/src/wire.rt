@@ -57,7 +57,8 @@ fn pass_with(
     requires holds { HoldsFrame reader.now }
     requires is_reported { is_good reader.now ≡ good }
     ensures tape { out.new.tape ≡ out.old.tape ++ (on_tape (released_replies fate.now late.old)
-        ++ brought_by_fate fate.now (reply_frame device reader.now programmer.old) (frame (seq_of reader.now) refusal)) }
+        ++ brought_by_fate fate.now (reply_frame device reader.now programmer.old)
+        (frame (seq_of reader.now) refusal)) }
     ensures programmer { programmer.new ≡ after_exchange (exchange_of_fate fate.now) (after_frame device reader.now
         programmer.old)
         programmer.old restarted_programmer }

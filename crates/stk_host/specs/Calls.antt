@@ -18,7 +18,7 @@ use Rattle.stk_host.specs.declared.link.LinkFault.{LinkFault}
 use Rattle.stk_host.specs.declared.listen.Reading.{Reading}
 use Rattle.stk_host.specs.declared.listen.Reading.TheVariants as read
 use Rattle.stk_host.specs.declared.conversation.Reply.{Reply}
-use Rattle.stk_host.specs.declared.conversation.Reply.TheVariants as emitted
+use Rattle.stk_host.specs.declared.conversation.Reply.TheVariants as in_code
 use Rattle.stk_host.specs.declared.fault.StepFault.{StepFault}
 use Rattle.stk_host.specs.declared.fault.HostFault.{HostFault}
 use Rattle.stk_host.specs.declared.fault.HostFault.TheVariants.{NoAnswer, LinkEnded, SendFailed, Babble, Refused, BadAnswer, WrongSignature, Differs, ReadOnly, Memory, RecvFailed}
@@ -80,9 +80,9 @@ pub record ListensForReply {L : Type 0} (link : Ghosts L) (seq : ℕ) (old new :
 
 -- A reply of the code, with its data, as a reply of a dialog.
 abbrev pub reply_of : Reply → List ℕ → steps.Reply
-reply_of emitted.Data bytes = steps.Data bytes
-reply_of (emitted.Again fault) bytes = steps.Again fault
-reply_of (emitted.Stop fault) bytes = steps.Stop fault
+reply_of in_code.Data bytes = steps.Data bytes
+reply_of (in_code.Again fault) bytes = steps.Again fault
+reply_of (in_code.Stop fault) bytes = steps.Stop fault
 
 -- These steps stopped with this fault: the link failed, or the dialog returned the step's fault of the same name.
 abbrev pub StopsSteps : Dialog ⊥ steps.StepOutcome → Progress → LinkState → LinkState → HostFault → Progress → Type 0
@@ -141,7 +141,7 @@ pub record ReturnsReply {L : Type 0} (link : Ghosts L) (dialog : Dialog ⊥ step
   pub ok : IfOk result (λ reply. RunsOverLink dialog before.progress (link.view old) (link.view new)
       (reply_of reply (data_held last after.held)) after.progress)
   pub err : IfErr result (λ fault. BreaksOverLink fault dialog before.progress (link.view old) (link.view new))
-  pub sized : IsOkAnd result (λ reply. reply ≡ emitted.Data) → FitsShape (shape last) (data_held last after.held)
+  pub sized : IsOkAnd result (λ reply. reply ≡ in_code.Data) → FitsShape (shape last) (data_held last after.held)
   pub counted : (link.view old).failures ≤ (link.view new).failures
   pub bound : HasFewUnread after.progress
   pub comes : Preserves link.started_as old new

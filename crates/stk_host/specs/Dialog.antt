@@ -51,8 +51,8 @@ abbrev pub played : {E R : Type 0} → Dialog E R → ℕ → Tape → Played E 
 played (Done r) seq tape = record { events = []; outcome = Some (r, seq, tape) }
 played (Emit e dialog) seq tape = prepend_events (Emitted e ∷ []) (played dialog seq tape)
 played (Ask body answered) seq tape =
-    prepend_events (Frame (frame seq body)
-    ∷ []) (continue_with_reading (λ reading. played (answered reading) (next seq)) (answer seq tape))
+    prepend_events (Frame (frame seq body) ∷ [])
+    (continue_with_reading (λ reading. played (answered reading) (next seq)) (answer seq tape))
 
 abbrev pub frames_in : {E : Type 0} → List (Event E) → List (List ℕ)
 frames_in [] = []

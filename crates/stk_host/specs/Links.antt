@@ -4,7 +4,7 @@ use Rattle.std.specs.Io.KnownBytes.{Keeps, Appends, Consumes, IsAtEnd}
 use Rattle.std.specs.declared.io.ErrorKind.{ErrorKind}
 use Rattle.std.specs.declared.io.ErrorKind.TheVariants.{WouldBlock, TimedOut, Interrupted}
 use Rattle.stk_host.specs.declared.link.Heard.{Heard}
-use Rattle.stk_host.specs.declared.link.Heard.TheVariants as receives_next
+use Rattle.stk_host.specs.declared.link.Heard.TheVariants as in_code
 use Rattle.stk_host.specs.declared.link.Item.{Item}
 use Rattle.stk_host.specs.declared.link.Item.TheVariants.{Byte, Silence, End}
 use Rattle.stk_host.specs.declared.link.LinkFault.{LinkFault}
@@ -77,9 +77,9 @@ IsListeningFailure (Some kind) = (kind ≢ WouldBlock) × (kind ≢ TimedOut) ×
 
 -- Received from a reader whose bytes are known: its next bytes, or an end after the last.
 abbrev pub ReceivesKnownBytes : Heard → List ℕ → Option (List ℕ) → Option (List ℕ) → Type 0
-ReceivesKnownBytes (receives_next.Bytes count) buffer old new = Consumes old new (take count buffer)
-ReceivesKnownBytes receives_next.Silence buffer old new = Keeps old new
-ReceivesKnownBytes receives_next.End buffer old new = Keeps old new × IsAtEnd new
+ReceivesKnownBytes (in_code.Bytes count) buffer old new = Consumes old new (take count buffer)
+ReceivesKnownBytes in_code.Silence buffer old new = Keeps old new
+ReceivesKnownBytes in_code.End buffer old new = Keeps old new × IsAtEnd new
 
 -- A failed send took a part of the bytes, and a writer whose bytes are known took exactly that part.
 pub record TakesKnownBytes (bytes : List ℕ) (before now : Transcript) (old new : Option (List ℕ)) : Type 0 where

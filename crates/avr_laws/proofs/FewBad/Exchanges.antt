@@ -19,10 +19,10 @@ use Rattle.stk_emu.specs.DialogOverExchanges.{state_after}
 use Rattle.stk_emu.specs.Effect.{Memories}
 use Rattle.avr_laws.specs.FewBadFrames.{badness, badness_of_first, AtMostThreeBadOf, AtMostThreeBadOfSeven, lost_command, every_second_lost}
 use Rattle.avr_tool.specs.OverFaultyLink.{AllArriveRight}
-use Rattle.stk_emu.specs.Fits.{IsRepeatable}
+use Rattle.stk_emu.specs.Repeatable.{IsRepeatable}
 use Rattle.stk_emu.specs.Settled.{Ready, FitsPart}
 use Rattle.stk_emu.specs.WriteOperations.{IsStep, AreSteps}
-use Rattle.stk_emu.specs.Given.{on_data, reply_to, joined_reply, data_of_step, data_of_steps}
+use Rattle.stk_emu.specs.StepData.{on_data, reply_to, joined_reply, data_of_step, data_of_steps}
 use Rattle.avr_tool.proofs.Hosts.AnyExchange.{AfterStep, try_goes}
 use Rattle.avr_tool.proofs.Hosts.OneLink.{Spot, this_link, Runs, on_link, both}
 use Rattle.stk_emu.proofs.Answers.Commands.{steady}
@@ -72,7 +72,7 @@ module _ {E R : Type 0} where
   few_left (suc k) (Ask bytes go_on) p exchanges few =
       few_left k (go_on _) _ (later_exchanges exchanges) (others_few exchanges few)
 
-  -- a dialog that asks at most `n` questions is done after `n`
+  -- a dialog that asks at most `n` commands is done after `n`
   pub done_within : (n k : ℕ) (d : Dialog E R) (p : Programmer) (exchanges : List Exchange) → AsksAtMost n d → n ≤ k
       → (r : R) × ((state_after device k d p exchanges).dialog ≡ Done r)
   done_within n k (Done r) p exchanges asks le = (r, refl)
@@ -167,7 +167,7 @@ Tries size exchanges got d z = Runs steady (λ y. ⊤) (λ reply y. Tried size e
 
 module _ (go_on : List ℕ → Dialog ⊥ Reply) (go : List ℕ → Reply) (size : ℕ) (exchanges : List Exchange) (got : List ℕ)
     (few : AtMostThreeBadOfSeven (later_exchanges exchanges)) where
-  -- by the reply to a command that was obeyed
+  -- by the reply to a command that was executed
   answered : (q : Programmer) (reply : Reply)
       → ((bytes : List ℕ) → go bytes ≡ Data got
       → Tries size (later_exchanges exchanges) got (go_on bytes) (q, later_exchanges exchanges))
@@ -259,7 +259,7 @@ few_sure commands got Before After fits short has z before few = record {
 -- ---- the steps of a host
 
 module _ (part : Part) (sound : IsPart part) where
-  -- a step gives its data, in at most eight questions
+  -- a step gives its data, in at most eight commands
   pub step_comes : (commands : List Command) (m : Memories) (k : ℕ) (p : Programmer) (exchanges : List Exchange)
       → IsStep part commands → FitsPart part m → Ready part m p → AtMostThreeBadOfSeven exchanges → 8 ≤ k
       → (state_after device k (step commands) p exchanges).dialog ≡ Done (Ok (data_of_step part commands m))

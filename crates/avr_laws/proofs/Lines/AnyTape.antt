@@ -13,7 +13,7 @@ use Rattle.stk_emu.specs.Device.{Device, after_frame, after_frames}
 use Rattle.stk_emu.specs.Lawful.{IsFrameBody}
 use Rattle.stk_emu.specs.Exchange.{Execution, NotExecuted, Executed, ThenRestarted, NoReply, Exchange, Disturbed, after_execution, after_exchange, reading_of_exchange, IsAuthentic}
 use Rattle.stk_emu.specs.DialogOverExchanges.{state_after, SendsValidBodies}
-use Rattle.avr_laws.specs.AnyTape.{after_sent_frames, exchange_by, exchanges_from, exchanges_heard, GoesAlongExchanges, FramesByRestart, adding_received, received_frames, good_frames, after_received_bytes, ReceivedSentFrames}
+use Rattle.avr_laws.specs.AnyTape.{after_sent_frames, exchange_by, exchanges_from, exchanges_on_tape, GoesAlongExchanges, FramesByRestart, adding_received, received_frames, good_frames, after_received_bytes, ReceivedSentFrames}
 use Rattle.avr_tool.specs.Authentic.{first_execution, later_executions, on_reading, RepliesAreAuthentic}
 use Rattle.avr_tool.proofs.Given.LaterAnswers.{answer_extends}
 use Rattle.avr_tool.proofs.Lines.Plays.{played_along, emitted_played, done_played, waits_played}
@@ -32,7 +32,7 @@ pub authentic_exchange : {P : Type 0} (m : Device P) (bytes : List ℕ) (p : P) 
     (exchange_by execution reading)
 authentic_exchange m bytes p execution reading h = search (rules, bytes_eq-Decides, not_anew)
 
--- without a further question the programmer stays as it is
+-- without a further command the programmer stays as it is
 none_asked : {E R P : Type 0} (m : Device P) (d : Dialog E R) (p : P) (exchanges : List Exchange)
     → (state_after m 0 d p exchanges).programmer ≡ p
 none_asked m (Done r) p exchanges = refl
@@ -69,11 +69,11 @@ module _ {P : Type 0} (m : Device P) where
     on_asking o = prepend_events (Frame (frame n bytes)
         ∷ []) (continue_with_reading (λ reading. played (go_on reading) (next n)) o)
 
-    -- a question that waits for its reply
+    -- a command that waits for its reply
     waiting : answer n tape ≡ None → HeardAs m (Ask bytes go_on) n tape p executions (Disturbed execution NoReply ∷ [])
     waiting e = search (rules, none-some, none_asked, arrives)
 
-    -- a question that got its reply, by its exchange
+    -- a command that got its reply, by its exchange
     module _ (one_exchange : Exchange) (later : List Exchange) (left : Tape)
         (read : answer n tape ≡ Some (reading_of_exchange one_exchange (m.answer bytes p), left))
         (leaves : after_exchange one_exchange (m.after bytes p) p m.reset ≡ on_time)
@@ -99,17 +99,17 @@ module _ {P : Type 0} (m : Device P) where
     asked : (o : Option (Reading × Tape)) → answer n tape ≡ o
         → ((reading : Reading) (left : Tape) → RepliesAreAuthentic m (go_on reading) (next n) left on_time
         (later_executions executions) → HeardAs m (go_on reading) (next n) left on_time (later_executions executions)
-        (exchanges_heard (go_on reading) (next n) left (later_executions executions)))
+        (exchanges_on_tape (go_on reading) (next n) left (later_executions executions)))
         → on_reading (λ reading left. IsAuthentic m bytes p execution reading
         × RepliesAreAuthentic m (go_on reading) (next n) left on_time (later_executions executions)) o
         → HeardAs m (Ask bytes go_on) n tape p executions
-        (exchanges_from execution (λ reading left. exchanges_heard (go_on reading) (next n) left
+        (exchanges_from execution (λ reading left. exchanges_on_tape (go_on reading) (next n) left
         (later_executions executions)) o)
     asked o e each h = search (rules, waiting, authentic_exchange, by_exchange)
 
   heard_as : {E R : Type 0} (d : Dialog E R) (n : ℕ) (tape : Tape) (p : P) (executions : List Execution)
       → SendsValidBodies d → RepliesAreAuthentic m d n tape p executions
-      → HeardAs m d n tape p executions (exchanges_heard d n tape executions)
+      → HeardAs m d n tape p executions (exchanges_on_tape d n tape executions)
   heard_as (Done r) n tape p executions asks h =
       record { answered = 0; left = tape; play = refl; all = λ q seq rest o. refl; programmer = none_sent }
     where
@@ -129,7 +129,7 @@ module _ {P : Type 0} (m : Device P) where
 
 -- ---- the first readings of an authentic tape
 
--- what was read for this question is authentic, and what is read after it too
+-- what was read for this command is authentic, and what is read after it too
 abbrev pub AuthenticReading : {E R P : Type 0} → Device P → List ℕ → (Reading → Dialog E R) → ℕ → P → List Execution
     → Option (Reading × Tape) → Type 0
 AuthenticReading m bytes go_on n p executions = on_reading (λ reading left.

@@ -16,7 +16,7 @@ use Rattle.avr_laws.proofs.Lines.AnyTape.{AuthenticReading}
 
 -- ---- the numbers of the earlier replies
 
--- the replies `k` questions back and further: each is empty or has the number of its question
+-- the replies `k` commands back and further: each is empty or has the number of its command
 abbrev pub Past : ℕ → ℕ → List (List ℕ) → Type 0
 Past n k [] = Unit {0}
 Past n k (answer ∷ before) = ((answer ≡ []) ⊎ ((seq_of answer + k) % 256 ≡ n % 256)) × Past n (suc k) before
@@ -81,7 +81,7 @@ unfolding answer
 found n tape left body e = search (rules, found_by)
 
 module _ {P : Type 0} (m : Device P) where
-  -- of the replies to the last 256 frames only the one to this question has its number
+  -- of the replies to the last 256 frames only the one to this command has its number
   own : (n : ℕ) (bytes : List ℕ) (p : P) (execution : Execution) (before : List (List ℕ)) (body : List ℕ)
       → Past n 1 before → Taken n (frame_of_reply m n bytes p execution ∷ before) body
       → IsAuthentic m bytes p execution (Answered body)

@@ -6,7 +6,7 @@ use Rattle.std.proofs.lemmas.Nat.{and_comm}
 use Rattle.std.specs.Str.{bytes_eq}
 use Rattle.stk_host.specs.Operations.{Difference, differs}
 use Rattle.stk_emu.specs.Effect.{Image, with_image}
-use Rattle.stk_emu.specs.Given.{HoldsImage}
+use Rattle.stk_emu.specs.StepData.{HoldsImage}
 use Rattle.stk_emu.proofs.Memories.LaidImages.{get_laid, length-laid}
 use Rattle.avr_part.specs.declared.part.Mem.{Mem}
 use Rattle.avr_session.specs.Standing.{NoFault}

@@ -8,7 +8,7 @@ use Rattle.avr_part.specs.Part.{Part}
 use Rattle.avr_part.specs.declared.part.Mem.{Mem}
 use Rattle.avr_part.specs.declared.part.Mem.TheVariants.{Flash, Lock}
 use Rattle.stk_emu.specs.Effect.{Image, Item, Erase, Write, Memories, with_image, and_in, and_with, effect, effects, write_effect, memory_in}
-use Rattle.stk_emu.specs.Given.{HoldsImage}
+use Rattle.stk_emu.specs.StepData.{HoldsImage}
 use Rattle.avr_laws.proofs.Memories.Bytes.{and_from_blank, laid_holds}
 use Rattle.stk_emu.proofs.Memories.LaidImages.{length-and_in, get_and_in}
 use Rattle.avr_tool.proofs.WriteOperations.Pages.{effects_on}

@@ -12,7 +12,7 @@ use Rattle.avr_laws.proofs.Plans.Fitted.{plan_fitted}
 use Rattle.avr_session.specs.Runs.{Devices}
 use Rattle.avr_session.specs.Session.{session}
 use Rattle.avr_laws.specs.AnyLink.{WholeSessionOverExchanges}
-use Rattle.avr_laws.specs.AnyTape.{ReceivedSentFrames, after_received_bytes, exchanges_heard}
+use Rattle.avr_laws.specs.AnyTape.{ReceivedSentFrames, after_received_bytes, exchanges_on_tape}
 use Rattle.avr_tool.specs.ExpectedRun.{expected_run}
 use Rattle.avr_laws.specs.NoForgedFrame.{ForgesNoFrame}
 use Rattle.avr_laws.proofs.AnyLink.{over_bytes}
@@ -99,7 +99,7 @@ module _ (s : Settings) (x y : Devices) (r : IsRun s x y 0) where
         → Keeps plan (memories_of p.chip) (memories_of (after_received_bytes device got later p).chip) x.desk y.desk
     promise p got later executions sound part_is came none =
         let whole : WholeSessionOverExchanges plan p (after_received_bytes device got later p)
-        (exchanges_heard (session plan) 1 tape executions) (sent r.during) done 0 =
+        (exchanges_on_tape (session plan) 1 tape executions) (sent r.during) done 0 =
         over_bytes plan p sound part_is (plan_fitted s r.openings plan made_is) got (sent r.during) later executions
         tape (subst (λ (t : Transcript). ReceivedSentFrames got later (frames (sent t)) executions) same came)
         (subst (λ (t : Transcript). ForgesNoFrame device (session plan) 1 (heard t) p executions []) same none)

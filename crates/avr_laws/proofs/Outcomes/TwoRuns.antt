@@ -20,7 +20,7 @@ use Rattle.avr_tool.specs.Written.{written_to}
 use Rattle.avr_tool.proofs.OverExchanges.{its_part, its_sizes}
 use Rattle.avr_laws.specs.Again.{ItemsKeepEeprom}
 use Rattle.avr_laws.specs.AnyLink.{ReportsOverExchanges}
-use Rattle.avr_laws.specs.AnyTape.{ReceivedSentFrames, after_received_bytes, exchanges_heard}
+use Rattle.avr_laws.specs.AnyTape.{ReceivedSentFrames, after_received_bytes, exchanges_on_tape}
 use Rattle.avr_laws.specs.Kept.{IsKept, Keeps, NoneForged}
 use Rattle.avr_laws.specs.NoForgedFrame.{ForgesNoFrame}
 use Rattle.avr_laws.proofs.AnyLink.{end_bytes}
@@ -36,7 +36,7 @@ module _ (plan : Plan) (first second : Transcript) (old now : DeskState) (p q : 
       (came : ReceivedSentFrames got later (frames (sent first)) executions)
       (none : ForgesNoFrame device (session plan) 1 (heard first) p executions []) where
     ended : ReportsOverExchanges plan p (after_received_bytes device got later p)
-        (exchanges_heard (session plan) 1 (heard first) executions) (sent first)
+        (exchanges_on_tape (session plan) 1 (heard first) executions) (sent first)
         (played (session plan) 1 (heard first)).events
     ended = end_bytes plan p sound part_is fitted got (sent first) later executions (heard first) came none prefix
 

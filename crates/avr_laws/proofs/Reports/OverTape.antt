@@ -11,7 +11,7 @@ use Rattle.stk_emu.specs.Lawful.{IsFrameBody}
 use Rattle.stk_emu.specs.DialogOverExchanges.{SendsValidBodies}
 use Rattle.stk_emu.specs.Exchange.{Exchange, Execution, execution_in, after_execution, after_exchange, first_exchange, later_exchanges, IsAuthentic}
 use Rattle.stk_emu.specs.Wire.{exchanges_of_fates, executions_of_fates}
-use Rattle.avr_laws.specs.AnyTape.{exchange_by, exchanges_from, exchanges_heard}
+use Rattle.avr_laws.specs.AnyTape.{exchange_by, exchanges_from, exchanges_on_tape}
 use Rattle.avr_tool.specs.Authentic.{first_execution, later_executions, on_reading, RepliesAreAuthentic}
 use Rattle.avr_laws.proofs.Lines.AnyTape.{authentic_exchange}
 use Rattle.avr_laws.specs.TrueReports.{ReportsTrue, EmittedTrue}
@@ -41,16 +41,16 @@ by_answered : {E R : Type 0} (executions : List Execution) (go_on : Reading → 
 by_answered executions go_on more o each = search (rules, by_reading)
 
 pub by_tape : {E R : Type 0} (d : Dialog E R) (n : ℕ) (tape : Tape) (executions : List Execution)
-    → ByExchanges (length (frames_in (played d n tape).events)) executions (exchanges_heard d n tape executions)
+    → ByExchanges (length (frames_in (played d n tape).events)) executions (exchanges_on_tape d n tape executions)
 by_tape (Done r) n tape executions = tt
 by_tape (Emit e d) n tape executions = by_tape d n tape executions
 by_tape (Ask bytes go_on) n tape executions =
     by_answered executions (λ reading. played (go_on reading) (next n))
-    (λ reading left. exchanges_heard (go_on reading) (next n) left (later_executions executions)) (answer n tape)
+    (λ reading left. exchanges_on_tape (go_on reading) (next n) left (later_executions executions)) (answer n tape)
     (λ reading left. by_tape (go_on reading) (next n) left (later_executions executions))
 
 module _ {P : Type 0} (m : Device P) where
-  -- whatever exchanges its questions have, a dialog reports what is true
+  -- whatever exchanges its commands have, a dialog reports what is true
   abbrev AlwaysTrue : {E R : Type 0} → (P → E → Type 0) → Dialog E R → P → Type 0
   AlwaysTrue T d p = (k : ℕ) (exchanges : List Exchange) → ReportsTrue m T k d p exchanges
 

@@ -8,7 +8,7 @@ use Rattle.stk_emu.specs.Exchange.{NotExecuted, Executed}
 use Rattle.avr_tool.specs.Authentic.{RepliesAreAuthentic}
 use Rattle.stk_emu.proofs.Rows.Answers.{start, notice}
 
--- one question, of a command that no programmer knows, whatever is read
+-- one frame, of a command that no programmer knows, whatever is read
 abbrev asks : Dialog ⊥ ℕ
 asks = Ask (0x05 ∷ []) (λ reading. Done 0)
 
@@ -17,7 +17,7 @@ pub forged : RepliesAreAuthentic device asks 1 (on_tape (frame 1 (0x05 ∷ 0x00 
 unfolding answer
 forged a' = search rules
 
--- and the programmer's own reply to a question that it didn't obey now, as a reply kept from before under the number
+-- and the programmer's own reply to a command that it didn't execute now, as a reply kept from before under the number
 pub unseen : RepliesAreAuthentic device asks 1 (on_tape (notice 1)) start (NotExecuted ∷ []) → ⊥
 unfolding answer
 unseen a' = search rules

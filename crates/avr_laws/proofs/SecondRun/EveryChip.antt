@@ -11,7 +11,7 @@ use Rattle.avr_part.specs.declared.part.Mem.TheVariants.{Lock}
 use Rattle.avr_plan.specs.Plan.{Plan}
 use Rattle.avr_session.specs.Actions.{Action}
 use Rattle.stk_emu.specs.Effect.{Image, Memories, Erase, with_image, are_locked, write_effect, effect, effects, memory_in}
-use Rattle.stk_emu.specs.Given.{HoldsImage}
+use Rattle.stk_emu.specs.StepData.{HoldsImage}
 use Rattle.stk_emu.specs.Settled.{FitsPart}
 use Rattle.avr_tool.proofs.WriteOperations.EachMemory.{keeps_zeros, laid, leaves_memory, write_is}
 use Rattle.avr_laws.specs.Again.{chip_filled_with, AgreesOnTwoChips}

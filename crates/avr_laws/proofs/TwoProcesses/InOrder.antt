@@ -19,7 +19,7 @@ use Rattle.stk_emu.proofs.Wires.Arrivals.{none_skipped}
 use Rattle.avr_laws.specs.TwoProcesses.{all_executed}
 use Rattle.avr_laws.proofs.TwoProcesses.Slots.{Slot, slots_tape, came, IsStub, AreOld, IsOwn, all_older, old_and_own, Finds, FindsNone, Waits, Reads, reads}
 
--- From here on at most this many questions of a dialog get no reply in a row, and never more than eight.
+-- From here on at most this many commands of a dialog get no reply in a row, and never more than eight.
 abbrev pub MissesFew : {E R : Type 0} → ℕ → Dialog E R → Type 0
 MissesFew k (Done r) = Unit {0}
 MissesFew k (Emit e dialog) = MissesFew k dialog
@@ -57,7 +57,7 @@ pub record Brings {E R P : Type 0} (m : Device P) (d : Dialog E R) (n : ℕ) (ta
   pub few : length old ≤ missed
   pub comes : came slots ++ more ≡ old ++ answer_list m (first_of h (frames_in (played d n tape).events)) p
 
--- the outcome of its question
+-- the outcome of its command
 pub record ComesOwn {E R P : Type 0} (m : Device P) (bytes : List ℕ) (go_on : Reading → Dialog E R) (n : ℕ)
     (tape : Tape) (p : P) (h : ℕ)
     (more : List (List ℕ)) : Type 0 where

@@ -63,7 +63,7 @@ has_served served p transcript left l = search (rules, all_served, broken_served
 
 -- ---- both ends
 
--- the server obeyed the frames that it took, and this is its state after them
+-- the server executed the frames that it took, and this is its state after them
 pub meet_sent : (p left : Programmer) (host server : Transcript) (serves : HasServed p server left)
     → IsJoined host server
     → after_sent_frames device (frames (sent host)) (all_executed (length (frames serves.used))) p ≡ left

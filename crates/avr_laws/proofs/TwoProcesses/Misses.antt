@@ -1,4 +1,4 @@
--- At most eight of a session's questions in a row get no reply: four attempts of a step, and four to leave.
+-- At most eight of a session's commands in a row get no reply: four attempts of a step, and four to leave.
 use Rattle.std.proofs.Common.{◌≡◌, ℕ, zero, suc, ◌+◌, ◌≤◌, List, [], ◌∷◌, ◌++◌, refl, arith, Bool, Ok, Err, Result, rules}
 use Rattle.avr_cli.specs.declared.settings.Switches.{Switches}
 use Rattle.avr_desk.specs.OutputEvents.{OutputEvent}

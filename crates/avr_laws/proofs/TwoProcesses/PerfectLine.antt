@@ -159,7 +159,7 @@ own_answer n bytes later b =
     rw (length_frame n bytes) (omega (arith, f)) in
     answer_found n (frame n bytes) later bytes found few
 
--- a question with this reply
+-- a command with this reply
 asked : {E R : Type 0} (bytes : List ℕ) (go_on : Reading → Dialog E R) (n : ℕ) (reply : List ℕ) (later : Tape)
     → IsFrameBody reply
     → played (Ask bytes go_on) n (on_tape (frame n reply) ++ later)
@@ -365,7 +365,7 @@ module _ (plan : Plan) (s : chips.ChipState) (file : Bytes) (asks : SendsValidBo
         serves = record {
           during = server;
           grows = refl;
-          receives_next = (last.0, last.1, last.2, omega arith);
+          receives = (last.0, last.1, last.2, omega arith);
           sends = (on (fresh_programmer s) [] fed_nothing).none_taken;
           in_turn = λ p text was. (on p text was).in_turn;
           leaves = answers_all;

@@ -23,7 +23,7 @@ use Rattle.stk_emu.specs.Settled.{HasMemories, FitsPart}
 use Rattle.avr_tool.proofs.Given.FirstSteps.{sound_idle, sound_fits}
 use Rattle.avr_tool.specs.ExpectedRun.{expected_run}
 use Rattle.avr_laws.proofs.FewBad.Sessions.{few_session_ends}
-use Rattle.avr_laws.specs.AnyTape.{after_sent_frames, exchanges_heard}
+use Rattle.avr_laws.specs.AnyTape.{after_sent_frames, exchanges_on_tape}
 use Rattle.avr_tool.specs.Authentic.{RepliesAreAuthentic}
 use Rattle.stk_emu.specs.Device.{device, after_frames}
 use Rattle.stk_emu.specs.Emulator.{emulate}
@@ -116,11 +116,11 @@ module _ (plan : Plan) (s : chips.ChipState) (is_sound : IsSoundChip s) (part_is
     pub touched : (left : Programmer) (serves : HasServed (fresh_programmer s) server left) → IsJoined host server
         → IsBytePrefixOf (sent host) (bytes_sent (played (session plan) 1 (heard host)).events)
         → ReportsOverExchanges plan (fresh_programmer s) left
-        (exchanges_heard (session plan) 1 (heard host) (all_executed (length (frames serves.used)))) (sent host)
+        (exchanges_on_tape (session plan) 1 (heard host) (all_executed (length (frames serves.used)))) (sent host)
         (played (session plan) 1 (heard host)).events
     touched left serves joined plays =
         let executions = all_executed (length (frames serves.used)) in
-        subst (λ q. ReportsOverExchanges plan (fresh_programmer s) q (exchanges_heard (session plan) 1 (heard host)
+        subst (λ q. ReportsOverExchanges plan (fresh_programmer s) q (exchanges_on_tape (session plan) 1 (heard host)
         executions) (sent host) (played (session plan) 1 (heard host)).events)
         (meet_sent (fresh_programmer s) left host server serves joined)
         (search (rules, over_any_end, is_authentic))
@@ -137,13 +137,13 @@ module _ (plan : Plan) (s : chips.ChipState) (is_sound : IsSoundChip s) (part_is
 
       pub whole : (left : Programmer) (serves : HasServed (fresh_programmer s) server left) → IsJoined host server
           → WholeSessionOverExchanges plan (fresh_programmer s) left
-          (exchanges_heard (session plan) 1 (heard host) (all_executed (length (frames serves.used)))) (sent host)
+          (exchanges_on_tape (session plan) 1 (heard host) (all_executed (length (frames serves.used)))) (sent host)
           events status
       whole left serves joined =
           let prefix : IsBytePrefixOf (sent host) (bytes_sent (played (session plan) 1 (heard host)).events) =
           ([], append-nil (sent host) ∙ sym all_sent) in
           let executions = all_executed (length (frames serves.used)) in
-          subst (λ q. WholeSessionOverExchanges plan (fresh_programmer s) q (exchanges_heard (session plan) 1
+          subst (λ q. WholeSessionOverExchanges plan (fresh_programmer s) q (exchanges_on_tape (session plan) 1
           (heard host) executions) (sent host) events status) (meet_sent (fresh_programmer s) left host server serves
           joined) (search (rules, over_any_line, is_authentic, over))
 
@@ -175,14 +175,14 @@ module _ (plan : Plan) (s : chips.ChipState) (is_sound : IsSoundChip s) (part_is
       → Plays (session plan) start host events status after
       → ForgesNoFrame device (session plan) 1 (heard host) (fresh_programmer s)
       (all_executed (length (frames serves.used))) [] → WholeSessionOverExchanges plan (fresh_programmer s) left
-      (exchanges_heard (session plan) 1 (heard host) (all_executed (length (frames serves.used)))) (sent host) events
+      (exchanges_on_tape (session plan) 1 (heard host) (all_executed (length (frames serves.used)))) (sent host) events
       status
   stalling left host server events status after serves joined plays made =
       let over : played (session plan) 1 (heard host)
       ≡ record { events = events; outcome = Some (status, after.next, on_tape after.unread ++ []) } =
       ap (played (session plan) 1) (sym (append-nil (heard host))) ∙ plays.plays [] in
       let executions = all_executed (length (frames serves.used)) in
-      subst (λ q. WholeSessionOverExchanges plan (fresh_programmer s) q (exchanges_heard (session plan) 1 (heard host)
+      subst (λ q. WholeSessionOverExchanges plan (fresh_programmer s) q (exchanges_on_tape (session plan) 1 (heard host)
       executions) (sent host) events status) (meet_sent (fresh_programmer s) left host server serves joined)
       (search (rules, over_any_line, no_forged_frame_authentic))
 
@@ -192,7 +192,7 @@ module _ (plan : Plan) (s : chips.ChipState) (is_sound : IsSoundChip s) (part_is
       (left : Programmer) (serves : HasServed (fresh_programmer s) (server_transcript calls) left) where
     abbrev Ended : Type 0
     Ended = ReportsOverExchanges plan (fresh_programmer s) left
-        (exchanges_heard (session plan) 1 (heard (host_transcript calls)) (all_executed (length (frames serves.used))))
+        (exchanges_on_tape (session plan) 1 (heard (host_transcript calls)) (all_executed (length (frames serves.used))))
         (sent (host_transcript calls))
         (played (session plan) 1 (heard (host_transcript calls))).events
 
@@ -224,7 +224,7 @@ module _ (plan : Plan) (s : chips.ChipState) (is_sound : IsSoundChip s) (part_is
         → (serves : ServesChip s file most server_old server_new served_status)
         → (served : HasServed (fresh_programmer s) (server_transcript calls) serves.left.programmer)
         × WholeSessionOverExchanges plan (fresh_programmer s) serves.left.programmer
-        (exchanges_heard (session plan) 1 (heard (host_transcript calls)) (all_executed (length (frames served.used))))
+        (exchanges_on_tape (session plan) 1 (heard (host_transcript calls)) (all_executed (length (frames served.used))))
         (sent (host_transcript calls)) ran.events status
     one_run after ordered stalls host_old host_new server_none server_some ran serves =
         let served = served_all server_none server_some serves in (
@@ -256,7 +256,7 @@ module _ (plan : Plan) (s : chips.ChipState) (is_sound : IsSoundChip s) (part_is
         → RunsSession plan old new status → (serves : ServesChip s file most server_old server_new served_status)
         → (served : HasServed (fresh_programmer s) (server_transcript calls) serves.left.programmer)
         × ReportsOverExchanges plan (fresh_programmer s) serves.left.programmer
-        (exchanges_heard (session plan) 1 (heard (host_transcript calls)) (all_executed (length (frames served.used))))
+        (exchanges_on_tape (session plan) 1 (heard (host_transcript calls)) (all_executed (length (frames served.used))))
         (sent (host_transcript calls))
         (played (session plan) 1 (heard (host_transcript calls))).events
     any_run ordered stalls host_old host_new server_none server_some runs serves =

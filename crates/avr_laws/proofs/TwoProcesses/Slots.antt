@@ -1,4 +1,4 @@
--- A tape that carries replies in their order, with timeouts between them: what is read of it for one question.
+-- A tape that carries replies in their order, with timeouts between them: what is read of it for one command.
 use Rattle.std.proofs.Common.{◌≡◌, ℕ, suc, ◌+◌, ◌*◌, ◌%◌, ◌≤◌, List, [], ◌∷◌, ◌++◌, length, refl, sym, ap, ◌∙◌, append_assoc, arith, inl, inr, ◌⊎◌, Some, None, length-append, rules}
 use Rattle.std.proofs.lemmas.List.{append-nil}
 use Rattle.stk_frame.specs.Frame.{frame}

@@ -20,9 +20,9 @@ pub record Walked (kind : Kind) (e : Extent) (text : List ℕ) (left : List (Lis
   pub cut : lines text ≡ prefix ++ left
   pub extent : IsExtentOf largest_memory e (up_to_end (map (line_result kind) prefix))
 
-emitted-all : (kind : Kind) (prefix left : List (List ℕ)) (text : List ℕ) → lines text ≡ prefix ++ left
+meant-all : (kind : Kind) (prefix left : List (List ℕ)) (text : List ℕ) → lines text ≡ prefix ++ left
     → map (line_result kind) (lines text) ≡ map (line_result kind) prefix ++ map (line_result kind) left
-emitted-all kind prefix left text cut = grind (arith, nat_tests, map-append)
+meant-all kind prefix left text cut = grind (arith, nat_tests, map-append)
 
 -- the lines that are left once one more has ended
 pub left-lines : (left line more : List ℕ) → lines line ≡ line ∷ [] → left ≡ line ++ 10 ∷ more
@@ -38,9 +38,9 @@ walk-next kind e new text line left more is on w step = record {
   extent = search (rules, results-prefix, counts-next);
 }
 
-needed-is : (e : Extent) (emitted : List LineResult) → IsExtentOf largest_memory e (up_to_end emitted) → Ok e.end
-    ≡ needed_by emitted
-needed-is e emitted m = rw (m.no_fault, ← m.end) refl
+needed-is : (e : Extent) (meant : List LineResult) → IsExtentOf largest_memory e (up_to_end meant) → Ok e.end
+    ≡ needed_by meant
+needed-is e meant m = rw (m.no_fault, ← m.end) refl
 
 -- nothing after an end record counts
 pub walk-ended : (kind : Kind) (e : Extent) (text : List ℕ) (left : List (List ℕ)) → e.ended ≡ true
@@ -48,7 +48,7 @@ pub walk-ended : (kind : Kind) (e : Extent) (text : List ℕ) (left : List (List
 walk-ended kind e text left done w =
     needed-is e _ (counts-more largest_memory e (map (line_result kind) w.prefix) (map (line_result kind) left) done
     w.extent)
-    ∙ ap needed_by (sym (emitted-all kind w.prefix left text w.cut))
+    ∙ ap needed_by (sym (meant-all kind w.prefix left text w.cut))
 
 pub walk-last : (kind : Kind) (e : Extent) (text : List ℕ) → Walked kind e text [] → Ok e.end
     ≡ size_needed_in_text kind text

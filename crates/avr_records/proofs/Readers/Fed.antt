@@ -67,9 +67,9 @@ result-kept kind line =
     ]
 
 -- the kept bytes, continued, mean what the line continued means
-emitted-on : (kind : Kind) (part last rest : List ℕ) → part ≡ kept last
+meant-on : (kind : Kind) (part last rest : List ℕ) → part ≡ kept last
     → line_result kind (part ++ rest) ≡ line_result kind (last ++ rest)
-emitted-on kind part last rest is =
+meant-on kind part last rest is =
     search (rules, result-kept kind (part ++ rest), take-again (longest + 1) last rest, result-kept kind (last ++ rest))
 
 -- ---- a reader
@@ -115,7 +115,7 @@ line-step : (kind : Kind) (p : Progress) (part text rest : List ℕ) (r : ReadsL
     → next_progress p (line_result kind (r.last ++ rest)) ≡ next_progress p (line_result kind (part ++ rest))
 line-step kind p part text rest r = elim (cases_Bool p.extent.ended) [
   | inl done ↦ rw done refl
-  | inr on ↦ ap (next_progress p) (sym (emitted-on kind part r.last rest (r.keeps on)))
+  | inr on ↦ ap (next_progress p) (sym (meant-on kind part r.last rest (r.keeps on)))
 ]
 
 -- a good line has ended
@@ -157,9 +157,9 @@ no_fault_so_far kind p size part text same r = search (rules, reads-sound kind p
 
 -- ---- the whole text
 
-whole-emitted : (kind : Kind) (text : List ℕ) (prefix : List (List ℕ)) (last : List ℕ) → lines text ≡ prefix ++ last
+whole-meant : (kind : Kind) (text : List ℕ) (prefix : List (List ℕ)) (last : List ℕ) → lines text ≡ prefix ++ last
     ∷ [] → map (line_result kind) (lines text) ≡ map (line_result kind) prefix ++ line_result kind last ∷ []
-whole-emitted kind text prefix last cut = ap (map (line_result kind)) cut ∙ results-prefix kind prefix last
+whole-meant kind text prefix last cut = ap (map (line_result kind)) cut ∙ results-prefix kind prefix last
 
 whole-next : (kind : Kind) (p new : Progress) (part text : List ℕ) (r : ReadsLines kind p part text)
     → image_size new ≡ image_size p → next_progress p (line_result kind r.last) ≡ Ok new
@@ -178,7 +178,7 @@ pub whole-bad : (kind : Kind) (p : Progress) (part text : List ℕ) (fault : Rec
     → next_progress p (line_result kind (part ++ [])) ≡ Err fault → ReadsLines kind p part text
     → image_in_text kind text (image_size p) ≡ Err fault
 whole-bad kind p part text fault is r =
-    ap (together (image_size p)) (whole-emitted kind text r.prefix r.last r.cut)
+    ap (together (image_size p)) (whole-meant kind text r.prefix r.last r.cut)
     ∙ rw (holds-bad p _ [] (line_result kind r.last) fault r.holds
     (rw (append-nil r.last) at (line-step kind p part text [] r) ∙ is)) refl
 

@@ -21,55 +21,55 @@ use Rattle.avr_records.proofs.Readers.LaterLines.{with_lines_before-append, firs
 
 -- ---- one line after others
 
-fault-last : (size : ℕ) (emitted : List LineResult) (line : LineResult)
-    → first_fault size (with_lines_before [] emitted) ≡ None → fault_of_line size (emitted, line) ≡ None
-    → first_fault size (with_lines_before [] (emitted ++ line ∷ [])) ≡ None
-fault-last size emitted line none sound = grind (arith, nat_tests, with_lines_before-append, first_fault-append)
+fault-last : (size : ℕ) (meant : List LineResult) (line : LineResult)
+    → first_fault size (with_lines_before [] meant) ≡ None → fault_of_line size (meant, line) ≡ None
+    → first_fault size (with_lines_before [] (meant ++ line ∷ [])) ≡ None
+fault-last size meant line none sound = grind (arith, nat_tests, with_lines_before-append, first_fault-append)
 
-end-last : (emitted : List LineResult) (line : LineResult)
-    → end_of_bytes (bytes_of_lines (emitted ++ line ∷ [])) ≡ end_after (end_of_bytes (bytes_of_lines emitted))
-    (bytes_of_line (emitted, line))
-end-last emitted line = grind (arith, nat_tests, with_lines_before-append, flat_map-append, fold-append)
+end-last : (meant : List LineResult) (line : LineResult)
+    → end_of_bytes (bytes_of_lines (meant ++ line ∷ [])) ≡ end_after (end_of_bytes (bytes_of_lines meant))
+    (bytes_of_line (meant, line))
+end-last meant line = grind (arith, nat_tests, with_lines_before-append, flat_map-append, fold-append)
 
-count-last : (emitted : List LineResult) (line : LineResult) → count_by is_data_record (emitted ++ line ∷ [])
-    ≡ (if is_data_record line then count_by is_data_record emitted + 1 else count_by is_data_record emitted)
-count-last emitted line = grind (arith, nat_tests, sum_by-append)
+count-last : (meant : List LineResult) (line : LineResult) → count_by is_data_record (meant ++ line ∷ [])
+    ≡ (if is_data_record line then count_by is_data_record meant + 1 else count_by is_data_record meant)
+count-last meant line = grind (arith, nat_tests, sum_by-append)
 
-any_end-last : (emitted : List LineResult) (line : LineResult)
-    → (if is_end_record line then true else list_any is_end_record emitted) ≡ list_any is_end_record (emitted ++ line
+any_end-last : (meant : List LineResult) (line : LineResult)
+    → (if is_end_record line then true else list_any is_end_record meant) ≡ list_any is_end_record (meant ++ line
     ∷ [])
-any_end-last emitted line = grind (arith, nat_tests, list_any-append)
+any_end-last meant line = grind (arith, nat_tests, list_any-append)
 
 -- ---- one more line
 
-extent-bad : (size : ℕ) (e : Extent) (emitted more : List LineResult) (line : LineResult) (fault : RecordFault)
-    → IsExtentOf size e emitted
-    → next_extent size e line ≡ Err fault → first_fault size (with_lines_before [] (emitted ++ line ∷ more))
+extent-bad : (size : ℕ) (e : Extent) (meant more : List LineResult) (line : LineResult) (fault : RecordFault)
+    → IsExtentOf size e meant
+    → next_extent size e line ≡ Err fault → first_fault size (with_lines_before [] (meant ++ line ∷ more))
     ≡ Some fault
-extent-bad size e emitted more line fault m is = grind (arith, nat_tests, with_lines_before-append, first_fault-append)
+extent-bad size e meant more line fault m is = grind (arith, nat_tests, with_lines_before-append, first_fault-append)
 
 -- ---- up to an end record
 
-upto-last : (emitted : List LineResult) (line : LineResult) → list_any is_end_record (up_to_end emitted) ≡ false
-    → up_to_end (emitted ++ line ∷ []) ≡ up_to_end emitted ++ line ∷ []
-upto-last emitted line none = grind (arith, nat_tests, up_to_end-open)
+upto-last : (meant : List LineResult) (line : LineResult) → list_any is_end_record (up_to_end meant) ≡ false
+    → up_to_end (meant ++ line ∷ []) ≡ up_to_end meant ++ line ∷ []
+upto-last meant line none = grind (arith, nat_tests, up_to_end-open)
 
-pub counts-next : (size : ℕ) (e new : Extent) (emitted : List LineResult) (line : LineResult) → e.ended ≡ false
-    → IsExtentOf size e (up_to_end emitted) → next_extent size e line ≡ Ok new
-    → IsExtentOf size new (up_to_end (emitted ++ line ∷ []))
-counts-next size e new emitted line on m is =
+pub counts-next : (size : ℕ) (e new : Extent) (meant : List LineResult) (line : LineResult) → e.ended ≡ false
+    → IsExtentOf size e (up_to_end meant) → next_extent size e line ≡ Ok new
+    → IsExtentOf size new (up_to_end (meant ++ line ∷ []))
+counts-next size e new meant line on m is =
     search (rules, upto-last, fault-last, end-last, fold-append, count-last, length-append, any_end-last)
 
 -- nothing after an end record counts
-pub counts-more : (size : ℕ) (e : Extent) (emitted more : List LineResult) → e.ended ≡ true
-    → IsExtentOf size e (up_to_end emitted) → IsExtentOf size e (up_to_end (emitted ++ more))
-counts-more size e emitted more done m = grind (arith, nat_tests, up_to_end-done)
+pub counts-more : (size : ℕ) (e : Extent) (meant more : List LineResult) → e.ended ≡ true
+    → IsExtentOf size e (up_to_end meant) → IsExtentOf size e (up_to_end (meant ++ more))
+counts-more size e meant more done m = grind (arith, nat_tests, up_to_end-done)
 
 -- the first line with a fault decides, whatever follows it
-pub counts-bad : (size : ℕ) (e : Extent) (emitted more : List LineResult) (line : LineResult) (fault : RecordFault)
-    → e.ended ≡ false → IsExtentOf size e (up_to_end emitted) → next_extent size e line ≡ Err fault
-    → first_fault_among size (emitted ++ line ∷ more) ≡ Some fault
-counts-bad size e emitted more line fault on m is = grind (arith, nat_tests, up_to_end-open, extent-bad)
+pub counts-bad : (size : ℕ) (e : Extent) (meant more : List LineResult) (line : LineResult) (fault : RecordFault)
+    → e.ended ≡ false → IsExtentOf size e (up_to_end meant) → next_extent size e line ≡ Err fault
+    → first_fault_among size (meant ++ line ∷ more) ≡ Some fault
+counts-bad size e meant more line fault on m is = grind (arith, nat_tests, up_to_end-open, extent-bad)
 
 -- ---- with the image
 
@@ -83,18 +83,18 @@ with-good : (p new : Progress) (line : LineResult) (step : Result Extent RecordF
     → (step ≡ Ok new.extent) × (new.image ≡ with_bytes_at p.image (bytes_under_base p.extent.base line))
 with-good p new line step is = search (rules, nat_tests)
 
-pub holds-more : (p : Progress) (emitted more : List LineResult) → p.extent.ended ≡ true → HoldsLines p emitted
-    → HoldsLines p (emitted ++ more)
-holds-more p emitted more done h = grind (arith, nat_tests, up_to_end-done)
+pub holds-more : (p : Progress) (meant more : List LineResult) → p.extent.ended ≡ true → HoldsLines p meant
+    → HoldsLines p (meant ++ more)
+holds-more p meant more done h = grind (arith, nat_tests, up_to_end-done)
 
-holds-on : (p new : Progress) (emitted : List LineResult) (line : LineResult) → p.extent.ended ≡ false
-    → HoldsLines p emitted → next_progress p line ≡ Ok new → HoldsLines new (emitted ++ line ∷ [])
-holds-on p new emitted line on h is =
+holds-on : (p new : Progress) (meant : List LineResult) (line : LineResult) → p.extent.ended ≡ false
+    → HoldsLines p meant → next_progress p line ≡ Ok new → HoldsLines new (meant ++ line ∷ [])
+holds-on p new meant line on h is =
     let parts = with-good p new line (next_extent (image_size p) p.extent line)
     (sym (cond-false p.extent.ended _ _ on) ∙ is) in
     let size : image_size new ≡ image_size p =
     ap length parts.1 ∙ length-with_bytes_at (bytes_under_base p.extent.base line) p.image in
-    let extent = counts-next (image_size p) p.extent new.extent emitted line on h.extent parts.0 in
+    let extent = counts-next (image_size p) p.extent new.extent meant line on h.extent parts.0 in
     search (rules, nat_tests, upto-last, with_lines_before-append, flat_map-append, fold-append)
 
 done-step : (p : Progress) (line : LineResult) (out : Result Progress RecordFault) → p.extent.ended ≡ true
@@ -102,22 +102,22 @@ done-step : (p : Progress) (line : LineResult) (out : Result Progress RecordFaul
 done-step p line out done is = sym (cond-true p.extent.ended (Ok p) _ done) ∙ is
 
 -- a good line changes the state as the definitions say
-pub holds-next : (p new : Progress) (emitted : List LineResult) (line : LineResult) → HoldsLines p emitted
-    → next_progress p line ≡ Ok new → HoldsLines new (emitted ++ line ∷ [])
-holds-next p new emitted line h is = elim (cases_Bool p.extent.ended) [
+pub holds-next : (p new : Progress) (meant : List LineResult) (line : LineResult) → HoldsLines p meant
+    → next_progress p line ≡ Ok new → HoldsLines new (meant ++ line ∷ [])
+holds-next p new meant line h is = elim (cases_Bool p.extent.ended) [
   | inl done ↦
       let same : p ≡ new = cc (done-step p line (Ok new) done is) in
-      subst (λ (q : Progress). HoldsLines q (emitted ++ line ∷ [])) same (holds-more p emitted (line ∷ []) done h)
-  | inr on ↦ holds-on p new emitted line on h is
+      subst (λ (q : Progress). HoldsLines q (meant ++ line ∷ [])) same (holds-more p meant (line ∷ []) done h)
+  | inr on ↦ holds-on p new meant line on h is
 ]
 
 -- its fault is the fault of the file
-pub holds-bad : (p : Progress) (emitted more : List LineResult) (line : LineResult) (fault : RecordFault)
-    → HoldsLines p emitted → next_progress p line ≡ Err fault → first_fault_among (image_size p) (emitted ++ line
+pub holds-bad : (p : Progress) (meant more : List LineResult) (line : LineResult) (fault : RecordFault)
+    → HoldsLines p meant → next_progress p line ≡ Err fault → first_fault_among (image_size p) (meant ++ line
     ∷ more) ≡ Some fault
-holds-bad p emitted more line fault h is = grind (arith, nat_tests, counts-bad)
+holds-bad p meant more line fault h is = grind (arith, nat_tests, counts-bad)
 
 -- a file of such lines has this image and ending
-pub together-holds : (p : Progress) (emitted : List LineResult) → HoldsLines p emitted
-    → together (image_size p) emitted ≡ Ok (p.image, ending_of p.extent)
-together-holds p emitted h = grind (arith, nat_tests, up_to_end-any)
+pub together-holds : (p : Progress) (meant : List LineResult) → HoldsLines p meant
+    → together (image_size p) meant ≡ Ok (p.image, ending_of p.extent)
+together-holds p meant h = grind (arith, nat_tests, up_to_end-any)

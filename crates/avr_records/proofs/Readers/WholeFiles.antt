@@ -18,9 +18,9 @@ first_fault-stands size [] qs notice is = absurd (cc is)
 first_fault-stands size (p ∷ ps) qs notice is = grind (arith, nat_tests, first_fault-stands size ps qs notice)
 
 -- lines after the first fault don't change it
-pub among-stands : (size : ℕ) (emitted more : List LineResult) (notice : RecordFault) → first_fault_among size emitted
-    ≡ Some notice → first_fault_among size (emitted ++ more) ≡ Some notice
-among-stands size emitted more notice is =
+pub among-stands : (size : ℕ) (meant more : List LineResult) (notice : RecordFault) → first_fault_among size meant
+    ≡ Some notice → first_fault_among size (meant ++ more) ≡ Some notice
+among-stands size meant more notice is =
     grind (arith, nat_tests, up_to_end-done, up_to_end-open, with_lines_before-append, first_fault-stands)
 
 pub ended_lines-fault : (kind : Kind) (size : ℕ) (text : List ℕ) (notice : RecordFault)
@@ -31,10 +31,10 @@ ended_lines-fault kind size text notice is =
     let closed : List (List ℕ) = all_but_last (lines text) in
     let same : lines text ≡ closed ++ cut.0 ∷ [] =
     some.2 ∙ cut.1 ∙ ap (λ (ls : List (List ℕ)). all_but_last ls ++ cut.0 ∷ []) (sym some.2) in
-    let emitted : map (line_result kind) (lines text) ≡ map (line_result kind) closed ++ line_result kind cut.0 ∷ [] =
+    let meant : map (line_result kind) (lines text) ≡ map (line_result kind) closed ++ line_result kind cut.0 ∷ [] =
     ap (map (line_result kind)) same ∙ map-append (line_result kind) closed (cut.0 ∷ []) in
     let whole : first_fault_among size (map (line_result kind) (lines text)) ≡ Some notice =
-    ap (first_fault_among size) emitted ∙ among-stands size (map (line_result kind) closed) (line_result kind cut.0
+    ap (first_fault_among size) meant ∙ among-stands size (map (line_result kind) closed) (line_result kind cut.0
     ∷ []) notice is in search rules
 
 pub none-or : (fault : Option RecordFault) (notice : RecordFault) → Err notice ≡ unit_unless_fault fault → fault

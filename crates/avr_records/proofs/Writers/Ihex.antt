@@ -74,7 +74,7 @@ upper-lines old new rest below =
           let bytes = IsBytes-cons (new / 256 % 256) ((new % 256) ∷ []) (omega arith)
           (IsBytes-cons (new % 256) [] (omega arith) IsBytes-nil) in
           let plain = plain-line 4 0 (two_bytes new) (omega arith) (omega arith) bytes in
-          let emitted : line_result Ihex (line_of 4 0 (two_bytes new)) ≡ Ok (Rebase (Linear new)) =
+          let meant : line_result Ihex (line_of 4 0 (two_bytes new)) ≡ Ok (Rebase (Linear new)) =
           emits-line 4 0 (two_bytes new) (omega arith) (omega arith) (omega arith) bytes ∙ typed-upper new below in
           search (rules, lines-written)
     ]

@@ -27,15 +27,15 @@ first_outside-parts size (p ∷ xs) ys none =
 -- the bytes of a line with their addresses, while this base is in force
 abbrev pub under : AddressBase → LineResult → List (ℕ × ℕ)
 under base (Ok (Data offset bytes)) = places base offset bytes
-under base emitted = []
+under base meant = []
 
 -- the bytes of lines with their addresses, from a base on
 abbrev pub threaded : AddressBase → List LineResult → List (ℕ × ℕ)
 threaded base [] = []
-threaded base (emitted ∷ more) = under base emitted ++ threaded (next_base base emitted) more
+threaded base (meant ∷ more) = under base meant ++ threaded (next_base base meant) more
 
-placed-threaded : (before emitted : List LineResult)
-    → flat_map bytes_of_line (with_lines_before before emitted) ≡ threaded (base_after before) emitted
+placed-threaded : (before meant : List LineResult)
+    → flat_map bytes_of_line (with_lines_before before meant) ≡ threaded (base_after before) meant
 placed-threaded before [] = refl
 placed-threaded before (s ∷ more) = grind (arith, nat_tests, placed-threaded (before ++ s ∷ []) more, fold-append)
 

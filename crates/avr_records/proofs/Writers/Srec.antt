@@ -112,7 +112,7 @@ lines-results size end ((addr, row) ∷ rows) fits all =
     let low : addr < 256 ^ width_of size = omega (arith, fits, is.some, is.below) in
     let digit : type ≤ 9 = omega (arith, few.1) in
     let plain = plain-line type body digit short bytes in
-    let emitted : line_result Srec (line_of type body) ≡ emitted_of (addr, row) =
+    let meant : line_result Srec (line_of type body) ≡ emitted_of (addr, row) =
     emits-line type body digit short bytes
     ∙ ap (record_meaning Srec) (typed-data size body ∙ addressed-low type (width_of size) addr row low)
     ∙ meant-data size addr row in search (rules, lines-written, lines-results size end rows fits all.1)

@@ -12,7 +12,7 @@ use Rattle.stk_frame.specs.declared.command.Command.TheVariants.{SignOn}
 use Rattle.stk_host.specs.declared.fault.HostFault.{HostFault}
 use Rattle.stk_host.specs.declared.fault.StepFault.TheVariants.{NoAnswer}
 use Rattle.stk_host.specs.Tape.{Reading}
-use Rattle.stk_host.proofs.Dialogs.Logic.{World, HoldsFrom, Upholds, NoOutput, OnReply, done, emit, ask, bind, notice, wider, call, attempts}
+use Rattle.stk_host.proofs.Dialogs.Logic.{World, HoldsFrom, Upholds, NoOutput, OnReply, done, emit, ask, bind, outcome_mapped, wider, call, attempts}
 use Rattle.stk_host.specs.Dialog.{Dialog, Done, ◌>>=◌}
 use Rattle.stk_host.specs.Steps.{exchange, Reply, Data, Again, Stop, reply_from_reading, with_data, attempt, StepOutcome, step, unless_step_fault, play}
 use Rattle.stk_host.specs.ReadSteps.{signature_steps}
@@ -25,11 +25,11 @@ use Rattle.avr_session.specs.PlanSteps.{action_steps, actions_steps, run_steps}
 use Rattle.avr_tool.proofs.Plans.Calls.{call_of, dialog_is}
 use Rattle.avr_tool.specs.OverFaultyLink.{Weight, total_weight, bodies_in}
 
--- what is left of a budget after each question, whatever is read
+-- what is left of a budget after each command, whatever is read
 abbrev pub budget : Weight → World ℕ Reading
 budget w = record { reads = λ asked left reading. reading; after = λ asked left reading. left - w asked }
 
--- the questions weigh at most `n`, whatever is read
+-- the commands weigh at most `n`, whatever is read
 abbrev pub WeighsAtMost : {E R : Type 0} → Weight → ℕ → Dialog E R → Type 0
 WeighsAtMost w n d = HoldsFrom (budget w) (λ asked left. w asked ≤ left) (λ e left. Unit {0}) (λ r left. Unit {0}) d n
 
@@ -121,12 +121,12 @@ module _ (w : Weight) where
   operation_spends : {A : Type 0} (steps : List (List Command)) (judge : List ℕ → Result A HostFault)
       → Spends (4 * total steps) (operation steps judge)
   unfolding operation
-  operation_spends steps judge k left le = notice (checked_by judge) (play_spends steps [] k left le) (λ o t e. e)
+  operation_spends steps judge k left le = outcome_mapped (checked_by judge) (play_spends steps [] k left le) (λ o t e. e)
 
   opening_spends : (signature : List ℕ) (force : Bool) → Spends (4 * total opening_steps) (opening signature force)
   unfolding opening handshake
   opening_spends signature force k left le =
-      notice (signature_checked signature force)
+      outcome_mapped (signature_checked signature force)
       (then_spends (SignOn ∷ []) ((enter ∷ []) ∷ signature_steps)
       (λ name. step (enter ∷ []) >>= unless_step_fault (λ nothing. play signature_steps []))
       (λ name. search (rules, then_spends, play_spends)) k left le)
@@ -136,7 +136,7 @@ module _ (w : Weight) where
   unfolding closing
   closing_spends k left le =
       let size = weighed_append (map body (leave ∷ [])) [] in
-      notice without_bytes (step_spends (leave ∷ []) k left (omega (arith, le, size))) (λ o t e. e)
+      outcome_mapped without_bytes (step_spends (leave ∷ []) k left (omega (arith, le, size))) (λ o t e. e)
 
   -- ---- the actions of a session
 
@@ -177,7 +177,7 @@ module _ (w : Weight) where
 
     ending_costs : (at : Standing) → Costs (4 * total closing_steps) (ending part s at)
     ending_costs NoFault = reported_costs (4 * total closing_steps) closing (closing_output s.quiet part) closing_spends
-    ending_costs Faulty = λ k left le. notice (λ closed. Over)
+    ending_costs Faulty = λ k left le. outcome_mapped (λ closed. Over)
         (reported_costs (4 * total closing_steps) closing (λ _. []) closing_spends k left le) (λ a t e. e)
     ending_costs Over = λ k left le. done (omega (arith, le))
 
@@ -188,7 +188,7 @@ module _ (w : Weight) where
       let s = plan.switches in
       let n = 4 * total closing_steps in
       let size = total_on (actions_steps part (actions plan)) closing_steps in
-      (notice {After = λ r rest. Unit {0}} status_of
+      (outcome_mapped {After = λ r rest. Unit {0}} status_of
       (bind (actions_cost part s (actions plan) n (4 * total (run_steps plan)) (omega (arith, size)))
       (λ at t e. ending_costs part s at 0 t (omega (arith, e))))
       (λ at t e. tt)).holds

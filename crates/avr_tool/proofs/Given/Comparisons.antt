@@ -4,7 +4,7 @@ use Rattle.std.proofs.lemmas.Bool.{eq-eqb, cond-true}
 use Rattle.std.specs.Prelude.{◌==◌}
 use Rattle.stk_host.specs.Operations.{difference_from, signature_checked}
 use Rattle.stk_emu.specs.Effect.{Image}
-use Rattle.stk_emu.specs.Given.{HoldsImage}
+use Rattle.stk_emu.specs.StepData.{HoldsImage}
 
 same_byte : (addr want found : ℕ) (image : Image) (bytes : List ℕ)
     → difference_from addr (Some want ∷ image) (found ∷ bytes) ≡ None

@@ -10,7 +10,7 @@ use Rattle.stk_host.specs.Places.{each_from}
 use Rattle.stk_host.specs.ReadSteps.{read_count, read_step, read_steps}
 use Rattle.stk_emu.specs.Effect.{Memories, memory_in}
 use Rattle.stk_emu.specs.Settled.{FitsPart}
-use Rattle.stk_emu.specs.Given.{data_of_steps}
+use Rattle.stk_emu.specs.StepData.{data_of_steps}
 
 block_join : (xs : List ℕ) (start size : ℕ) → length xs ≡ size
     → take (min 256 (size - start)) (drop start xs) ++ drop (start + 256) xs ≡ drop start xs

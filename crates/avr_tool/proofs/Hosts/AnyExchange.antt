@@ -1,4 +1,4 @@
--- A device behind a link that may make any exchange of any question, in the logic of dialogs: attempts and steps of a
+-- A device behind a link that may make any exchange of any command, in the logic of dialogs: attempts and steps of a
 -- host.
 use Rattle.std.proofs.Common.{◌≡◌, ℕ, zero, suc, List, [], ◌∷◌, ◌++◌, length, refl, ◌⊎◌, inl, inr, Ok, Err, rules}
 use Rattle.stk_frame.specs.declared.command.Command.{Command}
@@ -13,11 +13,11 @@ use Rattle.stk_emu.specs.Exchange.{Exchange, Execution, NotExecuted, Executed, T
 use Rattle.stk_emu.specs.Exchange.{after_execution, after_exchange, reading_of_exchange, first_exchange, later_exchanges}
 use Rattle.stk_emu.specs.Device.{Device}
 use Rattle.stk_emu.specs.DialogOverExchanges.{state_after}
-use Rattle.stk_emu.specs.Fits.{after_commands, IsRepeatable}
-use Rattle.stk_emu.specs.Given.{on_data, joined_reply, reply_to, IsDataOfAttempt}
+use Rattle.stk_emu.specs.Repeatable.{after_commands, IsRepeatable}
+use Rattle.stk_emu.specs.StepData.{on_data, joined_reply, reply_to, IsDataOfAttempt}
 use Rattle.avr_tool.proofs.Leads.{Leads}
 
--- What holds at each move holds along all links, so no list of exchanges and no count of questions is needed.
+-- What holds at each move holds along all links, so no list of exchanges and no count of commands is needed.
 abbrev pub over_any_exchange : {P : Type 0} → Device P → World P Exchange
 over_any_exchange m = record {
   reads = λ bytes p one_exchange. reading_of_exchange one_exchange (m.answer bytes p);

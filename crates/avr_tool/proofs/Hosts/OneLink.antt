@@ -25,7 +25,7 @@ module _ (m : Device Programmer) where
   abbrev pub Runs : {R : Type 0} → (Spot → Type 0) → (R → Spot → Type 0) → Dialog ⊥ R → Spot → Type 0
   Runs During After d z = Upholds this_link (λ bytes y. During y) NoOutput After d z
 
-  -- the programmer and the exchanges after `k` questions
+  -- the programmer and the exchanges after `k` commands
   abbrev pub spot : {E R : Type 0} → ℕ → Dialog E R → Spot → Spot
   spot k d z = let s = state_after m k d z.0 z.1 in (s.programmer, s.exchanges)
 

@@ -12,14 +12,14 @@ use Rattle.stk_host.specs.Dialog.{Dialog, Done, ◌>>=◌}
 use Rattle.stk_host.specs.Steps.{StepOutcome, step, unless_step_fault, play}
 use Rattle.stk_host.specs.ReadSteps.{signature_steps}
 use Rattle.stk_host.specs.Operations.{host_fault, handshake, without_bytes, closing, checked_by, operation}
-use Rattle.stk_host.proofs.Dialogs.Logic.{OnOutcome, done, bind, notice, wider, on_data}
+use Rattle.stk_host.proofs.Dialogs.Logic.{OnOutcome, done, bind, outcome_mapped, wider, on_data}
 use Rattle.stk_emu.specs.Exchange.{Exchange}
 use Rattle.stk_emu.specs.Programmer.{Programmer}
 use Rattle.stk_emu.specs.Device.{Device, device}
 use Rattle.stk_emu.specs.DialogOverExchanges.{StateAfter, state_after}
 use Rattle.stk_emu.specs.Effect.{Memories}
-use Rattle.stk_emu.specs.Fits.{IsRepeatable}
-use Rattle.stk_emu.specs.Given.{data_of_step, data_of_steps, IsDataOfAttempt}
+use Rattle.stk_emu.specs.Repeatable.{IsRepeatable}
+use Rattle.stk_emu.specs.StepData.{data_of_step, data_of_steps, IsDataOfAttempt}
 use Rattle.stk_emu.specs.Settled.{HasMemories, Settled, FitsPart}
 use Rattle.avr_part.specs.declared.part.Mem.TheVariants.{Signature}
 use Rattle.stk_emu.specs.WriteOperations.{memories_after_step, memories_after_steps, AreSteps}
@@ -84,7 +84,7 @@ module _ (part : Part) (sound : IsPart part) where
       (p : Programmer) → AreSteps part steps → FitsPart part m → Settled part m p
       → Keeps device (Reached part steps m) (AfterCall steps m judge) (operation steps judge) p
   unfolding operation
-  operation_goes {A = A} steps m judge p are f s = notice (checked_by judge) (play_goes steps m [] p are f s) verdict
+  operation_goes {A = A} steps m judge p are f s = outcome_mapped (checked_by judge) (play_goes steps m [] p are f s) verdict
     where
       verdict : (o : StepOutcome) (q : Programmer) → AfterSteps part steps m [] o q
           → AfterCall steps m judge (checked_by judge o) q
@@ -122,7 +122,7 @@ pub closing_goes : (Stands : Programmer → Type 0) → IsRepeatable device (lea
     → Stands p → Keeps device Stands (λ r q. Stands q × IsClosed r) closing p
 unfolding closing
 closing_goes Stands fits p stands =
-    notice without_bytes (step_leads device (leave ∷ []) Stands Stands fits Stands (λ o q. Stands q) p (λ q i. i)
+    outcome_mapped without_bytes (step_leads device (leave ∷ []) Stands Stands fits Stands (λ o q. Stands q) p (λ q i. i)
     (λ q i. i) (λ fault q i. i) stands) left
   where
     left : (o : StepOutcome) (q : Programmer)
@@ -146,4 +146,4 @@ module _ {E P : Type 0} (m : Device P) where
   pub along_reported : {A B : Type 0} (k : ℕ) (d : Dialog E A) (report_line : A → B) (p : P) (exchanges : List Exchange)
       → state_after m k (d >>= (λ a. Done (report_line a))) p exchanges
       ≡ reported report_line (state_after m k d p exchanges)
-  along_reported {A = A} {B = B} k d report_line p exchanges = search (rules, along_bind, notice, along_next_dialog)
+  along_reported {A = A} {B = B} k d report_line p exchanges = search (rules, along_bind, outcome_mapped, along_next_dialog)

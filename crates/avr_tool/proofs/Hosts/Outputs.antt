@@ -1,4 +1,4 @@
--- Dialogs over one link, by their output: what holds at each question, and when they are done.
+-- Dialogs over one link, by their output: what holds at each command, and when they are done.
 use Rattle.std.proofs.Common.{◌≡◌, ℕ, zero, suc, List, [], ◌∷◌, ◌++◌, sym, subst, Result, rules}
 use Rattle.std.proofs.lemmas.List.{append-nil}
 use Rattle.std.specs.Prelude.{⊤}
@@ -37,7 +37,7 @@ Moment = List OutputEvent → Spot → Type 0
 abbrev pub End : Type 0 → Type 1
 End R = R → List OutputEvent → Spot → Type 0
 
--- both, after `k` questions along the link
+-- both, after `k` commands along the link
 pub record Printed {R : Type 0} (Now : Moment) (After : End R) (k : ℕ) (d : Dialog OutputEvent R) (z : Spot) : Type
     0 where
   pub now : Now (outputs_after device k d z.0 z.1) (spot device k d z)
@@ -45,7 +45,7 @@ pub record Printed {R : Type 0} (Now : Moment) (After : End R) (k : ℕ) (d : Di
       → After r (outputs_after device k d z.0 z.1) (spot device k d z)
 
 module _ (True : OutputEvent → Programmer → Type 0) where
-  -- Each output event is true when it is printed. The first condition holds at each question, the second at the end.
+  -- Each output event is true when it is printed. The first condition holds at each command, the second at the end.
   abbrev pub PrintsFrom : {R : Type 0} → Moment → End R → Dialog OutputEvent R → Spot → Type 0
   PrintsFrom Now After (Done r) z = After r [] z
   PrintsFrom Now After (Emit output d) z =

@@ -70,7 +70,7 @@ due_at d n tape bytes (Taken more ∷ before) after items half_duplex = absurd (
 due_at d n tape bytes (Got got ∷ before) after items half_duplex =
     search (rules, append_assoc, due_at d n (tape ++ got) bytes before after items half_duplex.1)
 
--- A transcript in turn never listens while nothing waits, so in a run over all that was brought each question got its
+-- A transcript in turn never listens while nothing waits, so in a run over all that was brought each command got its
 -- reply.
 pub never_idle : {E R : Type 0} (d : Dialog E R) (n : ℕ) (p : Programmer) (fates : List Fate) (transcript : Transcript)
     → SendsValidBodies d → AreLawful fates → InTurn d (progress_at n []) transcript → NeverIdle p fates transcript

@@ -33,7 +33,7 @@ pub record GoesOver {E R P : Type 0} (m : Device P) (d : Dialog E R) (n : ℕ) (
       (executions_of_fates j w.fates)
 
 module _ {P : Type 0} (m : Device P) (answers : RepliesFitFrames m) where
-  -- a question whose reply came, by its own exchange
+  -- a command whose reply came, by its own exchange
   answered : {E R : Type 0} (bytes : List ℕ) (go_on : Reading → Dialog E R) (n : ℕ) (w : Wire P) (sent : List (List ℕ))
       (exchanges : List Exchange)
       → answer n (tape_of m (frame n bytes ∷ sent) w)

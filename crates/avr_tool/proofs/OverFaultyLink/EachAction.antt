@@ -9,7 +9,7 @@ use Rattle.avr_session.specs.Lines.{fault_line}
 use Rattle.avr_session.specs.PlanSteps.{action_steps}
 use Rattle.avr_session.specs.Session.{standing, unless_fault, action_dialog, actions_dialog}
 use Rattle.avr_session.specs.Standing.{Standing, NoFault}
-use Rattle.stk_host.proofs.Dialogs.Logic.{notice, wider}
+use Rattle.stk_host.proofs.Dialogs.Logic.{outcome_mapped, wider}
 use Rattle.stk_host.specs.declared.fault.HostFault.{HostFault}
 use Rattle.stk_host.specs.declared.fault.StepFault.{StepFault}
 use Rattle.stk_host.specs.declared.fault.StepFault.TheVariants as of_step
@@ -63,7 +63,7 @@ module _ (part : Part) (s : Switches) (At : Memories → Spot → Type 0) (Fails
     pub faulty : at ≡ NoFault → ⊥
     pub line : OutputToFault part s actions m emitted
 
-  -- at each question of these actions; then after them
+  -- at each command of these actions; then after them
   abbrev pub Now : List Action → Memories → List OutputEvent → Spot → Type 0
   Now actions m emitted z = RestsIn part (actions_items actions) m z × FirstActionsOutput part s actions m emitted
 
@@ -124,7 +124,7 @@ module _ (part : Part) (sound : IsPart part) (s : Switches) where
       → ComesAnyhow OpenSession m p
   unfolding opening
   opening_comes m f p idle =
-      notice (signature_checked part.signature s.force)
+      outcome_mapped (signature_checked part.signature s.force)
       (wider (λ bytes q i. rests_here part [] m q i) (λ e q x. x) (λ o q x. x)
       (beginning_goes part sound m p f idle)) came
     where
@@ -209,7 +209,7 @@ module _ (part : Part) (sound : IsPart part) (s : Switches) (True : OutputEvent 
                   faulty = subst (λ x. standing x ≡ NoFault → ⊥) (sym broke.1.1)
                       (after_fault (Outcome action) (λ at. at ≡ NoFault → ⊥) (host_fault fault) faulty_fine over_fine);
                   line = record {
-                    notice = [];
+                    before_fault = [];
                     first = none_done (action ∷ rest) m;
                     fault = fault;
                     output_events_are = line;
@@ -252,11 +252,11 @@ module _ (part : Part) (sound : IsPart part) (s : Switches) (True : OutputEvent 
               fails = broken.fails;
               faulty = broken.faulty;
               line = record {
-                notice = emitted ++ line.notice;
-                first = first_behind line.notice line.first;
+                before_fault = emitted ++ line.before_fault;
+                first = first_behind line.before_fault line.first;
                 fault = line.fault;
                 output_events_are = ap (λ y. emitted ++ y) line.output_events_are
-                    ∙ sym (append_assoc emitted line.notice (fault_output part line.fault));
+                    ∙ sym (append_assoc emitted line.before_fault (fault_output part line.fault));
               };
             }),
           )

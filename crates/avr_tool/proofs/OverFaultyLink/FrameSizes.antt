@@ -51,7 +51,7 @@ module _ (part : Part) (sound : IsPart part) where
   actions_sendable [] fits = tt
   actions_sendable (action ∷ actions) fits = search (rules, each_on, action_sendable, actions_sendable actions fits.1)
 
--- every question of a session
+-- every command of a session
 pub session_asks : (plan : Plan) → IsPart plan.part → All (IsFitted plan.part) plan.tasks
     → SendsValidBodies (session plan)
 session_asks plan sound fitted =

@@ -24,7 +24,7 @@ use Rattle.avr_session.specs.Actions.{Action, OpenSession, EraseChip, WriteImage
 use Rattle.avr_session.specs.PlanSteps.{action_steps}
 use Rattle.avr_session.specs.Session.{reported, closing_output, action_dialog, actions_dialog, ending, session_dialog, status_of, session}
 use Rattle.avr_tool.specs.Items.{action_items, actions_items, items}
-use Rattle.avr_tool.specs.Made.{none_made, action_made, actions_made, operations_completed}
+use Rattle.avr_tool.specs.Completed.{none_made, action_made, actions_made, operations_completed}
 use Rattle.avr_tool.specs.Outcome.{write_operations}
 use Rattle.avr_tool.proofs.Plans.Fits.{FitsAction, AllFitActions, work, work_fits, action_items_fit}
 use Rattle.avr_tool.proofs.OverFaultyLink.FirstSteps.{Rests, rests_here, effects_sizes}

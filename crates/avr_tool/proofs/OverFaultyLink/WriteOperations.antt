@@ -26,7 +26,7 @@ use Rattle.stk_emu.proofs.Answers.Commands.{settled_idle}
 use Rattle.avr_tool.proofs.WriteOperations.Counts.{tallies_none, tallies_as, tallies_bind, steps_all, tallies_play, none_left}
 use Rattle.avr_session.specs.Standing.{Standing, NoFault}
 use Rattle.avr_session.specs.Session.{reported, unless_fault}
-use Rattle.avr_tool.specs.Made.{none_made, made_unless_fault, steps_completed}
+use Rattle.avr_tool.specs.Completed.{none_made, made_unless_fault, steps_completed}
 use Rattle.avr_tool.proofs.OverFaultyLink.FirstSteps.{Rests, changed_min, changed_prefix, changed_behind, all_on, all_changed}
 use Rattle.avr_tool.proofs.OverFaultyLink.Calls.{reported_programmer, reported_fine}
 
@@ -139,7 +139,7 @@ module _ (part : Part) (sound : IsPart part) where
     abbrev At : ℕ → Programmer → Type 0
     At = Changed part (xs ++ ys) m
 
-    -- if it is fine, it made all its write operations before the last question of what follows
+    -- if it is fine, it made all its write operations before the last command of what follows
     whole : (k : ℕ) → (state_after device k d p exchanges).dialog ≡ Done NoFault → first.tally.count k
         ≡ length (steps_of_items part xs)
     whole k e = search rules

@@ -20,7 +20,7 @@ use Rattle.stk_host.specs.ReadSteps.{read_steps}
 use Rattle.stk_host.specs.Steps.{play}
 use Rattle.stk_host.specs.WriteSteps.{write_steps}
 use Rattle.stk_emu.specs.Effect.{Memories, Erase, Write, effects, memory_in}
-use Rattle.stk_emu.specs.Given.{data_of_steps}
+use Rattle.stk_emu.specs.StepData.{data_of_steps}
 use Rattle.stk_emu.specs.WriteOperations.{memories_after_steps, steps_of_items, AreSteps}
 use Rattle.stk_emu.specs.Settled.{FitsPart}
 use Rattle.avr_tool.proofs.OverFaultyLink.FirstSteps.{quiet_stays, read_quiet}

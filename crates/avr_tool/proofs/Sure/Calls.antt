@@ -16,7 +16,7 @@ use Rattle.stk_host.specs.Operations.{checked_by, signature_checked, without_byt
 use Rattle.stk_emu.proofs.Answers.Commands.{ready_idle, ready_settled}
 use Rattle.stk_emu.specs.Device.{device}
 use Rattle.stk_emu.specs.Effect.{Memories, effects}
-use Rattle.stk_emu.specs.Given.{data_of_steps}
+use Rattle.stk_emu.specs.StepData.{data_of_steps}
 use Rattle.stk_emu.specs.WriteOperations.{memories_after_steps}
 use Rattle.stk_emu.specs.Settled.{HasMemories, Ready, FitsPart}
 use Rattle.stk_emu.specs.Exchange.{Exchange}

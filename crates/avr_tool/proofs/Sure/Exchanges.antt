@@ -6,15 +6,15 @@ use Rattle.avr_part.specs.Part.{Part, IsPart}
 use Rattle.stk_frame.specs.declared.command.Command.{Command}
 use Rattle.stk_host.specs.Dialog.{Dialog, Done, ◌>>=◌}
 use Rattle.stk_host.specs.Steps.{Data, step, unless_step_fault, play}
-use Rattle.stk_host.proofs.Dialogs.Logic.{done, bind, notice}
+use Rattle.stk_host.proofs.Dialogs.Logic.{done, bind, outcome_mapped}
 use Rattle.stk_emu.specs.Exchange.{Exchange}
 use Rattle.stk_emu.specs.Programmer.{Programmer}
 use Rattle.stk_emu.specs.Device.{device}
 use Rattle.stk_emu.specs.Effect.{Memories}
-use Rattle.stk_emu.specs.Fits.{IsRepeatable}
+use Rattle.stk_emu.specs.Repeatable.{IsRepeatable}
 use Rattle.stk_emu.specs.Settled.{Ready, FitsPart}
 use Rattle.stk_emu.specs.WriteOperations.{memories_after_step, memories_after_steps, IsStep, AreSteps}
-use Rattle.stk_emu.specs.Given.{joined_reply, data_of_step, data_of_steps}
+use Rattle.stk_emu.specs.StepData.{joined_reply, data_of_step, data_of_steps}
 use Rattle.avr_tool.proofs.Hosts.OneLink.{Spot, Runs}
 use Rattle.stk_emu.proofs.Answers.Commands.{steady}
 use Rattle.avr_tool.proofs.WriteOperations.Steps.{step_ready}
@@ -43,7 +43,7 @@ module _ (Such : List Exchange → Type 0) where
       → Type 0) → Brings Such Before d a After → Brings Such Before (d >>= (λ outcome. Done (report_line outcome)))
       (report_line a) After
   brings_reported d report_line a Before After l z before such =
-      notice report_line (l z before such) (λ got y x. ((ap report_line x.0.0, x.0.1), x.1))
+      outcome_mapped report_line (l z before such) (λ got y x. ((ap report_line x.0.0, x.0.1), x.1))
 
 -- ---- the steps of a host
 

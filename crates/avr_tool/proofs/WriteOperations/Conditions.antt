@@ -7,11 +7,11 @@ use Rattle.stk_emu.specs.Exchange.{Exchange}
 use Rattle.stk_emu.specs.Device.{Device}
 use Rattle.stk_emu.specs.DialogOverExchanges.{StateAfter, state_after}
 use Rattle.avr_tool.proofs.Leads.{AllFit, AreSome, Climbs}
-use Rattle.avr_tool.specs.Made.{step_count, steps_completed}
+use Rattle.avr_tool.specs.Completed.{step_count, steps_completed}
 use Rattle.avr_tool.proofs.Hosts.Attempts.{along_bind, along_next_dialog, step_stands, Stepped}
 
 module _ {P : Type 0} (m : Device P) where
-  -- a dialog that is done with questions to spare was done without the last
+  -- a dialog that is done with commands to spare was done without the last
   pub along_before : {E R : Type 0} (k left : ℕ) (d : Dialog E R) (p : P) (exchanges : List Exchange) (r : R)
       → (state_after m (suc k) d p exchanges).dialog ≡ Done r → (state_after m (suc k) d p exchanges).left ≡ suc left
       → state_after m k d p exchanges ≡ record {
@@ -38,7 +38,7 @@ module _ {P : Type 0} (m : Device P) where
         (count : ℕ) × (done ≤ count) × (count ≤ suc before) × (At count s.programmer)
         × ((bytes : List ℕ) → s.dialog ≡ Done (Ok bytes) → count ≡ total)
 
-    -- the rest after a step that gave data, by how many questions are left
+    -- the rest after a step that gave data, by how many commands are left
     behind : (left k : ℕ) (steps : List (List Command)) (commands : List Command) (p : P) (exchanges : List Exchange)
         (bytes : List ℕ) (t : StateAfter ⊥ StepOutcome P)
         → (state_after m (suc k) (step commands) p exchanges).dialog ≡ Done (Ok bytes)

@@ -10,7 +10,7 @@ use Rattle.stk_emu.specs.Device.{Device, device}
 use Rattle.stk_emu.specs.DialogOverExchanges.{StateAfter, state_after}
 use Rattle.stk_emu.specs.Effect.{Memories}
 use Rattle.stk_emu.specs.Settled.{Settled}
-use Rattle.avr_tool.specs.Made.{step_count, steps_completed}
+use Rattle.avr_tool.specs.Completed.{step_count, steps_completed}
 use Rattle.avr_tool.proofs.Leads.{Climbs, GoesOn}
 use Rattle.stk_emu.specs.WriteOperations.{memories_after_steps, AreSteps}
 use Rattle.avr_tool.specs.Tallies.{Count, with_next, then_count, Tallies}
@@ -134,7 +134,7 @@ module _ (part : Part) (steps : List (List Command)) (m : Memories) (before : Li
       (state_after device k (play steps before) p exchanges)
   climbs k = steps_climb part steps m k before p exchanges sound are s
 
-  -- if it was completed, all its write operations were, before the last question of what follows
+  -- if it was completed, all its write operations were, before the last command of what follows
   play_sharp : (k l : ℕ) (got : List ℕ) → (state_after device k (play steps before) p exchanges).dialog ≡ Done (Ok got)
       → (state_after device k (play steps before) p exchanges).left ≡ suc l
       → (climbs k).count ≤ steps_completed device steps (k - 1) p exchanges
@@ -146,7 +146,7 @@ module _ (part : Part) (steps : List (List Command)) (m : Memories) (before : Li
       in
       search rules
 
-  -- a run of steps; if it was completed, all its write operations were, before the last question of what follows
+  -- a run of steps; if it was completed, all its write operations were, before the last command of what follows
   pub tallies_play : (t : Tallies device (play steps before) (steps_completed device steps)
       (λ j. Settled part (memories_after_steps part j steps m)) p exchanges)
       × ((k l : ℕ) (got : List ℕ) → (state_after device k (play steps before) p exchanges).dialog ≡ Done (Ok got)

@@ -12,7 +12,7 @@ use Rattle.stk_frame.specs.HostCommands.{enter, leave, erase, program_fuse, prog
 use Rattle.stk_frame.proofs.DecodedBodies.{read_back}
 use Rattle.stk_emu.specs.Programmer.{Programmer, Response, execute, execute_command, execute_decoded}
 use Rattle.stk_emu.specs.Device.{Device, device}
-use Rattle.stk_emu.specs.Fits.{after_commands, IsRepeatable}
+use Rattle.stk_emu.specs.Repeatable.{after_commands, IsRepeatable}
 use Rattle.stk_emu.specs.Effect.{Memories}
 use Rattle.stk_emu.specs.WriteOperations.{memories_after_step}
 use Rattle.stk_emu.specs.Settled.{HasMemories, Settled, Ready}

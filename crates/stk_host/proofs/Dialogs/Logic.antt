@@ -81,10 +81,10 @@ module _ {E S M : Type 0} {w : World S M} {Asks : List ℕ → S → Type 0} {Ma
   bind {Between = Between} {After = After} {d = d} {next = next} {s = s} l more = search (rules, on_bind)
 
   -- a result that is only returned in another form
-  pub notice : {A B : Type 0} {Between : A → S → Type 0} {After : B → S → Type 0} {d : Dialog E A} {s : S}
+  pub outcome_mapped : {A B : Type 0} {Between : A → S → Type 0} {After : B → S → Type 0} {d : Dialog E A} {s : S}
       (report_line : A → B) → Upholds w Asks MayEmit Between d s → ((a : A) (t : S) → Between a t
       → After (report_line a) t) → Upholds w Asks MayEmit After (d >>= (λ a. Done (report_line a))) s
-  notice report_line l more = bind l (λ a t b. done (more a t b))
+  outcome_mapped report_line l more = bind l (λ a t b. done (more a t b))
 
   -- conditions that follow
   pub wider : {R : Type 0} {Asks' : List ℕ → S → Type 0} {MayEmit' : E → S → Type 0} {After After' : R → S → Type 0}

@@ -13,7 +13,7 @@ use Rattle.stk_host.specs.declared.fault.HostFault.{HostFault}
 use Rattle.stk_host.specs.declared.fault.HostFault.TheVariants.{SendFailed, RecvFailed}
 use Rattle.stk_host.specs.Play.{Progress, RunsOverLink, BreaksOverLink}
 use Rattle.stk_host.specs.Reach.{Reaches, SendsExactly, SendsOnlyPart, ReceivesReply, ReceivesNoReply}
-use Rattle.stk_host.specs.declared.conversation.Reply as emitted
+use Rattle.stk_host.specs.declared.conversation.Reply as in_code
 use Rattle.stk_host.specs.declared.conversation.Reply.TheVariants as replies
 use Rattle.stk_host.specs.State.{ConversationState}
 use Rattle.stk_host.specs.Calls.{ReturnsReply, reply_of}
@@ -30,15 +30,15 @@ pub exchange_done : (seq then : ℕ) (command : Command) {u v : List ℕ} {o p q
     → RunsOverLink (exchange command) (record { next = seq; unread = u }) o q (reply_from_reading command reading)
     (record { next = then; unread = v })
 unfolding exchange
-exchange_done seq then command {u = u} {v = v} {o = o} {p = p} {q = q} {reading = reading} emits receives_next is same =
+exchange_done seq then command {u = u} {v = v} {o = o} {p = p} {q = q} {reading = reading} sends receives is same =
     record {
-      during = emits.during ++ receives_next.during;
+      during = sends.during ++ receives.during;
       events = Frame (frame seq (body command)) ∷ [];
-      grows = grows_on o.transcript p.transcript q.transcript emits.during receives_next.during emits.grows
-          receives_next.grows;
+      grows = grows_on o.transcript p.transcript q.transcript sends.during receives.during sends.grows
+          receives.grows;
       plays = rw is (plays_from (leads_ask (body command) (λ r. Done (reply_from_reading command r)) seq u v
-          emits.during receives_next.during reading emits.quiet emits.none_taken emits.bytes_sent receives_next.waits
-          receives_next.answers));
+          sends.during receives.during reading sends.quiet sends.none_taken sends.bytes_sent receives.waits
+          receives.answers));
       sound = same;
     }
 
@@ -46,10 +46,10 @@ pub exchange_unsent : (seq : ℕ) (command : Command) (u : List ℕ) {o p : Link
     → SendsOnlyPart (frame seq (body command)) o.transcript p.transcript → HasFailed o p
     → BreaksOverLink SendFailed (exchange command) (record { next = seq; unread = u }) o p
 unfolding exchange
-exchange_unsent seq command u emits failed = record {
-  during = emits.during;
-  shown = Frame emits.part ∷ [];
-  grows = emits.grows;
+exchange_unsent seq command u sends failed = record {
+  during = sends.during;
+  shown = Frame sends.part ∷ [];
+  grows = sends.grows;
   breaks = search (rules, breaks_asking);
   failed = failed;
 }
@@ -58,11 +58,11 @@ pub exchange_unreceived : (seq : ℕ) (command : Command) {u : List ℕ} {o p q 
     → SendsExactly (frame seq (body command)) o.transcript p.transcript → ReceivesNoReply seq u p q → HasFailed o q
     → BreaksOverLink RecvFailed (exchange command) (record { next = seq; unread = u }) o q
 unfolding exchange
-exchange_unreceived seq command {u = u} {o = o} {p = p} {q = q} emits receives_next failed = record {
-  during = emits.during ++ receives_next.during;
+exchange_unreceived seq command {u = u} {o = o} {p = p} {q = q} sends receives failed = record {
+  during = sends.during ++ receives.during;
   shown = Frame (frame seq (body command)) ∷ [];
-  grows = grows_on o.transcript p.transcript q.transcript emits.during receives_next.during emits.grows
-      receives_next.grows;
+  grows = grows_on o.transcript p.transcript q.transcript sends.during receives.during sends.grows
+      receives.grows;
   breaks = search (rules, breaks_listening);
   failed = failed;
 }
@@ -82,7 +82,7 @@ unfolding attempt
 attempt_off command commands f = broken_bind (with_data (λ bytes. attempt commands ([] ++ bytes))) f
 
 -- an attempt of one command
-by_reply : (last : Command) (reply : emitted.Reply) (bytes : List ℕ) {m n : Progress} {o q : LinkState}
+by_reply : (last : Command) (reply : in_code.Reply) (bytes : List ℕ) {m n : Progress} {o q : LinkState}
     → RunsOverLink (exchange last) m o q (reply_of reply bytes) n
     → RunsOverLink (attempt (last ∷ []) []) m o q (reply_of reply bytes) n
 unfolding attempt
@@ -90,7 +90,7 @@ by_reply last replies.Data bytes e = played_from (attempt_on last [] [] (Data by
 by_reply last reply bytes e = played_from (attempt_on last [] [] (reply_of reply bytes) e)
 
 pub gets_one : {L : Type 0} {link : Ghosts L} (last : Command) (m n : ConversationState) (o q : L)
-    (result : Result emitted.Reply HostFault)
+    (result : Result in_code.Reply HostFault)
     → ReturnsReply link (exchange last) last m n o q result → ReturnsReply link (attempt (last ∷ []) []) last m n o q
     result
 gets_one last m n o q (Ok reply) f = search (rules, by_reply)
@@ -98,7 +98,7 @@ gets_one last m n o q (Err fault) f = search (rules, attempt_off)
 
 -- an attempt of two commands, whose first got a reply without data
 pub gets_last : {L : Type 0} {link : Ghosts L} (first last : Command) (m n after : ConversationState) (o p q : L)
-    (was : emitted.Reply) (none : List ℕ) (result : Result emitted.Reply HostFault)
+    (was : in_code.Reply) (none : List ℕ) (result : Result in_code.Reply HostFault)
     → RunsOverLink (exchange first) m.progress (link.view o) (link.view p) (reply_of was none) n.progress
     → Preserves link.started_as o p → was ≡ replies.Data → none ≡ [] → ReturnsReply link (exchange last) last n after p
     q result → ReturnsReply link (attempt (first ∷ last ∷ []) []) last m after o q result
@@ -109,7 +109,7 @@ gets_last {link = link} first last m n after o p q was none result f stays is no
         (link.view p)
     begun = attempt_on first (last ∷ []) [] (Data []) (rw (is, nothing) at f)
 
-    by_result : (result : Result emitted.Reply HostFault) → ReturnsReply link (attempt (last ∷ []) []) last n after p q
+    by_result : (result : Result in_code.Reply HostFault) → ReturnsReply link (attempt (last ∷ []) []) last n after p q
         result → ReturnsReply link (attempt (first ∷ last ∷ []) []) last m after o q result
     by_result (Ok reply) e = record {
       ok = played_from (reaches_on begun (reaches_from e.ok));
@@ -129,7 +129,7 @@ gets_last {link = link} first last m n after o p q was none result f stays is no
     }
 
 -- an attempt whose first command brought no data
-pub gets_short : (first last : Command) (was : emitted.Reply) (none bytes : List ℕ) {m n : Progress} {o p : LinkState}
+pub gets_short : (first last : Command) (was : in_code.Reply) (none bytes : List ℕ) {m n : Progress} {o p : LinkState}
     → RunsOverLink (exchange first) m o p (reply_of was none) n → (was ≡ replies.Data → ⊥)
     → RunsOverLink (attempt (first ∷ last ∷ []) []) m o p (reply_of was bytes) n
 gets_short first last replies.Data none bytes f short = absurd (short refl)
@@ -164,17 +164,17 @@ module _ {a : Dialog ⊥ StepOutcome} {l seq : Progress} {j o : LinkState} {k : 
       → Reaches a l j (retry_or_end (attempts_or_fault more commands) reply) n q
   try reply f = reaches_on next_try (tries_on more commands last reply f)
 
-  pub try_again : {n : Progress} {q : LinkState} {fault : StepFault} {reply : emitted.Reply} (bytes : List ℕ)
+  pub try_again : {n : Progress} {q : LinkState} {fault : StepFault} {reply : in_code.Reply} (bytes : List ℕ)
       → RunsOverLink (attempt commands []) seq o q (reply_of reply bytes) n → reply ≡ replies.Again fault
       → Reaches a l j (attempts_or_fault more commands fault) n q
   try_again {fault = fault} bytes f again = try (Again fault) (rw again at f)
 
-  pub try_data : {n : Progress} {q : LinkState} {bytes : List ℕ} {reply : emitted.Reply}
+  pub try_data : {n : Progress} {q : LinkState} {bytes : List ℕ} {reply : in_code.Reply}
       → RunsOverLink (attempt commands []) seq o q (reply_of reply bytes) n → reply ≡ replies.Data
       → RunsOverLink a l j q (Ok bytes) n
   try_data {bytes = bytes} f is_data = played_from (try (Data bytes) (rw is_data at f))
 
-  pub try_stop : {n : Progress} {q : LinkState} {fault : StepFault} {reply : emitted.Reply} (bytes : List ℕ)
+  pub try_stop : {n : Progress} {q : LinkState} {fault : StepFault} {reply : in_code.Reply} (bytes : List ℕ)
       → RunsOverLink (attempt commands []) seq o q (reply_of reply bytes) n → reply ≡ replies.Stop fault
       → RunsOverLink a l j q (Err fault) n
   try_stop {fault = fault} bytes f stop = played_from (try (Stop fault) (rw stop at f))

@@ -9,14 +9,14 @@ loop-count-init g c = search (rules, begins)
 
 pub returns-in-Silence : goal.returns-in-Silence
 returns-in-Silence g c =
-    let receives_next = heard_silence c.loop-count.invariant.listening (c.is_empty.ensures.0 c.if-is_empty.true)
+    let receives = heard_silence c.loop-count.invariant.listening (c.is_empty.ensures.0 c.if-is_empty.true)
     (omega arith)
     c.in-Silence.is c.in_ok-receive_piece.ensures.ok in
     search rules
 
 pub returns-in-End : goal.returns-in-End
 returns-in-End g c =
-    let receives_next = heard_end c.loop-count.invariant.listening (c.is_empty.ensures.0 c.if-is_empty.true)
+    let receives = heard_end c.loop-count.invariant.listening (c.is_empty.ensures.0 c.if-is_empty.true)
     (omega arith)
     c.in-End.is c.in_ok-receive_piece.ensures.ok in
     search rules
@@ -46,7 +46,7 @@ returns-then-is_answer g c =
     ] in
     let read = read_on _ (4096 - c.loop-count.count) _ c.prefix.ensures c.feed-used.ensures.within
     c.consume.ensures.left c.feed-used.ensures.fed in
-    let receives_next = finds _ _ _ _ l read.0 (c.is_answer.ensures.yes c.if-is_answer.true)
+    let receives = finds _ _ _ _ l read.0 (c.is_answer.ensures.yes c.if-is_answer.true)
     (omega (arith, read.1)) in
     search rules
 
@@ -80,5 +80,5 @@ loop-count-preserved g c =
 
 pub returns : goal.returns
 returns g c =
-    let receives_next = babbles c.loop-count.invariant.listening (omega arith) in
+    let receives = babbles c.loop-count.invariant.listening (omega arith) in
     search rules

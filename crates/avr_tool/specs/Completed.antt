@@ -24,7 +24,7 @@ step_count (Done (Err fault)) more = 0
 step_count (Emit e dialog) more = 0
 step_count (Ask bytes go_on) more = 0
 
--- The number of steps completed after `k` questions along the link, by what its exchanges bring, not by what was
+-- The number of steps completed after `k` commands along the link, by what its exchanges bring, not by what was
 -- received.
 abbrev pub steps_completed : {P : Type 0} → Device P → List (List Command) → ℕ → P → List Exchange → ℕ
 steps_completed m [] k p exchanges = 0

@@ -4,7 +4,7 @@ use Rattle.stk_frame.specs.declared.command.Command.{Command}
 use Rattle.stk_frame.specs.Commands.{body}
 use Rattle.stk_host.specs.Steps.{Data}
 use Rattle.stk_emu.specs.Device.{Device}
-use Rattle.stk_emu.specs.Given.{joined_reply}
+use Rattle.stk_emu.specs.StepData.{joined_reply}
 
 -- The device after the first `i` commands.
 abbrev pub after_commands : {P : Type 0} → Device P → ℕ → List Command → P → P
