@@ -39,7 +39,7 @@ def what_check_quotes():
     tried = re.search(r"^    \$ rt must-fail (\w+)$", page, re.M)[1]
     see("the mutant is of that crate", f"crates/{tried}/must-fail/any_sequence.edit" in files, files)
     words = lambda it: " ".join(it.split())
-    quoted = [it for it in page.splitlines() if it.startswith("    ") and not it.startswith(("    $", "    fn ", "    only="))]
+    quoted = [it for it in page.splitlines() if it.startswith("    ") and not it.startswith(("    $", "    fn "))]
     # (the drawing quotes nothing)
     drawn = page[page.index("    the chip holds your images") : page.index("    your board")] + "    your board"
     quoted = [it for it in quoted if it not in drawn.splitlines()]
@@ -47,7 +47,14 @@ def what_check_quotes():
     known = {words(row) for it in crates for row in it.read_text().splitlines()} | {words(PROVED)}
     for row in quoted:
         see(f"is in the sources: {row.strip()}", words(row) in known)
-    see("quotes something", len(quoted) > 20, quoted)
+    # what the tables of the claim read out, but for what `..` stands for
+    laws = [it for name in ("avr_laws", "avr_tool") for it in (TOP / "crates" / name).glob("s*/*") if it.suffix in (".rt", ".antt")]
+    stated = words(" ".join(it.read_text() for it in laws))
+    claim = page[page.index("\n## The claim") : page.index("\n## Prove it")]
+    cells = [it for row in re.findall(r"^\| (.*?) \| ", claim, re.M) for it in re.findall("`([^`]*)`", row) if not it.endswith(":")]
+    for part in (part for it in cells for part in it.split("..")):
+        see(f"is in the sources: {part}", words(part) in stated)
+    see("quotes something", len(quoted) > 8 and len(cells) > 20, (quoted, cells))
 
 
 def the_first_change():
@@ -99,9 +106,10 @@ def the_logic():
     if not shutil.which("rt"):
         return leave_out("the sum of the logic", "rt is not installed")
     ran = subprocess.run(["rt", "version"], capture_output=True, text=True)
-    for page in ("README.md", "docs/PROOFS.md", "docs/CHECK.md", "docs/LIBRARY.md"):
+    for page in ("README.md", *(f"docs/{it.name}" for it in sorted(TOP.glob("docs/*.md")))):
         sums = set(re.findall(r"logic\s+([0-9a-f]{16})", text(page)))
-        see(f"the logic that {page} names", sums and sums <= set(ran.stdout.split()), (sums, ran.stdout))
+        if sums or page in ("README.md", "docs/CHECK.md", "docs/LIBRARY.md"):
+            see(f"the logic that {page} names", sums and sums <= set(ran.stdout.split()), (sums, ran.stdout))
 
 
 if __name__ == "__main__":

@@ -158,7 +158,7 @@ install -m 644 "$top/docs/PACKAGE.md" "$docs/README.md"
 # (the commands as an installed program has them; only the text of a link to what the package doesn't have)
 for it in USAGE EMULATOR TROUBLESHOOTING BOARDS WHY PART PARTS PROTOCOL FORMATS; do
     sed -E 's,^(    \$ )\./,\1,; s,examples/blink.hex,/usr/share/doc/avrstk/&,
-        s,\[([^]]*)\]\((\.\.|PROOFS|PROMISE|CHECK|ARCHITECTURE|LIBRARY|DECISIONS)[^)]*\),\1,g' "$top/docs/$it.md" >"$docs/$it.md"
+        s,\[([^]]*)\]\((\.\.|PROOFS|PROMISES|CHECK|ARCHITECTURE|LIBRARY|DECISIONS)[^)]*\),\1,g' "$top/docs/$it.md" >"$docs/$it.md"
 done
 (cd "$all" && sha256sum "${programs[@]#"$all/"}") >>"$docs/built-from"
 

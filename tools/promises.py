@@ -4,7 +4,7 @@
     tools/promises.py             fails if the page is out of date
     tools/promises.py --write     writes the tables
 
-A law has its first sentences, and a call the definitions that its contract names.
+A law has its first sentence. A call has the statements that its contract names; if it names none, the functions.
 """
 
 import re
@@ -17,24 +17,18 @@ from reach import FILES, named_in
 PAGE = TOP / "docs/PROMISES.md"
 CRATES = ("avr_laws", "avr_tool", "avr_session", "avr_plan")
 CALLS = ("avr_tool", "avr_session")
-# a row has the sentences of a comment that fit into this many characters, and the first one in any case
-ROOM = 130
 MADE = re.compile(r"(<!-- made: (\w+) -->\n).*?(<!-- end -->\n)", re.S)
 
 
 def begun(doc):
-    """Returns the first sentences of a comment."""
+    """Returns the first sentence of a comment, without its full stop."""
     shown = re.sub(r"\[(`[^`]*`)\](?:\([^)]*\))?", r"\1", " ".join(doc).split(" # ")[0].split("```")[0])
-    sentences = re.split(r"(?<=[.:]) +(?=[A-Z`])", shown.strip())
-    kept = sentences[:1]
-    for it in sentences[1:]:
-        if len(" ".join(kept)) + len(it) > ROOM:
-            break
-        kept.append(it)
-    return " ".join(kept).removeprefix("States that ").removeprefix("States ").replace("|", "\\|")
+    first = re.split(r"(?<=\.) +(?=[A-Z`])", shown.strip())[0]
+    return first.removeprefix("States that ").removeprefix("States ").removesuffix(".").replace("|", "\\|")
 
 
 def laws():
+    """Yields the rows of the laws: those of avr_laws, then those of the crates below."""
     yield from ["| Law | What it states |", "| --- | --- |"]
     for crate in CRATES:
         for it in sorted(exports(crate)[0]):
@@ -43,13 +37,15 @@ def laws():
 
 
 def calls():
-    yield from ["| Call | What it does | Definitions |", "| --- | --- | --- |"]
+    """Yields the rows of the calls. The name of a statement begins with a capital letter."""
+    yield from ["| Call | Its contract names |", "| --- | --- |"]
     for crate in CALLS:
         for it in exports(crate)[0]:
             named = {place for place in named_in(*it.place, "\n".join(it.contract)) if place} if it.kind == "fn" else ()
-            own = [f"`{file}.{name}`" for of, file, name in sorted(named) if of == crate]
+            own = [(file, name) for of, file, name in sorted(named) if of == crate]
             if own:
-                yield f"| `{it.name}` of {crate} | {begun(it.doc)} | {', '.join(own)} |"
+                shown = [f"`{file}.{name}`" for file, name in [at for at in own if at[1][0].isupper()] or own]
+                yield f"| `{it.name}` of {crate} | {', '.join(shown)} |"
 
 
 def page():

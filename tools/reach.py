@@ -20,7 +20,7 @@ from pathlib import Path
 TOP = Path(__file__).resolve().parent.parent
 PAGE, README = TOP / "docs/PROOFS.md", TOP / "README.md"
 # the documents whose names are looked for
-NAMING = ("PROOFS", "PROMISES", "PROMISE", "CHECK", "LIBRARY")
+NAMING = ("PROOFS", "PROMISES", "CHECK", "LIBRARY")
 TABLE = "| Sentence | Definition | Definitions | Lines |"
 
 HEADER = re.compile(r"^\s*(?:(?:abbrev|unfoldable) pub|pub (?:record|data)) (\S+)")

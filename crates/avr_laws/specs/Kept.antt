@@ -1,5 +1,5 @@
 -- THE PROMISE: what status 0 means for the chip and the desk, over a link that forges no frame. It is stated by what
--- was sent and received alone. docs/PROMISE.md reads it out.
+-- was sent and received alone. docs/CHECK.md reads it out.
 use Rattle.std.specs.Prelude.{◌≡◌, ℕ, false, not, List, [], ◌∷◌, ◌++◌, filter, take, if◌then◌else◌}
 use Rattle.avr_cli.specs.declared.settings.Switches.{Switches}
 use Rattle.avr_desk.specs.Named.{is_dash}

@@ -1,4 +1,4 @@
--- THE PROMISE, to be read alone: what the files hold after a run over the emulator with status 0. docs/PROMISE.md reads
+-- THE PROMISE, to be read alone: what the files hold after a run over the emulator with status 0. docs/CHECK.md reads
 -- it out.
 use Rattle.std.specs.Prelude.{◌≡◌, false, Some}
 use Rattle.avr_cli.specs.declared.settings.Settings.{Settings}

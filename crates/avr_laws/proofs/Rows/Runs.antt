@@ -1,4 +1,4 @@
--- What the promise refuses: worked wrong outcomes of its two laws. docs/PROMISE.md lists them.
+-- What the promise refuses: worked wrong outcomes of its two laws. docs/CHECK.md lists them.
 use Rattle.std.proofs.Common.{◌≡◌, ◌∙◌, ap, refl, sym, arith, ℕ, suc, Bool, true, false, ◌≤◌, List, [], ◌∷◌, ◌++◌, length, Option, Some, None, Ok, subst, rules}
 use Rattle.std.specs.Prelude.{codes, get_or, if◌then◌else◌, unwrap_or}
 use Rattle.std.specs.Str.{bytes_eq}
