@@ -2,6 +2,7 @@
 its tool isn't installed."""
 
 import os
+import random
 import signal
 import sys
 import time
@@ -63,7 +64,7 @@ def wait_until(is_there):
     while not (found := is_there()):
         if time.monotonic() > ends:
             raise TimeoutError("what is waited for does not come")
-        time.sleep(0.002)
+        time.sleep(0.005)
     return found
 
 
@@ -73,6 +74,15 @@ def table(name):
     rows = [[it.strip() for it in f"{row} ".split(" | ")] for row in text.splitlines() if not row.startswith("#")]
     assert len({len(it) for it in rows}) == 1, f"tables/{name}.txt is empty, or its rows differ in length"
     return rows
+
+
+def drawn(what, most, given):
+    """Returns all that is given. If SAMPLE has a seed, as in `./test`, returns at most so many, and prints the seed."""
+    given, seed = list(given), os.environ.get("SAMPLE")
+    if not seed or len(given) <= most:
+        return given
+    print(f"{what}: {most} of {len(given)} are tried, drawn by SAMPLE={seed}", flush=True)
+    return [given[at] for at in sorted(random.Random(f"{what} {seed}").sample(range(len(given)), most))]
 
 
 def named(*functions):
@@ -95,16 +105,19 @@ def run_cases(cases, doc, timed=()):
         return 2
     wrong = set()
     for name in chosen(cases):
-        before, failed_before, left_before = passed, failed, left
+        before, failed_before, left_before, begun = passed, failed, left, time.monotonic()
         try:
             cases[name]()
         except (Exception, SystemExit):
             see(name, False, traceback.format_exc().strip())
         if (passed, failed, left) == (before, failed_before, left_before):
             see(name, False, "it has looked at nothing")
-        print(f"{passed - before:6} seen: {name}", flush=True)
+        print(f"{passed - before:6} seen in {time.monotonic() - begun:.1f} s: {name}", flush=True)
         wrong |= {name} if failed > failed_before else set()
-    return ended() and (LATE if wrong and wrong <= set(timed) else 1)
+    is_late = wrong and wrong <= set(timed)
+    if is_late:
+        print(f"late: {' | '.join(wrong)}", flush=True)
+    return ended() and (LATE if is_late else 1)
 
 
 def ended():

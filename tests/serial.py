@@ -32,7 +32,7 @@ from concurrent.futures import ThreadPoolExecutor
 from functools import lru_cache
 from pathlib import Path
 
-from cases import PATIENCE, leave_out, named, run_cases, same, see, table, wait_until
+from cases import PATIENCE, drawn, leave_out, named, run_cases, same, see, table, wait_until
 from line import frames_in, frames_of
 from program import PROGRAM, SESSION, TOP, Room, Server, forks, frame, has_avrdude, kept_port, lines, listens_at, port_of, read_whole
 from records import hex_of
@@ -74,7 +74,7 @@ class Board:
 
     def live(self):
         while not is_open(self.line):
-            if self.stopped.wait(0.001):
+            if self.stopped.wait(0.005):
                 return
         self.opened = 1
         self.talks() if self.talk else self.answers()
@@ -338,7 +338,8 @@ def refused():
     cases = [(shlex.split(words), wanted) for words, wanted in table("refused")]
 
     def ran(words):
-        it = Board()
+        # (a device without a programmer)
+        it = Board(talk=b".")
         part = [] if words[:1] == ["-e"] else ["-p", "m328p"]
         status, output, _, own = run([*part, "-P", it.device, *words])
         own = [row for row in own if not row.endswith("is read as Intel HEX (:i)")]
@@ -355,9 +356,11 @@ def no_firmware():
     why = {**dict.fromkeys(TEXTS, "is text without records: name its format"), **dict.fromkeys(EMPTY, "is empty (did its build fail?)")}
     for name, content in {**TEXTS, **EMPTY}.items():
         room.put(name, content)
-        for update in [f"flash:w:{name}", f"eeprom:v:{name}", f"flash:w:{name}:{'a' if name in TEXTS else 'i'}"]:
-            found = run(["-p", "m328p", "-P", "emu:no.bin", "-U", update])
-            same(update, found, (1, b"", b"", [f"{name} {why[name]}: {UNOPENED}"]))
+    updates = [f"{it}{name}" for name in why for it in ("flash:w:", "eeprom:v:")]
+    updates += [f"flash:w:{name}:{'a' if name in TEXTS else 'i'}" for name in why]
+    for update, found in zip(updates, side_by_side(lambda it: run(["-p", "m328p", "-P", "emu:no.bin", "-U", it]), updates)):
+        name = update.split(":")[2]
+        same(update, found, (1, b"", b"", [f"{name} {why[name]}: {UNOPENED}"]))
     status, *_ = run(["-p", "m328p", "-P", "emu:no.bin", "-U", "eeprom:w:m.c:r"])
     same("a text as raw bytes", (status, room.read("no.bin")[32_768:][: len(TEXTS["m.c"])]), (0, TEXTS["m.c"]))
 
@@ -1028,6 +1031,7 @@ def hints_over_each_memory():
     more = {"flash": [["-D"], ["-c", "wiring", "-D"]], "eeprom": []}
     words = {it: [[], *more.get(it.split(":")[0], [["--parts", "mine.toml"]])] for it in updates}
     cases = [(update, kind, it) for update, kind in itertools.product(updates, kinds) for it in words[update]]
+    cases = drawn("hints over each memory", 30, cases)
     for it, (is_right, found) in zip(cases, side_by_side(right, cases)):
         see(f"{it}: the chip", is_right, found)
 
@@ -1050,11 +1054,9 @@ def hints_that_are_followed():
         "amid.hex": rows[0] + b"# a note\n" + b"".join(rows[1:]),
         "long.hex": rows[0].strip() + b"0" * 600 + b"\n" + b"".join(rows[1:]),
     }
-    for name, text in bad.items():
-        room.put(name, text)
-        for words in [flash(name), flash(f"{name}:i"), flash(name, "-D", "-V")]:
-            same(f"{name}: one hint", len(walk(name, words, ends, **again(name))), 1)
-            room.put(name, text)
+    for name, (form, *words) in drawn("hints of damaged files", 7, itertools.product(bad, [[""], [":i"], ["", "-D", "-V"]])):
+        room.put(name, bad[name])
+        same(f"{name}{form} {words}: one hint", len(walk(name, flash(f"{name}{form}", *words), ends, **again(name))), 1)
     room.put("srec.hex", room.read("blink.srec"))
     walk("srec.hex", flash("srec.hex"), ends)
     room.put("hex.srec", good)
@@ -1235,7 +1237,8 @@ def settings_that_are_kept():
 def devices_that_go():
     """Tests a device that disappears while the script waits for its board."""
     line, device = terminal()
-    started = start([*FLASH, "-P", device, "--wait", "1"])
+    # (avrstk sends SIGN_ON once a second: not when the wait ends)
+    started = start([*FLASH, "-P", device, "--wait", "0.5"])
     wait_until(lambda: is_open(line))
     os.close(line)
     _, told = started.communicate(timeout=PATIENCE)
