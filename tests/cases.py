@@ -58,13 +58,13 @@ def leave_out(what, why):
     print(f"left out: {what}: {why}", flush=True)
 
 
-def wait_until(is_there):
-    """Waits until this call returns something true, and returns that."""
+def wait_until(is_there, pause=0.005):
+    """Waits until this call returns something true, and returns that. It is called after each pause."""
     ends = time.monotonic() + PATIENCE
     while not (found := is_there()):
         if time.monotonic() > ends:
             raise TimeoutError("what is waited for does not come")
-        time.sleep(0.005)
+        time.sleep(pause)
     return found
 
 
