@@ -1,7 +1,8 @@
 #!/usr/bin/env python3
 """Runs the tests side by side, each line of the log with the minutes so far.
 
-    tests/all.py             builds the program without proofs, and runs the quick scripts with it
+    tests/all.py             builds the program without proofs, and runs the quick scripts with it; of long lists of
+                             cases they try samples. Their seed is printed, and SAMPLE=SEED draws the same again
     tests/all.py NAME ..     runs these scripts, with the program that AVRSTK names, or the one that is built
     tests/all.py --all       proves everything (rt ci); beside it runs the scripts that need no proved program and, once
                              the program is proved, all scripts with it
@@ -319,6 +320,7 @@ def few():
 def everything():
     """Runs rt ci, and beside it, with half of the processors, first what needs no proved program and then all scripts.
     Returns the outcome of all steps, and the checks of rt ci."""
+    os.environ.pop("SAMPLE", None)
     proving, stamp = Proving(), stamper()
     # (a script that is run again finds the library for C too)
     with tempfile.TemporaryDirectory() as folder:

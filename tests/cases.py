@@ -114,13 +114,18 @@ def run_cases(cases, doc, timed=()):
             see(name, False, "it has looked at nothing")
         print(f"{passed - before:6} seen in {time.monotonic() - begun:.1f} s: {name}", flush=True)
         wrong |= {name} if failed > failed_before else set()
-    is_late = wrong and wrong <= set(timed)
+    is_late = wrong and wrong <= set(timed) and not lacks()
     if is_late:
         print(f"late: {' | '.join(wrong)}", flush=True)
     return ended() and (LATE if is_late else 1)
 
 
 def ended():
-    """Prints the counts and returns the status: 1 if a check failed, or if one was left out and NEED_ALL is 1."""
+    """Prints the counts and returns the status: 1 if a check failed or is lacking."""
     print(f"{passed} passed, {failed} failed, {left} left out", flush=True)
-    return int(failed > 0 or (left > 0 and os.environ.get("NEED_ALL") == "1"))
+    return int(failed > 0 or lacks())
+
+
+def lacks():
+    """Returns whether a check was left out and NEED_ALL is 1."""
+    return left > 0 and os.environ.get("NEED_ALL") == "1"
