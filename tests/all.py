@@ -1,14 +1,15 @@
 #!/usr/bin/env python3
 """Runs the tests side by side, each line of the log with the minutes so far.
 
-    tests/all.py             builds the program without proofs, and runs the quick scripts with it
+    tests/all.py             builds the program without proofs, and runs the quick scripts with it; of long lists of
+                             cases they try samples. Their seed is printed, and SAMPLE=SEED draws the same again
     tests/all.py NAME ..     runs these scripts, with the program that AVRSTK names, or the one that is built
     tests/all.py --all       proves everything (rt ci); beside it runs the scripts that need no proved program and, once
                              the program is proved, all scripts with it
 
-A script's output is printed when the script has ended. All steps run even if one fails; the status is then 1. A script
-in which only cases failed that measure time is run once more alone. Then that run counts, and the summary names it; at
-most two scripts are run again. The summary has each step's status, minutes, processor seconds and last line, the lines that report failures,
+A script's output is printed when the script has ended. All steps run even if one fails; the status is then 1. If in a
+script only cases failed that measure time, these cases are run once more, alone. Then that run counts, and the summary
+names it; at most two scripts are run again. The summary has each step's status, minutes, processor seconds and last line, the lines that report failures,
 and how the mutants were refused. It lists checks that were left out because a tool isn't installed (`./test --tools`
 installs the tools); with NEED_ALL=1 in the environment these are failures. --all also prints the processor seconds of
 each crate's checks, and of the whole as a ratio to those of stk_frame's first check: this ratio is the same on a slow
@@ -16,6 +17,7 @@ machine. The last line counts passed and failed checks of all steps.
 """
 
 import os
+import random
 import re
 import subprocess
 import sys
@@ -38,19 +40,19 @@ PROGRAMS = {it.parent.parent.name: it.parent.parent / "out" for it in TOP.glob("
 # scripts of tools/, which only read
 CHECKED = ("measure --check", "reach --check", "site --check", "man_pages", "promises", "tests_page")
 # scripts that run no program of this project, or compile it themselves; the longest first
-SOURCES = ("rattle tests", "rattle refused", "rattle examples", "rattle programs", "rattle names", "vendor", "build", "documents", *CHECKED)
+SOURCES = ("rattle tests", "build", "rattle examples", "rattle refused", "rattle programs", "vendor", "rattle names", "documents", *CHECKED)
 # scripts over the library for C, which takes minutes to prove and build, so that only --all runs them
 LIBRARY = ("from_c",)
 # scripts that take seconds
 SHORT = ("bad_lines", "made_frames", "manual")
 # scripts that ./test runs with the unproved program; the longest first
-QUICK = ("serial", "parts", "avrdude", "runs", "chips", "package", "serve", "recipes", "why", "lines", "hostile", *SHORT)
+QUICK = ("serial", "serve", "chips", "why", "hostile", "parts", "recipes", "avrdude", "runs", "lines", *SHORT)
 # those that --all runs with both programs: two compilers made what these compare byte for byte
 BOTH = ("runs", "lines")
 # counts of bench/run.py
 BENCH = ("calls", "count")
 # scripts that --all runs with the proved program; the longest first
-PROGRAM = ("faults", "mega", "vendor proof", *BENCH, *QUICK)
+PROGRAM = ("faults", "mega", "vendor proof", "package", *BENCH, *QUICK)
 
 LANES = len(os.sched_getaffinity(0))
 # scripts that no proof waits for give way to rt ci (but not what `rt try` starts, in a session of its own)
@@ -62,6 +64,8 @@ BEGUN = time.monotonic()
 # a script's lines about checks left out, and about passed and failed checks
 LEFT_OUT = re.compile(r"\s*(?:left out|skipped): (.*)")
 COUNTS = re.compile(r".*?(\d+) passed, (\d+) failed")
+# and about failed cases that measure time
+LATE_CASES = re.compile("late: (.*)")
 
 # the lines in which a script or rt reports a failure, and how many of them the summary repeats
 FAILURE = re.compile(r"(?:rt: )?FAILED: |.*(?:NOT PROVED|NOT REFUSED|BAD EDIT)")
@@ -154,16 +158,22 @@ def script(name, kind="", before=(), **environment):
     path = TOP / f"{'tools' if name in CHECKED else 'tests'}/{file}.py"
     command = [TOP / "bench/run.py", f"--{file}"] if file in BENCH else [path, *words]
     command = [*before, *command]
-    once = lambda again="": run(f"{kind}{name}{again}", command, PYTHONUNBUFFERED="1", **environment)
+    once = lambda more=(), again="": run(f"{kind}{name}{again}", [*command, *more], PYTHONUNBUFFERED="1", **environment)
     done = once()
-    done.again = lambda: once(AGAIN)
+    late = next(filter(None, map(LATE_CASES.fullmatch, done.lines)), None)
+    done.again = late and (lambda: once(late[1].split(" | "), f": {late[1]}{AGAIN}"))
     return done
 
 
 def settled(done):
-    """Returns the outcome of all steps. The first scripts that failed only at measuring time are run again alone."""
+    """Returns the outcome of all steps. Of the first scripts that failed only at measuring time, those cases are run again
+    alone."""
     late = [it for it in done if it.status == LATE and it.again][:MOST_AGAIN]
-    return [it.again() if it in late else it for it in done]
+    for it in late:
+        again = it.again()
+        again.lines = [*filter(LEFT_OUT.fullmatch, it.lines), *again.lines]
+        done[done.index(it)] = again
+    return done
 
 
 def build():
@@ -277,15 +287,16 @@ def stamper():
     return lambda: run("./avrstk --stamp proved", ["./avrstk", "--stamp", "proved", sources])
 
 
-def start_unproved(lanes, names):
-    """Starts the build of the unproved program, the scripts that need no program, and the named ones, which use it."""
+def start_unproved(lanes, over, names, before=()):
+    """Starts in `lanes` the build of the unproved program and the scripts that need no program; in `over` the named ones,
+    which use it."""
     built = lanes.submit(build)
 
     def over_it(name):
         return [script(name, "unproved: ", AVRSTK=str(UNPROVED))] if built.result().status == 0 else []
 
-    begun = [lanes.submit(lambda it: [script(it, before=LAST)], name) for name in SOURCES]
-    begun += [lanes.submit(over_it, name) for name in names]
+    begun = [lanes.submit(lambda it: [script(it, before=before)], name) for name in SOURCES]
+    begun += [over.submit(over_it, name) for name in names]
     return lambda: [built.result(), *(done for it in begun for done in it.result())]
 
 
@@ -297,21 +308,25 @@ def say_what_lacks():
 
 
 def few():
-    """Runs the quick scripts, one per processor."""
-    with ThreadPoolExecutor(LANES) as lanes:
-        done = start_unproved(lanes, QUICK)()
+    """Runs the quick scripts, one per processor, and beside these as many over the program, which mostly wait. They try
+    samples of what ./test --all tries whole."""
+    os.environ.setdefault("SAMPLE", str(random.randrange(10_000)))
+    say([f"samples are drawn by SAMPLE={os.environ['SAMPLE']}"])
+    with ThreadPoolExecutor(LANES) as lanes, ThreadPoolExecutor(LANES) as over:
+        done = start_unproved(lanes, over, QUICK)()
     return settled(done)
 
 
 def everything():
     """Runs rt ci, and beside it, with half of the processors, first what needs no proved program and then all scripts.
     Returns the outcome of all steps, and the checks of rt ci."""
+    os.environ.pop("SAMPLE", None)
     proving, stamp = Proving(), stamper()
     # (a script that is run again finds the library for C too)
     with tempfile.TemporaryDirectory() as folder:
         with ThreadPoolExecutor(2) as beside, ThreadPoolExecutor(max(1, LANES // 2)) as lanes:
             proof, over_c = beside.submit(proving.run), beside.submit(over_library, folder, proving)
-            others = start_unproved(lanes, BOTH)
+            others = start_unproved(lanes, lanes, BOTH, LAST)
             with_it = {"AVRSTK": str(PROVED), "PROVED_BY_CI": proving.wait_for(*PROGRAMS)}
             stamped = stamp()
             over_it = [lanes.submit(script, it, "proved: ", **with_it) for it in PROGRAM]

@@ -2,6 +2,7 @@
 its tool isn't installed."""
 
 import os
+import random
 import signal
 import sys
 import time
@@ -57,13 +58,13 @@ def leave_out(what, why):
     print(f"left out: {what}: {why}", flush=True)
 
 
-def wait_until(is_there):
-    """Waits until this call returns something true, and returns that."""
+def wait_until(is_there, pause=0.005):
+    """Waits until this call returns something true, and returns that. It is called after each pause."""
     ends = time.monotonic() + PATIENCE
     while not (found := is_there()):
         if time.monotonic() > ends:
             raise TimeoutError("what is waited for does not come")
-        time.sleep(0.002)
+        time.sleep(pause)
     return found
 
 
@@ -73,6 +74,15 @@ def table(name):
     rows = [[it.strip() for it in f"{row} ".split(" | ")] for row in text.splitlines() if not row.startswith("#")]
     assert len({len(it) for it in rows}) == 1, f"tables/{name}.txt is empty, or its rows differ in length"
     return rows
+
+
+def drawn(what, most, given):
+    """Returns all that is given. If SAMPLE has a seed, as in `./test`, returns at most so many, and prints the seed."""
+    given, seed = list(given), os.environ.get("SAMPLE")
+    if not seed or len(given) <= most:
+        return given
+    print(f"{what}: {most} of {len(given)} are tried, drawn by SAMPLE={seed}", flush=True)
+    return [given[at] for at in sorted(random.Random(f"{what} {seed}").sample(range(len(given)), most))]
 
 
 def named(*functions):
@@ -95,19 +105,27 @@ def run_cases(cases, doc, timed=()):
         return 2
     wrong = set()
     for name in chosen(cases):
-        before, failed_before, left_before = passed, failed, left
+        before, failed_before, left_before, begun = passed, failed, left, time.monotonic()
         try:
             cases[name]()
         except (Exception, SystemExit):
             see(name, False, traceback.format_exc().strip())
         if (passed, failed, left) == (before, failed_before, left_before):
             see(name, False, "it has looked at nothing")
-        print(f"{passed - before:6} seen: {name}", flush=True)
+        print(f"{passed - before:6} seen in {time.monotonic() - begun:.1f} s: {name}", flush=True)
         wrong |= {name} if failed > failed_before else set()
-    return ended() and (LATE if wrong and wrong <= set(timed) else 1)
+    is_late = wrong and wrong <= set(timed) and not lacks()
+    if is_late:
+        print(f"late: {' | '.join(wrong)}", flush=True)
+    return ended() and (LATE if is_late else 1)
 
 
 def ended():
-    """Prints the counts and returns the status: 1 if a check failed, or if one was left out and NEED_ALL is 1."""
+    """Prints the counts and returns the status: 1 if a check failed or is lacking."""
     print(f"{passed} passed, {failed} failed, {left} left out", flush=True)
-    return int(failed > 0 or (left > 0 and os.environ.get("NEED_ALL") == "1"))
+    return int(failed > 0 or lacks())
+
+
+def lacks():
+    """Returns whether a check was left out and NEED_ALL is 1."""
+    return left > 0 and os.environ.get("NEED_ALL") == "1"

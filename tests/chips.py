@@ -24,7 +24,7 @@ import tempfile
 import time
 from pathlib import Path
 
-from cases import PATIENCE, leave_out, named, run_cases, same, see, wait_until
+from cases import PATIENCE, drawn, leave_out, named, run_cases, same, see, wait_until
 from disk import calls_in, power_cuts
 from program import CHIP_FILE, FRAMES, PROGRAM, Room, Server, lines
 from records import hex_of
@@ -126,13 +126,14 @@ def each_power_cut():
         see("without the file's sync a chip may be torn", power_cuts(calls, old, os.path.join(FOLDER, NEW_FILE.name))[0] - {old, new})
         see("without the folder's sync the new chip may be lost", old in power_cuts(calls, old, FOLDER)[1])
         # (the last three are those of a file system without hard links, which does without)
-        for call, error in itertools.product(calls, ["EIO", "ENOENT", "EMFILE", "EPERM", "EOPNOTSUPP", "EMLINK"]):
-            if error[:2] in ["EI", "EN"] or error == "EMFILE" or call.name == "link":
-                status, _, failed = traced(prepare, writes_fuse(0x62), f"{call.name}:error={error}:when={call.number}")
-                is_safe(f"{what}: {error} at {call.name} {call.words[:80]}", old, status, failed)
-                stays = status == 1 and call.name in ["link", "rename"] and call.words.endswith('"chip.bin"')
-                see(f"{error} at {call.name}: the new file stays", room.read(NEW_FILE.name) == new) if stays else None
-                same(f"{error} at link: the run", status, 0) if error in ["EPERM", "EOPNOTSUPP", "EMLINK"] else None
+        errors = [it for it in itertools.product(calls, ["EIO", "ENOENT", "EMFILE"])]
+        errors += [it for it in itertools.product(calls, ["EPERM", "EOPNOTSUPP", "EMLINK"]) if it[0].name == "link"]
+        for call, error in drawn(f"{what}: failing calls", 20, errors):
+            status, _, failed = traced(prepare, writes_fuse(0x62), f"{call.name}:error={error}:when={call.number}")
+            is_safe(f"{what}: {error} at {call.name} {call.words[:80]}", old, status, failed)
+            stays = status == 1 and call.name in ["link", "rename"] and call.words.endswith('"chip.bin"')
+            see(f"{error} at {call.name}: the new file stays", room.read(NEW_FILE.name) == new) if stays else None
+            same(f"{error} at link: the run", status, 0) if error in ["EPERM", "EOPNOTSUPP", "EMLINK"] else None
 
 
 def ended_anywhere():

@@ -164,7 +164,8 @@ class Server:
         serving = ["-p", part, "--serve", str(self.port), "--chip", chip]
         self.started = room.start([*words, *serving], **more)
         if waits:
-            wait_until(lambda: listens_at(self.port) or self.started.poll() is not None)
+            # (the system's table of connections is long)
+            wait_until(lambda: listens_at(self.port) or self.started.poll() is not None, 0.02)
         if waits and self.started.poll() is not None:
             raise ConnectionRefusedError(f"nobody serves at port {self.port}: {self.stop()}")
 

@@ -32,7 +32,7 @@ from concurrent.futures import ThreadPoolExecutor
 from functools import lru_cache
 from pathlib import Path
 
-from cases import PATIENCE, leave_out, named, run_cases, same, see, table, wait_until
+from cases import PATIENCE, drawn, leave_out, named, run_cases, same, see, table, wait_until
 from line import frames_in, frames_of
 from program import PROGRAM, SESSION, TOP, Room, Server, forks, frame, has_avrdude, kept_port, lines, listens_at, port_of, read_whole
 from records import hex_of
@@ -74,7 +74,7 @@ class Board:
 
     def live(self):
         while not is_open(self.line):
-            if self.stopped.wait(0.001):
+            if self.stopped.wait(0.005):
                 return
         self.opened = 1
         self.talks() if self.talk else self.answers()
@@ -338,7 +338,8 @@ def refused():
     cases = [(shlex.split(words), wanted) for words, wanted in table("refused")]
 
     def ran(words):
-        it = Board()
+        # (a device without a programmer)
+        it = Board(talk=b".")
         part = [] if words[:1] == ["-e"] else ["-p", "m328p"]
         status, output, _, own = run([*part, "-P", it.device, *words])
         own = [row for row in own if not row.endswith("is read as Intel HEX (:i)")]
@@ -355,9 +356,11 @@ def no_firmware():
     why = {**dict.fromkeys(TEXTS, "is text without records: name its format"), **dict.fromkeys(EMPTY, "is empty (did its build fail?)")}
     for name, content in {**TEXTS, **EMPTY}.items():
         room.put(name, content)
-        for update in [f"flash:w:{name}", f"eeprom:v:{name}", f"flash:w:{name}:{'a' if name in TEXTS else 'i'}"]:
-            found = run(["-p", "m328p", "-P", "emu:no.bin", "-U", update])
-            same(update, found, (1, b"", b"", [f"{name} {why[name]}: {UNOPENED}"]))
+    updates = [f"{it}{name}" for name in why for it in ("flash:w:", "eeprom:v:")]
+    updates += [f"flash:w:{name}:{'a' if name in TEXTS else 'i'}" for name in why]
+    for update, found in zip(updates, side_by_side(lambda it: run(["-p", "m328p", "-P", "emu:no.bin", "-U", it]), updates)):
+        name = update.split(":")[2]
+        same(update, found, (1, b"", b"", [f"{name} {why[name]}: {UNOPENED}"]))
     status, *_ = run(["-p", "m328p", "-P", "emu:no.bin", "-U", "eeprom:w:m.c:r"])
     same("a text as raw bytes", (status, room.read("no.bin")[32_768:][: len(TEXTS["m.c"])]), (0, TEXTS["m.c"]))
 
@@ -972,7 +975,8 @@ def walk(name, words, end, **case):
     """Follows hints until a run ends well or a hint gives no command. The chip must be as `end` has it."""
     status, hints, found = followed(name, words, **case)
     see(f"{name}: it ends well", not status, hints)
-    see(f"{name}: the chip", found == end(found), [at for at in range(len(found)) if found[at] != end(found)[at]][:9])
+    wanted = end(found)
+    see(f"{name}: the chip", found == wanted, [at for at, (one, other) in enumerate(zip(found, wanted)) if one != other][:9])
     return hints
 
 
@@ -1028,6 +1032,7 @@ def hints_over_each_memory():
     more = {"flash": [["-D"], ["-c", "wiring", "-D"]], "eeprom": []}
     words = {it: [[], *more.get(it.split(":")[0], [["--parts", "mine.toml"]])] for it in updates}
     cases = [(update, kind, it) for update, kind in itertools.product(updates, kinds) for it in words[update]]
+    cases = drawn("hints over each memory", 30, cases)
     for it, (is_right, found) in zip(cases, side_by_side(right, cases)):
         see(f"{it}: the chip", is_right, found)
 
@@ -1038,8 +1043,6 @@ def hints_that_are_followed():
     image = bytes(it % 251 for it in range(700))
     old = bytes(it % 241 for it in range(32_768))
     rows = good.splitlines(True)
-    again = lambda file, text=good: {"again": lambda: room.put(file, text)}
-    ends = lambda chip: firmware
     flash = lambda file, *more: ["-p", "m328p", "-U", f"flash:w:{file}", *more]
     bad = {
         "sum.hex": good.replace(rows[1][9:11], b"00" if rows[1][9:11] != b"00" else b"01", 1),
@@ -1050,36 +1053,38 @@ def hints_that_are_followed():
         "amid.hex": rows[0] + b"# a note\n" + b"".join(rows[1:]),
         "long.hex": rows[0].strip() + b"0" * 600 + b"\n" + b"".join(rows[1:]),
     }
-    for name, text in bad.items():
-        room.put(name, text)
-        for words in [flash(name), flash(f"{name}:i"), flash(name, "-D", "-V")]:
-            same(f"{name}: one hint", len(walk(name, words, ends, **again(name))), 1)
-            room.put(name, text)
-    room.put("srec.hex", room.read("blink.srec"))
-    walk("srec.hex", flash("srec.hex"), ends)
-    room.put("hex.srec", good)
-    walk("hex.srec", flash("hex.srec"), ends)
-    room.put("big.hex", hex_of([(32_768, image)]))
+    walks = []
+
+    def follows(name, words, end=lambda chip: firmware, file=None, text=None, again=good, **case):
+        """Adds a walk, with a file of its own if there is a text for it."""
+        if file:
+            room.put(file, text)
+        walks.append((name, words, end, case | {"again": lambda: room.put(file, again)}))
+
+    ways = itertools.product(bad, [[""], [":i"], ["", "-D", "-V"]])
+    for number, (name, (form, *words)) in enumerate(drawn("hints of damaged files", 7, ways)):
+        follows(name, flash(f"{number}{name}{form}", *words), file=f"{number}{name}", text=bad[name])
+    follows("srec.hex", flash("srec.hex"), file="srec.hex", text=room.read("blink.srec"))
+    follows("hex.srec", flash("hex.srec"), file="hex.srec", text=good)
     big = lambda chip: b"\xff" * 32_768 + image + b"\xff" * (len(chip) - 32_768 - len(image))
-    found = walk("big.hex", flash("big.hex"), big, part="m2560", has="m2560")
-    same("big.hex", found[0][:45], "flash of m328p has 32,768 bytes; is -p right?")
+    follows("big.hex", flash("big.hex"), big, "big.hex", hex_of([(32_768, image)]), part="m2560", has="m2560")
     fused = lambda chip: chip[:-4] + b"\xe2" + chip[-3:]
-    walk("a value", ["-p", "m328p", "-U", "lfuse:w:0xE2"], fused)
-    walk("no number", ["-p", "m328p", "-U", "lfuse:w:E2:m"], fused)
+    follows("a value", ["-p", "m328p", "-U", "lfuse:w:0xE2"], fused)
+    follows("no number", ["-p", "m328p", "-U", "lfuse:w:E2:m"], fused)
     for text in ["flash:write:blink.hex:i", "flash:w:blink.hex:I"]:
-        walk(text, ["-p", "m328p", "-U", text], ends)
-    walk("a file alone", ["-p", "m328p", "blink.hex"], ends)
+        follows(text, ["-p", "m328p", "-U", text])
+    follows("a file alone", ["-p", "m328p", "blink.hex"])
     for memory in ["flash:v:blink.hex", "eeprom:v:0x01:m", "lfuse:v:0xE2:m", "lock:v:0x00:m"]:
-        walk(memory, ["-p", "m328p", "-U", memory], lambda chip: old + b"\xff" * 1028, chip=old + b"\xff" * 1028)
-    late = hex_of([(0x1000, image)])
-    merged = b"\xff" * 0x1000 + image
-    for words in [[], ["-D"], ["-e"], ["-c", "wiring"], ["-c", "wiring", "-D"]]:
-        room.put("late.hex", late)
-        board = {"server": Bootloader(old)}
-        wanted = lambda chip: merged[: 0x1000 + 768].ljust(0x1300, b"\xff") + old[0x1300:]
-        walk(f"a bootloader {words}", flash("late.hex", *words), wanted, board=board, loads=1, **again("late.hex", hex_of([(0, merged)])))
-    room.put("late.hex", late)
-    walk("-D", flash("late.hex", "-D"), with_flash(image, 0x1000), chip=old + b"\xff" * 1028)
+        follows(memory, ["-p", "m328p", "-U", memory], lambda chip: old + b"\xff" * 1028, chip=old + b"\xff" * 1028)
+    late, merged = hex_of([(0x1000, image)]), b"\xff" * 0x1000 + image
+    wanted = lambda chip: merged[: 0x1000 + 768].ljust(0x1300, b"\xff") + old[0x1300:]
+    for number, words in enumerate([[], ["-D"], ["-e"], ["-c", "wiring"], ["-c", "wiring", "-D"]]):
+        own = {"file": f"late{number}.hex", "text": late, "again": hex_of([(0, merged)])}
+        follows(f"a bootloader {words}", flash(own["file"], *words), wanted, board={"server": Bootloader(old)}, loads=1, **own)
+    follows("-D", flash("late.hex", "-D"), with_flash(image, 0x1000), "late.hex", late, chip=old + b"\xff" * 1028)
+    for (name, *_), hints in zip(walks, side_by_side(lambda it: walk(*it[:3], **it[3]), walks)):
+        same(f"{name}: one hint", len(hints), 1) if name in bad else None
+        same("big.hex", hints[0][:45], "flash of m328p has 32,768 bytes; is -p right?") if name == "big.hex" else None
 
 
 def signals():
@@ -1235,7 +1240,8 @@ def settings_that_are_kept():
 def devices_that_go():
     """Tests a device that disappears while the script waits for its board."""
     line, device = terminal()
-    started = start([*FLASH, "-P", device, "--wait", "1"])
+    # (avrstk sends SIGN_ON once a second: not when the wait ends)
+    started = start([*FLASH, "-P", device, "--wait", "0.5"])
     wait_until(lambda: is_open(line))
     os.close(line)
     _, told = started.communicate(timeout=PATIENCE)

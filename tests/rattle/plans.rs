@@ -253,19 +253,17 @@ fn faults_have_texts(rt: HostRuntime) -> Result<(), Fail> {
     Ok(())
 }
 
-/// A file of the format `i`: a record, then empty lines past the limit. Its line is judged first.
+/// A file of the format `i`: a record, then lines without a byte, and lines of blanks past the limit. Its line is judged
+/// first.
 #[test]
 fn empty_lines_past_the_limit(rt: HostRuntime) -> Result<(), Fail> {
     let alloc = rt.alloc();
     let rows = [
-        (":0100000011EF", "avrstk: error: a.hex: line 1: bad checksum\n"),
-        (":0100000011EE", "avrstk: error: a.hex: longer than 4194304 bytes\n"),
+        (":0100000011EF\n\n\n", "avrstk: error: a.hex: line 1: bad checksum\n"),
+        (":0100000011EE\n\n\n", "avrstk: error: a.hex: longer than 4194304 bytes\n"),
     ];
     for (record, line) in rows {
-        let mut text = vec![in alloc; b'\n'; 4_194_305]?;
-        for (place, byte) in record.as_bytes().iter().enumerate() {
-            text[place] = *byte;
-        }
+        let text = text_of(alloc, record.as_bytes(), EMPTY, 4_194_305)?;
         let mut asked = flash_of("a.hex");
         asked.format = Format::Ihex;
         assert!(rt; refuses(alloc, "a.hex", text.as_slice(), &asked, line)?);

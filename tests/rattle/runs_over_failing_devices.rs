@@ -241,11 +241,13 @@ fn each_call_of_the_link_fails(rt: HostRuntime) -> Result<(), Fail> {
     fail_each_link_call(&rt, rt.alloc(), &FUSE)
 }
 
+/// (only in ./test --all)
 #[test]
 fn each_call_of_the_link_fails_over_an_empty_flash(rt: HostRuntime) -> Result<(), Fail> {
     fail_each_link_call(&rt, rt.alloc(), &EMPTY_FLASH)
 }
 
+/// (only in ./test --all)
 #[test]
 fn each_call_of_the_link_fails_over_the_whole_eeprom(rt: HostRuntime) -> Result<(), Fail> {
     fail_each_link_call(&rt, rt.alloc(), &EEPROM)
