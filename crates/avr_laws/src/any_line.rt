@@ -47,7 +47,7 @@ ghost use Rattle.avr_tool.specs.Outcome.{write_operations};
 /// operations, in order. These are the completed ones, and perhaps one more.
 // Proof: avr_tool's `session_makes` (OverFaultyLink/WriteOperationOrder), by `makes_items`
 // (OverFaultyLink/WriteOperations).
-pub fn a_run_makes_its_page_writes_in_order()
+pub fn a_run_does_its_write_operations_in_order()
     ensures { (plan : Plan) (m : Memories) (p : Programmer) (exchanges : List Exchange)
         → IsPart plan.part → All (IsFitted plan.part) plan.tasks → FitsPart plan.part m → HasMemories plan.part m p
         → Tallies device (session plan) (operations_completed plan) (λ j q. memories_of q.chip
@@ -172,7 +172,7 @@ pub fn a_session_over_any_link()
 /// the expected run's, up to the line of a failed step. This holds also if the link fails.
 // Proof: `over_any_run` (AnyLink); its write operations are avr_tool's `session_makes`
 // (OverFaultyLink/WriteOperationOrder).
-pub fn whatever_becomes_of_a_session_its_first_page_writes_were_made()
+pub fn whatever_becomes_of_a_session_its_first_write_operations_were_done()
     ensures { (plan : Plan) (p : Programmer) (got : List ℕ) (later : List (List ℕ)) (executions : List Execution)
         (old new : Devices) (status : ℕ)
         → IsSoundChip p.chip → p.chip.part ≡ plan.part → All (IsFitted plan.part) plan.tasks

@@ -27,10 +27,10 @@ pub use again::{
     what_agrees_on_two_chips_agrees_on_all,
 };
 pub use any_line::{
-    a_run_makes_its_page_writes_in_order, a_run_sends_at_most_four_times_its_commands,
+    a_run_does_its_write_operations_in_order, a_run_sends_at_most_four_times_its_commands,
     a_run_times_out_at_most_once_for_each_frame, a_session_outputs_its_expected_run_up_to_a_fault,
     a_session_over_a_wire_can_be_believed, a_session_over_any_link, what_a_run_reports_is_true,
-    what_was_reported_was_true, whatever_becomes_of_a_session_its_first_page_writes_were_made,
+    what_was_reported_was_true, whatever_becomes_of_a_session_its_first_write_operations_were_done,
 };
 pub use chip_file::{
     a_further_run_over_its_chip_file_repairs, a_run_finds_and_leaves_the_chip_of_its_file,
@@ -62,10 +62,10 @@ pub use runs::{
     an_ended_run_and_one_with_status_0_are_as_one, status_0_means_the_images,
 };
 pub use two_processes::{
-    a_prompt_link_brings_the_expected_run, a_server_sends_the_answers_to_what_it_heard,
+    a_prompt_link_brings_the_expected_run, a_server_sends_the_replies_to_what_it_received,
     a_session_and_a_server_are_one_run, an_unordered_link_is_refused, two_processes_have_a_run,
     two_processes_never_both_wait, what_a_host_receives_of_a_server_is_authentic,
-    whatever_becomes_of_both_some_page_writes_were_made,
+    whatever_becomes_of_both_some_write_operations_were_done,
 };
 pub use written::{
     a_byte_of_flash_is_made_by_images, a_plan_writes_what_its_tasks_write,

@@ -33,7 +33,7 @@ ghost use Rattle.stk_host.specs.Tape.{Tape, bytes_on_tape};
 
 /// States that a server executes all frames that it takes, and sends a prefix of their replies. It takes a prefix of the
 /// bytes received. `all`: if it replied to all it received, it took and sent all.
-pub fn a_server_sends_the_answers_to_what_it_heard()
+pub fn a_server_sends_the_replies_to_what_it_received()
     ensures all { (p : Programmer) (transcript : Transcript) (left : EmulatorState)
         → RepliesToAll p [] (bytes_on_tape (heard transcript)) (sent transcript) left
         → (sent transcript ≡ answers device (frames (bytes_on_tape (heard transcript))) p)
@@ -134,7 +134,7 @@ pub fn a_prompt_link_brings_the_expected_run()
 
 /// States what the server's chip holds, whether the session ran whole or broke off, and however serving ended. It has
 /// the plan's first write operations: those completed by what was received, and at most one more.
-pub fn whatever_becomes_of_both_some_page_writes_were_made()
+pub fn whatever_becomes_of_both_some_write_operations_were_done()
     ensures { (plan : Plan) (s : Chip) (calls : List EndCall) (old new : Devices) (server_old server_new : Devices)
         (file : Bytes) (most status served_status : ℕ)
         → IsSoundChip s → s.part ≡ plan.part → All (IsFitted plan.part) plan.tasks

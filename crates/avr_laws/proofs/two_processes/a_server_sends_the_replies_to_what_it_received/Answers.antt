@@ -1,5 +1,5 @@
 use Rattle.avr_laws.proofs.TwoProcesses.Meeting.{has_served}
-use Rattle.avr_laws.proofs.two_processes.a_server_sends_the_answers_to_what_it_heard.Goals as goal
+use Rattle.avr_laws.proofs.two_processes.a_server_sends_the_replies_to_what_it_received.Goals as goal
 use Rattle.std.proofs.Common.{sym}
 
 pub returns-clause-all : goal.returns-clause-all
