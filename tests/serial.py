@@ -1241,8 +1241,10 @@ def devices_that_go():
     """Tests a device that disappears while the script waits for its board."""
     line, device = terminal()
     # (avrstk sends SIGN_ON once a second: not when the wait ends)
-    started = start([*FLASH, "-P", device, "--wait", "0.5"])
-    wait_until(lambda: is_open(line))
+    started = start([*FLASH, "-P", device, "-b", "57600", "--wait", "0.5"])
+    wait_until(lambda: speed(line) == (57_600, 57_600))
+    # (it reads its settings back before it waits)
+    time.sleep(0.1)
     os.close(line)
     _, told = started.communicate(timeout=PATIENCE)
     told = told.decode().splitlines()
