@@ -76,7 +76,7 @@ def table(name):
     return rows
 
 
-def drawn(what, most, given):
+def sampled(what, most, given):
     """Returns all that is given. If SAMPLE has a seed, as in `./test`, returns at most so many, and prints the seed."""
     given, seed = list(given), os.environ.get("SAMPLE")
     if not seed or len(given) <= most:

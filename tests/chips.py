@@ -24,7 +24,7 @@ import tempfile
 import time
 from pathlib import Path
 
-from cases import PATIENCE, drawn, leave_out, named, run_cases, same, see, wait_until
+from cases import PATIENCE, leave_out, named, run_cases, same, sampled, see, wait_until
 from disk import calls_in, power_cuts
 from program import CHIP_FILE, FRAMES, PROGRAM, Room, Server, lines
 from records import hex_of
@@ -128,7 +128,7 @@ def each_power_cut():
         # (the last three are those of a file system without hard links, which does without)
         errors = [it for it in itertools.product(calls, ["EIO", "ENOENT", "EMFILE"])]
         errors += [it for it in itertools.product(calls, ["EPERM", "EOPNOTSUPP", "EMLINK"]) if it[0].name == "link"]
-        for call, error in drawn(f"{what}: failing calls", 20, errors):
+        for call, error in sampled(f"{what}: failing calls", 20, errors):
             status, _, failed = traced(prepare, writes_fuse(0x62), f"{call.name}:error={error}:when={call.number}")
             is_safe(f"{what}: {error} at {call.name} {call.words[:80]}", old, status, failed)
             stays = status == 1 and call.name in ["link", "rename"] and call.words.endswith('"chip.bin"')

@@ -22,7 +22,7 @@ import tomllib
 from pathlib import Path
 
 from avrdude import Beside, Part as Sizes, updates
-from cases import drawn, leave_out, named, run_cases, same, see, table
+from cases import leave_out, named, run_cases, same, sampled, see, table
 from program import TOP, Room
 
 CLASSIC = TOP / "parts/classic.toml"
@@ -235,7 +235,7 @@ def loaded():
     file, so only two names get the whole file, and the others their own line."""
     room = Room()
     file = tomllib.loads(CLASSIC.read_text())["parts"]
-    for name, it in drawn("names of parts", 40, file.items()):
+    for name, it in sampled("names of parts", 40, file.items()):
         room.clear()
         room.put("one.toml", ("[parts]\n" + row(name, it)).encode())
         given = str(CLASSIC) if name in ("atmega328p", "t88") else "one.toml"
@@ -270,10 +270,10 @@ def sessions():
     if not has_sources():
         return
     parts, _ = sources()
-    for short in drawn("parts with AVRDUDE", 4, DOZEN):
+    for short in sampled("parts with AVRDUDE", 4, DOZEN):
         _, fields, part = parts[short]
-        drawn = random.Random(short)
-        beside = Beside(short, Sizes(fields["flash_size"], fields["eeprom_size"], values_of(part, drawn, fields["eesave_bit"])), CLASSIC)
+        fuses = values_of(part, random.Random(short), fields["eesave_bit"])
+        beside = Beside(short, Sizes(fields["flash_size"], fields["eeprom_size"], fuses), CLASSIC)
         fuses = [f"{it}:w:0x{value:02x}:m" for it, value in beside.part.fuses.items()]
         beside.request("all", updates("flash:w:flash.bin:r", "eeprom:w:eeprom.bin:r", *fuses))
 

@@ -32,7 +32,7 @@ from concurrent.futures import ThreadPoolExecutor
 from functools import lru_cache
 from pathlib import Path
 
-from cases import PATIENCE, drawn, leave_out, named, run_cases, same, see, table, wait_until
+from cases import PATIENCE, leave_out, named, run_cases, same, sampled, see, table, wait_until
 from line import frames_in, frames_of
 from program import PROGRAM, SESSION, TOP, Room, Server, forks, frame, has_avrdude, kept_port, lines, listens_at, port_of, read_whole
 from records import hex_of
@@ -1032,7 +1032,7 @@ def hints_over_each_memory():
     more = {"flash": [["-D"], ["-c", "wiring", "-D"]], "eeprom": []}
     words = {it: [[], *more.get(it.split(":")[0], [["--parts", "mine.toml"]])] for it in updates}
     cases = [(update, kind, it) for update, kind in itertools.product(updates, kinds) for it in words[update]]
-    cases = drawn("hints over each memory", 30, cases)
+    cases = sampled("hints over each memory", 30, cases)
     for it, (is_right, found) in zip(cases, side_by_side(right, cases)):
         see(f"{it}: the chip", is_right, found)
 
@@ -1062,7 +1062,7 @@ def hints_that_are_followed():
         walks.append((name, words, end, case | {"again": lambda: room.put(file, again)}))
 
     ways = itertools.product(bad, [[""], [":i"], ["", "-D", "-V"]])
-    for number, (name, (form, *words)) in enumerate(drawn("hints of damaged files", 7, ways)):
+    for number, (name, (form, *words)) in enumerate(sampled("hints of damaged files", 7, ways)):
         follows(name, flash(f"{number}{name}{form}", *words), file=f"{number}{name}", text=bad[name])
     follows("srec.hex", flash("srec.hex"), file="srec.hex", text=room.read("blink.srec"))
     follows("hex.srec", flash("hex.srec"), file="hex.srec", text=good)
@@ -1241,8 +1241,10 @@ def devices_that_go():
     """Tests a device that disappears while the script waits for its board."""
     line, device = terminal()
     # (avrstk sends SIGN_ON once a second: not when the wait ends)
-    started = start([*FLASH, "-P", device, "--wait", "0.5"])
-    wait_until(lambda: is_open(line))
+    started = start([*FLASH, "-P", device, "-b", "57600", "--wait", "0.5"])
+    wait_until(lambda: speed(line) == (57_600, 57_600))
+    # (it reads its settings back before it waits)
+    time.sleep(0.1)
     os.close(line)
     _, told = started.communicate(timeout=PATIENCE)
     told = told.decode().splitlines()
