@@ -72,7 +72,7 @@ pub(crate) fn print_text<D: Desk, T: Parted>(
     ensures stays { Preserves D.started_as desk.old desk.new }
 {
     let mut at = 0usize;
-    for _exchange in 0..PARTS {
+    for _round in 0..PARTS {
         let part = text.part_of(at);
         if part.is_empty() {
             return Ok(at);
