@@ -1,6 +1,9 @@
 -- What status 0 means, and outcomes that are refused.
+pub mod Alike
 pub mod Saved
 pub mod Promise
+pub mod OtherPart
+pub mod OwnSignature
 pub mod Kept
 pub mod TwoRuns
 pub mod OverDamage

@@ -3,4 +3,5 @@ pub mod Planning
 pub mod Lines
 pub mod Runs
 pub mod Kept
+pub mod OtherSignature
 pub mod Served

@@ -78,11 +78,29 @@ pub record Keeps (plan : Plan) (before after : Memories) (old now : DeskState) :
   -- each file that a memory was read into has the text of what the chip held then
   pub saved : FilesAreSaved (saved_files plan before) old now
 
+-- ---- the chip's own part
+
+-- The plan for a chip of this part.
+abbrev pub on_part : Part → Plan → Plan
+on_part part plan = record plan { part = part }
+
+-- The part has the sizes, pages and EESAVE bit of the other one. Its id and signature may be others.
+abbrev pub HasGeometryOf : Part → Part → Type 0
+HasGeometryOf other part = part ≡ record other { id = part.id; signature = part.signature }
+
+-- A run of this plan with status 0 led from these memories of a chip of this part and this desk to those.
+pub record KeepsOnPart (part : Part) (plan : Plan) (before after : Memories) (old now : DeskState) : Type 0 where
+  -- the plan for the chip's own part was kept
+  pub keeps : Keeps (on_part part plan) before after old now
+  -- without -F the chip has the signature of the plan's part
+  pub signature : plan.switches.force ≡ false → part.signature ≡ plan.part.signature
+
 -- WHAT STATUS 0 MEANS, by what passed over the link. Whatever the programmer was, and whatever it received before and
--- after its restarts, the plan was kept.
+-- after its restarts, the plan was kept, if its chip has the geometry of the plan's part.
 abbrev pub IsKept : Plan → Transcript → DeskState → DeskState → Type 0
 IsKept plan passed old now =
     (p : Programmer) (got : List ℕ) (later : List (List ℕ)) (executions : List Execution) → IsSoundChip p.chip
-    → p.chip.part ≡ plan.part → ReceivedSentFrames got later (frames (sent passed)) executions
+    → HasGeometryOf plan.part p.chip.part → ReceivedSentFrames got later (frames (sent passed)) executions
     → NoneForged device (frames (sent passed)) (heard passed) p executions []
-    → Keeps plan (memories_of p.chip) (memories_of (after_received_bytes device got later p).chip) old now
+    → KeepsOnPart p.chip.part plan (memories_of p.chip)
+    (memories_of (after_received_bytes device got later p).chip) old now

@@ -63,7 +63,13 @@ use stk_host::Link;
 /// restarted, and no reply was forged. Then the memories of its chip are what the plan's writes make of them, and all
 /// that the plan compares agreed. If the run was verified, each memory holds its images. Elsewhere it holds what it
 /// held before, or the FF of an erase. Each file that a memory was read into has the text of what the chip held then.
+///
+/// The chip has the sizes, pages and EESAVE bit of the plan's part. Its id and signature may be others: the plan that
+/// was kept is the one for the chip's own part. Without `-F` status 0 means that the chip has the signature of the
+/// plan's part.
 // Proof: `promised` (Outcomes/Kept), by `over_bytes` (AnyLink) and avr_tool's `ends_over_exchanges` (OverExchanges).
+// Another id and signature are by `session_alike` (Outcomes/OtherPart), none without `-F` by `own_signature`
+// (Outcomes/OwnSignature).
 // There the memories are `session_leaves` (OverFaultyLink/Outcomes), the images `run_written` (Memories/VerifiedRuns).
 // The files are
 // `expected_writes` (Outcomes/Saved), the plan `desk_asked` (Plans/Given).

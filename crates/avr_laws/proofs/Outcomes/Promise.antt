@@ -1,12 +1,12 @@
 -- Status 0 means the images, over any link that forges no frame.
-use Rattle.std.proofs.Common.{◌≡◌, ℕ, List, [], ◌++◌, map, Some, refl, sym, ap, ◌∙◌, subst, rules}
+use Rattle.std.proofs.Common.{◌≡◌, ℕ, All, List, [], ◌++◌, map, Option, Some, refl, sym, ap, ◌∙◌, subst, rules}
 use Rattle.std.proofs.lemmas.List.{append-nil}
 use Rattle.avr_cli.specs.declared.settings.Settings.{Settings}
 use Rattle.avr_desk.specs.Record.{ChangesRecord}
 use Rattle.avr_desk.specs.OutputEvents.{OutputEvent, after_events}
 use Rattle.avr_desk.specs.Stage.{Produced, StageOutcome, events_with_refusal}
 use Rattle.avr_part.specs.Sound.{IsSoundChip}
-use Rattle.avr_plan.specs.Plan.{Plan}
+use Rattle.avr_plan.specs.Plan.{Plan, IsFitted}
 use Rattle.avr_plan.specs.Planning.{planned}
 use Rattle.avr_laws.proofs.Plans.Fitted.{plan_fitted}
 use Rattle.avr_session.specs.Runs.{Devices}
@@ -29,7 +29,8 @@ use Rattle.avr_tool.proofs.Runs.Joined.{emitted_bytes, emitted_outputs}
 use Rattle.avr_laws.specs.AskedPlan.{FileGave, IsAsked}
 use Rattle.avr_laws.specs.Kept.{FilesAreSaved, Keeps, saved_files}
 use Rattle.avr_laws.specs.OnlyReading.{OnlyReads}
-use Rattle.avr_laws.proofs.Outcomes.Saved.{WritesFiles, both, expected_writes, reading_writes, these_saved}
+use Rattle.avr_laws.proofs.Outcomes.Alike.{AreAlike, alike, same_bytes, same_events, same_outcome}
+use Rattle.avr_laws.proofs.Outcomes.Saved.{WritesFiles, both, expected_writes, reading_writes, these_saved, writes_alike}
 use Rattle.avr_laws.proofs.Plans.Given.{desk_asked}
 use Rattle.avr_laws.proofs.Plans.OnlyReading.{only_reads}
 
@@ -37,7 +38,7 @@ module _ (s : Settings) (x y : Devices) (r : IsRun s x y 0) where
   abbrev pub tape : Tape
   tape = heard r.during
 
-  abbrev left_over : Tape
+  abbrev pub left_over : Tape
   left_over = on_tape r.left ++ []
 
   abbrev before : List (Event OutputEvent)
@@ -64,7 +65,7 @@ module _ (s : Settings) (x y : Devices) (r : IsRun s x y 0) where
     over_plan = sym (ap (λ (stage_outcome : StageOutcome Plan). prepend_events before (run_after_planning stage_outcome
         tape)) made_is) ∙ over
 
-    played_is : played (session plan) 1 tape ≡ record { events = done; outcome = Some (0, r.next, left_over) }
+    pub played_is : played (session plan) 1 tape ≡ record { events = done; outcome = Some (0, r.next, left_over) }
     played_is = ap (λ (p : Played OutputEvent ℕ). record { events = done; outcome = p.outcome }) over_plan
 
     pub sent_is : bytes_sent done ≡ sent r.during
@@ -78,35 +79,58 @@ module _ (s : Settings) (x y : Devices) (r : IsRun s x y 0) where
     only_read = subst (λ (stage_outcome : StageOutcome Plan). OnlyReads
         (events_with_refusal (planned s r.openings).emits stage_outcome)) made_is (only_reads s r.openings)
 
-    keeps_files : (m : Memories) → (expected_run plan m).status ≡ 0 → outputs done ≡ (expected_run plan m).emits
-        → FilesAreSaved (saved_files plan m) x.desk y.desk
-    keeps_files m zero emitted =
-        these_saved ((planned s r.openings).emits ++ outputs done) (saved_files plan m) x.desk y.desk
-        (both (planned s r.openings).emits (outputs done) [] (saved_files plan m)
-        (reading_writes (planned s r.openings).emits only_read)
-        (subst (λ (emits : List OutputEvent). WritesFiles emits (saved_files plan m)) (sym emitted)
-        (expected_writes plan m zero)))
-        (subst (λ (emits : List OutputEvent). ChangesRecord (after_events emits) x.desk y.desk) outputs_are r.kept)
-
     -- so the plan is the one that the settings and the files that were opened ask for
     pub asked : IsAsked s (FileGave x.desk y.desk) plan
     asked = desk_asked s r.openings plan x.desk y.desk (outputs done) made_is
         (subst (λ (emits : List OutputEvent). ChangesRecord (after_events emits) x.desk y.desk) outputs_are r.kept)
 
+    -- A plan whose session differs from this one in printed lines alone was kept: this plan on a chip of another
+    -- signature.
+    module _ (other : Plan) (are_alike : AreAlike (session plan) (session other)) where
+      abbrev pub done_other : List (Event OutputEvent)
+      done_other = (played (session other) 1 tape).events
+
+      other_played : played (session other) 1 tape
+          ≡ record { events = done_other; outcome = Some (0, r.next, left_over) }
+      other_played = ap (λ (o : Option (ℕ × ℕ × Tape)). record { events = done_other; outcome = o })
+          (sym (same_outcome are_alike 1 tape) ∙ ap (λ (p : Played OutputEvent ℕ). p.outcome) played_is)
+
+      pub other_sent : bytes_sent done_other ≡ sent r.during
+      other_sent = sym (same_bytes are_alike 1 tape) ∙ sent_is
+
+      keeps_files : (m : Memories) → (expected_run other m).status ≡ 0
+          → outputs done_other ≡ (expected_run other m).emits → FilesAreSaved (saved_files other m) x.desk y.desk
+      keeps_files m zero emitted =
+          these_saved ((planned s r.openings).emits ++ outputs done) (saved_files other m) x.desk y.desk
+          (both (planned s r.openings).emits (outputs done) [] (saved_files other m)
+          (reading_writes (planned s r.openings).emits only_read)
+          (writes_alike done_other done (saved_files other m) (sym (same_events are_alike 1 tape))
+          (subst (λ (emits : List OutputEvent). WritesFiles emits (saved_files other m)) (sym emitted)
+          (expected_writes other m zero))))
+          (subst (λ (emits : List OutputEvent). ChangesRecord (after_events emits) x.desk y.desk) outputs_are r.kept)
+
+      pub promise_for : All (IsFitted other.part) other.tasks → (p : Programmer) (got : List ℕ)
+          (later : List (List ℕ)) (executions : List Execution) → IsSoundChip p.chip → p.chip.part ≡ other.part
+          → ReceivedSentFrames got later (frames (sent y.link.transcript)) executions
+          → ForgesNoFrame device (session other) 1 (heard y.link.transcript) p executions []
+          → Keeps other (memories_of p.chip) (memories_of (after_received_bytes device got later p).chip) x.desk y.desk
+      promise_for fitted p got later executions sound part_is came none =
+          let whole : WholeSessionOverExchanges other p (after_received_bytes device got later p)
+          (exchanges_on_tape (session other) 1 tape executions) (sent r.during) done_other 0 =
+          over_bytes other p sound part_is fitted got (sent r.during) later executions
+          tape (subst (λ (t : Transcript). ReceivedSentFrames got later (frames (sent t)) executions) same came)
+          (subst (λ (t : Transcript). ForgesNoFrame device (session other) 1 (heard t) p executions []) same none)
+          left_over done_other 0 r.next other_played other_sent in
+          let come = whole.1.comes in
+          let expected = come.success refl in record {
+            done = come.done refl;
+            images = come.images refl;
+            saved = keeps_files (memories_of p.chip) (sym expected.status_is) expected.emitted;
+          }
+
+    -- so was the plan itself
     pub promise : (p : Programmer) (got : List ℕ) (later : List (List ℕ)) (executions : List Execution)
         → IsSoundChip p.chip → p.chip.part ≡ plan.part → ReceivedSentFrames got later (frames (sent y.link.transcript))
         executions → ForgesNoFrame device (session plan) 1 (heard y.link.transcript) p executions []
         → Keeps plan (memories_of p.chip) (memories_of (after_received_bytes device got later p).chip) x.desk y.desk
-    promise p got later executions sound part_is came none =
-        let whole : WholeSessionOverExchanges plan p (after_received_bytes device got later p)
-        (exchanges_on_tape (session plan) 1 tape executions) (sent r.during) done 0 =
-        over_bytes plan p sound part_is (plan_fitted s r.openings plan made_is) got (sent r.during) later executions
-        tape (subst (λ (t : Transcript). ReceivedSentFrames got later (frames (sent t)) executions) same came)
-        (subst (λ (t : Transcript). ForgesNoFrame device (session plan) 1 (heard t) p executions []) same none)
-        left_over done 0 r.next played_is sent_is in
-        let come = whole.1.comes in
-        let expected = come.success refl in record {
-          done = come.done refl;
-          images = come.images refl;
-          saved = keeps_files (memories_of p.chip) (sym expected.status_is) expected.emitted;
-        }
+    promise = promise_for plan (alike (session plan)) (plan_fitted s r.openings plan made_is)

@@ -8,7 +8,7 @@ use Rattle.avr_desk.proofs.FileUses.Uses.{files_absent, files_opened, files_used
 use Rattle.avr_desk.proofs.Stages.Outputs.{after_append}
 use Rattle.avr_desk.specs.Named.{is_dash}
 use Rattle.avr_desk.specs.Record.{Bytes, DeskState, ChangesRecord, Record, all_files}
-use Rattle.avr_desk.specs.OutputEvents.{OutputEvent, Opens, PrintsLine, CreatesFile, WritesFile, WritesOutput, after_events}
+use Rattle.avr_desk.specs.OutputEvents.{OutputEvent, Opens, PrintsLine, CreatesFile, WritesFile, WritesOutput, after, after_events}
 use Rattle.avr_desk.specs.declared.record.Open.TheVariants.{ToRead}
 use Rattle.avr_desk.specs.declared.record.Opening.{Opening}
 use Rattle.avr_desk.specs.declared.record.Opening.TheVariants.{Absent, Found}
@@ -21,10 +21,12 @@ use Rattle.avr_session.specs.Session.{fault_line_or, saving_output, status_of}
 use Rattle.avr_session.specs.Standing.{Standing, NoFault, Faulty, Over}
 use Rattle.stk_host.specs.declared.fault.HostFault.{HostFault}
 use Rattle.stk_emu.specs.Effect.{Memories, effects}
+use Rattle.stk_host.specs.Dialog.{Event, Frame, Emitted, outputs}
 use Rattle.avr_tool.specs.ExpectedRun.{Expected, action_expected, actions_expected, ending_output, expected_run, then_from}
 use Rattle.avr_tool.specs.Items.{action_items}
 use Rattle.avr_laws.specs.Kept.{FilesAreSaved, action_files, actions_files, named_files, dash_output, saved_files}
 use Rattle.avr_laws.specs.OnlyReading.{OnlyReads}
+use Rattle.avr_laws.proofs.Outcomes.Alike.{without_lines}
 
 -- ---- what is done at a desk writes these files
 
@@ -83,6 +85,46 @@ saved_as true file text is = record {
 }
 saved_as false file text is =
     record { created = λ r. search (rules, is, files_used); output = λ r. search (rules, is, append-nil) }
+
+-- ---- printed lines write none
+
+abbrev unprinted : Record → Record
+unprinted r = record r { messages = [] }
+
+one_unprinted : (output : OutputEvent) (r : Record)
+    → unprinted (after output (unprinted r)) ≡ unprinted (after output r)
+one_unprinted (Opens (Absent name)) r = refl
+one_unprinted (Opens (Found reading)) r = refl
+one_unprinted output r = refl
+
+all_unprinted : (emits : List OutputEvent) (r : Record)
+    → unprinted (after_events emits (unprinted r)) ≡ unprinted (after_events emits r)
+all_unprinted [] r = refl
+all_unprinted (output ∷ emits) r =
+    sym (all_unprinted emits (after output (unprinted r)))
+    ∙ (ap (λ (k : Record). unprinted (after_events emits k)) (one_unprinted output r)
+    ∙ all_unprinted emits (after output r))
+
+lines_dropped : (events : List (Event OutputEvent)) (r : Record)
+    → unprinted (after_events (outputs (without_lines events)) r) ≡ unprinted (after_events (outputs events) r)
+lines_dropped [] r = refl
+lines_dropped (Frame bytes ∷ events) r = lines_dropped events r
+lines_dropped (Emitted (PrintsLine bytes) ∷ events) r =
+    lines_dropped events r
+    ∙ (sym (all_unprinted (outputs events) r) ∙ all_unprinted (outputs events) (after (PrintsLine bytes) r))
+lines_dropped (Emitted output ∷ events) r = lines_dropped events (after output r)
+
+pub writes_alike : (a b : List (Event OutputEvent)) (files : List Writing) → without_lines a ≡ without_lines b
+    → WritesFiles (outputs a) files → WritesFiles (outputs b) files
+writes_alike a b files same writes = record {
+  created = λ r. ap all_files (left r) ∙ writes.created r;
+  output = λ r. ap (λ (k : Record). k.output) (left r) ∙ writes.output r;
+}
+  where
+    left : (r : Record) → unprinted (after_events (outputs b) r) ≡ unprinted (after_events (outputs a) r)
+    left r =
+        sym (lines_dropped b r)
+        ∙ (ap (λ events. unprinted (after_events (outputs events) r)) (sym same) ∙ lines_dropped a r)
 
 -- ---- planning writes none
 

@@ -24,6 +24,7 @@ use Rattle.avr_laws.specs.AnyTape.{ReceivedSentFrames, after_received_bytes, exc
 use Rattle.avr_laws.specs.Kept.{IsKept, Keeps, NoneForged}
 use Rattle.avr_laws.specs.NoForgedFrame.{ForgesNoFrame}
 use Rattle.avr_laws.proofs.AnyLink.{end_bytes}
+use Rattle.avr_laws.proofs.Outcomes.OtherPart.{kept_on_plan, same_geometry}
 use Rattle.avr_laws.proofs.SecondRun.Status.{done_again}
 
 module _ (plan : Plan) (first second : Transcript) (old now : DeskState) (p q : Programmer)
@@ -46,7 +47,9 @@ module _ (plan : Plan) (first second : Transcript) (old now : DeskState) (p q : 
         (kept : IsKept plan second old now) (came_then : ReceivedSentFrames over more (frames (sent second)) others)
         (none_then : NoneForged device (frames (sent second)) (heard second) q others []) where
       keeps : Keeps plan (memories_of q.chip) (memories_of (after_received_bytes device over more q).chip) old now
-      keeps = kept q over more others sound_then part_then came_then none_then
+      keeps = kept_on_plan plan q.chip.part (memories_of q.chip)
+          (memories_of (after_received_bytes device over more q).chip) old now part_then
+          (kept q over more others sound_then (same_geometry plan.part q.chip.part part_then) came_then none_then)
 
       pub as_one : memories_of (after_received_bytes device over more q).chip
           ≡ effects plan.part (items plan) (memories_of p.chip)

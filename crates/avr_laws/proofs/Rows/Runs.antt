@@ -44,6 +44,7 @@ use Rattle.avr_laws.specs.Kept.{NoneForged, named_files, saved_files}
 use Rattle.avr_tool.specs.Written.{IsWritten}
 use Rattle.avr_laws.proofs.SecondRun.PlanRows.{tiny, erasing}
 use Rattle.avr_laws.proofs.Outcomes.Kept.{kept}
+use Rattle.avr_laws.proofs.Outcomes.OtherPart.{kept_on_plan, same_geometry}
 use Rattle.avr_tool.specs.Headline.{IsRun}
 use Rattle.avr_laws.specs.Promise.{Promised}
 use Rattle.avr_laws.specs.Worked.{worked_settings}
@@ -83,7 +84,9 @@ pub only_the_images : (s : Settings) (before now : Devices) (r : IsRun s before 
     → NoneForged device (frames (sent now.link.transcript)) (heard now.link.transcript) p executions []
     → memories_of (after_received_bytes device got later p).chip ≡ left (1 ∷ 2 ∷ 255 ∷ 255 ∷ [])
 only_the_images s before now r is silent p got later executions sound part held came none =
-    (kept s plan before now r is silent p got later executions sound part came none).done.memories
+    (kept_on_plan plan p.chip.part (memories_of p.chip) (memories_of (after_received_bytes device got later p).chip)
+    before.desk now.desk part (kept s plan before now r is silent p got later executions sound
+    (same_geometry small p.chip.part part) came none)).done.memories
     ∙ ap (effects small (items plan)) held
 
 abbrev Holds : List ℕ → Type 0

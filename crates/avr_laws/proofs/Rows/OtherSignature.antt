@@ -1,0 +1,81 @@
+-- `-p m328 -F`, of a part file, over the worked run: its chip, an m328p, has another id and signature, and the same
+-- geometry.
+use Rattle.std.proofs.Common.{◌≡◌, ◌∙◌, ap, sym, arith, ℕ, Bool, true, false, List, [], ◌∷◌, ◌++◌, refl, Some}
+use Rattle.std.specs.Prelude.{codes, slice_index}
+use Rattle.avr_cli.specs.declared.update.Format.TheVariants.{Raw}
+use Rattle.avr_desk.specs.Record.{Bytes, DeskState, all_files}
+use Rattle.avr_desk.specs.declared.record.Writing.{Writing}
+use Rattle.avr_part.specs.BuiltIn.{m328p, t85}
+use Rattle.avr_part.specs.Part.{Part}
+use Rattle.avr_part.specs.declared.part.Mem.TheVariants.{Signature}
+use Rattle.avr_plan.specs.Plan.{Plan}
+use Rattle.avr_plan.specs.declared.planned.Task.TheVariants.{Read}
+use Rattle.avr_session.specs.FileText.{file_text}
+use Rattle.avr_session.specs.Session.{session}
+use Rattle.stk_emu.specs.Effect.{Memories}
+use Rattle.stk_host.specs.Dialog.{bytes_sent, played}
+use Rattle.stk_host.specs.Operations.{handshake, opening, closing, operation}
+use Rattle.stk_host.specs.Steps.{exchange, attempt, attempts_or_fault, play}
+use Rattle.stk_host.specs.Tape.{answer}
+use Rattle.avr_laws.specs.Kept.{FilesAreSaved, HasGeometryOf, KeepsOnPart, named_files, on_part, saved_files}
+use Rattle.avr_laws.specs.Worked.{worked_frames, worked_replies, worked_settings}
+
+abbrev m328 : Part
+m328 = record m328p { id = codes "m328"; signature = 0x1E ∷ 0x95 ∷ 0x14 ∷ [] }
+
+abbrev plan : Bool → Plan
+plan force = record { part = m328; tasks = []; switches = record worked_settings.switches { force = force } }
+
+-- With -F the run ends with status 0, and without it with status 1. It sends the frames of the worked run, whose
+-- programmer meets the other premises (`worked_came` and `worked_forges_none` of Rows/Kept).
+pub forced_run_succeeds : (played (session (plan true)) 1 worked_replies).outcome ≡ Some (0, 7, [])
+unfolding session opening handshake operation closing play attempts_or_fault attempt exchange answer
+forced_run_succeeds = refl
+
+pub its_frames : bytes_sent (played (session (plan true)) 1 worked_replies).events ≡ worked_frames
+unfolding session opening handshake operation closing play attempts_or_fault attempt exchange answer
+its_frames = refl
+
+pub unforced_run_fails : (played (session (plan false)) 1 worked_replies).outcome ≡ Some (1, 7, [])
+unfolding session opening handshake operation closing play attempts_or_fault attempt exchange answer
+unforced_run_fails = refl
+
+pub chip_fits : HasGeometryOf m328 m328p
+chip_fits = refl
+
+-- ---- what is refused: a chip of another size
+
+pub another_size : HasGeometryOf m328 t85 → ⊥
+another_size fits = let sizes : 8192 ≡ 32768 = ap (λ (part : Part). part.flash_size) fits in omega (arith, sizes)
+
+-- without -F, another signature
+
+pub not_forced : (before after : Memories) (old now : DeskState)
+    → KeepsOnPart m328p (plan false) before after old now → ⊥
+not_forced before after old now kept =
+    let last : 0x0F ≡ 0x14 = ap (λ (bytes : Bytes). slice_index bytes 2) (kept.signature refl) in omega (arith, last)
+
+-- `-U signature:r:found:r` reads the chip's signature, so a file with that of the plan's part
+
+abbrev reading : Plan
+reading = record (plan true) { tasks = Read Signature Raw (codes "found") ∷ [] }
+
+pub the_signature_saved : (m : Memories)
+    → saved_files (on_part m328p reading) m ≡ record { name = codes "found"; bytes = 0x1E ∷ 0x95 ∷ 0x0F ∷ [] } ∷ []
+unfolding file_text
+the_signature_saved m = refl
+
+abbrev last_byte : List Writing → ℕ
+last_byte [] = 0
+last_byte (file ∷ files) = slice_index file.bytes 2
+
+pub another_signature : (m : Memories) (old now : DeskState) → all_files old.kept ≡ []
+    → FilesAreSaved (saved_files (on_part m328p reading) m) old now
+    → all_files now.kept ≡ record { name = codes "found"; bytes = m328.signature } ∷ [] → ⊥
+another_signature m old now empty saved is =
+    let same : record { name = codes "found"; bytes = m328.signature } ∷ []
+    ≡ [] ++ named_files (record { name = codes "found"; bytes = m328p.signature } ∷ []) =
+    sym is ∙ (saved.created
+    ∙ (ap (λ (files : List Writing). files ++ named_files (saved_files (on_part m328p reading) m)) empty
+    ∙ ap named_files (the_signature_saved m))) in
+    let last : 0x14 ≡ 0x0F = ap last_byte same in omega (arith, last)
