@@ -69,10 +69,8 @@ use stk_host::Link;
 /// plan's part.
 // Proof: `promised` (Outcomes/Kept), by `over_bytes` (AnyLink) and avr_tool's `ends_over_exchanges` (OverExchanges).
 // Another id and signature are by `session_alike` (Outcomes/OtherPart), none without `-F` by `own_signature`
-// (Outcomes/OwnSignature).
-// There the memories are `session_leaves` (OverFaultyLink/Outcomes), the images `run_written` (Memories/VerifiedRuns).
-// The files are
-// `expected_writes` (Outcomes/Saved), the plan `desk_asked` (Plans/Given).
+// (Outcomes/OwnSignature). The memories are `session_leaves` (OverFaultyLink/Outcomes), the images `run_written`
+// (Memories/VerifiedRuns), the files `expected_writes` (Outcomes/Saved), the plan `desk_asked` (Plans/Given).
 pub fn status_0_means_the_images<D: Desk, L: Link>(
     alloc: Global,
     settings: &Settings,
