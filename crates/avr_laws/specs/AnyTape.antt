@@ -16,7 +16,8 @@ after_sent_frames m (piece ∷ sent) executions p =
     after_sent_frames m sent (later_executions executions) (after_execution (first_execution executions)
     (after_frame m piece p) p m.reset)
 
--- The exchange of a command with a reply. The reply to a command that was executed is its own, unless it is the refusal.
+-- The exchange of a command with a reply. The reply to a command that was executed is its own, unless it is the
+-- refusal.
 abbrev pub exchange_with_reply : Execution → List ℕ → Exchange
 exchange_with_reply Executed body = if bytes_eq body refusal then Disturbed Executed Refusal else AsIntended
 exchange_with_reply execution body = Disturbed execution Refusal
@@ -55,8 +56,8 @@ pub record GoesAlongExchanges {E R P : Type 0} (m : Device P) (d : Dialog E R) (
       → (state_after m k d p (exchanges_on_tape d n tape executions)).programmer
       ≡ after_sent_frames m (take k (frames_in (played d n tape).events)) executions p
   pub outcome : (r : R) (seq : ℕ) (left : Tape) → (played d n tape).outcome ≡ Some (r, seq, left)
-      → ((state_after m (length (frames_in (played d n tape).events)) d p (exchanges_on_tape d n tape executions)).dialog
-      ≡ Done r) × (outputs (played d n tape).events
+      → ((state_after m (length (frames_in (played d n tape).events)) d p
+      (exchanges_on_tape d n tape executions)).dialog ≡ Done r) × (outputs (played d n tape).events
       ≡ outputs_after m (length (frames_in (played d n tape).events)) d p (exchanges_on_tape d n tape executions))
   pub waits : (played d n tape).outcome ≡ None
       → WaitsAlongExchanges m d p (exchanges_on_tape d n tape executions) (frames_in (played d n tape).events)

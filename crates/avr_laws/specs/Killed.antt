@@ -40,7 +40,7 @@ chip_file_of_server settings file most_reads old new status (inr none) = None
 abbrev pub chip_file_of_service : (unused : Type 0) (over : Option LinkState → Type 0) (settings : Settings)
     (port file : Bytes) (old new : DeskState) (status : ℕ) → ServesNet unused over settings port file old new status
     → Option Bytes
-chip_file_of_service unused over settings port file old new status (inl (part, checked_desk, is, inl (link, on, serves))) =
-    chip_file_of_part part file 16777216 (devices new_link checked_desk) (devices link new) status serves
-chip_file_of_service unused over settings port file old new status (inl (part, checked_desk, is, inr none)) = None
+chip_file_of_service unused over settings port file old new status (inl (part, checked, is, inl (link, on, serves))) =
+    chip_file_of_part part file 16777216 (devices new_link checked) (devices link new) status serves
+chip_file_of_service unused over settings port file old new status (inl (part, checked, is, inr none)) = None
 chip_file_of_service unused over settings port file old new status (inr refused) = None

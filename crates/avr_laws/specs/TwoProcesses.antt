@@ -63,8 +63,8 @@ TimesOutBetweenReplies tape = (before after : Tape) → tape ≡ before ++ Silen
 
 -- ---- 2. The server's end
 
--- However serving ended, the server took a prefix of the bytes received and executed all frames in it. What it sent is a
--- prefix of their replies.
+-- However serving ended, the server took a prefix of the bytes received and executed all frames in it. What it sent is
+-- a prefix of their replies.
 pub record HasServed (p : Programmer) (transcript : Transcript) (left : Programmer) : Type 0 where
   pub used : List ℕ
   pub unused : List ℕ

@@ -31,8 +31,8 @@ ghost use Rattle.stk_host.specs.Play.{Progress, Plays, IsBytePrefixOf, InTurn};
 ghost use Rattle.stk_host.specs.declared.link.Item.TheVariants.{Byte, Silence};
 ghost use Rattle.stk_host.specs.Tape.{Tape, bytes_on_tape};
 
-/// States that a server executes all frames that it takes, and sends a prefix of their replies. It takes a prefix of the
-/// bytes received. `all`: if it replied to all it received, it took and sent all.
+/// States that a server executes all frames that it takes, and sends a prefix of their replies. It takes a prefix of
+/// the bytes received. `all`: if it replied to all it received, it took and sent all.
 pub fn a_server_sends_the_replies_to_what_it_received()
     ensures all { (p : Programmer) (transcript : Transcript) (left : EmulatorState)
         → RepliesToAll p [] (bytes_on_tape (heard transcript)) (sent transcript) left
@@ -90,7 +90,8 @@ pub fn a_session_and_a_server_are_one_run()
         → (serves : ServesChip s file most server_old server_new served_status)
         → (served : HasServed (fresh_programmer s) (server_transcript calls) serves.left.programmer)
         × WholeSessionOverExchanges plan (fresh_programmer s) serves.left.programmer
-        (exchanges_on_tape (session plan) 1 (heard (host_transcript calls)) (all_executed (length (frames served.used))))
+        (exchanges_on_tape (session plan) 1 (heard (host_transcript calls))
+        (all_executed (length (frames served.used))))
         (sent (host_transcript calls)) ran.events status }
     ensures anywhere { (plan : Plan) (s : Chip) (left : Programmer) (host server : Transcript)
         (events : List (Event OutputEvent))
@@ -101,7 +102,8 @@ pub fn a_session_and_a_server_are_one_run()
         → ForgesNoFrame device (session plan) 1 (heard host) (fresh_programmer s)
         (all_executed (length (frames serves.used))) []
         → WholeSessionOverExchanges plan (fresh_programmer s) left
-        (exchanges_on_tape (session plan) 1 (heard host) (all_executed (length (frames serves.used)))) (sent host) events
+        (exchanges_on_tape (session plan) 1 (heard host) (all_executed (length (frames serves.used)))) (sent host)
+        events
         status }
     ensures saved { (s : Chip) (file : Bytes) (most : ℕ) (old new : Devices) (status : ℕ)
         → (serves : ServesChip s file most old new status) → status ≡ 0
@@ -145,7 +147,8 @@ pub fn whatever_becomes_of_both_some_write_operations_were_done()
         → (serves : ServesChip s file most server_old server_new served_status)
         → (served : HasServed (fresh_programmer s) (server_transcript calls) serves.left.programmer)
         × ReportsOverExchanges plan (fresh_programmer s) serves.left.programmer
-        (exchanges_on_tape (session plan) 1 (heard (host_transcript calls)) (all_executed (length (frames served.used))))
+        (exchanges_on_tape (session plan) 1 (heard (host_transcript calls))
+        (all_executed (length (frames served.used))))
         (sent (host_transcript calls)) (played (session plan) 1 (heard (host_transcript calls))).events }
 {}
 

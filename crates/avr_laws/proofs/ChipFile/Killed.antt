@@ -30,10 +30,10 @@ service_tries : (unused : Type 0) (over : Option LinkState → Type 0) (settings
     (old new : DeskState) (status : ℕ) → (s : ServesNet unused over settings port file old new status)
     → tried_at old ≡ []
     → TriesOnly file (chip_file_of_service unused over settings port file old new status s) (tried_at new)
-service_tries unused over settings port file old new status (inl (part, checked_desk, is, inl (link, on, serves))) none =
-    part_tries part file 16777216 _ _ status serves (checked_tried settings file old checked_desk part is ∙ none)
-service_tries unused over settings port file old new status (inl (part, checked_desk, is, inr (on, notice, one))) none =
-    ap (λ (r : Record). r.tried) notice.kept ∙ checked_tried settings file old checked_desk part is ∙ none
+service_tries unused over settings port file old new status (inl (part, checked, is, inl (link, on, serves))) none =
+    part_tries part file 16777216 _ _ status serves (checked_tried settings file old checked part is ∙ none)
+service_tries unused over settings port file old new status (inl (part, checked, is, inr (on, notice, one))) none =
+    ap (λ (r : Record). r.tried) notice.kept ∙ checked_tried settings file old checked part is ∙ none
 service_tries unused over settings port file old new status (inr (refused, left)) none =
     refused_tried settings file old new status refused ∙ none
 

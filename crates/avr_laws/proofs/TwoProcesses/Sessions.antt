@@ -192,8 +192,8 @@ module _ (plan : Plan) (s : chips.ChipState) (is_sound : IsSoundChip s) (part_is
       (left : Programmer) (serves : HasServed (fresh_programmer s) (server_transcript calls) left) where
     abbrev Ended : Type 0
     Ended = ReportsOverExchanges plan (fresh_programmer s) left
-        (exchanges_on_tape (session plan) 1 (heard (host_transcript calls)) (all_executed (length (frames serves.used))))
-        (sent (host_transcript calls))
+        (exchanges_on_tape (session plan) 1 (heard (host_transcript calls))
+        (all_executed (length (frames serves.used)))) (sent (host_transcript calls))
         (played (session plan) 1 (heard (host_transcript calls))).events
 
     after_run : (old new : Devices) (status : ℕ) → old.link.transcript ≡ [] → new.link.transcript
@@ -224,8 +224,8 @@ module _ (plan : Plan) (s : chips.ChipState) (is_sound : IsSoundChip s) (part_is
         → (serves : ServesChip s file most server_old server_new served_status)
         → (served : HasServed (fresh_programmer s) (server_transcript calls) serves.left.programmer)
         × WholeSessionOverExchanges plan (fresh_programmer s) serves.left.programmer
-        (exchanges_on_tape (session plan) 1 (heard (host_transcript calls)) (all_executed (length (frames served.used))))
-        (sent (host_transcript calls)) ran.events status
+        (exchanges_on_tape (session plan) 1 (heard (host_transcript calls))
+        (all_executed (length (frames served.used)))) (sent (host_transcript calls)) ran.events status
     one_run after ordered stalls host_old host_new server_none server_some ran serves =
         let served = served_all server_none server_some serves in (
           served,
@@ -256,8 +256,8 @@ module _ (plan : Plan) (s : chips.ChipState) (is_sound : IsSoundChip s) (part_is
         → RunsSession plan old new status → (serves : ServesChip s file most server_old server_new served_status)
         → (served : HasServed (fresh_programmer s) (server_transcript calls) serves.left.programmer)
         × ReportsOverExchanges plan (fresh_programmer s) serves.left.programmer
-        (exchanges_on_tape (session plan) 1 (heard (host_transcript calls)) (all_executed (length (frames served.used))))
-        (sent (host_transcript calls))
+        (exchanges_on_tape (session plan) 1 (heard (host_transcript calls))
+        (all_executed (length (frames served.used)))) (sent (host_transcript calls))
         (played (session plan) 1 (heard (host_transcript calls))).events
     any_run ordered stalls host_old host_new server_none server_some runs serves =
         let served = served_all server_none server_some serves in
