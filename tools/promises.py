@@ -45,7 +45,7 @@ def calls():
             own = [(file, name) for of, file, name in sorted(named) if of == crate]
             if own:
                 shown = [f"`{file}.{name}`" for file, name in [at for at in own if at[1][0].isupper()] or own]
-                yield f"| `{it.name}` of {crate} | {', '.join(shown)} |"
+                yield f"| `{it.name}`{'' if crate == 'avr_tool' else f' of {crate}'} | {', '.join(shown)} |"
 
 
 def page():
