@@ -9,8 +9,7 @@
 Only files known to git are read. Code is counted in src/, without tests and contracts. Contracts are the clauses of
 functions, definitions are in specs/, and proofs in proofs/. Blank lines, comments and `use` lines are never counted. Wide
 lines have more than 120 columns, except imports. A clause is one `requires` or `ensures`; the mean is over public
-functions. The program's row is the sum of the crates of the programs (`avrstk` ..) and of all below them; the row after it
-has the others, such as the laws above it.
+functions. The program's row is the sum of the crates of the programs (`avrstk` ..) and of all below them.
 """
 
 import re
@@ -148,8 +147,7 @@ def figures():
     for name, row in rows.items():
         table.append(f"| {name} | " + " | ".join(f"{x:.1f}" if isinstance(x, float) else str(x) for x in row) + " |")
     program = below_programs()
-    parts = {"the program": [name for name in rows if name in program], "beside and above it": [name for name in rows if name not in program]}
-    for title, names in (parts | {"in all": list(rows)}).items():
+    for title, names in {"the program": [name for name in rows if name in program], "in all": list(rows)}.items():
         sums = [str(sum(rows[name][i] for name in names)) for i in range(5)]
         table.append(f"| {title} | " + " | ".join(sums) + " | |")
     return "\n".join(table), f"{SEVERAL}{len(meanings())}", f"{SHARED}{len(types())}"
