@@ -9,8 +9,7 @@
 Only files known to git are read. Code is counted in src/, without tests and contracts. Contracts are the clauses of
 functions, definitions are in specs/, and proofs in proofs/. Blank lines, comments and `use` lines are never counted. Wide
 lines have more than 120 columns, except imports. A clause is one `requires` or `ensures`; the mean is over public
-functions. The program's row is the sum of the crates of the programs (`avrstk` ..) and of all below them; the row after it
-has the others, such as the laws above it.
+functions. The program's row is the sum of the crates of the programs (`avrstk` ..) and of all below them.
 """
 
 import re
@@ -84,15 +83,11 @@ def clauses_in(name):
 
 def measured(name):
     """Returns the figures of a crate."""
-    code = contracts = definitions = proofs = over_in_proofs = 0
-    over, longest, clauses = [], 0, []
+    code = contracts = definitions = proofs = 0
+    over, clauses = [], []
     for file in CRATES[name]:
         lines = lines_of(file)
-        long = [f"{file}:{i}" for i, line in enumerate(lines, 1) if len(line) > WIDEST and "use Rattle." not in line]
-        if "/proofs/" in file:
-            over_in_proofs += len(long)
-        else:
-            over += long
+        over += [f"{file}:{i}" for i, line in enumerate(lines, 1) if len(line) > WIDEST and "use Rattle." not in line]
         count = sum(1 for line in lines if is_text(line, file))
         if "/specs/" in file:
             definitions += count
@@ -102,12 +97,10 @@ def measured(name):
             contract, functions = clauses_in(file)
             contracts += sum(1 for line in contract if line.strip())
             code += count - sum(1 for line in contract if is_text(line, file))
-            longest = max([longest] + [len(line) for line in contract])
             clauses += [number for public, number in functions if public]
     OVER.extend(over)
     mean = sum(clauses) / len(clauses) if clauses else 0
-    most = max(clauses, default=0)
-    return code, contracts, definitions, proofs, len(over), over_in_proofs, longest, mean, most
+    return code, contracts, definitions, proofs, len(over), mean
 
 
 def meanings():
@@ -148,18 +141,15 @@ def below_programs():
 
 def figures():
     """Returns the table, with a row for each crate, and the two counts of names."""
-    titles = ["Crate", "Code", "Contracts", "Definitions", "Proofs", "Wide lines", "in proofs", "Longest clause line",
-              "Clauses, mean", "Clauses, most"]
+    titles = ["Crate", "Code", "Contracts", "Definitions", "Proofs", "Wide lines", "Clauses, mean"]
     rows = {name: measured(name) for name in CRATES}
     table = ["| " + " | ".join(titles) + " |", "| --- |" + " ---: |" * (len(titles) - 1)]
     for name, row in rows.items():
         table.append(f"| {name} | " + " | ".join(f"{x:.1f}" if isinstance(x, float) else str(x) for x in row) + " |")
     program = below_programs()
-    parts = {"the program": [name for name in rows if name in program], "beside and above it": [name for name in rows if name not in program]}
-    for title, names in (parts | {"in all": list(rows)}).items():
-        sums = [str(sum(rows[name][i] for name in names)) for i in range(6)]
-        longest, most = (max(rows[name][i] for name in names) for i in (6, 8))
-        table.append(f"| {title} | " + " | ".join(sums) + f" | {longest} | | {most} |")
+    for title, names in {"the program": [name for name in rows if name in program], "in all": list(rows)}.items():
+        sums = [str(sum(rows[name][i] for name in names)) for i in range(5)]
+        table.append(f"| {title} | " + " | ".join(sums) + " | |")
     return "\n".join(table), f"{SEVERAL}{len(meanings())}", f"{SHARED}{len(types())}"
 
 
@@ -211,7 +201,7 @@ def main():
     if "-v" in sys.argv:
         print("\n".join(f"  {name}: {', '.join(where)}" for name, where in sorted(meanings().items())))
         print("\n".join(f"  {name}: {', '.join(where)}" for name, where in sorted(types().items())))
-        print("\nLines over 120 columns, imports and proofs aside:")
+        print("\nLines over 120 columns, except imports:")
         print("\n".join("  " + place for place in OVER))
 
 

@@ -1,5 +1,5 @@
 #!/usr/bin/env python3
-"""Writes the tables of docs/PROMISES: the laws and calls of the crates that carry the headline, from their own comments.
+"""Writes the tables of docs/PROMISES: laws of the crates that carry the headline, by their comments, and calls of avr_tool.
 
     tools/promises.py             fails if the page is out of date
     tools/promises.py --write     writes the tables
@@ -16,7 +16,7 @@ from reach import FILES, named_in
 
 PAGE = TOP / "docs/PROMISES.md"
 CRATES = ("avr_laws", "avr_tool", "avr_session", "avr_plan")
-CALLS = ("avr_tool", "avr_session")
+CALLS = "avr_tool"
 MADE = re.compile(r"(<!-- made: (\w+) -->\n).*?(<!-- end -->\n)", re.S)
 
 
@@ -39,13 +39,12 @@ def laws():
 def calls():
     """Yields the rows of the calls. The name of a statement begins with a capital letter."""
     yield from ["| Call | Its contract names |", "| --- | --- |"]
-    for crate in CALLS:
-        for it in exports(crate)[0]:
-            named = {place for place in named_in(*it.place, "\n".join(it.contract)) if place} if it.kind == "fn" else ()
-            own = [(file, name) for of, file, name in sorted(named) if of == crate]
-            if own:
-                shown = [f"`{file}.{name}`" for file, name in [at for at in own if at[1][0].isupper()] or own]
-                yield f"| `{it.name}` of {crate} | {', '.join(shown)} |"
+    for it in exports(CALLS)[0]:
+        named = {place for place in named_in(*it.place, "\n".join(it.contract)) if place} if it.kind == "fn" else ()
+        own = [(file, name) for of, file, name in sorted(named) if of == CALLS]
+        if own:
+            shown = [f"`{file}.{name}`" for file, name in [at for at in own if at[1][0].isupper()] or own]
+            yield f"| `{it.name}` | {', '.join(shown)} |"
 
 
 def page():
