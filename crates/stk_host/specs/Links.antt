@@ -22,7 +22,7 @@ pub record LogState : Type 0 where
 -- A tape link: the items left, the most bytes of a piece, the transcript, and the count of failures.
 pub record TapeState : Type 0 where
   pub left : Tape
-  pub cut : ℕ
+  pub piece_limit : ℕ
   pub transcript : Transcript
   pub failures : ℕ
 
@@ -62,7 +62,7 @@ stream_state link = record { transcript = link.transcript; failures = link.failu
 
 -- The transcript since `old` is true: `started_as` of a `StreamLink`. The bytes received are those that the reader
 -- gave, in order and none lost. The bytes sent are those that the writer took, also in a send that failed.
-pub record IsTrueSince {R W : Type 0} (remaining : R → Option (List ℕ)) (contents : W → Option (List ℕ))
+pub record TranscriptIsTrueSince {R W : Type 0} (remaining : R → Option (List ℕ)) (contents : W → Option (List ℕ))
     (old new : StreamState R W) : Type 0 where
   pub during : Transcript
   pub grows : new.transcript ≡ old.transcript ++ during
@@ -91,14 +91,14 @@ pub record TakesKnownBytes (bytes : List ℕ) (before now : Transcript) (old new
 pub record FailingState (L : Type 0) : Type 0 where
   pub inner : L
   pub due : ℕ
-  pub cut : ℕ
+  pub piece_limit : ℕ
   pub failed : ℕ
 
 pub record CountsCall {L : Type 0} (old new : FailingState L) (is_due : Bool) : Type 0 where
   pub value : is_due ≡ (old.due == 1)
   pub due : new.due ≡ old.due - 1
   pub inner : new.inner ≡ old.inner
-  pub cut : new.cut ≡ old.cut
+  pub piece_limit : new.piece_limit ≡ old.piece_limit
   pub failed : old.due ≡ 1 → OneFailureCounted old.failed new.failed
   pub sound : old.due ≢ 1 → new.failed ≡ old.failed
   pub counted : old.failed ≤ new.failed
@@ -107,7 +107,7 @@ pub record CountsCall {L : Type 0} (old new : FailingState L) (is_due : Bool) : 
 pub record FailsAsPlanned {A L : Type 0} (view : L → LinkState) (old new : FailingState L)
     (result : Result A LinkFault) : Type 0 where
   pub due : new.due ≡ old.due - 1
-  pub cut : new.cut ≡ old.cut
+  pub piece_limit : new.piece_limit ≡ old.piece_limit
   pub chosen : old.due ≡ 1 → (result ≡ Err Failed) × (new.inner ≡ old.inner)
   pub others : old.due ≢ 1 → (new.failed ≡ old.failed) × OnErr result (HasFailed (view old.inner) (view new.inner))
 

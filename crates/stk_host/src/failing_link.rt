@@ -10,8 +10,8 @@ use std::marker::Model;
 /// Wraps a link, fails at one call, and cuts what passes into short pieces.
 ///
 /// Calls of `send` and `recv` are counted together from 1. The chosen call returns [`LinkFault::Failed`], counts as a
-/// failure and changes nothing else. All other calls go to the inner link: `send` with at most `cut` bytes, `recv`
-/// with a buffer of at most `cut` bytes.
+/// failure and changes nothing else. All other calls go to the inner link: `send` with at most `piece_limit` bytes,
+/// `recv` with a buffer of at most `piece_limit` bytes.
 ///
 /// ```text
 /// let tape = TapeLink::new(alloc, Vec::new(alloc), 281);
@@ -23,7 +23,7 @@ use std::marker::Model;
 pub struct FailingLink<L> {
     inner: L,
     due: u64,
-    cut: usize,
+    piece_limit: usize,
     failed: u64,
 }
 
@@ -33,14 +33,19 @@ impl<L> Model for FailingLink<L> {
 
     ghost Value = { FailingState L };
 
-    ghost view = { λ link. record { inner = link.inner; due = link.due; cut = link.cut; failed = link.failed } };
+    ghost view = { λ link. record {
+      inner = link.inner;
+      due = link.due;
+      piece_limit = link.piece_limit;
+      failed = link.failed;
+    } };
 
-    ghost invariant = { λ link. 0 < link.cut };
+    ghost invariant = { λ link. 0 < link.piece_limit };
 }
 
 impl<L> FailingLink<L> {
-    /// Wraps `inner`, in pieces of at most `cut` bytes, so that call `n` fails. Calls are counted from 1; if `n` is
-    /// 0, none fails. `cut` must be at least 1.
+    /// Wraps `inner`, in pieces of at most `piece_limit` bytes, so that call `n` fails. Calls are counted from 1; if
+    /// `n` is 0, none fails. `piece_limit` must be at least 1.
     ///
     /// ```text
     /// let tape = TapeLink::new(alloc, Vec::new(alloc), 281);
@@ -48,14 +53,14 @@ impl<L> FailingLink<L> {
     /// assert!(rt; link.send(b"\x1B").is_ok());
     /// assert!(rt; link.send(b"\x1B").is_err());
     /// ```
-    pub fn new(inner: L, n: u64, cut: usize) -> Self
-        requires { 0 < cut }
-        ensures { result ≡ record { inner = inner; due = n; cut = cut; failed = 0 } }
+    pub fn new(inner: L, n: u64, piece_limit: usize) -> Self
+        requires { 0 < piece_limit }
+        ensures { result ≡ record { inner = inner; due = n; piece_limit = piece_limit; failed = 0 } }
     {
         FailingLink {
             inner,
             due: n,
-            cut,
+            piece_limit,
             failed: 0,
         }
     }
@@ -100,12 +105,12 @@ impl<L: Link + Drop> Link for FailingLink<L> {
             (failing_link_state L.view self.new) result }
         ensures comes { Preserves L.started_as self.old.inner self.new.inner }
         ensures fails { FailsAsPlanned L.view self.old self.new result }
-        ensures short { IfOk result (λ n. n ≤ self.old.cut) }
+        ensures short { IfOk result (λ n. n ≤ self.old.piece_limit) }
     {
         if self.is_due() {
             return Err(LinkFault::Failed);
         }
-        let most = self.cut.min(bytes.len());
+        let most = self.piece_limit.min(bytes.len());
         let count = self.inner.send(&bytes[..most])?;
         Ok(count)
     }
@@ -116,12 +121,12 @@ impl<L: Link + Drop> Link for FailingLink<L> {
             result }
         ensures comes { Preserves L.started_as self.old.inner self.new.inner }
         ensures fails { FailsAsPlanned L.view self.old self.new result }
-        ensures short { IfOk result (λ heard. FitsBuffer heard self.old.cut) }
+        ensures short { IfOk result (λ heard. FitsBuffer heard self.old.piece_limit) }
     {
         if self.is_due() {
             return Err(LinkFault::Failed);
         }
-        let most = self.cut.min(buffer.len());
+        let most = self.piece_limit.min(buffer.len());
         self.inner.recv(&mut buffer[..most])
     }
 }

@@ -13,8 +13,8 @@ use std::marker::Model;
 
 /// A link that gives the items of a tape in order, and keeps the transcript.
 ///
-/// `send` takes at most `cut` bytes, and `recv` gives at most `cut`. A timeout or an end comes alone. After the last
-/// item every `recv` gives an end. The link fails only if allocation for the transcript fails.
+/// `send` takes at most `piece_limit` bytes, and `recv` gives at most `piece_limit`. A timeout or an end comes alone.
+/// After the last item every `recv` gives an end. The link fails only if allocation for the transcript fails.
 ///
 /// ```text
 /// let mut link = TapeLink::new(alloc, vec![in alloc; Item::Silence; 1]?, 281);
@@ -27,7 +27,7 @@ use std::marker::Model;
 pub struct TapeLink {
     items: Vec<Item>,
     at: usize,
-    cut: usize,
+    piece_limit: usize,
     log: Log,
     failures: u64,
 }
@@ -40,12 +40,12 @@ impl Model for TapeLink {
 
     ghost view = { λ link. record {
       left = drop link.at link.items.items;
-      cut = link.cut;
+      piece_limit = link.piece_limit;
       transcript = link.log.transcript;
       failures = link.failures;
     } };
 
-    ghost invariant = { λ link. (0 < link.cut) × (link.at ≤ length link.items.items) };
+    ghost invariant = { λ link. (0 < link.piece_limit) × (link.at ≤ length link.items.items) };
 }
 
 fn byte_at(tape: &[Item], place: usize) -> Option<u8>
@@ -96,7 +96,7 @@ fn item_count(heard: Heard) -> usize
 }
 
 impl TapeLink {
-    /// Creates a link over these items, in pieces of at most `cut` bytes. `cut` must be at least 1.
+    /// Creates a link over these items, in pieces of at most `piece_limit` bytes. `piece_limit` must be at least 1.
     ///
     /// ```text
     /// let mut tape = Vec::new(alloc);
@@ -106,14 +106,14 @@ impl TapeLink {
     /// assert!(rt; link.recv(&mut buffer)? == Heard::Bytes(1));
     /// assert!(rt; link.recv(&mut buffer)? == Heard::End);
     /// ```
-    pub fn new(alloc: Global, items: Vec<Item>, cut: usize) -> Self
-        requires { 0 < cut }
-        ensures { result ≡ record { left = items.items; cut = cut; transcript = []; failures = 0 } }
+    pub fn new(alloc: Global, items: Vec<Item>, piece_limit: usize) -> Self
+        requires { 0 < piece_limit }
+        ensures { result ≡ record { left = items.items; piece_limit = piece_limit; transcript = []; failures = 0 } }
     {
         TapeLink {
             items,
             at: 0,
-            cut,
+            piece_limit,
             log: Log::new(alloc),
             failures: 0,
         }
@@ -144,13 +144,13 @@ impl Link for TapeLink {
     fn send(&mut self, bytes: &[u8]) -> Result<usize, LinkFault>
         ensures sends { Sends bytes.now (tape_state self.old) (tape_state self.new) result }
         ensures sound { OnOk result (self.new.failures ≡ self.old.failures) }
-        ensures count { IfOk result (λ n. n ≡ min self.old.cut (length bytes.now)) }
+        ensures count { IfOk result (λ n. n ≡ min self.old.piece_limit (length bytes.now)) }
         ensures left { self.new.left ≡ self.old.left }
-        ensures cut { self.new.cut ≡ self.old.cut }
+        ensures piece_limit { self.new.piece_limit ≡ self.old.piece_limit }
         ensures same { OnErr result (self.new ≡ record self.old { failures = self.new.failures }) }
         ensures comes { Preserves ConsumesTape self.old self.new }
     {
-        let count = self.cut.min(bytes.len());
+        let count = self.piece_limit.min(bytes.len());
         let Ok(()) = self.log.reserve(count) else {
             self.failures = self.failures.saturating_add(1);
             return Err(LinkFault::Failed);
@@ -163,13 +163,13 @@ impl Link for TapeLink {
         requires { 0 < length buffer.old }
         ensures receives { Receives buffer.new (tape_state self.old) (tape_state self.new) result }
         ensures piece { IfOk result (λ heard. items_of heard buffer.new
-            ≡ next_piece (min self.old.cut (length buffer.new)) self.old.left) }
+            ≡ next_piece (min self.old.piece_limit (length buffer.new)) self.old.left) }
         ensures left { IfOk result (λ heard. self.new.left ≡ drop (length (items_of heard buffer.new)) self.old.left) }
         ensures kept { OnErr result (self.new.left ≡ self.old.left) }
-        ensures cut { self.new.cut ≡ self.old.cut }
+        ensures piece_limit { self.new.piece_limit ≡ self.old.piece_limit }
         ensures comes { Preserves ConsumesTape self.old self.new }
     {
-        let most = self.cut.min(buffer.len());
+        let most = self.piece_limit.min(buffer.len());
         let heard = give_piece(&self.items[self.at..], &mut buffer[..most]);
         let Ok(()) = self.log.receive_piece(heard, buffer) else {
             self.failures = self.failures.saturating_add(1);
@@ -187,7 +187,7 @@ impl fmt::Debug for TapeLink {
         f.debug_struct("TapeLink")
             .field("items", &self.items)
             .field("at", &self.at)
-            .field("cut", &self.cut)
+            .field("piece_limit", &self.piece_limit)
             .field("failures", &self.failures)
             .finish_non_exhaustive()
     }

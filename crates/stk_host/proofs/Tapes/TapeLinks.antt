@@ -92,11 +92,11 @@ sent_of_tape bytes b c left transcript = quiet_of_tape (Sent bytes ∷ []) b c r
 
 pub heard_of_tape : (result : Result Heard LinkFault) (buffer : List ℕ) (b c : TapeState)
     → Receives buffer (tape_state b) (tape_state c) result
-    → IfOk result (λ given. items_of given buffer ≡ next_piece (min b.cut (length buffer)) b.left)
+    → IfOk result (λ given. items_of given buffer ≡ next_piece (min b.piece_limit (length buffer)) b.left)
     → IfOk result (λ given. c.left ≡ drop (length (items_of given buffer)) b.left) → OnErr result (c.left ≡ b.left)
     → Preserves ConsumesTape b c
 heard_of_tape (Ok given) buffer b c receives piece left kept =
-    let most : ℕ = min b.cut (length buffer) in
+    let most : ℕ = min b.piece_limit (length buffer) in
     let rest : c.left ≡ drop (length (next_piece most b.left)) b.left =
     left ∙ ap (λ (t : Tape). drop (length t) b.left) piece in
     since b c (record {
