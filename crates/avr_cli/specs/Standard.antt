@@ -44,5 +44,5 @@ is_port_taken (Served port chip) updates = is_standard chip
 -- `--parts` and `--chip`.
 abbrev pub is_taken : Port → List Update → Option Bytes → Option Bytes → Bool
 is_taken port updates parts chip =
-    (is_given_standard parts || is_given_standard chip) || (is_port_taken port updates || nat_le 2
-    (count_by uses_input updates))
+    (is_given_standard parts || is_given_standard chip)
+    || (is_port_taken port updates || nat_le 2 (count_by uses_input updates))

@@ -99,7 +99,8 @@ fn run_settings(
     part: &str,
     matches: &ArgMatches<'_>,
 ) -> Result<Settings, SettingsFault>
-    ensures gives { GivesUnlessOutOfMemory (run_settings part.now (entries_of (rows_of (found_of matches.now)))) result }
+    ensures gives { GivesUnlessOutOfMemory
+        (run_settings part.now (entries_of (rows_of (found_of matches.now)))) result }
     ensures is_reported { ReportsAnyway (run_settings part.now (entries_of (rows_of (found_of matches.now)))) result }
 {
     check_programmer(alloc, text_of(matches, "programmer"))?;

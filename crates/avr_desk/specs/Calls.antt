@@ -1,3 +1,4 @@
+-- What one call of a desk does to its record.
 use Rattle.std.specs.Prelude.{false, [], take, Ok}
 use Rattle.avr_desk.specs.declared.journal.Call.{Call}
 use Rattle.avr_desk.specs.declared.journal.Call.TheVariants as call

@@ -40,8 +40,8 @@ TookFile {F = F} system writes now writing =
     × Appends (writes.contents first) (writes.contents now) writing.bytes
 
 -- The open handle gave or took what the record says.
-abbrev pub IsTrueOpen : {S F I H : Type 0} → Ghosts S F I H → Reads F → Writes F → Reads I → OpenFile F I → Open
-    → Type 0
+abbrev pub IsTrueOpen : {S F I H : Type 0} → Ghosts S F I H → Reads F → Writes F → Reads I → OpenFile F I
+    → Open → Type 0
 IsTrueOpen system reads writes input Nothing current = current ≡ is.Closed
 IsTrueOpen system reads writes input (Input now) current =
     (reading : Reading) × (current ≡ is.ToRead reading) × GaveInput system input now reading

@@ -16,9 +16,9 @@ pub mod Calls
 pub mod Lines
 pub mod OutputEvents
 pub mod Stage
-pub mod Playing
+pub mod StageRuns
 -- inside: how things are stored, and contracts of private functions
-pub mod Standing
+pub mod OpenFile
 -- names from the crates below that public contracts use
 pub use Rattle.ghosts.specs.Failures
 pub use Rattle.ghosts.specs.Preserves

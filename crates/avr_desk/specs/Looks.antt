@@ -7,10 +7,10 @@ use Rattle.std.specs.declared.fs.TryLockError.TheVariants as lock
 use Rattle.avr_desk.specs.declared.looks.Identity.{Identity}
 
 -- both looks found the same file, or both found none
-abbrev pub is_same : Option Identity → Option Identity → Bool
-is_same (Some one) (Some other) = (one.device == other.device) && (one.number == other.number)
-is_same None None = true
-is_same one other = false
+abbrev pub is_same_file : Option Identity → Option Identity → Bool
+is_same_file (Some one) (Some other) = (one.device == other.device) && (one.number == other.number)
+is_same_file None None = true
+is_same_file one other = false
 
 -- the locked file; none if another process has the lock
 abbrev pub locked : {T : Type 0} → T → Result (Unit {0}) TryLockError → Result (Option T) Error
@@ -20,5 +20,5 @@ locked file (Err (lock.Error error)) = Err error
 
 -- a file created by this name may be the held one
 abbrev pub leads : Option Identity → Option Identity → Bool → Bool → Bool
-leads seen (Some there) is_link is_place = is_place || is_same seen (Some there)
+leads seen (Some there) is_link is_place = is_place || is_same_file seen (Some there)
 leads seen None is_link is_place = is_place || (is_link && is_none seen)

@@ -9,7 +9,7 @@ use Rattle.avr_desk.specs.Handles.{IsTrueRecord}
 use Rattle.avr_desk.specs.Journal.{no_calls}
 use Rattle.avr_desk.specs.Named.{is_dash}
 use Rattle.avr_desk.specs.Record.{Bytes, Record, DeskState, all_files, nothing_kept, showing}
-use Rattle.avr_desk.specs.Standing.{is_output}
+use Rattle.avr_desk.specs.OpenFile.{is_output}
 use Rattle.avr_desk.specs.Stream.{after_sent}
 use Rattle.avr_desk.specs.declared.file_system.FileSystem.{Ghosts}
 use Rattle.avr_desk.specs.declared.record.Writing.{Writing}
@@ -57,8 +57,8 @@ RecordsTaken stream bytes old new before now n =
     (now ≡ after_sent stream (take n bytes) before) × Appends old new (take n bytes)
 
 -- The record has the bytes that the writer took: the returned count, or after a fault a prefix.
-abbrev pub RecordsTruly : {F : Type 0} → Stream → Bytes → Option Bytes → Option Bytes → Record → Record → Result ℕ F
-    → Type 0
+abbrev pub RecordsTruly : {F : Type 0} → Stream → Bytes → Option Bytes → Option Bytes → Record → Record
+    → Result ℕ F → Type 0
 RecordsTruly stream bytes old new before now (Ok n) = RecordsTaken stream bytes old new before now n
 RecordsTruly stream bytes old new before now (Err fault) =
     (n : ℕ) × (n ≤ length bytes) × RecordsTaken stream bytes old new before now n
@@ -76,14 +76,15 @@ has_dash = list_any (λ file. is_dash file.name)
 -- the output stays among the files.
 pub record IsTrueSince {S F I H O E : Type 0} (system : Ghosts S F I H) (reads : Reads F) (writes : Writes F)
     (input : Reads I) (output_of : Writes O) (messages_of : Writes E) (old new : Shown S F H I O E) : Type 0 where
-  pub emitted : Bytes
-  pub messages : new.kept.messages ≡ old.kept.messages ++ emitted
-  pub notice : Appends (messages_of.contents old.messages) (messages_of.contents new.messages) emitted
-  pub put : Bytes
-  pub output : new.kept.output ≡ old.kept.output ++ put
+  pub message_bytes : Bytes
+  pub messages : new.kept.messages ≡ old.kept.messages ++ message_bytes
+  pub messages_taken : Appends (messages_of.contents old.messages) (messages_of.contents new.messages) message_bytes
+  pub output_bytes : Bytes
+  pub output : new.kept.output ≡ old.kept.output ++ output_bytes
   pub dashes : has_dash (all_files new.kept) ≡ false → has_dash (all_files old.kept) ≡ false
   pub out : has_dash (all_files new.kept) ≡ false → writes_to_output old ≡ false
-      → (writes_to_output new ≡ false) × Appends (output_of.contents old.output) (output_of.contents new.output) put
+      → (writes_to_output new ≡ false)
+      × Appends (output_of.contents old.output) (output_of.contents new.output) output_bytes
   pub files : IsTrueRecord system reads writes input old.system old.opened old.hold old.kept
       → IsTrueRecord system reads writes input new.system new.opened new.hold new.kept
 
@@ -97,7 +98,6 @@ pub record IsNewDesk {S F I H O E : Type 0} (system : Ghosts S F I H) (d : Shown
 
 -- If the desk was new, its record is true and has all that the system did.
 abbrev pub RecordsAll : {S F I H O E : Type 0} → Ghosts S F I H → Reads F → Writes F → Reads I → Shown S F H I O E
-    → Shown S F H I O E
-    → Type 0
+    → Shown S F H I O E → Type 0
 RecordsAll system reads writes input old new =
     IsNewDesk system old → IsTrueRecord system reads writes input new.system new.opened new.hold new.kept

@@ -15,39 +15,40 @@ pub data StageOutcome (A : Type 0) : Type 0 where
 
 -- the events before the end, the end, and the openings that the stage didn't use
 pub record StageResult (A : Type 0) : Type 0 where
-  pub emits : List OutputEvent
+  pub output_events : List OutputEvent
   pub stage_outcome : StageOutcome A
   pub openings_left : List Opening
 
 -- all events, the line of a refusal last
 abbrev pub events_with_refusal : {A : Type 0} → List OutputEvent → StageOutcome A → List OutputEvent
-events_with_refusal emits (Produced a) = emits
-events_with_refusal emits (Refused line) = emits ++ PrintsLine line ∷ []
-events_with_refusal emits NotReadToEnd = emits
+events_with_refusal output_events (Produced a) = output_events
+events_with_refusal output_events (Refused line) = output_events ++ PrintsLine line ∷ []
+events_with_refusal output_events NotReadToEnd = output_events
 
 abbrev pub all_events_of : {A : Type 0} → StageResult A → List OutputEvent
-all_events_of p = events_with_refusal p.emits p.stage_outcome
+all_events_of p = events_with_refusal p.output_events p.stage_outcome
 
 abbrev pub Stage : Type 0 → Type 0
 Stage A = List Opening → StageResult A
 
 abbrev pub with_events_before : {A : Type 0} → List OutputEvent → StageResult A → StageResult A
-with_events_before emits p = record {
-  emits = emits ++ p.emits;
+with_events_before output_events p = record {
+  output_events = output_events ++ p.output_events;
   stage_outcome = p.stage_outcome;
   openings_left = p.openings_left;
 }
 
 abbrev pub continued_stage : {A B : Type 0} → List OutputEvent → List Opening → (A → Stage B) → StageOutcome A
     → StageResult B
-continued_stage emits openings_left go_on (Produced a) = with_events_before emits (go_on a openings_left)
-continued_stage emits openings_left go_on (Refused line) = record {
-  emits = emits;
+continued_stage output_events openings_left go_on (Produced a) =
+    with_events_before output_events (go_on a openings_left)
+continued_stage output_events openings_left go_on (Refused line) = record {
+  output_events = output_events;
   stage_outcome = Refused line;
   openings_left = openings_left;
 }
-continued_stage emits openings_left go_on NotReadToEnd = record {
-  emits = emits;
+continued_stage output_events openings_left go_on NotReadToEnd = record {
+  output_events = output_events;
   stage_outcome = NotReadToEnd;
   openings_left = openings_left;
 }
@@ -57,15 +58,16 @@ infixl 10 ◌>>=◌
 abbrev pub ◌>>=◌ : {A B : Type 0} → Stage A → (A → Stage B) → Stage B
 ◌>>=◌ stage go_on openings =
     let p = stage openings in
-    continued_stage p.emits p.openings_left go_on p.stage_outcome
+    continued_stage p.output_events p.openings_left go_on p.stage_outcome
 
 abbrev pub output_stage : List OutputEvent → Stage ⊤
-output_stage emits openings = record { emits = emits; stage_outcome = Produced tt; openings_left = openings }
+output_stage output_events openings =
+    record { output_events = output_events; stage_outcome = Produced tt; openings_left = openings }
 
 -- a stage without events: a result, or the line of its refusal
 abbrev pub result_stage : {A : Type 0} → Result A Bytes → Stage A
-result_stage (Ok a) openings = record { emits = []; stage_outcome = Produced a; openings_left = openings }
-result_stage (Err line) openings = record { emits = []; stage_outcome = Refused line; openings_left = openings }
+result_stage (Ok a) openings = record { output_events = []; stage_outcome = Produced a; openings_left = openings }
+result_stage (Err line) openings = record { output_events = []; stage_outcome = Refused line; openings_left = openings }
 
 -- the same opening under another name
 abbrev pub renamed_opening : Bytes → Opening → Opening
@@ -79,7 +81,7 @@ next_opening name (opening ∷ openings) = renamed_opening name opening
 
 abbrev pub open_stage : Bytes → Stage Opening
 open_stage name openings = record {
-  emits = Opens (next_opening name openings) ∷ [];
+  output_events = Opens (next_opening name openings) ∷ [];
   stage_outcome = Produced (next_opening name openings);
   openings_left = drop 1 openings;
 }
@@ -88,7 +90,7 @@ abbrev pub content_stage : {A : Type 0} → Bytes → ℕ → (Bytes → Result 
 content_stage name limit judge (Absent other) = result_stage (Err (not_opened_line name))
 content_stage name limit judge (Found reading) =
     if reading.ended || nat_lt limit (length reading.bytes) then result_stage (judge reading.bytes)
-    else (λ openings. record { emits = []; stage_outcome = NotReadToEnd; openings_left = openings })
+    else (λ openings. record { output_events = []; stage_outcome = NotReadToEnd; openings_left = openings })
 
 -- the stage that opens a file, reads it to its end or past `limit`, and checks its bytes
 abbrev pub file_stage : {A : Type 0} → Bytes → ℕ → (Bytes → Result A Bytes) → Stage A

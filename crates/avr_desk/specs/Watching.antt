@@ -17,10 +17,10 @@ pub data ReportedDeskCall : Type 0 where
   Wrote : Stream → Bytes → Result ℕ DeskFault → ReportedDeskCall
 
 abbrev pub reported_desk_call : DeskCall → ReportedDeskCall
-reported_desk_call (call.Opened name answer) = Opened name.now answer
-reported_desk_call (call.Created name answer) = Created name.now answer
-reported_desk_call (call.Held name answer) = Held name.now answer
+reported_desk_call (call.Opened name outcome) = Opened name.now outcome
+reported_desk_call (call.Created name outcome) = Created name.now outcome
+reported_desk_call (call.Held name outcome) = Held name.now outcome
 reported_desk_call call.Released = Released
-reported_desk_call (call.Replaced name bytes answer) = Replaced name.now bytes.now answer
-reported_desk_call (call.Read buffer answer) = Read buffer.now answer
-reported_desk_call (call.Wrote stream bytes answer) = Wrote stream bytes.now answer
+reported_desk_call (call.Replaced name bytes outcome) = Replaced name.now bytes.now outcome
+reported_desk_call (call.Read buffer outcome) = Read buffer.now outcome
+reported_desk_call (call.Wrote stream bytes outcome) = Wrote stream bytes.now outcome

@@ -125,7 +125,8 @@ impl<D: Desk> Desk for FailingDesk<D> {
     }
 
     fn out(&mut self, bytes: &[u8]) -> Result<usize, DeskFault>
-        ensures write { IsWrite (failing D.view) (inner_comes_of D.started_as) Output bytes.now self.old self.new result }
+        ensures write { IsWrite (failing D.view) (inner_comes_of D.started_as) Output bytes.now
+            self.old self.new result }
         ensures when_due { FailsWhenDue Output D.view self.old self.new (WriteCounts Output bytes.now) result }
     {
         if self.is_due() {

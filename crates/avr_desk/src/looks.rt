@@ -2,7 +2,7 @@
 ghost use Rattle.std.specs.Prelude.{◌≡◌, ◌⊎◌, ◌==◌, ◌&&◌, ◌%◌, ◌*◌, bit_and, bit_or, if◌then◌else◌, IfOk, IfErr, OnOk, MatchOption, None, Ok, Err, Option, Some, true, false};
 ghost use Rattle.std.specs.IoError.{error_kind};
 ghost use Rattle.std.specs.Option.{is_none};
-ghost use Rattle.avr_desk.specs.Looks.{is_same, leads, locked};
+ghost use Rattle.avr_desk.specs.Looks.{is_same_file, leads, locked};
 
 use std::fs::TryLockError;
 use std::io;
@@ -16,8 +16,8 @@ pub(crate) struct Identity {
 }
 
 /// Returns whether two looks found the same file, or none.
-pub(crate) fn is_same(one: Option<Identity>, other: Option<Identity>) -> bool
-    ensures { result ≡ is_same one other }
+pub(crate) fn is_same_file(one: Option<Identity>, other: Option<Identity>) -> bool
+    ensures { result ≡ is_same_file one other }
 {
     match (one, other) {
         (Some(one), Some(other)) => one.device == other.device && one.number == other.number,
@@ -62,11 +62,11 @@ pub(crate) fn opened<T: Drop>(
     file: Option<T>,
     there: Option<io::Result<Identity>>,
 ) -> io::Result<T>
-    ensures same { OnOk result (MatchOption there ⊥ (λ it. IfOk it (λ own. is_same seen (Some own) ≡ true))) }
+    ensures same { OnOk result (MatchOption there ⊥ (λ it. IfOk it (λ own. is_same_file seen (Some own) ≡ true))) }
     ensures absent { IfErr result (λ e. error_kind e ≡ ErrorKind.NotFound → is_none seen && is_none file ≡ true) }
 {
     match (file, there) {
-        (Some(file), Some(Ok(own))) if is_same(seen, Some(own)) => Ok(file),
+        (Some(file), Some(Ok(own))) if is_same_file(seen, Some(own)) => Ok(file),
         (None, _) if seen.is_none() => Err(io::Error::from(ErrorKind::NotFound)),
         _ => Err(io::Error::from(ErrorKind::ResourceBusy)),
     }
@@ -111,7 +111,7 @@ pub(crate) fn leads(
     ensures { result ≡ leads seen there is_link is_place }
 {
     match there {
-        Some(_) => is_place || is_same(seen, there),
+        Some(_) => is_place || is_same_file(seen, there),
         None => is_place || (is_link && seen.is_none()),
     }
 }

@@ -363,7 +363,8 @@ impl ChipDesk for MemDesk {
     #[tactic(auto, using(crate::proofs::Desks::InMemory::same_true))]
     fn hold(&mut self, name: &str) -> Result<bool, DeskFault>
         ensures free { IfOk result (λ b. b ≡ not (holds name.now self.old.kept)) }
-        ensures kept { self.new ≡ with_record_and_failures (after_hold name.now result self.old.kept) self.old self.new }
+        ensures kept { self.new
+            ≡ with_record_and_failures (after_hold name.now result self.old.kept) self.old self.new }
         ensures call { IsCall memory_state HoldsTrue (CountsFailure File) self.old self.new result }
     {
         let Ok(own_name) = Bytes::copied(self.alloc, name.as_bytes()) else {

@@ -2,8 +2,8 @@ ghost use Rattle.std.specs.Prelude.{⊤, string_bytes};
 
 use crate::folder::Folder;
 use crate::looks::{
-    Identity, first_mode, given, is_same, leads, links_none, locked, opened, permissions_after,
-    synced, unless,
+    Identity, first_mode, given, is_same_file, leads, links_none, locked, opened,
+    permissions_after, synced, unless,
 };
 use crate::synced::Synced;
 use std::alloc::Global;
@@ -79,7 +79,7 @@ fn is_one_place<R: Files<File = File>>(rt: &R, one: &str, other: &str) -> io::Re
     }
     let folder = fs::metadata(rt, folder_of(one))?;
     let other = fs::metadata(rt, folder_of(other))?;
-    Ok(is_same(Some(identity(&folder)), Some(identity(&other))))
+    Ok(is_same_file(Some(identity(&folder)), Some(identity(&other))))
 }
 
 /// Returns what was found, if anything. Fails if it is no regular file.
@@ -106,7 +106,7 @@ fn is_link<R: Files<File = File>>(rt: &R, path: &str) -> io::Result<bool> {
 /// Returns whether the file at `path` is this open file. Links are not followed.
 fn is_at<R: Files<File = File>>(rt: &R, file: &File, path: &str) -> io::Result<bool> {
     let own = own_identity(file)?;
-    Ok(is_same(Some(own), look(rt, path)?))
+    Ok(is_same_file(Some(own), look(rt, path)?))
 }
 
 /// Gives a new file the old one's group, owner and permissions, as far as the system allows.
@@ -299,7 +299,7 @@ impl<'a, R: Files<File = File> + Input + Alloc<A = Global>> Folder for &'a R {
         let (new, path) = (held.place.new.as_str(), held.place.path.as_str());
         let is_own = is_at(*self, file, new)?;
         fs::rename(*self, new, new)?;
-        if is_own && is_same(identity_of(seen), look(*self, path)?) {
+        if is_own && is_same_file(identity_of(seen), look(*self, path)?) {
             return Ok(());
         }
         Err(io::Error::from(ErrorKind::AlreadyExists))

@@ -7,7 +7,7 @@ ghost use Rattle.avr_desk.specs.Named.{is_dash};
 ghost use Rattle.avr_desk.specs.Journal.{ReleasesHeld, CrashLeavesNoMore, IsUncounted};
 ghost use Rattle.avr_desk.specs.Record.{HasOpen, ChangesRecord, after_open, after_create, after_hold, after_read, Replaces, released, is_to_read, is_to_write, nothing_kept, with_tried};
 ghost use Rattle.avr_desk.specs.Shown.{IsTrueSince, KeepsLastError, Shown, RecordsTruly, with_log_of, with_open_of, system_desk_view, writes_to_output, writes_to_output_after_open};
-ghost use Rattle.avr_desk.specs.Standing.{OpenFileGives, OpenFileGivesNothing, IsClosed};
+ghost use Rattle.avr_desk.specs.OpenFile.{OpenFileGives, OpenFileGivesNothing, IsClosed};
 ghost use Rattle.avr_desk.specs.Stream.{IsWrite};
 ghost use Rattle.avr_desk.specs.declared.desk.DeskFault.TheVariants.{Failed};
 ghost use Rattle.avr_desk.specs.declared.stream.Stream.TheVariants.{File, Output, Messages};
@@ -57,7 +57,7 @@ pub struct SystemDesk<R: FileSystem + Drop, O: Write + Drop, E: Write + Drop> {
 
 impl<R: FileSystem + Drop, O: Write + Drop, E: Write + Drop> Model for SystemDesk<R, O, E> {
     ghost use Rattle.avr_desk.specs.Shown.{Shown};
-    ghost use Rattle.avr_desk.specs.Standing.{IsOpenAsRecorded};
+    ghost use Rattle.avr_desk.specs.OpenFile.{IsOpenAsRecorded};
 
     ghost Value = { Shown R R.File R.Hold R.Input O E };
 
@@ -245,7 +245,8 @@ impl<R: FileSystem + Drop, O: Outlet + Drop, E: Outlet + Drop> Desk for SystemDe
 
     fn read(&mut self, buf: &mut [u8]) -> Result<usize, DeskFault>
         ensures bound { IfOk result (λ n. n ≤ length buf.new) }
-        ensures kept { ChangesRecord (after_read buf.new result) (system_desk_view self.old) (system_desk_view self.new) }
+        ensures kept { ChangesRecord (after_read buf.new result) (system_desk_view self.old)
+            (system_desk_view self.new) }
         ensures has_file { HasOpen is_to_read (system_desk_view self.old) result }
         ensures call { IsCall system_desk_view ⟦<SystemDesk<R, O, E> as Desk>⟧.started_as
             (CountsFailure File) self.old self.new result }
@@ -406,7 +407,7 @@ impl<R: FileSystem + Drop, O: Write + Drop, E: Write + Drop> fmt::Debug for Syst
     fn fmt<F: fmt::Write>(&self, f: &mut fmt::Formatter<F>) -> fmt::Result {
         f.debug_struct("SystemDesk")
             .field("failures", &self.failures)
-            .field("unsaid", &self.message_failures)
+            .field("message_failures", &self.message_failures)
             .field("last_error", &self.last_error)
             .finish_non_exhaustive()
     }

@@ -77,9 +77,9 @@ impl<D: Desk, W: WatchDesk> Desk for WatchedDesk<D, W> {
         ensures stays { Preserves D.started_as self.old.desk self.new.desk }
         ensures notice { W.after (Opened name.now result) self.old.watcher self.new.watcher }
     {
-        let answer = self.desk.open(name);
-        self.watcher.on_call(&DeskCall::Opened(name, answer));
-        answer
+        let outcome = self.desk.open(name);
+        self.watcher.on_call(&DeskCall::Opened(name, outcome));
+        outcome
     }
 
     fn create(&mut self, name: &str) -> Result<(), DeskFault>
@@ -87,9 +87,9 @@ impl<D: Desk, W: WatchDesk> Desk for WatchedDesk<D, W> {
         ensures call { IsCall D.view D.started_as (CountsFailure File) self.old.desk self.new.desk result }
         ensures notice { W.after (Created name.now result) self.old.watcher self.new.watcher }
     {
-        let answer = self.desk.create(name);
-        self.watcher.on_call(&DeskCall::Created(name, answer));
-        answer
+        let outcome = self.desk.create(name);
+        self.watcher.on_call(&DeskCall::Created(name, outcome));
+        outcome
     }
 
     fn read(&mut self, buf: &mut [u8]) -> Result<usize, DeskFault>
@@ -99,9 +99,9 @@ impl<D: Desk, W: WatchDesk> Desk for WatchedDesk<D, W> {
         ensures call { IsCall D.view D.started_as (CountsFailure File) self.old.desk self.new.desk result }
         ensures notice { W.after (Read buf.new result) self.old.watcher self.new.watcher }
     {
-        let answer = self.desk.read(buf);
-        self.watcher.on_call(&DeskCall::Read(buf, answer));
-        answer
+        let outcome = self.desk.read(buf);
+        self.watcher.on_call(&DeskCall::Read(buf, outcome));
+        outcome
     }
 
     fn write(&mut self, bytes: &[u8]) -> Result<usize, DeskFault>
@@ -109,30 +109,30 @@ impl<D: Desk, W: WatchDesk> Desk for WatchedDesk<D, W> {
         ensures has_file { HasOpen is_to_write (D.view self.old.desk) result }
         ensures notice { W.after (Wrote File bytes.now result) self.old.watcher self.new.watcher }
     {
-        let answer = self.desk.write(bytes);
+        let outcome = self.desk.write(bytes);
         self.watcher
-            .on_call(&DeskCall::Wrote(Stream::File, bytes, answer));
-        answer
+            .on_call(&DeskCall::Wrote(Stream::File, bytes, outcome));
+        outcome
     }
 
     fn out(&mut self, bytes: &[u8]) -> Result<usize, DeskFault>
         ensures write { IsWrite D.view D.started_as Output bytes.now self.old.desk self.new.desk result }
         ensures notice { W.after (Wrote Output bytes.now result) self.old.watcher self.new.watcher }
     {
-        let answer = self.desk.out(bytes);
+        let outcome = self.desk.out(bytes);
         self.watcher
-            .on_call(&DeskCall::Wrote(Stream::Output, bytes, answer));
-        answer
+            .on_call(&DeskCall::Wrote(Stream::Output, bytes, outcome));
+        outcome
     }
 
     fn err(&mut self, bytes: &[u8]) -> Result<usize, DeskFault>
         ensures write { IsWrite D.view D.started_as Messages bytes.now self.old.desk self.new.desk result }
         ensures notice { W.after (Wrote Messages bytes.now result) self.old.watcher self.new.watcher }
     {
-        let answer = self.desk.err(bytes);
+        let outcome = self.desk.err(bytes);
         self.watcher
-            .on_call(&DeskCall::Wrote(Stream::Messages, bytes, answer));
-        answer
+            .on_call(&DeskCall::Wrote(Stream::Messages, bytes, outcome));
+        outcome
     }
 }
 
@@ -142,9 +142,9 @@ impl<D: ChipDesk, W: WatchDesk> ChipDesk for WatchedDesk<D, W> {
         ensures call { IsCall D.view D.started_as (CountsFailure File) self.old.desk self.new.desk result }
         ensures notice { W.after (Held name.now result) self.old.watcher self.new.watcher }
     {
-        let answer = self.desk.hold(name);
-        self.watcher.on_call(&DeskCall::Held(name, answer));
-        answer
+        let outcome = self.desk.hold(name);
+        self.watcher.on_call(&DeskCall::Held(name, outcome));
+        outcome
     }
 
     fn release(&mut self)
@@ -161,9 +161,9 @@ impl<D: ChipDesk, W: WatchDesk> ChipDesk for WatchedDesk<D, W> {
         ensures call { IsCall D.view D.started_as (CountsFailure File) self.old.desk self.new.desk result }
         ensures notice { W.after (Replaced name.now bytes.now result) self.old.watcher self.new.watcher }
     {
-        let answer = self.desk.replace(name, bytes);
+        let outcome = self.desk.replace(name, bytes);
         self.watcher
-            .on_call(&DeskCall::Replaced(name, bytes, answer));
-        answer
+            .on_call(&DeskCall::Replaced(name, bytes, outcome));
+        outcome
     }
 }

@@ -3,7 +3,7 @@
 use Rattle.std.proofs.Common.{◌≡◌, ◌≢◌, refl, ℕ, ◌+◌, ◌-◌, ◌<◌, ◌≤◌, ◌⊎◌, ◌↔◌, List, [], ◌∷◌, ◌++◌, length, take, drop, min, All, true, Option, Some, None, Ok, Err, is_some}
 use Rattle.std.specs.Prelude.{slice_index_or, IsTrue}
 use Rattle.std.specs.List.{enumerate_from, flat_map, slice_range}
-use Rattle.avr_image.specs.Image.{byte_at, byte_or_else, filled_bytes, first_from, fits, from_zero, image_of_pairs, is_same, with_bytes_at, over, run_end, with_byte}
+use Rattle.avr_image.specs.Image.{byte_at, byte_or_else, filled_bytes, first_from, fits, from_zero, image_of_pairs, is_same, with_pairs, over, run_end, with_byte}
 use Rattle.avr_image.specs.ByAddress.{last_at}
 use Rattle.avr_image.specs.Runs.{runs, leading_run, places_of}
 use Rattle.avr_image.specs.Walk.{IsNextHeld, IsByteRun, IsFilled, IsLongestRun}
@@ -53,22 +53,22 @@ byte_beside = laid.byte_beside
 -- a span that was put is at its addresses
 pub span_inside : (image : List (Option ℕ)) (addr : ℕ) (bytes : List ℕ) (place : ℕ)
     → addr + length bytes ≤ length image → place < length bytes
-    → byte_at (with_bytes_at image (enumerate_from addr bytes)) (addr + place) ≡ Some (slice_index_or bytes place 0)
+    → byte_at (with_pairs image (enumerate_from addr bytes)) (addr + place) ≡ Some (slice_index_or bytes place 0)
 span_inside image addr bytes place room l = laid.span_in image addr bytes place l room
 
 -- each address below the span keeps its byte or gap
 pub span_below : (image : List (Option ℕ)) (addr : ℕ) (bytes : List ℕ) (other : ℕ) → other < addr
-    → byte_at (with_bytes_at image (enumerate_from addr bytes)) other ≡ byte_at image other
+    → byte_at (with_pairs image (enumerate_from addr bytes)) other ≡ byte_at image other
 span_below = laid.span_low
 
 -- each address above the span keeps its byte or gap
 pub span_above : (image : List (Option ℕ)) (addr : ℕ) (bytes : List ℕ) (other : ℕ) → addr + length bytes ≤ other
-    → byte_at (with_bytes_at image (enumerate_from addr bytes)) other ≡ byte_at image other
+    → byte_at (with_pairs image (enumerate_from addr bytes)) other ≡ byte_at image other
 span_above = laid.span_high
 
 -- the size is unchanged
-pub laid_size : (image : List (Option ℕ)) (places : List (ℕ × ℕ)) → length (with_bytes_at image places) ≡ length image
-laid_size = laid.length-with_bytes_at
+pub laid_size : (image : List (Option ℕ)) (places : List (ℕ × ℕ)) → length (with_pairs image places) ≡ length image
+laid_size = laid.length-with_pairs
 
 -- bytes from address 0 on are a span put there into an empty image
 pub from_zero_is_a_span : (bytes : List ℕ) (size : ℕ) → length bytes ≤ size
@@ -97,12 +97,12 @@ over_at = by_address.over-at
 
 -- each address has the last byte put there, else what it had
 pub laid_at : (image : List (Option ℕ)) (places : List (ℕ × ℕ)) (addr : ℕ) → addr < length image
-    → byte_at (with_bytes_at image places) addr ≡ byte_or_else (last_at addr places) (byte_at image addr)
+    → byte_at (with_pairs image places) addr ≡ byte_or_else (last_at addr places) (byte_at image addr)
 laid_at = by_address.laid-at
 
 -- putting bytes into an image gives the same as laying an image of them over it
 pub laid_is_over : (image : List (Option ℕ)) (places : List (ℕ × ℕ))
-    → with_bytes_at image places ≡ over image (image_of_pairs (length image) places)
+    → with_pairs image places ≡ over image (image_of_pairs (length image) places)
 laid_is_over = laid.laid_over_laid
 
 -- an image of bytes in two parts is that of the second part over that of the first

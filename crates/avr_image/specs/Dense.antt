@@ -13,7 +13,7 @@ abbrev pub dense_image : List ℕ → List ℕ → List (Option ℕ)
 dense_image words bytes = shown_from 0 words bytes
 
 -- There is a presence bit for each byte. The bytes are fewer than 2 to the power 32, each below 256, and FF in gaps.
-pub record IsKept (words bytes : List ℕ) : Type 0 where
+pub record IsSoundStorage (words bytes : List ℕ) : Type 0 where
   pub enough : length bytes ≤ length words * 64
   pub below : length bytes < 2 ^ 32
   pub small : (i : ℕ) → slice_index bytes i < 256

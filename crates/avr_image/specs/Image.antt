@@ -33,12 +33,12 @@ over (a ∷ more) [] = a ∷ more
 over (a ∷ more) (b ∷ bs) = byte_or_else b a ∷ over more bs
 
 -- The image with these bytes put at their addresses, in the list's order. A later byte at an address wins.
-abbrev pub with_bytes_at : List (Option ℕ) → List (ℕ × ℕ) → List (Option ℕ)
-with_bytes_at image = fold (λ image place. with_byte image place.0 place.1) image
+abbrev pub with_pairs : List (Option ℕ) → List (ℕ × ℕ) → List (Option ℕ)
+with_pairs image = fold (λ image place. with_byte image place.0 place.1) image
 
 -- The image of a memory of this size that has only these bytes at their addresses.
 abbrev pub image_of_pairs : ℕ → List (ℕ × ℕ) → List (Option ℕ)
-image_of_pairs size = with_bytes_at (empty size)
+image_of_pairs size = with_pairs (empty size)
 
 abbrev pub from_zero : List ℕ → ℕ → List (Option ℕ)
 from_zero bytes size = map (λ byte. Some byte) bytes ++ replicate (size - length bytes) None

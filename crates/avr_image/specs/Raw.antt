@@ -12,13 +12,13 @@ without_image (Ok image) = Ok tt
 without_image (Err fault) = Err fault
 
 -- The state of a `RawReader`: the image so far, how many bytes it was fed, and whether it has failed.
-pub record Holding : Type 0 where
+pub record RawReaderState : Type 0 where
   pub image : List (Option ℕ)
   pub fed : ℕ
   pub failed : Bool
 
 -- The reader was fed exactly this text and has not failed. Contracts of `RawReader` speak of such texts.
-pub record HoldsText (reader : Holding) (text : List ℕ) : Type 0 where
+pub record HoldsText (reader : RawReaderState) (text : List ℕ) : Type 0 where
   pub sound : reader.failed ≡ false
   pub counted : reader.fed ≡ length text
   pub within : length text ≤ length reader.image

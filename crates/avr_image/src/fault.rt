@@ -1,7 +1,7 @@
 //! The faults of images, with numbers that never change.
 
 ghost use Rattle.std.specs.Prelude.{◌≡◌};
-ghost use Rattle.avr_image.specs.Fault.{number_of};
+ghost use Rattle.avr_image.specs.Fault.{image_fault_number};
 
 use std::fmt;
 use thiserror::Error;
@@ -41,7 +41,7 @@ impl ImageFault {
     /// assert_eq!(rt; ImageFault::OutOfRange(64).number(), 1);
     /// ```
     pub fn number(&self) -> u8
-        ensures { result ≡ number_of self.now }
+        ensures { result ≡ image_fault_number self.now }
     {
         match self {
             ImageFault::OutOfRange(_) => 1,

@@ -3,7 +3,7 @@
 ghost use Rattle.std.specs.Prelude.{◌≡◌, ◌==◌, ◌+◌, ◌^◌, ◌<◌, ◌≤◌, ℕ, List, length, max, nat_lt, Ok, Err, OnOk, OnErr, MatchOption, MatchResult, slice_index, slice_index_or, if◌then◌else◌};
 ghost use Rattle.std.specs.Cmp.{nat_eq_equiv, partial_equiv_from_equiv};
 ghost use Rattle.std.specs.Cmp.Lexicographic.{lists_equiv, options_equiv};
-ghost use Rattle.avr_image.specs.Image.{empty, is_same, byte_at, with_byte, without_byte, byte_count, filled_bytes, first_from, holds_any, run_end, fits, with_bytes_at, over, IsImage};
+ghost use Rattle.avr_image.specs.Image.{empty, is_same, byte_at, with_byte, without_byte, byte_count, filled_bytes, first_from, holds_any, run_end, fits, with_pairs, over, IsImage};
 ghost use Rattle.avr_image.specs.Runs.{runs};
 ghost use Rattle.avr_image.specs.Walk.{HoldsNone, IsLastHeld};
 ghost use Rattle.std.specs.List.{enumerate_from};
@@ -33,13 +33,13 @@ pub struct Image {
 
 impl Model for Image {
     ghost use Rattle.std.specs.Prelude.{ℕ, List, Option};
-    ghost use Rattle.avr_image.specs.Dense.{dense_image, IsKept};
+    ghost use Rattle.avr_image.specs.Dense.{dense_image, IsSoundStorage};
 
     ghost Value = { List (Option ℕ) };
 
     ghost view = { λ i. dense_image i.words.items i.bytes.items };
 
-    ghost invariant = { λ i. IsKept i.words.items i.bytes.items };
+    ghost invariant = { λ i. IsSoundStorage i.words.items i.bytes.items };
 }
 
 /// Copies the bytes from `start` on. After their end `out` gets FF.
@@ -276,7 +276,7 @@ impl Image {
     pub fn put_slice(&mut self, addr: u32, bytes: &[u8]) -> Result<u32, ImageFault>
         ensures verdict { result ≡ (if fits addr bytes.now (length self.old) then Ok (addr + length bytes.now)
             else Err (ImageFault.OutOfRange (max addr (length self.old)))) }
-        ensures laid { OnOk result (self.new ≡ with_bytes_at self.old (enumerate_from addr bytes.now)) }
+        ensures laid { OnOk result (self.new ≡ with_pairs self.old (enumerate_from addr bytes.now)) }
         ensures same { OnErr result (self.new ≡ self.old) }
         ensures size { length self.new ≡ length self.old }
     {

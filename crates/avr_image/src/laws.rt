@@ -2,7 +2,7 @@
 
 ghost use Rattle.std.specs.Prelude.{◌≡◌, ◌≢◌, ◌<◌, ◌≤◌, ◌↔◌, ◌+◌, ◌-◌, ◌++◌, ◌⊎◌, ℕ, true, List, [], ◌∷◌, All, length, take, drop, min, flat_map, slice_index_or, is_some, IsTrue, Ok, Err, Option, None, Some};
 ghost use Rattle.std.specs.List.{enumerate_from, slice_range};
-ghost use Rattle.avr_image.specs.Image.{byte_at, byte_or_else, filled_bytes, first_from, fits, from_zero, image_of_pairs, is_same, with_bytes_at, over, run_end, with_byte};
+ghost use Rattle.avr_image.specs.Image.{byte_at, byte_or_else, filled_bytes, first_from, fits, from_zero, image_of_pairs, is_same, with_pairs, over, run_end, with_byte};
 ghost use Rattle.avr_image.specs.Lists.{list_line};
 ghost use Rattle.avr_image.specs.Runs.{leading_run, places_of, runs};
 ghost use Rattle.avr_image.specs.Values.{image_of_values};
@@ -30,7 +30,7 @@ pub fn parts_are_laid_over()
 #[tactic(auto, using(crate::proofs::Lemmas::laid_is_over))]
 pub fn laying_is_laying_over()
     ensures { (image : List (Option ℕ)) (places : List (ℕ × ℕ))
-        → with_bytes_at image places ≡ over image (image_of_pairs (length image) places) }
+        → with_pairs image places ≡ over image (image_of_pairs (length image) places) }
 {}
 
 /// Images of one size may be laid over each other in any grouping.
@@ -46,7 +46,7 @@ pub fn over_is_by_address()
     ensures over { (first second : List (Option ℕ)) (addr : ℕ) → length first ≡ length second
         → byte_at (over first second) addr ≡ byte_or_else (byte_at second addr) (byte_at first addr) }
     ensures laid { (image : List (Option ℕ)) (places : List (ℕ × ℕ)) (addr : ℕ) → addr < length image
-        → byte_at (with_bytes_at image places) addr ≡ byte_or_else (last_at addr places) (byte_at image addr) }
+        → byte_at (with_pairs image places) addr ≡ byte_or_else (last_at addr places) (byte_at image addr) }
 {}
 
 /// A byte or span put inside a memory is at its addresses. All other addresses and the size are unchanged.
@@ -57,14 +57,14 @@ pub fn a_span_is_by_address()
         → byte_at (with_byte image addr byte) other ≡ byte_at image other }
     ensures inside { (image : List (Option ℕ)) (addr : ℕ) (bytes : List ℕ) (place : ℕ)
         → addr + length bytes ≤ length image → place < length bytes
-        → byte_at (with_bytes_at image (enumerate_from addr bytes)) (addr + place)
+        → byte_at (with_pairs image (enumerate_from addr bytes)) (addr + place)
         ≡ Some (slice_index_or bytes place 0) }
     ensures below { (image : List (Option ℕ)) (addr : ℕ) (bytes : List ℕ) (other : ℕ) → other < addr
-        → byte_at (with_bytes_at image (enumerate_from addr bytes)) other ≡ byte_at image other }
+        → byte_at (with_pairs image (enumerate_from addr bytes)) other ≡ byte_at image other }
     ensures above { (image : List (Option ℕ)) (addr : ℕ) (bytes : List ℕ) (other : ℕ) → addr + length bytes ≤ other
-        → byte_at (with_bytes_at image (enumerate_from addr bytes)) other ≡ byte_at image other }
+        → byte_at (with_pairs image (enumerate_from addr bytes)) other ≡ byte_at image other }
     ensures size { (image : List (Option ℕ)) (places : List (ℕ × ℕ))
-        → length (with_bytes_at image places) ≡ length image }
+        → length (with_pairs image places) ≡ length image }
 {}
 
 /// Bytes from address 0 on are a span put at 0 into an empty image.
@@ -134,8 +134,9 @@ pub fn runs_begin_at_the_next_byte()
         → runs addr (drop addr image) ≡ [] }
     ensures next { (image : List (Option ℕ)) (addr place : ℕ) → first_from image addr ≡ Some place
         → runs addr (drop addr image) ≡ runs place (drop place image) }
-    ensures first { (image : List (Option ℕ)) (addr : ℕ) → 0 < length (leading_run image) → runs addr image
-        ≡ (addr, leading_run image) ∷ runs (addr + length (leading_run image)) (drop (length (leading_run image)) image) }
+    ensures first { (image : List (Option ℕ)) (addr : ℕ) → 0 < length (leading_run image)
+        → runs addr image ≡ (addr, leading_run image)
+        ∷ runs (addr + length (leading_run image)) (drop (length (leading_run image)) image) }
 {}
 
 /// The bytes before the next gap are not empty if there is a next byte. `run_end` and a filled page have these same

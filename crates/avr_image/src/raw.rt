@@ -26,9 +26,9 @@ pub struct RawReader {
 }
 
 impl Model for RawReader {
-    ghost use Rattle.avr_image.specs.Raw.{Holding};
+    ghost use Rattle.avr_image.specs.Raw.{RawReaderState};
 
-    ghost Value = { Holding };
+    ghost Value = { RawReaderState };
 
     ghost view = { λ r. record { image = r.image; fed = r.fed; failed = r.failed } };
 }

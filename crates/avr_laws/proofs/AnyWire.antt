@@ -78,7 +78,7 @@ module _ (plan : Plan) (w v : WiredState) (fresh : IsFresh w) (stays : Preserves
   over_any_wire (inl whole) =
       let c = whole_comes plan w v fresh stays is_sound part_is fitted old now status whole in
       let stood = stands plan w v fresh stays is_sound part_is fitted old now status (inl whole) in record {
-        line = reports (inl whole);
+        along_exchanges = reports (inl whole);
         end = inl (
           ends_and_reports_over_exchanges plan (fresh_programmer w.wire.programmer.chip) is_sound part_is fitted
               exchanges v.wire.programmer
@@ -86,15 +86,15 @@ module _ (plan : Plan) (w v : WiredState) (fresh : IsFresh w) (stays : Preserves
           c.kept,
         );
       }
-  over_any_wire (inr broke) = record { line = reports (inr broke); end = inr broke }
+  over_any_wire (inr broke) = record { along_exchanges = reports (inr broke); end = inr broke }
 
 -- so of a run over the emulator
 pub emulated_wire : {settings : Settings} {file : Bytes} {old now : DeskState} {status : ℕ}
     → (r : RunsOverEmulator settings file old now status)
-    → OverAnyWire r.plan (new_wire r.chip []) r.after r.loaded_desk r.played_desk r.ran
+    → OverAnyWire r.plan (new_wire r.chip []) r.after r.loaded_desk r.played_desk r.session_status
 emulated_wire r =
     over_any_wire r.plan (new_wire r.chip []) r.after (search rules) r.comes r.sound r.part r.fitted r.loaded_desk
-    r.played_desk r.ran r.runs
+    r.played_desk r.session_status r.runs
 
 one_no : ◌≡◌ {A = ℕ} 1 0 → ⊥
 one_no e = cc
@@ -123,7 +123,7 @@ module _ (plan : Plan) (w v : WiredState) (d e : DeskState) (status : ℕ) (sile
   played_truly whole =
       let over_heard = ap (λ t. (played (session plan) 1 t).events)
       (search (rules, append-nil)) in
-      subst AreTrue (over_heard ∙ ap (λ x. x.events) (whole.1.plays.plays [])) over.line.reports_are_true
+      subst AreTrue (over_heard ∙ ap (λ x. x.events) (whole.1.plays.plays [])) over.along_exchanges.reports_are_true
 
   pub stopped_truly : (stopped : SessionStopped plan w v d e) → AreTrue stopped.breaks.prefix.whole
   stopped_truly stopped = search (rules, results_prefix, over)

@@ -55,20 +55,22 @@ module _ (plan : Plan) (begun : Programmer) (is_sound : IsSoundChip begun.chip) 
     }
 
     -- and the session has come to a status there
-    module _ (emits : List OutputEvent) (status : ℕ)
+    module _ (output_events : List OutputEvent) (status : ℕ)
         (comes : (state_after device (length (frames bytes)) (session plan) begun exchanges).dialog ≡ Done status)
-        (output_events_are : emits ≡ outputs_after device (length (frames bytes)) (session plan) begun exchanges) where
-      its_expected : AtMostThreeBadOfSeven exchanges → IsExpectedRun plan before (memories_of q.chip) emits status
+        (output_events_are : output_events
+        ≡ outputs_after device (length (frames bytes)) (session plan) begun exchanges) where
+      its_expected : AtMostThreeBadOfSeven exchanges
+          → IsExpectedRun plan before (memories_of q.chip) output_events status
       its_expected few =
-          has_expected plan begun is_sound part_is fitted exchanges q bytes stands emits status comes output_events_are
-          (few_session_ends plan sound fitted before begun exchanges sizes idle few (length (frames bytes)) status
-          comes)
+          has_expected plan begun is_sound part_is fitted exchanges q bytes stands output_events status comes
+          output_events_are (few_session_ends plan sound fitted before begun exchanges sizes idle few
+          (length (frames bytes)) status comes)
 
-      pub ends_and_reports_over_exchanges : EndsAndReportsOverExchanges plan before (memories_of q.chip) exchanges emits
-          status
+      pub ends_and_reports_over_exchanges : EndsAndReportsOverExchanges plan before (memories_of q.chip) exchanges
+          output_events status
       ends_and_reports_over_exchanges = record {
-        comes = ends_over_exchanges plan begun is_sound part_is fitted exchanges q bytes stands emits status comes
-            output_events_are;
+        comes = ends_over_exchanges plan begun is_sound part_is fitted exchanges q bytes stands output_events status
+            comes output_events_are;
         emitted = subst (λ x. EndsAsExpected plan before x status) (sym output_events_are)
             (foretold_end plan sound fitted before sizes (length (frames bytes)) status begun exchanges idle comes);
         if_few_bad = its_expected;

@@ -23,7 +23,7 @@ use Rattle.avr_laws.specs.TrueReports.{IsTrueReport, EmittedTrue}
 -- Everything reported among these events was true of the chip as the frames sent before had left it.
 abbrev pub ReportsWereTrue : Plan → Programmer → List Exchange → List (Event OutputEvent) → Type 0
 ReportsWereTrue plan p exchanges events =
-    EmittedTrue device (λ q output. IsTrueReport plan (memories_of p.chip) (memories_of q.chip) output)
+    EmittedTrue device (λ q event. IsTrueReport plan (memories_of p.chip) (memories_of q.chip) event)
     events exchanges p
 
 -- What holds of a session however it ends, also if it breaks off or waits forever. These are its events over what was
@@ -38,12 +38,12 @@ pub record ReportsOverExchanges (plan : Plan) (p q : Programmer) (exchanges : Li
 
 -- What holds besides for a session with this status.
 pub record EndsAndReportsOverExchanges (plan : Plan) (before after : Memories) (exchanges : List Exchange)
-    (emits : List OutputEvent) (status : ℕ) : Type 0 where
-  pub comes : EndsOverExchanges plan before after exchanges emits status
+    (output_events : List OutputEvent) (status : ℕ) : Type 0 where
+  pub comes : EndsOverExchanges plan before after exchanges output_events status
   -- with the line of a failed step the status is 1
-  pub emitted : EndsAsExpected plan before emits status
+  pub emitted : EndsAsExpected plan before output_events status
   -- few bad frames change nothing
-  pub if_few_bad : AtMostThreeBadOfSeven exchanges → IsExpectedRun plan before after emits status
+  pub if_few_bad : AtMostThreeBadOfSeven exchanges → IsExpectedRun plan before after output_events status
   -- then some plans succeed, whatever the chip held
   pub again : AtMostThreeBadOfSeven exchanges → has_erase (items plan) ≡ true → AgreesOnTwoChips plan → status ≡ 0
 
@@ -56,7 +56,7 @@ WholeSessionOverExchanges plan p q exchanges bytes events status =
 
 -- What a session did between these states of a wire: what avr_tool's `SessionOverWire` states, and all of this.
 pub record OverAnyWire (plan : Plan) (before after : WiredState) (old now : DeskState) (status : ℕ) : Type 0 where
-  pub line : ReportsOverExchanges plan (fresh_programmer before.wire.programmer.chip) after.wire.programmer
+  pub along_exchanges : ReportsOverExchanges plan (fresh_programmer before.wire.programmer.chip) after.wire.programmer
       (exchanges_of_fates before.wire.fates) (sent after.transcript) (events_over plan after)
   pub end : (EndsAndReportsOverExchanges plan (memories before) (memories after) (exchanges_of_fates before.wire.fates)
       (outputs (events_over plan after)) status × ChangesRecord (after_events (outputs (events_over plan after))) old

@@ -43,10 +43,10 @@ exchanges_on_tape (Ask bytes go_on) n tape executions =
 
 -- A run that waits for a reply: its output is that along the exchanges of all commands but the last.
 pub record WaitsAlongExchanges {E R P : Type 0} (m : Device P) (d : Dialog E R) (p : P) (exchanges : List Exchange)
-    (sent : List (List ℕ)) (emits : List E) : Type 0 where
-  pub answered : ℕ
-  pub one_more : length sent ≡ suc answered
-  pub emitted : emits ≡ outputs_after m answered d p exchanges
+    (sent : List (List ℕ)) (output_events : List E) : Type 0 where
+  pub reply_count : ℕ
+  pub one_more : length sent ≡ suc reply_count
+  pub emitted : output_events ≡ outputs_after m reply_count d p exchanges
 
 -- The run of a dialog over a tape goes along its exchanges. After any first frames the programmer is the one along
 -- them. If the run is done, so is the dialog along them, with the same result and output.

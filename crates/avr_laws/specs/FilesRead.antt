@@ -54,11 +54,11 @@ planned_from_files s stock = planned s (openings_of_files stock (files_read s))
 
 abbrev pub lines_in : List OutputEvent → List Bytes
 lines_in [] = []
-lines_in (PrintsLine bytes ∷ outputs) = bytes ∷ lines_in outputs
-lines_in (output ∷ outputs) = lines_in outputs
+lines_in (PrintsLine bytes ∷ events) = bytes ∷ lines_in events
+lines_in (event ∷ events) = lines_in events
 
 -- Each opening among these output events was true of these files.
 abbrev pub AreTrueOpenings : Stock → List OutputEvent → Type 0
 AreTrueOpenings stock [] = Unit {0}
-AreTrueOpenings stock (Opens opening ∷ outputs) = IsTrueOpening stock [] opening × AreTrueOpenings stock outputs
-AreTrueOpenings stock (output ∷ outputs) = AreTrueOpenings stock outputs
+AreTrueOpenings stock (Opens opening ∷ events) = IsTrueOpening stock [] opening × AreTrueOpenings stock events
+AreTrueOpenings stock (event ∷ events) = AreTrueOpenings stock events

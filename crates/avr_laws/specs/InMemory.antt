@@ -36,8 +36,8 @@ outcome_shown status sent kept = record {
 -- What a run leaves, if it ends.
 abbrev pub run_outcome : Played OutputEvent ℕ → Option RunOutcome
 run_outcome p =
-    option_map (λ end. outcome_shown end.0 (bytes_sent p.events) (after_events (outputs p.events) nothing_kept))
-    p.outcome
+    option_map
+    (λ end. outcome_shown end.0 (bytes_sent p.events) (after_events (outputs p.events) nothing_kept)) p.outcome
 
 -- THE RUN over some files and a tape: each file that the settings name is read whole, as it was before.
 abbrev pub run_over_files : Settings → Stock → Tape → Played OutputEvent ℕ

@@ -34,8 +34,8 @@ AreNotForged n sent (piece ∷ pieces) =
 -- THE LINK FORGES NO FRAME: at a command, each good frame that the host cuts is the programmer's reply to one of the
 -- last 256 frames sent, or a refusal. The dialog is run over this tape. Anything else may be anywhere on the tape:
 -- parts of replies, noise, earlier replies, refusals, timeouts.
-abbrev pub ForgesNoFrame : {E R P : Type 0} → Device P → Dialog E R → ℕ → Tape → P → List Execution → List (List ℕ)
-    → Type 0
+abbrev pub ForgesNoFrame : {E R P : Type 0} → Device P → Dialog E R → ℕ → Tape → P → List Execution
+    → List (List ℕ) → Type 0
 ForgesNoFrame m (Done r) n tape p executions before = Unit {0}
 ForgesNoFrame m (Emit e dialog) n tape p executions before = ForgesNoFrame m dialog n tape p executions before
 ForgesNoFrame m (Ask bytes go_on) n tape p executions before =

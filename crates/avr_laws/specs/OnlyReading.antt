@@ -2,8 +2,8 @@
 use Rattle.std.specs.Prelude.{List, [], ◌∷◌}
 use Rattle.avr_desk.specs.OutputEvents.{OutputEvent, Opens, PrintsLine}
 
-abbrev pub OnlyReads : List OutputEvent → Type 0
-OnlyReads [] = Unit {0}
-OnlyReads (Opens opening ∷ outputs) = OnlyReads outputs
-OnlyReads (PrintsLine bytes ∷ outputs) = OnlyReads outputs
-OnlyReads (output ∷ outputs) = ⊥
+abbrev pub OnlyReadsAndPrints : List OutputEvent → Type 0
+OnlyReadsAndPrints [] = Unit {0}
+OnlyReadsAndPrints (Opens opening ∷ events) = OnlyReadsAndPrints events
+OnlyReadsAndPrints (PrintsLine bytes ∷ events) = OnlyReadsAndPrints events
+OnlyReadsAndPrints (event ∷ events) = ⊥

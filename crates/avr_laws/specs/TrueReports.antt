@@ -46,34 +46,34 @@ saved_bytes plan mem now = bytes_to_save mem plan.switches.all (memory_in plan.p
 -- been done. BytesVerified: the plan compares the memory with this image, and the memory holds it. BytesSaved,
 -- BytesRead: the memory has what is saved. Differed: the reported difference exists. The others report the chip's
 -- signature, what the plan skips, why a step failed, and the end.
-pub data IsTrueReport (plan : Plan) (before now : Memories) (output : OutputEvent) : Type 0 where
-  SignatureRead : output ≡ PrintsLine (information (codes "device signature = " ∷ spaced_digits plan.part.signature
-      ∷ [])) → IsTrueReport plan before now output
-  ChipErased : Contains (actions plan) EraseChip → output ≡ PrintsLine (information (codes "chip erased" ∷ []))
-      → now ≡ effect plan.part Erase before → IsTrueReport plan before now output
+pub data IsTrueReport (plan : Plan) (before now : Memories) (event : OutputEvent) : Type 0 where
+  SignatureRead : event ≡ PrintsLine (information (codes "device signature = " ∷ spaced_digits plan.part.signature
+      ∷ [])) → IsTrueReport plan before now event
+  ChipErased : Contains (actions plan) EraseChip → event ≡ PrintsLine (information (codes "chip erased" ∷ []))
+      → now ≡ effect plan.part Erase before → IsTrueReport plan before now event
   EraseLeftOut : Contains (actions plan) (SkipAction SkippedErase)
-      → output ≡ PrintsLine (warning (codes "chip not erased because of -n" ∷ [])) → IsTrueReport plan before now output
+      → event ≡ PrintsLine (warning (codes "chip not erased because of -n" ∷ [])) → IsTrueReport plan before now event
   BytesWritten : (mem : Mem) (image : Image) (first later : List Item)
-      → output ≡ count_line mem (byte_count image) (codes " bytes written")
+      → event ≡ count_line mem (byte_count image) (codes " bytes written")
       → items plan ≡ first ++ Write mem image ∷ later → now ≡ effects plan.part (first ++ Write mem image ∷ []) before
-      → IsTrueReport plan before now output
+      → IsTrueReport plan before now event
   WriteLeftOut : (mem : Mem) (image : Image) → Contains (actions plan) (SkipAction (SkippedWrite mem image))
-      → output ≡ count_line mem (byte_count image) (codes " bytes not written") → IsTrueReport plan before now output
+      → event ≡ count_line mem (byte_count image) (codes " bytes not written") → IsTrueReport plan before now event
   BytesVerified : (mem : Mem) (image : Image) → Contains (actions plan) (CompareImage mem image)
-      → output ≡ count_line mem (byte_count image) (codes " bytes verified") → MemoryHoldsImage plan.part mem image now
-      → IsTrueReport plan before now output
+      → event ≡ count_line mem (byte_count image) (codes " bytes verified") → MemoryHoldsImage plan.part mem image now
+      → IsTrueReport plan before now event
   Differed : (mem : Mem) (image : Image) (fault : HostFault) → Contains (actions plan) (CompareImage mem image)
-      → output ≡ PrintsLine (fault_line plan.part fault) → comparison mem image (memory_in plan.part mem now)
-      ≡ Err fault → IsTrueReport plan before now output
+      → event ≡ PrintsLine (fault_line plan.part fault) → comparison mem image (memory_in plan.part mem now)
+      ≡ Err fault → IsTrueReport plan before now event
   BytesSaved : (mem : Mem) (format : Format) (file : Bytes) → Contains (actions plan) (SaveMemory mem format file)
-      → (output ≡ CreatesFile file) ⊎ ((output ≡ WritesFile (file_text format (saved_bytes plan mem now)))
-      ⊎ (output ≡ WritesOutput (file_text format (saved_bytes plan mem now)))) → IsTrueReport plan before now output
+      → (event ≡ CreatesFile file) ⊎ ((event ≡ WritesFile (file_text format (saved_bytes plan mem now)))
+      ⊎ (event ≡ WritesOutput (file_text format (saved_bytes plan mem now)))) → IsTrueReport plan before now event
   BytesRead : (mem : Mem) (format : Format) (file : Bytes) → Contains (actions plan) (SaveMemory mem format file)
-      → output ≡ count_line mem (length (saved_bytes plan mem now)) (codes " bytes read")
-      → IsTrueReport plan before now output
-  StepFailed : (fault : StepFault) → output ≡ PrintsLine (fault_line plan.part (host_fault fault))
-      → IsTrueReport plan before now output
-  SessionDone : output ≡ PrintsLine (information (codes "done" ∷ [])) → IsTrueReport plan before now output
+      → event ≡ count_line mem (length (saved_bytes plan mem now)) (codes " bytes read")
+      → IsTrueReport plan before now event
+  StepFailed : (fault : StepFault) → event ≡ PrintsLine (fault_line plan.part (host_fault fault))
+      → IsTrueReport plan before now event
+  SessionDone : event ≡ PrintsLine (information (codes "done" ∷ [])) → IsTrueReport plan before now event
 
 -- Each output among the events holds of the programmer as the frames sent before it left it, by their exchanges.
 abbrev pub EmittedTrue : {E P : Type 0} → Device P → (P → E → Type 0) → List (Event E) → List Exchange → P → Type 0

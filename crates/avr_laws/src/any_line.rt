@@ -74,7 +74,7 @@ pub fn a_run_times_out_at_most_once_for_each_frame()
 pub fn what_a_run_reports_is_true()
     ensures { (plan : Plan) (m : Memories) (k : ℕ) (p : Programmer) (exchanges : List Exchange)
         → IsPart plan.part → All (IsFitted plan.part) plan.tasks → FitsPart plan.part m → HasMemories plan.part m p
-        → ReportsTrue device (λ q output. IsTrueReport plan m (memories_of q.chip) output) k (session plan) p
+        → ReportsTrue device (λ q event. IsTrueReport plan m (memories_of q.chip) event) k (session plan) p
         exchanges }
 {}
 
@@ -107,9 +107,9 @@ pub fn a_session_outputs_its_expected_run_up_to_a_fault()
         → IsPart plan.part → All (IsFitted plan.part) plan.tasks → FitsPart plan.part m → HasMemories plan.part m p
         → (state_after device k (session plan) p exchanges).dialog ≡ Done status
         → EndsAsExpected plan m (outputs_after device k (session plan) p exchanges) status }
-    ensures prefix { (plan : Plan) (m : Memories) (emits : List OutputEvent)
-        → FirstActionsOutput plan.part plan.switches (actions plan) m emits
-        → (later : List OutputEvent) × ((expected_run plan m).emits ≡ emits ++ later) }
+    ensures prefix { (plan : Plan) (m : Memories) (output_events : List OutputEvent)
+        → FirstActionsOutput plan.part plan.switches (actions plan) m output_events
+        → (later : List OutputEvent) × ((expected_run plan m).output_events ≡ output_events ++ later) }
 {}
 
 /// States that a session over a new wire reports what is true, and what its expected run reports up to a fault. The
@@ -125,7 +125,7 @@ pub fn a_session_over_a_wire_can_be_believed()
         → OverAnyWire plan w v d e status }
     ensures emulator { (settings : Settings) (file : Bytes) (old now : DeskState) (status : ℕ)
         → (r : RunsOverEmulator settings file old now status)
-        → OverAnyWire r.plan (new_wire r.chip []) r.after r.loaded_desk r.played_desk r.ran }
+        → OverAnyWire r.plan (new_wire r.chip []) r.after r.loaded_desk r.played_desk r.session_status }
 {}
 
 /// States what a session does over any link that forges no frame, with a programmer in any state. The link may lose,

@@ -57,6 +57,6 @@ pub fn a_further_run_over_its_chip_file_repairs()
         → has_erase (items one.plan) ≡ true → AgreesOnTwoChips one.plan
         → (erase_keeps_eeprom one.plan.part (memories_of one.chip) ≡ true
         → ItemsKeepEeprom one.plan.part (items one.plan))
-        → ((two.ran ≡ 0) × IsDone one.plan (memories_of one.chip) (memories two.after))
+        → ((two.session_status ≡ 0) × IsDone one.plan (memories_of one.chip) (memories two.after))
         ⊎ SessionStopped one.plan (new_wire two.chip []) two.after two.loaded_desk two.played_desk }
 {}

@@ -41,5 +41,5 @@ pub fn a_run_with_few_bad_frames_is_its_expected_run()
         → IsPart plan.part → All (IsFitted plan.part) plan.tasks → FitsPart plan.part m → HasMemories plan.part m p
         → AtMostThreeBadOfSeven exchanges
         → (state_after device k (session plan) p exchanges).dialog ≡ Done status
-        → outputs_after device k (session plan) p exchanges ≡ (expected_run plan m).emits }
+        → outputs_after device k (session plan) p exchanges ≡ (expected_run plan m).output_events }
 {}

@@ -8,17 +8,17 @@ ghost use Rattle.avr_desk.specs.Lines.{memory_line};
 ghost use Rattle.avr_desk.specs.Memory.{Stock, content_of_name};
 ghost use Rattle.avr_laws.specs.AskedPlan.{FileHolds, IsAsked};
 ghost use Rattle.avr_laws.specs.FilesRead.{AreTrueOpenings, lines_in, planned_from_files};
-ghost use Rattle.avr_laws.specs.OnlyReading.{OnlyReads};
+ghost use Rattle.avr_laws.specs.OnlyReading.{OnlyReadsAndPrints};
 ghost use Rattle.avr_plan.specs.Planning.{planned};
 ghost use Rattle.avr_plan.specs.AllocationPoints.{AtAllocatingUpdate};
-ghost use Rattle.avr_desk.specs.Playing.{RunsStage, StageRefused};
+ghost use Rattle.avr_desk.specs.StageRuns.{RunsStage, StageRefused};
 ghost use Rattle.avr_desk.specs.Stage.{Produced, NotReadToEnd, all_events_of};
 ghost use Rattle.avr_plan.specs.Plan.{Plan, IsFitted};
 
 /// States that planning only opens files for reading and prints lines, whatever the files give. Nothing is created,
 /// written or output. By its type a stage has no link, so it sends nothing.
 pub fn a_plan_only_reads_and_warns()
-    ensures { (s : Settings) (openings : List Opening) → OnlyReads (all_events_of (planned s openings)) }
+    ensures { (s : Settings) (openings : List Opening) → OnlyReadsAndPrints (all_events_of (planned s openings)) }
 {}
 
 /// States that planning reports why it fails, if no device failed: its refusal, or that memory ran out. The refusal is
@@ -34,7 +34,7 @@ pub fn a_sound_plan_is_refused_aloud()
 /// end or past its limit. The result and the printed lines are those of planning over the whole files.
 pub fn a_plan_is_of_whole_files()
     ensures { (s : Settings) (stock : Stock) (openings : List Opening)
-        → AreTrueOpenings stock (planned s openings).emits
+        → AreTrueOpenings stock (planned s openings).output_events
         → ((planned s openings).stage_outcome ≡ NotReadToEnd → ⊥)
         → ((planned_from_files s stock).stage_outcome ≡ (planned s openings).stage_outcome)
         × (lines_in (all_events_of (planned_from_files s stock)) ≡ lines_in (all_events_of (planned s openings))) }
@@ -51,6 +51,6 @@ pub fn a_plan_fits_its_part()
 /// files.
 pub fn a_plan_is_the_one_asked_for()
     ensures { (s : Settings) (stock : Stock) (openings : List Opening) (plan : Plan)
-        → AreTrueOpenings stock (planned s openings).emits → (planned s openings).stage_outcome ≡ Produced plan
+        → AreTrueOpenings stock (planned s openings).output_events → (planned s openings).stage_outcome ≡ Produced plan
         → IsAsked s (FileHolds (content_of_name stock [])) plan }
 {}

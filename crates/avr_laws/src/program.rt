@@ -5,7 +5,7 @@ ghost use Rattle.avr_desk.specs.Shown.{IsNewDesk, system_desk_view};
 ghost use Rattle.avr_laws.specs.KeptByPort.{KeepsCommandLine};
 ghost use Rattle.avr_session.specs.Runs.{devices};
 ghost use Rattle.avr_tool.specs.Sockets.{IsOverAddress};
-ghost use Rattle.stk_host.specs.Links.{IsTrueSince, stream_state};
+ghost use Rattle.stk_host.specs.Links.{TranscriptIsTrueSince, stream_state};
 
 use avr_desk::{FileSystem, SystemDesk};
 use avr_tool::{CommandLine, Network, run_command_line};
@@ -42,7 +42,7 @@ pub fn a_program_with_status_0_kept_its_plan<
     ensures files { IsNewDesk S.FileSystem desk.old
         → IsTrueRecord S.FileSystem S.File.Read S.File.Write S.Input.Read desk.new.system desk.new.opened
         desk.new.hold desk.new.kept }
-    ensures streams { IsTrueSince R.remaining W.contents link.old link.new }
+    ensures streams { TranscriptIsTrueSince R.remaining W.contents link.old link.new }
 {
     run_command_line(line, network, alloc, desk, link)
 }

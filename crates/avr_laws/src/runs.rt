@@ -6,7 +6,7 @@ ghost use Rattle.avr_desk.specs.Memory.{MemDeskState, Stock, memory_state, stock
 ghost use Rattle.avr_desk.specs.Truth.{HoldsTrue};
 ghost use Rattle.avr_session.specs.Run.{RunsBetween};
 ghost use Rattle.ghosts.specs.Preserves.{Preserves};
-ghost use Rattle.stk_host.specs.Links.{ConsumesTape, IsTrueSince, StreamState, TapeState, stream_state, tape_state};
+ghost use Rattle.stk_host.specs.Links.{ConsumesTape, TranscriptIsTrueSince, StreamState, TapeState, stream_state, tape_state};
 ghost use Rattle.avr_desk.specs.Stage.{Produced};
 ghost use Rattle.avr_desk.specs.Record.{DeskState, ChangesRecord, Record};
 ghost use Rattle.avr_laws.specs.Again.{AgreesOnTwoChips, ItemsKeepEeprom};
@@ -118,7 +118,7 @@ pub fn a_wrong_outcome_is_refused()
     ensures memories { (plan : Plan) (w v : WiredState) (d e : DeskState)
         → (memories v ≡ effects plan.part (items plan) (memories w) → ⊥) → SessionOverWire plan w v d e 0 → ⊥ }
     ensures outputs { (plan : Plan) (w v : WiredState) (d e : DeskState)
-        → (ChangesRecord (after_events (expected_run plan (memories w)).emits) d e → ⊥)
+        → (ChangesRecord (after_events (expected_run plan (memories w)).output_events) d e → ⊥)
         → SessionOverWire plan w v d e 0 → ⊥ }
     ensures silence { (plan : Plan) (w v : WiredState) (d e : DeskState) (status : ℕ)
         → frames (sent v.transcript) ≡ [] → (memories v ≡ memories w → ⊥) → SessionOverWire plan w v d e status → ⊥ }
@@ -211,7 +211,7 @@ pub fn a_run_in_memory_is_a_function_of_its_files<R: Read, W: Write>()
     ensures streams { (s : Settings) (old new : MemDeskState) (before after : StreamState R W) (status : ℕ)
         → AreUnused old (stream_state before)
         → RunsBetween memory_state HoldsTrue s (stream_state before) (stream_state after) old new status
-        → IsTrueSince R.remaining W.contents before after → Preserves HoldsTrue old new
+        → TranscriptIsTrueSince R.remaining W.contents before after → Preserves HoldsTrue old new
         → LeavesOverStreams R.remaining W.contents s (stock_of old) before after
         (outcome_shown status (sent after.transcript) new.kept)
         ⊎ IsStopped s (devices (stream_state before) (memory_state old))

@@ -130,7 +130,7 @@ pub fn a_prompt_link_brings_the_expected_run()
         → (ran : RanWhole (session plan) start old new status after)
         → (serves : ServesChip s file most server_old server_new served_status)
         → (status ≡ (expected_run plan (memories_of s)).status)
-        × (outputs ran.events ≡ (expected_run plan (memories_of s)).emits)
+        × (outputs ran.events ≡ (expected_run plan (memories_of s)).output_events)
         × (memories_of serves.left.programmer.chip ≡ (expected_run plan (memories_of s)).memories) }
 {}
 

@@ -31,8 +31,7 @@ pub loaded_at_once : (word i half : ℕ) (bytes : List ℕ) (s : ChipState) → 
     → ((x : ℕ) → x % 256 % half ≡ x % half)
     → word % half * 2 + i + length bytes ≤ half * 2 → half * 2 ≤ length s.flash_buffer
     → loaded_one_by_one word i bytes s ≡ record s {
-      flash_buffer =
-          with_bytes_at (word % half * 2 + i) bytes s.flash_buffer;
+      flash_buffer = with_bytes_at (word % half * 2 + i) bytes s.flash_buffer;
     }
 loaded_at_once word i half [] s is wraps inside long = search (rules, take-append-drop)
 loaded_at_once word i half (d ∷ ds) s is wraps inside long =

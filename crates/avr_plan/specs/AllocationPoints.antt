@@ -33,10 +33,10 @@ pub record AtAllocatingUpdate (s : Settings) (passed : List Opening) (emitted : 
   pub due : Update
   pub more : List Update
   pub updates_are : s.updates ≡ done ++ due ∷ more
-  pub takes : op_allocates due due.op ≡ true
+  pub allocates : op_allocates due due.op ≡ true
   pub plan : Plan
   pub is_planned : planned (record s { updates = done }) passed
-      ≡ record { emits = emitted; stage_outcome = Produced plan; openings_left = [] }
+      ≡ record { output_events = emitted; stage_outcome = Produced plan; openings_left = [] }
 
 -- inside: the same for some updates whose tasks follow others
 pub record AtAllocatingTask (switches : Switches) (part : Part) (tasks : List Task) (updates : List Update)
@@ -45,10 +45,10 @@ pub record AtAllocatingTask (switches : Switches) (part : Part) (tasks : List Ta
   pub due : Update
   pub more : List Update
   pub updates_are : updates ≡ done ++ due ∷ more
-  pub takes : op_allocates due due.op ≡ true
+  pub allocates : op_allocates due due.op ≡ true
   pub made : List Task
   pub are_made : tasks_stage switches part tasks done passed ≡ record {
-    emits = emitted;
+    output_events = emitted;
     stage_outcome = Produced made;
     openings_left = [];
   }

@@ -1,3 +1,4 @@
+-- The numbers of the faults of a plan: of files, values, parts and tasks.
 use Rattle.std.specs.Prelude.{ℕ}
 use Rattle.avr_plan.specs.declared.intake.BadFile.{BadFile}
 use Rattle.avr_plan.specs.declared.intake.BadFile.TheVariants.{Record, Raw, Elf, TooLong}

@@ -32,7 +32,7 @@ pub record RecordReaderWasFed (found : Found) (size : ℕ) (reader : ReaderState
   pub of_size : memory_size reader ≡ size
   pub stands : MayHaveRead reader text
 
-pub record RawReaderWasFed (found : Found) (size : ℕ) (reader : raw_file.Holding) (text : Bytes) : Type 0 where
+pub record RawReaderWasFed (found : Found) (size : ℕ) (reader : raw_file.RawReaderState) (text : Bytes) : Type 0 where
   pub of_kind : found ≡ file.Raw
   pub of_size : length reader.image ≡ size
   pub stands : raw_file.HoldsText reader text
@@ -43,6 +43,6 @@ WasFed found size (intake.Records reader) text = RecordReaderWasFed found size r
 WasFed found size (intake.Raw reader) text = RawReaderWasFed found size reader text
 WasFed found size (intake.Faulty fault) text = HasCertainFault found size fault text
 
-abbrev pub fed_count : Intake → ℕ
-fed_count (intake.Records reader) = reader.fed
-fed_count taken = 0
+abbrev pub record_bytes_fed : Intake → ℕ
+record_bytes_fed (intake.Records reader) = reader.fed
+record_bytes_fed other = 0

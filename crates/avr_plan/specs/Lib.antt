@@ -12,7 +12,7 @@ pub mod Intake
 -- what they cite of the crates below
 pub use Rattle.avr_desk.specs.Fault
 pub use Rattle.avr_desk.specs.Memory
-pub use Rattle.avr_desk.specs.Playing
+pub use Rattle.avr_desk.specs.StageRuns
 pub use Rattle.avr_desk.specs.Record
 pub use Rattle.avr_desk.specs.Stage
 pub use Rattle.ghosts.specs.Failures

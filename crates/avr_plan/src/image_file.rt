@@ -7,7 +7,7 @@ ghost use Rattle.avr_plan.specs.Faults.{read_fault_number};
 ghost use Rattle.avr_plan.specs.ImageFile.{kind_of, image_of_file};
 ghost use Rattle.avr_desk.specs.Files.{CountsFileFault};
 ghost use Rattle.avr_plan.specs.ImageReading.{IsImageResult, FirstBytesAreRead, RestIsRead, ImageIsRead, CountsReadFault};
-ghost use Rattle.avr_plan.specs.Intake.{WasFed, fed_count};
+ghost use Rattle.avr_plan.specs.Intake.{WasFed, record_bytes_fed};
 ghost use Rattle.ghosts.specs.Preserves.{Preserves};
 
 use crate::intake::{BadFile, Intake};
@@ -109,7 +109,7 @@ fn read_rest<D: Desk>(
     mut intake: Intake,
     mut left: usize,
 ) -> Result<(Image, Ending), ReadFault>
-    requires { fed_count intake + left < 2 ^ 31 }
+    requires { record_bytes_fed intake + left < 2 ^ 31 }
     ensures read { (limit : ℕ) (found : AnyFound) (size : ℕ) (before : Bytes) → WasFed found size intake before
         → length before + left ≡ limit → RestIsRead limit found size before (D.view desk.old) (D.view desk.new) result }
     ensures follows { CountsNeverFall (D.view desk.old) (D.view desk.new) }

@@ -4,7 +4,7 @@ ghost use Rattle.avr_plan.specs.Faults.{bad_file_number};
 ghost use Rattle.avr_desk.specs.Record.{Bytes};
 ghost use Rattle.avr_records.specs.declared.kind.Found.{Found as AnyFound};
 ghost use Rattle.avr_plan.specs.ImageFile.{image_of_file, fault_of_long_file};
-ghost use Rattle.avr_plan.specs.Intake.{WasFed, fed_count, found_as, in_long_file};
+ghost use Rattle.avr_plan.specs.Intake.{WasFed, record_bytes_fed, found_as, in_long_file};
 
 use avr_desk::FileFault;
 use avr_image::{Image, ImageFault, RawReader};
@@ -52,7 +52,7 @@ pub(crate) enum Intake {
 }
 
 fn record_intake(alloc: Global, kind: Kind, size: u32) -> Result<Intake, FileFault>
-    ensures { MatchResult result (λ intake. WasFed (found_as kind) size intake [] × (fed_count intake ≡ 0))
+    ensures { MatchResult result (λ intake. WasFed (found_as kind) size intake [] × (record_bytes_fed intake ≡ 0))
         (λ fault. fault ≡ FileFault.Memory) }
 {
     match RecordReader::new(alloc, kind, size) {
@@ -73,7 +73,7 @@ fn in_long_file(fault: BadFile) -> BadFile
 
 impl Intake {
     pub(crate) fn new(alloc: Global, found: Found, size: u32) -> Result<Intake, FileFault>
-        ensures { MatchResult result (λ intake. WasFed found size intake [] × (fed_count intake ≡ 0))
+        ensures { MatchResult result (λ intake. WasFed found size intake [] × (record_bytes_fed intake ≡ 0))
             (λ fault. fault ≡ FileFault.Memory) }
     {
         match found {
@@ -89,10 +89,10 @@ impl Intake {
 
     /// Feeds the next bytes of the file. After a fault, more bytes change nothing.
     pub(crate) fn fed(self, piece: &[u8]) -> Intake
-        requires { fed_count self + length piece.now < 2 ^ 32 }
+        requires { record_bytes_fed self + length piece.now < 2 ^ 32 }
         ensures takes { (found : AnyFound) (size : ℕ) (text : Bytes) → WasFed found size self text
             → WasFed found size result (text ++ piece.now) }
-        ensures count { fed_count result ≤ fed_count self + length piece.now }
+        ensures count { record_bytes_fed result ≤ record_bytes_fed self + length piece.now }
     {
         match self {
             Intake::Records(mut reader) => match reader.feed(piece) {

@@ -2,7 +2,7 @@
 ghost use Rattle.std.specs.Prelude.{◌≡◌, false, [], None, Ok, IfErr};
 ghost use Rattle.avr_plan.specs.PlanFaults.{ReportsPartsFault, with_status};
 ghost use Rattle.avr_plan.specs.Planning.{LacksPart, parts_stage, part_stage};
-ghost use Rattle.avr_desk.specs.Playing.{OnlyAtStart, RunsStage};
+ghost use Rattle.avr_desk.specs.StageRuns.{OnlyAtStart, RunsStage};
 ghost use Rattle.ghosts.specs.Preserves.{Preserves};
 
 use crate::messages::{no_part_message, part_file_message};

@@ -3,7 +3,7 @@ ghost use Rattle.avr_plan.specs.Plan.{IsFitted};
 ghost use Rattle.avr_plan.specs.PlanFaults.{ReportsPlanFault, ReportsTaskFault, ReportsTasksFault, with_status};
 ghost use Rattle.avr_plan.specs.Planning.{LacksPart, task_stage, tasks_stage, planned};
 ghost use Rattle.avr_plan.specs.AllocationPoints.{AtAllocatingUpdate, AtAllocatingTask, op_allocates};
-ghost use Rattle.avr_desk.specs.Playing.{OnlyAtStart, RunsStage};
+ghost use Rattle.avr_desk.specs.StageRuns.{OnlyAtStart, RunsStage};
 ghost use Rattle.ghosts.specs.Preserves.{Preserves};
 
 use crate::messages::read_only_message;

@@ -4,7 +4,7 @@ ghost use Rattle.avr_cli.specs.declared.update.Update.{Update as AnyUpdate};
 ghost use Rattle.avr_plan.specs.PlanFaults.{ReportsTaskFault, with_status};
 ghost use Rattle.avr_plan.specs.Planning.{is_warned, warning_events, file_image_stage, update_image as update_image_stage};
 ghost use Rattle.avr_plan.specs.AllocationPoints.{has_immediate_values};
-ghost use Rattle.avr_desk.specs.Playing.{OnlyAtStart, RunsStage};
+ghost use Rattle.avr_desk.specs.StageRuns.{OnlyAtStart, RunsStage};
 ghost use Rattle.avr_desk.specs.Stage.{output_stage};
 ghost use Rattle.ghosts.specs.Preserves.{Preserves};
 

@@ -8,8 +8,8 @@ use Rattle.avr_records.specs.declared.kind.Kind.{Kind}
 use Rattle.avr_records.specs.declared.progress.Progress.{Progress}
 
 -- What is kept of an unfinished line: enough to show that it is too long.
-abbrev pub kept : List ℕ → List ℕ
-kept = take (longest + 1)
+abbrev pub kept_of_line : List ℕ → List ℕ
+kept_of_line = take (longest + 1)
 
 -- The state is that after this text: no ended line is at fault, and `part` is kept of the last line. After an end
 -- record `part` doesn't count.
@@ -18,7 +18,7 @@ pub record ReadsLines (kind : Kind) (progress : Progress) (part text : List ℕ)
   pub last : List ℕ
   pub cut : lines text ≡ prefix ++ last ∷ []
   pub holds : HoldsLines progress (map (line_result kind) prefix)
-  pub keeps : progress.extent.ended ≡ false → part ≡ kept last
+  pub keeps : progress.extent.ended ≡ false → part ≡ kept_of_line last
 
 -- The state of a reader: its kind of file, what it keeps of the ended lines and of the last one, how many bytes it was
 -- fed, and whether it has failed.

@@ -1,6 +1,6 @@
 -- How one line changes what a reader keeps.
 use Rattle.std.specs.Prelude.{ℕ, true, false, ◌+◌, ◌≡◌, ◌≤◌, List, Option, Some, None, Result, Ok, Err, IsSome, MatchResult, OnOk, if◌then◌else◌}
-use Rattle.avr_image.specs.Image.{with_bytes_at}
+use Rattle.avr_image.specs.Image.{with_pairs}
 use Rattle.avr_records.specs.Fault.{fault_line_number}
 use Rattle.avr_records.specs.Needed.{end_after}
 use Rattle.avr_records.specs.Progress.{image_size}
@@ -37,13 +37,13 @@ abbrev pub with_extent : Progress → LineResult → Result Extent RecordFault �
 with_extent p meant (Err fault) = Err fault
 with_extent p meant (Ok e) = Ok (record {
   extent = e;
-  image = with_bytes_at p.image (bytes_under_base p.extent.base meant);
+  image = with_pairs p.image (bytes_under_base p.extent.base meant);
 })
 
 -- Extent and image after one more line, or the line's fault. After an end record a line changes nothing.
 abbrev pub next_progress : Progress → LineResult → Result Progress RecordFault
-next_progress p meant = if p.extent.ended then Ok p else with_extent p meant (next_extent (image_size p) p.extent
-    meant)
+next_progress p meant =
+    if p.extent.ended then Ok p else with_extent p meant (next_extent (image_size p) p.extent meant)
 
 abbrev pub ending_of : Extent → Ending
 ending_of e = if e.ended then Ended else NoEnd

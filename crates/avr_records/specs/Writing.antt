@@ -15,6 +15,6 @@ unless_ended true text = []
 unless_ended false text = text
 
 -- The text that is left at a cursor. Contracts of `Cursor`, `Writer` and of the library for C cite it.
-abbrev pub left : Cursor → List (Option ℕ) → List ℕ
-left cursor image =
+abbrev pub text_left : Cursor → List (Option ℕ) → List ℕ
+text_left cursor image =
     unless_ended cursor.ended (text_from cursor.kind cursor.upper cursor.address_size cursor.addr image)

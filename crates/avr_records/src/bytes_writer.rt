@@ -26,11 +26,11 @@ pub struct IhexWriter<'a> {
 
 impl<'a> Model for IhexWriter<'a> {
     ghost use Rattle.std.specs.Prelude.{ℕ, List};
-    ghost use Rattle.avr_records.specs.Writing.{left};
+    ghost use Rattle.avr_records.specs.Writing.{text_left};
 
     ghost Value = { List ℕ };
 
-    ghost view = { λ w. left w.cursor w.run };
+    ghost view = { λ w. text_left w.cursor w.run };
 }
 
 impl<'a> IhexWriter<'a> {
@@ -86,11 +86,11 @@ pub struct SrecWriter<'a> {
 
 impl<'a> Model for SrecWriter<'a> {
     ghost use Rattle.std.specs.Prelude.{ℕ, List};
-    ghost use Rattle.avr_records.specs.Writing.{left};
+    ghost use Rattle.avr_records.specs.Writing.{text_left};
 
     ghost Value = { List ℕ };
 
-    ghost view = { λ w. left w.cursor w.run };
+    ghost view = { λ w. text_left w.cursor w.run };
 }
 
 impl<'a> SrecWriter<'a> {

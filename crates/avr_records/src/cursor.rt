@@ -3,7 +3,7 @@
 ghost use Rattle.std.specs.Prelude.{◌≡◌, ◌<◌, ◌≤◌, ◌↔◌, ◌++◌, [], false, length, IsTrue};
 ghost use Rattle.avr_records.specs.Text.{IsLine, IsThisLine, address_size};
 ghost use Rattle.avr_records.specs.Sparse.{IsMemory, file_rows, last_held, new_upper as spec_new_upper, row_size as spec_row_size, row_text};
-ghost use Rattle.avr_records.specs.Writing.{left};
+ghost use Rattle.avr_records.specs.Writing.{text_left};
 
 use crate::address_size::AddressSize;
 use crate::ihex::{DATA, END_OF_FILE};
@@ -93,9 +93,10 @@ impl Cursor {
     /// assert_eq!(rt; line.as_slice(), b":020000040002F8\n".as_slice());
     /// ```
     pub fn next_line<M: Sparse>(&mut self, memory: &M, out: &mut ArrayVec<u8, 80>) -> bool
-        ensures joined { left self.old (M.held memory.now) ≡ out.new.items ++ left self.new (M.held memory.now) }
+        ensures joined { text_left self.old (M.held memory.now) ≡ out.new.items
+            ++ text_left self.new (M.held memory.now) }
         ensures some { IsTrue result ↔ (0 < length out.new.items) }
-        ensures ends { IsTrue result ↔ (0 < length (left self.old (M.held memory.now))) }
+        ensures ends { IsTrue result ↔ (0 < length (text_left self.old (M.held memory.now))) }
         ensures line { IsTrue result → IsLine out.new.items }
         ensures kind { self.new.kind ≡ self.old.kind }
         ensures size { self.new.address_size ≡ self.old.address_size }

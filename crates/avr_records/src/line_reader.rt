@@ -3,7 +3,7 @@ ghost use Rattle.std.specs.Prelude.{◌≡◌, ◌<◌, [], Some, MatchOption, �
 ghost use Rattle.avr_records.specs.Closed.{ended_lines_fault};
 ghost use Rattle.avr_records.specs.Lines.{lines};
 ghost use Rattle.avr_records.specs.Progress.{image_size};
-ghost use Rattle.avr_records.specs.Reader.{kept, ReadsLines};
+ghost use Rattle.avr_records.specs.Reader.{kept_of_line, ReadsLines};
 ghost use Rattle.avr_records.specs.Reading.{image_in_text};
 ghost use Rattle.avr_records.specs.Steps.{ending_of, InRange, IsLineFault, TakesLine};
 
@@ -19,7 +19,7 @@ use avr_image::Image;
 const KEPT: usize = LONGEST + 1;
 
 fn extend(part: &mut ArrayVec<u8, KEPT>, more: &[u8])
-    ensures kept { part.new.items ≡ kept (part.old.items ++ more.now) }
+    ensures kept { part.new.items ≡ kept_of_line (part.old.items ++ more.now) }
     ensures count { length part.new.items ≤ length part.old.items + length more.now }
 {
     let _ = part.try_extend_from_slice(first(part.remaining_capacity(), more));

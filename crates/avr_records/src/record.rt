@@ -1,7 +1,7 @@
 ghost use Rattle.std.specs.Prelude.{◌≡◌, ◌≤◌, length};
 ghost use Rattle.avr_records.specs.Judging.{record_of};
 ghost use Rattle.avr_records.specs.Line.{line_record};
-ghost use Rattle.avr_records.specs.Reading.{alone};
+ghost use Rattle.avr_records.specs.Reading.{single_line_result};
 
 use crate::bytes::ROOM;
 use crate::fault::RecordFault;
@@ -125,7 +125,7 @@ impl fmt::Debug for Record {
 /// assert_eq!(rt; fault, Some(RecordFault::BadSum(1)));
 /// ```
 pub fn read_record(kind: Kind, line: &[u8]) -> Result<Record, RecordFault>
-    ensures { result ≡ alone (line_record kind line.now) }
+    ensures { result ≡ single_line_result (line_record kind line.now) }
 {
     let mut room = [0; ROOM];
     record_in(kind, line, &mut room)

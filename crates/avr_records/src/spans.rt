@@ -1,6 +1,6 @@
 ghost use Rattle.std.specs.Prelude.{◌≡◌, ◌≤◌, ◌*◌, ◌+◌, length, [], None};
 ghost use Rattle.std.specs.List.{enumerate_from};
-ghost use Rattle.avr_image.specs.Image.{with_bytes_at};
+ghost use Rattle.avr_image.specs.Image.{with_pairs};
 ghost use Rattle.avr_records.specs.Laying.{IsEndOrOutOfRange, StartsInRange, spans_places};
 ghost use Rattle.avr_records.specs.Reading.{first_outside, places};
 
@@ -85,7 +85,7 @@ impl<'a> Spans<'a> {
     #[inline(always)]
     pub(crate) fn lay(self, image: &mut Image)
         requires { first_outside (length image.old) (spans_places self) ≡ None }
-        ensures laid { image.new ≡ with_bytes_at image.old (spans_places self.entry) }
+        ensures laid { image.new ≡ with_pairs image.old (spans_places self.entry) }
         ensures size { length image.new ≡ length image.old }
     {
         let _ = image.put_slice(self.addr, self.bytes);

@@ -32,11 +32,11 @@ pub struct Writer<'a, M: Sparse> {
 
 impl<'a, M: Sparse> Model for Writer<'a, M> {
     ghost use Rattle.std.specs.Prelude.{ℕ, List};
-    ghost use Rattle.avr_records.specs.Writing.{left};
+    ghost use Rattle.avr_records.specs.Writing.{text_left};
 
     ghost Value = { List ℕ };
 
-    ghost view = { λ w. left w.cursor (M.held w.memory.now) };
+    ghost view = { λ w. text_left w.cursor (M.held w.memory.now) };
 }
 
 impl<'a, M: Sparse> Writer<'a, M> {

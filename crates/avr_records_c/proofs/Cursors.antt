@@ -8,9 +8,9 @@ use Rattle.std.proofs.lemmas.Bool.{cases_lt}
 use Rattle.std.proofs.lemmas.List.{drop_all, length-take-le, take_all, take-append-le, take-append-drop}
 use Rattle.avr_records.specs.Sparse.{image_text}
 use Rattle.avr_records.specs.Text.{width_of}
-use Rattle.avr_records.specs.Writing.{left, text_from}
+use Rattle.avr_records.specs.Writing.{text_left, text_from}
 use Rattle.avr_records.specs.declared.address_size.AddressSize.{AddressSize}
-use Rattle.avr_records.specs.declared.cursor.Cursor.{Cursor as Lines}
+use Rattle.avr_records.specs.declared.cursor.Cursor.{Cursor as Position}
 use Rattle.avr_records.specs.declared.kind.Kind.{Kind}
 use Rattle.avr_records.specs.declared.kind.Kind.TheVariants.{Srec}
 use Rattle.avr_records_c.specs.Cursor.{ended_of, size_in_force, cursor_of}
@@ -28,8 +28,8 @@ capped : (kind : Kind) (upper : ℕ) (size : AddressSize) (addr : ℕ) (image : 
     → text_from kind upper size (min addr 4294967295) image ≡ text_from kind upper size addr image
 capped kind upper size addr image few = grind (arith, nat_tests, cases_lt, drop_all)
 
-pub left_kept : (kind : Kind) (lines : Lines) (gone : ℕ) (image : List (Option ℕ)) → lines.kind ≡ kind
-    → length image < 2 ^ 32 → file_rest kind image (cursor_of lines gone) ≡ Some (drop gone (left lines image))
+pub left_kept : (kind : Kind) (lines : Position) (gone : ℕ) (image : List (Option ℕ)) → lines.kind ≡ kind
+    → length image < 2 ^ 32 → file_rest kind image (cursor_of lines gone) ≡ Some (drop gone (text_left lines image))
 left_kept kind lines gone image is few = grind (arith, nat_tests, ended-back, capped, size-back)
 
 -- at the beginning the whole file is left

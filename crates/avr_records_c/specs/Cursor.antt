@@ -5,7 +5,7 @@ use Rattle.avr_records.specs.Sparse.{last_held}
 use Rattle.avr_records.specs.Text.{address_size, width_of}
 use Rattle.avr_records.specs.declared.address_size.AddressSize.{AddressSize}
 use Rattle.avr_records.specs.declared.address_size.AddressSize.TheVariants.{Two, Three, Four}
-use Rattle.avr_records.specs.declared.cursor.Cursor.{Cursor as Lines}
+use Rattle.avr_records.specs.declared.cursor.Cursor.{Cursor as Position}
 use Rattle.avr_records.specs.declared.kind.Kind.{Kind}
 use Rattle.avr_records.specs.declared.kind.Kind.TheVariants.{Ihex, Srec}
 use Rattle.avr_records_c.specs.declared.cursor.Cursor.{Cursor}
@@ -24,13 +24,14 @@ size_in_force Srec n image =
     else if n == 4 then Some Four
     else None
 
-abbrev pub lines_with : Kind → Cursor → Bool → AddressSize → Lines
-lines_with kind cursor ended size =
+abbrev pub position_with : Kind → Cursor → Bool → AddressSize → Position
+position_with kind cursor ended size =
     record { kind = kind; addr = cursor.addr; upper = cursor.upper; address_size = size; ended = ended }
 
-abbrev pub lines_of : Kind → Cursor → List (Option ℕ) → Option Lines
-lines_of kind cursor image =
-    option_and_then (λ ended. option_map (lines_with kind cursor ended) (size_in_force kind cursor.address_size image))
+abbrev pub position_of : Kind → Cursor → List (Option ℕ) → Option Position
+position_of kind cursor image =
+    option_and_then
+    (λ ended. option_map (position_with kind cursor ended) (size_in_force kind cursor.address_size image))
     (ended_of cursor.ended)
 
 abbrev pub upper_number : Kind → ℕ → ℕ
@@ -42,7 +43,7 @@ size_number Ihex size = 0
 size_number Srec size = width_of size
 
 -- The cursor for the position `lines`, with `gone` bytes of the next line put.
-abbrev pub cursor_of : Lines → ℕ → Cursor
+abbrev pub cursor_of : Position → ℕ → Cursor
 cursor_of lines gone =
     record {
       addr = min lines.addr 4294967295;

@@ -2,11 +2,11 @@
 use Rattle.std.specs.Prelude.{◌≡◌, ℕ, ◌==◌, ◌&&◌, ◌^◌, nat_lt, min, List, [], ◌∷◌, ◌++◌, length, take, drop, Option, Some, None, MatchOption, if◌then◌else◌}
 use Rattle.std.specs.Option.{option_map}
 use Rattle.avr_records.specs.Sparse.{image_text}
-use Rattle.avr_records.specs.Writing.{left as text_left}
+use Rattle.avr_records.specs.Writing.{text_left}
 use Rattle.avr_records.specs.declared.kind.Kind.{Kind}
 use Rattle.avr_records_c.specs.declared.cursor.Cursor.{Cursor}
 use Rattle.avr_records_c.specs.declared.piece.Piece.{Piece}
-use Rattle.avr_records_c.specs.Cursor.{lines_of}
+use Rattle.avr_records_c.specs.Cursor.{position_of}
 use Rattle.avr_records_c.specs.Numbers.{kind_numbered}
 use Rattle.avr_records_c.specs.Bitmap.{octets_of, image_of}
 
@@ -31,7 +31,7 @@ pub record PutsPrefix (text rest room : List ℕ) (n : ℕ) (after : List ℕ) :
 -- `None` if no call leaves such a cursor.
 abbrev pub file_rest : Kind → List (Option ℕ) → Cursor → Option (List ℕ)
 file_rest kind image cursor =
-    option_map (λ lines. drop cursor.gone (text_left lines image)) (lines_of kind cursor image)
+    option_map (λ lines. drop cursor.gone (text_left lines image)) (position_of kind cursor image)
 
 abbrev pub file_start : Cursor
 file_start = record { addr = 0; gone = 0; upper = 0; address_size = 0; ended = 0 }

@@ -1,10 +1,10 @@
 //! The position in a file that is written, as numbers that C keeps.
 ghost use Rattle.std.specs.Prelude.{◌≡◌, ◌^◌, min, IfSome};
 ghost use Rattle.avr_records_c.specs.Cursor.{cursor_of as spec_cursor_of};
-ghost use Rattle.avr_records_c.specs.Cursor.{lines_of as spec_lines_of, size_in_force as spec_size_of};
+ghost use Rattle.avr_records_c.specs.Cursor.{position_of as spec_position_of, size_in_force as spec_size_of};
 
 use crate::memory::Memory;
-use avr_records::{AddressSize, Cursor as Lines, Kind};
+use avr_records::{AddressSize, Cursor as Position, Kind};
 
 /// How far a file is written. At its beginning all numbers are 0.
 #[repr(C)]
@@ -29,7 +29,7 @@ fn size_in_force(kind: Kind, size: u8, memory: &Memory<'_>) -> Option<AddressSiz
     match kind {
         Kind::Ihex => Some(AddressSize::Two),
         Kind::Srec => match size {
-            0 => Some(Lines::new(kind, memory).address_size),
+            0 => Some(Position::new(kind, memory).address_size),
             2 => Some(AddressSize::Two),
             3 => Some(AddressSize::Three),
             4 => Some(AddressSize::Four),
@@ -39,8 +39,8 @@ fn size_in_force(kind: Kind, size: u8, memory: &Memory<'_>) -> Option<AddressSiz
 }
 
 /// Returns the position of a cursor, or `None` if no call leaves such a cursor.
-pub(crate) fn lines_of(kind: Kind, cursor: &Cursor, memory: &Memory<'_>) -> Option<Lines>
-    ensures value { result ≡ spec_lines_of kind cursor.now memory.now }
+pub(crate) fn position_of(kind: Kind, cursor: &Cursor, memory: &Memory<'_>) -> Option<Position>
+    ensures value { result ≡ spec_position_of kind cursor.now memory.now }
     ensures kind { IfSome result (λ lines. lines.kind ≡ kind) }
 {
     let ended = match cursor.ended {
@@ -49,7 +49,7 @@ pub(crate) fn lines_of(kind: Kind, cursor: &Cursor, memory: &Memory<'_>) -> Opti
         _ => return None,
     };
     let address_size = size_in_force(kind, cursor.address_size, memory)?;
-    Some(Lines {
+    Some(Position {
         kind,
         addr: u64::from(cursor.addr),
         upper: cursor.upper,
@@ -59,7 +59,7 @@ pub(crate) fn lines_of(kind: Kind, cursor: &Cursor, memory: &Memory<'_>) -> Opti
 }
 
 /// Returns the cursor for `lines`, with `gone` bytes of the next line put.
-pub(crate) fn cursor_of(lines: &Lines, gone: u32) -> Cursor
+pub(crate) fn cursor_of(lines: &Position, gone: u32) -> Cursor
     ensures { result ≡ spec_cursor_of lines.now gone }
 {
     let (upper, address_size) = match lines.kind {

@@ -1,15 +1,15 @@
 ghost use Rattle.std.specs.Prelude.{◌≡◌, ◌+◌, ◌-◌, ◌<◌, ◌≤◌, ◌^◌, ◌++◌, length, take, drop, min};
-ghost use Rattle.avr_records.specs.Writing.{left};
+ghost use Rattle.avr_records.specs.Writing.{text_left};
 ghost use Rattle.avr_records_c.specs.Writing.{checked_write_kind as spec_checked_write_kind, ReturnsLength, PutsPrefix, Writes};
 
 use crate::bitmap::is_bitmap_of;
-use crate::cursor::{Cursor, cursor_of, lines_of};
+use crate::cursor::{Cursor, cursor_of, position_of};
 use crate::memory::Memory;
 use crate::numbers::kind_numbered;
 use crate::outcome::MISFIT;
 use crate::piece::Piece;
 use arrayvec::ArrayVec;
-use avr_records::{Cursor as Lines, Kind};
+use avr_records::{Cursor as Position, Kind};
 
 fn checked_write_kind(kind: u8, size: usize, present: usize) -> Option<Kind>
     ensures { result ≡ spec_checked_write_kind kind size present }
@@ -34,8 +34,9 @@ fn put_part(line: &[u8], gone: usize, room: &mut [u8], put: usize) -> usize
 }
 
 /// Puts as much as fits of the rest of a file into the room. Returns the number of bytes.
-fn put_rest(lines: &mut Lines, gone: &mut u32, memory: &Memory<'_>, room: &mut [u8]) -> usize
-    ensures put { PutsPrefix (drop gone.old (left lines.old memory.now)) (drop gone.new (left lines.new memory.now))
+fn put_rest(lines: &mut Position, gone: &mut u32, memory: &Memory<'_>, room: &mut [u8]) -> usize
+    ensures put { PutsPrefix (drop gone.old (text_left lines.old memory.now))
+        (drop gone.new (text_left lines.new memory.now))
         room.old result room.new }
     ensures kind { lines.new.kind ≡ lines.old.kind }
 {
@@ -59,9 +60,9 @@ fn put_rest(lines: &mut Lines, gone: &mut u32, memory: &Memory<'_>, room: &mut [
     put
 }
 
-fn count_rest(lines: Lines, memory: &Memory<'_>) -> usize
-    requires { length (left lines memory.now) < 2 ^ 64 }
-    ensures { result ≡ length (left lines memory.now) }
+fn count_rest(lines: Position, memory: &Memory<'_>) -> usize
+    requires { length (text_left lines memory.now) < 2 ^ 64 }
+    ensures { result ≡ length (text_left lines memory.now) }
 {
     let mut left = lines;
     let mut line = ArrayVec::new();
@@ -83,7 +84,7 @@ pub extern "C" fn avr_records_length(kind: u8, bytes: &[u8], present: &[u8]) -> 
     };
     let memory = Memory::new(present, bytes);
     Piece {
-        length: count_rest(Lines::new(kind, &memory), &memory),
+        length: count_rest(Position::new(kind, &memory), &memory),
         fault: 0,
     }
 }
@@ -111,7 +112,7 @@ pub extern "C" fn avr_records_write(
         return Piece::none(MISFIT);
     };
     let memory = Memory::new(present, bytes);
-    let Some(mut lines) = lines_of(kind, cursor, &memory) else {
+    let Some(mut lines) = position_of(kind, cursor, &memory) else {
         return Piece::none(MISFIT);
     };
     let mut gone = cursor.gone;

@@ -13,7 +13,7 @@ use Rattle.avr_session.specs.Session.{actions_dialog}
 
 -- At the start, if the dialog allocates.
 abbrev pub AtStartOnly : Bool → Progress → Transcript → List (Event OutputEvent) → Type 0
-AtStartOnly takes before during shown = (takes ≡ true) × (shown ≡ [])
+AtStartOnly allocates before during shown = (allocates ≡ true) × (shown ≡ [])
 
 -- An action that allocates is next, and what happened so far is the whole run of the actions before it.
 pub record AtAllocation (part : Part) (switches : Switches) (actions : List Action) (before : Progress)
@@ -22,7 +22,7 @@ pub record AtAllocation (part : Part) (switches : Switches) (actions : List Acti
   pub due : Action
   pub more : List Action
   pub actions_are : actions ≡ done ++ due ∷ more
-  pub takes : action_allocates due ≡ true
+  pub allocates : action_allocates due ≡ true
   pub next : ℕ
   pub left : Tape
   pub is_played : played_over (actions_dialog part switches done) before during

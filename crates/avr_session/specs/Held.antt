@@ -15,14 +15,14 @@ use Rattle.stk_host.specs.declared.link.Link.{Ghosts as Links}
 abbrev pub IsReady : {D L : Type 0} → Session D L → Type 0
 IsReady session = (session.host.broken ≡ None) × (session.host.part ≡ session.plan.now.part)
 
-abbrev pub shown : {D L : Type 0} → Links L → Desks D → Session D L → Devices
-shown link desk session = devices (link.view session.link.now) (desk.view session.desk.now)
+abbrev pub devices_of : {D L : Type 0} → Links L → Desks D → Session D L → Devices
+devices_of link desk session = devices (link.view session.link.now) (desk.view session.desk.now)
 
 -- A part of a session was run, of the same plan and on the same devices. If a fault ended the session, its line is the
 -- last one reported.
 pub record RunsSessionPart {D L : Type 0} (link : Links L) (desk : Desks D) (Part : Performing) (old new : Session D L)
     (result : Result ⊤ End) : Type 0 where
-  pub performs : Part old.host new.host (shown link desk old) (shown link desk new) (standing_after result)
+  pub performs : Part old.host new.host (devices_of link desk old) (devices_of link desk new) (standing_after result)
   pub plan : new.plan ≡ old.plan
   pub same_link : new.link.ghost_name ≡ old.link.ghost_name
   pub same_desk : new.desk.ghost_name ≡ old.desk.ghost_name

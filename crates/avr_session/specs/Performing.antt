@@ -10,7 +10,7 @@ use Rattle.avr_desk.specs.OutputEvents.{OutputEvent}
 use Rattle.avr_session.specs.Standing.{Standing, NoFault}
 use Rattle.avr_session.specs.Actions.{Action, action_allocates, actions, plan_allocates}
 use Rattle.avr_session.specs.Concluding.{HostIsUsable}
-use Rattle.avr_session.specs.Runs.{Devices, MayAllocate, Terms, before_fault, RanWhole, BrokeOff}
+use Rattle.avr_session.specs.Runs.{Devices, RunAllocationPoints, Terms, before_fault, RanWhole, BrokeOff}
 use Rattle.avr_session.specs.Session.{actions_dialog, ending, session_dialog}
 use Rattle.avr_session.specs.AllocationPoints.{AtStartOnly, AtAllocation}
 
@@ -19,15 +19,15 @@ has_fault NoFault = false
 has_fault standing = true
 
 -- The result of a call: the dialog ran whole, or it broke off.
-abbrev pub Runs : {R : Type 0} → Dialog OutputEvent R → Progress → Devices → Devices → Terms → MayAllocate → Result R ⊤
-    → Progress → Type 0
-Runs dialog before old new terms Lacks (Ok result) after = RanWhole dialog before old new result after
-Runs dialog before old new terms Lacks (Err stopped) after = BrokeOff dialog before old new terms Lacks
+abbrev pub Runs : {R : Type 0} → Dialog OutputEvent R → Progress → Devices → Devices → Terms → RunAllocationPoints
+    → Result R ⊤ → Progress → Type 0
+Runs dialog before old new terms points (Ok result) after = RanWhole dialog before old new result after
+Runs dialog before old new terms points (Err stopped) after = BrokeOff dialog before old new terms points
 
 -- A host ran this action on these terms, between these states of the devices.
-pub record PerformsOnTerms (terms : Terms) (Lacks : MayAllocate) (dialog : Dialog OutputEvent Standing)
+pub record PerformsOnTerms (terms : Terms) (points : RunAllocationPoints) (dialog : Dialog OutputEvent Standing)
     (host_old host_new : HostState) (old new : Devices) (result : Result Standing ⊤) : Type 0 where
-  pub runs : Runs dialog host_old.progress old new terms Lacks result host_new.progress
+  pub runs : Runs dialog host_old.progress old new terms points result host_new.progress
   pub serves : HostIsUsable result host_new.broken
   pub part : host_new.part ≡ host_old.part
   pub link : old.link.failures ≤ new.link.failures
@@ -39,7 +39,7 @@ Performing = HostState → HostState → Devices → Devices → Result Standing
 
 -- An action before which no fault was reported, and which allocates at its start or never.
 abbrev pub Performs : Bool → Dialog OutputEvent Standing → Performing
-Performs takes dialog = PerformsOnTerms (before_fault takes) (AtStartOnly takes) dialog
+Performs allocates dialog = PerformsOnTerms (before_fault allocates) (AtStartOnly allocates) dialog
 
 -- These actions of a plan, in order, up to the first fault. Allocation can fail only at an action that allocates.
 abbrev pub DoesPlanActions : Plan → List Action → Performing
@@ -49,7 +49,7 @@ DoesPlanActions plan actions =
 
 -- The end of a session that is in this state after its actions.
 abbrev pub EndsSession : Plan → Standing → Performing
-EndsSession plan standing = PerformsOnTerms (record { takes = false; has_reported = has_fault standing })
+EndsSession plan standing = PerformsOnTerms (record { allocates = false; has_reported = has_fault standing })
     (AtStartOnly false) (ending plan.part plan.switches standing)
 
 abbrev pub PlaysSession : Plan → Performing

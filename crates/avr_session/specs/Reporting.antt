@@ -17,21 +17,21 @@ IsOfDesk PrintingFailed = Unit {0}
 IsOfDesk cause = ⊥
 
 -- A prefix of the output events was done, and perhaps a part of the next one, at which this cause stops them.
-pub record OutputsPrefix (cause : Cause) (old new : DeskState) (outputs : List OutputEvent) : Type 0 where
+pub record OutputsPrefix (cause : Cause) (old new : DeskState) (events : List OutputEvent) : Type 0 where
   pub whole : List OutputEvent
   pub begun : List OutputEvent
   pub later : List OutputEvent
-  pub outputs_are : outputs ≡ whole ++ later
+  pub outputs_are : events ≡ whole ++ later
   pub place : StopsAt cause [] (map Emitted whole) (map Emitted begun) (map Emitted later)
   pub by_desk : IsOfDesk cause
   pub kept : ChangesRecord (after_events (whole ++ begun)) old new
 
 -- A prefix of the output events was done, and then the cause was reported. `By` states which causes can stop output.
 pub record OutputsPrefixAndReports (By : DeskState → DeskState → Cause → Bytes → Type 0) (old new : DeskState)
-    (outputs : List OutputEvent) : Type 0 where
+    (events : List OutputEvent) : Type 0 where
   pub between : DeskState
   pub cause : Cause
-  pub prefix : OutputsPrefix cause old between outputs
+  pub prefix : OutputsPrefix cause old between events
   pub notice : Bytes
   pub stops : By old new cause notice
   pub kept : ChangesRecord (after_err notice) between new
@@ -39,12 +39,12 @@ pub record OutputsPrefixAndReports (By : DeskState → DeskState → Cause → B
 -- All output events were done and no call failed, or a prefix of them was done.
 abbrev pub OutputsOrStops : (DeskState → DeskState → Cause → Bytes → Type 0) → DeskState → DeskState → List OutputEvent
     → Result ⊤ DeskFault → Type 0
-OutputsOrStops By old new outputs (Ok done) = ChangesRecord (after_events outputs) old new × HasSameCounts old new
-OutputsOrStops By old new outputs (Err _) = OutputsPrefixAndReports By old new outputs
+OutputsOrStops By old new events (Ok done) = ChangesRecord (after_events events) old new × HasSameCounts old new
+OutputsOrStops By old new events (Err _) = OutputsPrefixAndReports By old new events
 
 pub record Reports (By : DeskState → DeskState → Cause → Bytes → Type 0) (old new : DeskState)
-    (outputs : List OutputEvent) (result : Result ⊤ DeskFault) : Type 0 where
-  pub emits : OutputsOrStops By old new outputs result
+    (events : List OutputEvent) (result : Result ⊤ DeskFault) : Type 0 where
+  pub emits : OutputsOrStops By old new events result
   pub follows : CountsNeverFall old new
 
 -- A write to the messages failed; nothing reports this.
@@ -54,12 +54,12 @@ PrintStops old new cause notice = ⊥
 
 -- These output events were done at a desk, or a cause that `By` allows stopped them.
 pub record Outputs {D : Type 0} (desk : Ghosts D) (By : DeskState → DeskState → Cause → Bytes → Type 0)
-    (outputs : List OutputEvent) (old new : D) (result : Result ⊤ DeskFault) : Type 0 where
-  pub reports : Reports By (desk.view old) (desk.view new) outputs result
+    (events : List OutputEvent) (old new : D) (result : Result ⊤ DeskFault) : Type 0 where
+  pub reports : Reports By (desk.view old) (desk.view new) events result
   pub stays : Preserves desk.started_as old new
 
 abbrev pub Prints : {D : Type 0} → Ghosts D → List OutputEvent → D → D → Result ⊤ DeskFault → Type 0
-Prints desk outputs old new result = Outputs desk PrintStops outputs old new result
+Prints desk events old new result = Outputs desk PrintStops events old new result
 
 -- The desk failed at a file, and this was reported.
 abbrev pub FileStops : DeskState → DeskState → Bytes → FileTrouble → Bytes → Type 0

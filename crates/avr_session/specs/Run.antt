@@ -5,7 +5,7 @@ use Rattle.avr_desk.specs.Record.{DeskState}
 use Rattle.avr_plan.specs.Plan.{Plan}
 use Rattle.avr_plan.specs.Planning.{LacksPart, planned}
 use Rattle.avr_plan.specs.AllocationPoints.{AtAllocatingUpdate}
-use Rattle.avr_desk.specs.Playing.{RunsStage, StageCompleted}
+use Rattle.avr_desk.specs.StageRuns.{RunsStage, StageCompleted}
 use Rattle.avr_desk.specs.Stage.{Produced}
 use Rattle.avr_session.specs.Actions.{actions, plan_allocates}
 use Rattle.avr_session.specs.Runs.{Devices, devices, start, before_fault, BrokeOff, RunsWholeOrStops}
@@ -18,8 +18,8 @@ use Rattle.stk_host.specs.Transcript.{LinkState}
 -- an action that allocates.
 abbrev pub RunsSession : Plan → Devices → Devices → ℕ → Type 0
 RunsSession plan old new status =
-    RunsWholeOrStops (session plan) old new (plan_allocates plan) (AtAllocation plan.part plan.switches (actions plan))
-    status
+    RunsWholeOrStops (session plan) old new (plan_allocates plan)
+    (AtAllocation plan.part plan.switches (actions plan)) status
 
 -- The session of a plan broke off.
 abbrev pub StopsSession : Plan → Devices → Devices → Type 0

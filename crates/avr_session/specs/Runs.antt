@@ -12,7 +12,7 @@ use Rattle.stk_host.specs.Dialog.{Dialog, Event, Frame, Emitted, played, outputs
 use Rattle.stk_host.specs.Play.{Progress, Plays, Breaks}
 use Rattle.avr_desk.specs.Lines.{error, memory_line, not_created_pieces, not_written_pieces}
 use Rattle.avr_session.specs.Lines.{unsent_pieces, unreceived_pieces}
-use Rattle.avr_desk.specs.OutputEvents.{OutputEvent, PrintsLine, CreatesFile, WritesFile, WritesOutput, IsPartOfEvent, IsPrefixOf, ReportsLineAs, after_events}
+use Rattle.avr_desk.specs.OutputEvents.{OutputEvent, PrintsLine, CreatesFile, WritesFile, WritesOutput, IsPartOfEvent, IsPrefixOfBytes, ReportsLineAs, after_events}
 
 -- The state of a link and a desk.
 pub record Devices : Type 0 where
@@ -54,10 +54,10 @@ cause_line AllocationFailed = memory_line
 
 abbrev pub is_error : OutputEvent → Bool
 is_error (PrintsLine bytes) = starts_with nat_eq bytes (codes "avrstk: error: ")
-is_error output = false
+is_error event = false
 
 abbrev pub reports_fault : List OutputEvent → Bool
-reports_fault outputs = list_any is_error outputs
+reports_fault events = list_any is_error events
 
 -- A prefix of the next frame was sent, perhaps nothing. The whole frame was sent only if the failed send took its end.
 pub record StopsInFrame (during : Transcript) (begun later : List (Event OutputEvent)) : Type 0 where
@@ -75,7 +75,7 @@ pub record StopsInOutput (event : Bytes → OutputEvent) (begun later : List (Ev
   pub more : List (Event OutputEvent)
   pub due : later ≡ Emitted (event bytes) ∷ more
   pub part : begun ≡ Emitted (event done) ∷ []
-  pub prefix : IsPrefixOf done bytes
+  pub prefix : IsPrefixOfBytes done bytes
 
 -- Nothing was done of the next event, the creation of this file.
 pub record StopsAtCreation (file : Bytes) (begun later : List (Event OutputEvent)) : Type 0 where
@@ -105,14 +105,14 @@ Listens ReceivingFailed outcome = outcome ≡ None
 Listens cause outcome = Unit {0}
 
 -- The cause occurred before any other: by the counts of failures only this device failed. No count shows a failed
--- allocation, which occurs only if the dialog allocates (`takes`).
+-- allocation, which occurs only if the dialog allocates.
 abbrev pub CauseOccurred : Bool → Devices → Devices → Cause → Type 0
-CauseOccurred takes old then SendingFailed = link.HasFailed old.link then.link × HasSameCounts old.desk then.desk
-CauseOccurred takes old then ReceivingFailed = link.HasFailed old.link then.link × HasSameCounts old.desk then.desk
-CauseOccurred takes old then AllocationFailed = (takes ≡ true) × NoDeviceFailed old then
-CauseOccurred takes old then PrintingFailed = desk.HasFailedToReport old.desk then.desk
+CauseOccurred allocates old then SendingFailed = link.HasFailed old.link then.link × HasSameCounts old.desk then.desk
+CauseOccurred allocates old then ReceivingFailed = link.HasFailed old.link then.link × HasSameCounts old.desk then.desk
+CauseOccurred allocates old then AllocationFailed = (allocates ≡ true) × NoDeviceFailed old then
+CauseOccurred allocates old then PrintingFailed = desk.HasFailedToReport old.desk then.desk
     × (then.link.failures ≡ old.link.failures)
-CauseOccurred takes old then cause = HasFailedAt File old.desk then.desk × (then.link.failures ≡ old.link.failures)
+CauseOccurred allocates old then cause = HasFailedAt File old.desk then.desk × (then.link.failures ≡ old.link.failures)
 
 -- The cause's line was reported. After a fault's line only the link or the printing can fail, and nothing more is
 -- reported.
@@ -125,22 +125,22 @@ ReportsCause true cause notice old new = ⊥
 
 -- The terms of a run: whether it allocates, and whether a fault was reported before.
 pub record Terms : Type 0 where
-  pub takes : Bool
+  pub allocates : Bool
   pub has_reported : Bool
 
 abbrev pub before_fault : Bool → Terms
-before_fault takes = record { takes = takes; has_reported = false }
+before_fault allocates = record { allocates = allocates; has_reported = false }
 
 -- When allocation can fail: a predicate of the start, the transcript and the events so far.
-abbrev pub MayAllocate : Type 1
-MayAllocate = Progress → Transcript → List (Event OutputEvent) → Type 0
+abbrev pub RunAllocationPoints : Type 1
+RunAllocationPoints = Progress → Transcript → List (Event OutputEvent) → Type 0
 
 -- Why a run stops after this output, and what is reported: the cause occurred by `between`, and was reported from
 -- there on.
 pub record StopsAfterOutput (terms : Terms) (old new : Devices) (emitted : List OutputEvent) (cause : Cause)
     (notice : Bytes) : Type 0 where
   pub between : DeskState
-  pub cause_occurred : CauseOccurred terms.takes old (devices new.link between) cause
+  pub cause_occurred : CauseOccurred terms.allocates old (devices new.link between) cause
   pub is_reported : ReportsCause (terms.has_reported || reports_fault emitted) cause notice between new.desk
   pub since : CountsNeverFall old.desk between
   pub until : CountsNeverFall between new.desk
@@ -159,9 +159,9 @@ pub record RanWhole {R : Type 0} (dialog : Dialog OutputEvent R) (before : Progr
   pub sound : NoDeviceFailed old new
 
 -- The dialog broke off. What was sent and output is a prefix of its events, the last one perhaps in part, and then
--- the report of the cause. If allocation failed, it did so at a moment that `Lacks` allows.
+-- the report of the cause. If allocation failed, it did so at a moment that `points` allows.
 pub record BrokeOff {R : Type 0} (dialog : Dialog OutputEvent R) (before : Progress) (old new : Devices)
-    (terms : Terms) (Lacks : MayAllocate) : Type 0 where
+    (terms : Terms) (points : RunAllocationPoints) : Type 0 where
   pub during : Transcript
   pub shown : List (Event OutputEvent)
   pub cause : Cause
@@ -171,11 +171,11 @@ pub record BrokeOff {R : Type 0} (dialog : Dialog OutputEvent R) (before : Progr
   pub place : StopsAt cause during breaks.prefix.whole breaks.prefix.begun breaks.prefix.later
   pub listens : Listens cause (played dialog before.next (on_tape before.unread ++ heard during)).outcome
   pub stops : StopsAfterOutput terms old new (outputs shown) cause notice
-  pub lacks : cause ≡ AllocationFailed → Lacks before during shown
+  pub at_point : cause ≡ AllocationFailed → points before during shown
   pub kept : ChangesRecord (λ r. after_err notice (after_events (outputs shown) r)) old.desk new.desk
 
 -- The dialog ran whole to its status, or it broke off with status 1.
-abbrev pub RunsWholeOrStops : Dialog OutputEvent ℕ → Devices → Devices → Bool → MayAllocate → ℕ → Type 0
-RunsWholeOrStops dialog old new takes Lacks status =
+abbrev pub RunsWholeOrStops : Dialog OutputEvent ℕ → Devices → Devices → Bool → RunAllocationPoints → ℕ → Type 0
+RunsWholeOrStops dialog old new allocates points status =
     ((after : Progress) × RanWhole dialog start old new status after)
-    ⊎ (BrokeOff dialog start old new (before_fault takes) Lacks × (status ≡ 1))
+    ⊎ (BrokeOff dialog start old new (before_fault allocates) points × (status ≡ 1))

@@ -28,7 +28,7 @@ use Rattle.avr_session.specs.Lines.{informs, warns, other_signature, fault_line}
 -- The output events in order, and then the dialog.
 abbrev pub emits : {R : Type 0} → List OutputEvent → Dialog OutputEvent R → Dialog OutputEvent R
 emits [] dialog = dialog
-emits (output ∷ outputs) dialog = Emit output (emits outputs dialog)
+emits (event ∷ events) dialog = Emit event (emits events dialog)
 
 -- The state of a session after an operation of the host.
 abbrev pub standing : {A : Type 0} → Result A HostFault → Standing

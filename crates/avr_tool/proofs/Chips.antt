@@ -16,7 +16,7 @@ use Rattle.avr_part.specs.declared.fault.PartFault.{PartFault}
 use Rattle.avr_part.specs.declared.fault.PartFault.TheVariants.{BadChipFile}
 use Rattle.avr_desk.proofs.Stages.Openings.{runs_open, runs_content}
 use Rattle.avr_desk.proofs.Stages.Played.{went_settled, goes_unsettled}
-use Rattle.avr_desk.specs.Playing.{OnlyAtStart, RunsStage, StageCompleted}
+use Rattle.avr_desk.specs.StageRuns.{OnlyAtStart, RunsStage, StageCompleted}
 use Rattle.avr_desk.specs.Stage.{Produced, result_stage}
 use Rattle.avr_tool.specs.declared.loading.TheConstants.{LARGEST_CHIP_FILE}
 use Rattle.avr_tool.specs.Lines.{length_line}
@@ -60,7 +60,7 @@ goes_wrong_length part file bytes n old new status (inr memory) one notice = cc
 
 pub opened_at : (opening : Opening) (passed : List Opening) (emitted : List OutputEvent)
     → OnlyAtStart true passed emitted → AtOpened (opening ∷ passed) (Opens opening ∷ emitted)
-opened_at opening passed emitted takes = search rules
+opened_at opening passed emitted allocates = search rules
 
 -- the check of the file's bytes
 goes_whole : (part : Part) (file bytes : Bytes) (ended : Bool) (old mid new : DeskState) (result : Result ChipState ℕ)

@@ -9,7 +9,7 @@ use Rattle.avr_part.specs.Sound.{IsSoundChip}
 use Rattle.avr_part.specs.State.{ChipState as Chip}
 use Rattle.avr_plan.specs.Plan.{Plan, IsFitted}
 use Rattle.avr_plan.specs.Planning.{planned}
-use Rattle.avr_desk.specs.Playing.{StageCompleted}
+use Rattle.avr_desk.specs.StageRuns.{StageCompleted}
 use Rattle.avr_desk.specs.Stage.{Produced}
 use Rattle.ghosts.specs.Preserves.{Preserves}
 use Rattle.stk_host.specs.Transcript.{sent}
@@ -41,7 +41,7 @@ module _ (settings : Settings) (file : Bytes) (plan : Plan) (chip : Chip) (w v :
         plan = plan;
         chip = chip;
         after = v;
-        ran = ran;
+        session_status = ran;
         planned_desk = planned_desk;
         loaded_desk = loaded_desk;
         played_desk = played_desk;
@@ -52,7 +52,7 @@ module _ (settings : Settings) (file : Bytes) (plan : Plan) (chip : Chip) (w v :
         sound = is_sound;
         runs = search (rules, is_new);
         comes = subst (λ (x : WiredState). Preserves ComesOf x v) is_new comes;
-        line = search (rules, is_new);
+        session = search (rules, is_new);
         saved = saved;
         follows = by_saving;
       }

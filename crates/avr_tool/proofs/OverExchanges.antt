@@ -64,20 +64,21 @@ module _ (plan : Plan) (begun : Programmer) (is_sound : IsSoundChip begun.chip) 
           four = search (rules, prefix_weighs, asks, session_weighs);
         }
 
-    module _ (emits : List OutputEvent) (status : ℕ)
+    module _ (output_events : List OutputEvent) (status : ℕ)
         (comes : (state_after device (length (frames bytes)) (session plan) begun exchanges).dialog ≡ Done status)
-        (output_events_are : emits ≡ outputs_after device (length (frames bytes)) (session plan) begun exchanges) where
+        (output_events_are : output_events
+        ≡ outputs_after device (length (frames bytes)) (session plan) begun exchanges) where
       pub has_expected : IsExpectedRun plan before
           (memories_of (state_after device count (session plan) begun exchanges).programmer.chip)
           (outputs_after device count (session plan) begun exchanges) status
-          → IsExpectedRun plan before after emits status
+          → IsExpectedRun plan before after output_events status
       has_expected c = search rules
 
       is_done : status ≡ 0 → IsDone plan before after
       is_done zero = subst (λ (r : Programmer). IsDone plan before (memories_of r.chip)) (sym stands)
           ((session_leaves plan its_part before its_sizes fitted begun exchanges is_idle).after count status comes zero)
 
-      pub ends_over_exchanges : EndsOverExchanges plan before after exchanges emits status
+      pub ends_over_exchanges : EndsOverExchanges plan before after exchanges output_events status
       ends_over_exchanges = record {
         success = search (rules, has_expected, session_succeeds, its_part, its_sizes, is_idle);
         done = is_done;

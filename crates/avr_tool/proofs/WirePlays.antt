@@ -125,5 +125,5 @@ module _ (plan : Plan) (w v : WiredState) (fresh : IsFresh w) (stays : Preserves
       )
 
   pub over_any_line : Runs → SessionOverWire plan w v old now status
-  over_any_line (inl whole) = record { line = over (inl whole); end = inl (came whole) }
-  over_any_line (inr broke) = record { line = over (inr broke); end = inr broke }
+  over_any_line (inl whole) = record { along_exchanges = over (inl whole); end = inl (came whole) }
+  over_any_line (inr broke) = record { along_exchanges = over (inr broke); end = inr broke }

@@ -10,7 +10,7 @@ use Rattle.avr_part.specs.Sound.{IsSoundChip}
 use Rattle.avr_part.specs.State.{ChipState as Chip}
 use Rattle.avr_plan.specs.Plan.{Plan, IsFitted}
 use Rattle.avr_plan.specs.Planning.{planned}
-use Rattle.avr_desk.specs.Playing.{StageCompleted}
+use Rattle.avr_desk.specs.StageRuns.{StageCompleted}
 use Rattle.avr_desk.specs.Stage.{Produced}
 use Rattle.ghosts.specs.Preserves.{Preserves}
 use Rattle.stk_host.specs.Transcript.{sent}
@@ -23,8 +23,9 @@ use Rattle.avr_tool.specs.OverFaultyLink.{SessionOverWire, wire_and_desk}
 
 -- The chip's file is replaced if anything was sent, otherwise only unlocked. If it can't be replaced, the status is 1.
 abbrev pub IsSavedIfSent : List ℕ → DeskState → DeskState → Bytes → Bytes → ℕ → ℕ → Type 0
-IsSavedIfSent [] old now file bytes ran status = (now ≡ released old) × (status ≡ ran)
-IsSavedIfSent (byte ∷ sent) old now file bytes ran status = SavesAfterRun ran old now file bytes status
+IsSavedIfSent [] old now file bytes session_status status = (now ≡ released old) × (status ≡ session_status)
+IsSavedIfSent (byte ∷ sent) old now file bytes session_status status =
+    SavesAfterRun session_status old now file bytes status
 
 -- A fresh wire to a chip, with these fates.
 abbrev pub new_wire : Chip → List Fate → WiredState
@@ -39,7 +40,7 @@ pub record RunsOverEmulator (settings : Settings) (file : Bytes) (old now : Desk
   pub plan : Plan
   pub chip : Chip
   pub after : WiredState
-  pub ran : ℕ
+  pub session_status : ℕ
   pub planned_desk : DeskState
   pub loaded_desk : DeskState
   pub played_desk : DeskState
@@ -48,11 +49,12 @@ pub record RunsOverEmulator (settings : Settings) (file : Bytes) (old now : Desk
   pub loaded : LockedAndLoaded plan.part file planned_desk loaded_desk chip
   pub part : chip.part ≡ plan.part
   pub sound : IsSoundChip chip
-  pub runs : RunsSession plan (wire_and_desk (new_wire chip []) loaded_desk) (wire_and_desk after played_desk) ran
+  pub runs : RunsSession plan (wire_and_desk (new_wire chip []) loaded_desk)
+      (wire_and_desk after played_desk) session_status
   pub comes : Preserves ComesOf (new_wire chip []) after
-  pub line : SessionOverWire plan (new_wire chip []) after loaded_desk played_desk ran
-  pub saved : IsSavedIfSent (sent after.transcript) played_desk now file (chip_file after.wire.programmer.chip) ran
-      status
+  pub session : SessionOverWire plan (new_wire chip []) after loaded_desk played_desk session_status
+  pub saved : IsSavedIfSent (sent after.transcript) played_desk now file
+      (chip_file after.wire.programmer.chip) session_status status
   pub follows : CountsNeverFall played_desk now
 
 -- The contract of `run_emu`: that run; or there is a plan but no chip; or there is no plan. Without a chip nothing was

@@ -15,30 +15,30 @@ use Rattle.avr_tool.specs.ExpectedRun.{actions_expected, expected_run}
 
 -- The output of some first actions, which ended without a fault in the expected run.
 pub record FirstActionsOutput (part : Part) (s : Switches) (actions : List Action) (m : Memories)
-    (emits : List OutputEvent) : Type 0 where
+    (output_events : List OutputEvent) : Type 0 where
   pub done : List Action
   pub more : List Action
   pub actions_are : actions ≡ done ++ more
   pub fine : (actions_expected part s done m).standing ≡ NoFault
-  pub output_events_are : emits ≡ (actions_expected part s done m).emits
+  pub output_events_are : output_events ≡ (actions_expected part s done m).output_events
 
 -- After this output the line of a failed step follows: of the next action, or of the closing after all of them.
 pub record OutputToFault (part : Part) (s : Switches) (actions : List Action) (m : Memories)
-    (emits : List OutputEvent) : Type 0 where
+    (output_events : List OutputEvent) : Type 0 where
   pub before_fault : List OutputEvent
   pub first : FirstActionsOutput part s actions m before_fault
   pub fault : StepFault
-  pub output_events_are : emits ≡ before_fault ++ PrintsLine (fault_line part (host_fault fault)) ∷ []
+  pub output_events_are : output_events ≡ before_fault ++ PrintsLine (fault_line part (host_fault fault)) ∷ []
 
 -- The output at any moment of a session.
 abbrev pub IsExpectedOutput : Plan → Memories → List OutputEvent → Type 0
-IsExpectedOutput plan m emits =
-    (emits ≡ (expected_run plan m).emits)
-    ⊎ (FirstActionsOutput plan.part plan.switches (actions plan) m emits
-    ⊎ OutputToFault plan.part plan.switches (actions plan) m emits)
+IsExpectedOutput plan m output_events =
+    (output_events ≡ (expected_run plan m).output_events)
+    ⊎ (FirstActionsOutput plan.part plan.switches (actions plan) m output_events
+    ⊎ OutputToFault plan.part plan.switches (actions plan) m output_events)
 
 -- The output and the status of a session at its end: those of the expected run, or status 1 after a failed step.
 abbrev pub EndsAsExpected : Plan → Memories → List OutputEvent → ℕ → Type 0
-EndsAsExpected plan m emits status =
-    ((emits ≡ (expected_run plan m).emits) × (status ≡ (expected_run plan m).status))
-    ⊎ (OutputToFault plan.part plan.switches (actions plan) m emits × (status ≡ 1))
+EndsAsExpected plan m output_events status =
+    ((output_events ≡ (expected_run plan m).output_events) × (status ≡ (expected_run plan m).status))
+    ⊎ (OutputToFault plan.part plan.switches (actions plan) m output_events × (status ≡ 1))

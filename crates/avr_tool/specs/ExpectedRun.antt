@@ -13,18 +13,18 @@ use Rattle.avr_session.specs.Session.{standing, fault_line_or, opening_output, s
 
 -- The output, and the session's state and the memories after it.
 pub record Expected : Type 0 where
-  pub emits : List OutputEvent
+  pub output_events : List OutputEvent
   pub standing : Standing
   pub memories : Memories
 
 abbrev pub fine : List OutputEvent → Memories → Expected
-fine emits m = record { emits = emits; standing = NoFault; memories = m }
+fine output_events m = record { output_events = output_events; standing = NoFault; memories = m }
 
 -- An operation with this outcome, which leaves these memories.
 abbrev pub reported_expected : {A : Type 0} → (Result A HostFault → List OutputEvent) → Result A HostFault → Memories
     → Expected
 reported_expected outcome_output outcome m = record {
-  emits = outcome_output outcome;
+  output_events = outcome_output outcome;
   standing = standing outcome;
   memories = m;
 }
@@ -32,7 +32,7 @@ reported_expected outcome_output outcome m = record {
 -- The next action, which a fault skips.
 abbrev pub then_from : Expected → Standing → (Memories → Expected) → Expected
 then_from first NoFault next = record {
-  emits = first.emits ++ (next first.memories).emits;
+  output_events = first.output_events ++ (next first.memories).output_events;
   standing = (next first.memories).standing;
   memories = (next first.memories).memories;
 }
@@ -67,14 +67,14 @@ ending_output plan NoFault = closing_output plan.switches.quiet plan.part (Ok tt
 ending_output plan _ = []
 
 pub record ExpectedRun : Type 0 where
-  pub emits : List OutputEvent
+  pub output_events : List OutputEvent
   pub status : ℕ
   pub memories : Memories
 
 -- The run of a plan over a perfect link to a chip with these memories.
 abbrev pub expected_run : Plan → Memories → ExpectedRun
 expected_run plan m = record {
-  emits = (working_expected plan m).emits ++ ending_output plan (working_expected plan m).standing;
+  output_events = (working_expected plan m).output_events ++ ending_output plan (working_expected plan m).standing;
   status = status_of (working_expected plan m).standing;
   memories = (working_expected plan m).memories;
 }

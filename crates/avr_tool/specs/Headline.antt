@@ -8,12 +8,12 @@ use Rattle.avr_desk.specs.Record.{DeskState, ChangesRecord, Bytes, after_err}
 use Rattle.avr_desk.specs.declared.record.Opening.{Opening}
 use Rattle.avr_desk.specs.declared.record.Opening.TheVariants.{Found}
 use Rattle.avr_desk.specs.Lines.{memory_line, not_opened_line, not_read_line}
-use Rattle.avr_desk.specs.Playing.{BreakCause, LineNotPrinted, NotOpened, NotRead, NoMemory, NoMemoryForFile, opened_and_read_in_part}
-use Rattle.avr_desk.specs.OutputEvents.{OutputEvent, Opens, PrintsLine, IsPartOfEvent, IsPrefixOf, after_events}
+use Rattle.avr_desk.specs.StageRuns.{BreakCause, LineNotPrinted, NotOpened, NotRead, NoMemory, NoMemoryForFile, opened_and_read_in_part}
+use Rattle.avr_desk.specs.OutputEvents.{OutputEvent, Opens, PrintsLine, IsPartOfEvent, IsPrefixOfBytes, after_events}
 use Rattle.avr_plan.specs.Plan.{Plan}
 use Rattle.avr_plan.specs.Planning.{LacksPart, planned}
 use Rattle.avr_plan.specs.AllocationPoints.{AtAllocatingUpdate}
-use Rattle.avr_desk.specs.Playing.{StageBrokeOff}
+use Rattle.avr_desk.specs.StageRuns.{StageBrokeOff}
 use Rattle.avr_desk.specs.Stage.{StageOutcome, Produced, Refused, NotReadToEnd}
 use Rattle.avr_session.specs.Run.{LacksPlan, RunsSession, StopsSession, WithPlan}
 use Rattle.avr_session.specs.Runs.{Devices, devices, start, Cause, NoDeviceFailed, cause_line}
@@ -36,7 +36,8 @@ run_after_planning NotReadToEnd tape = record { events = []; outcome = None }
 -- THE RUN: all that is sent and output, and the status
 abbrev pub run : Settings → List Opening → Tape → Played OutputEvent ℕ
 run settings openings tape =
-    let p = planned settings openings in prepend_events (map Emitted p.emits) (run_after_planning p.stage_outcome tape)
+    let p = planned settings openings in
+    prepend_events (map Emitted p.output_events) (run_after_planning p.stage_outcome tape)
 
 -- ---- 2. What a call does is the run
 
@@ -122,9 +123,9 @@ pub record IsPrefixOfRun (settings : Settings) (before now : Devices) : Type 0 w
   pub in_turn : (later : List Opening) → IsInTurn (planned settings (openings ++ later)).stage_outcome during
   pub all_sent : bytes_sent shown ≡ sent during
   pub grows : Grows before.link.transcript during now.link.transcript
-  pub reported_part : IsPrefixOf notice (stop_line reason)
-  pub kept : ChangesRecord (λ r. after_err notice (after_events (outputs shown ++ opened_at reason) r)) before.desk
-      now.desk
+  pub reported_part : IsPrefixOfBytes notice (stop_line reason)
+  pub kept : ChangesRecord (λ r. after_err notice (after_events (outputs shown ++ opened_at reason) r))
+      before.desk now.desk
 
 -- ---- 4. From settings to the bytes of the chip, over a fresh wire (stk_emu's `IsFresh`)
 

@@ -3,7 +3,7 @@ use Rattle.std.specs.Prelude.{◌≡◌, ◌⊎◌, ℕ, Result, Ok, Err, ⊤}
 use Rattle.avr_desk.specs.Fault.{HasSameCounts}
 use Rattle.avr_desk.specs.Record.{DeskState, Record, ChangesRecord, Bytes, after_err, released, with_denied, with_held}
 use Rattle.avr_desk.specs.Lines.{not_written_line}
-use Rattle.avr_desk.specs.Playing.{RunsStage, StageCompleted}
+use Rattle.avr_desk.specs.StageRuns.{RunsStage, StageCompleted}
 use Rattle.avr_desk.specs.OutputEvents.{ReportsLineAs, ReportsFailureAs}
 use Rattle.avr_desk.specs.Stage.{Produced}
 use Rattle.avr_part.specs.Part.{Part}

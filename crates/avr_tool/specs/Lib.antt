@@ -3,7 +3,7 @@ pub use Rattle.avr_session.specs.PlanSteps
 pub use Rattle.avr_desk.specs.Fault
 pub use Rattle.avr_desk.specs.Memory
 pub use Rattle.avr_desk.specs.Named
-pub use Rattle.avr_desk.specs.Playing
+pub use Rattle.avr_desk.specs.StageRuns
 pub use Rattle.avr_desk.specs.Record
 pub use Rattle.avr_desk.specs.OutputEvents
 pub use Rattle.avr_desk.specs.Shown

@@ -7,7 +7,7 @@ use Rattle.avr_desk.specs.Lines.{too_long_line}
 use Rattle.avr_part.specs.ChipFile.{chip_file_size, state_from_file}
 use Rattle.avr_part.specs.Part.{Part}
 use Rattle.avr_part.specs.State.{ChipState, fresh_state}
-use Rattle.avr_desk.specs.Playing.{AllocationPoints}
+use Rattle.avr_desk.specs.StageRuns.{AllocationPoints}
 use Rattle.avr_desk.specs.OutputEvents.{Opens}
 use Rattle.avr_desk.specs.Stage.{Stage, ◌>>=◌, result_stage, open_stage, content_stage}
 use Rattle.avr_tool.specs.declared.loading.TheConstants.{LARGEST_CHIP_FILE}

@@ -37,7 +37,8 @@ pub record IsDone (plan : Plan) (before after : Memories) : Type 0 where
   pub agrees : ComparisonsAgree plan before
 
 -- The output, the status and the memories are those of the expected run.
-pub record IsExpectedRun (plan : Plan) (before after : Memories) (emits : List OutputEvent) (status : ℕ) : Type 0 where
-  pub emitted : emits ≡ (expected_run plan before).emits
+pub record IsExpectedRun (plan : Plan) (before after : Memories) (output_events : List OutputEvent)
+    (status : ℕ) : Type 0 where
+  pub emitted : output_events ≡ (expected_run plan before).output_events
   pub status_is : status ≡ (expected_run plan before).status
   pub memories : after ≡ (expected_run plan before).memories

@@ -55,9 +55,9 @@ pub record OverExchanges (plan : Plan) (p q : Programmer) (exchanges : List Exch
 -- What also holds of a session that ended with this status. The expected run is the output, the status and the memories
 -- of the same plan over a perfect link.
 pub record EndsOverExchanges (plan : Plan) (before after : Memories) (exchanges : List Exchange)
-    (emits : List OutputEvent) (status : ℕ) : Type 0 where
+    (output_events : List OutputEvent) (status : ℕ) : Type 0 where
   -- with status 0 the session is its expected run: only faults of the link were hidden
-  pub success : status ≡ 0 → IsExpectedRun plan before after emits status
+  pub success : status ≡ 0 → IsExpectedRun plan before after output_events status
   -- all that the plan writes was written, and all that it compares agreed
   pub done : status ≡ 0 → IsDone plan before after
   -- each memory holds its images, later over earlier; the rest is as it was, or as an erase leaves it
@@ -67,7 +67,7 @@ pub record EndsOverExchanges (plan : Plan) (before after : Memories) (exchanges 
   pub further : status ≡ 0 → plan.switches.no_verify ≡ false → (s : Switches) (mems : List Mem) → s.erase ≡ false
       → (expected_run (comparing plan s mems) after).status ≡ 0
   -- if no frame goes wrong, the session is its expected run
-  pub good : AllArriveRight exchanges → IsExpectedRun plan before after emits status
+  pub good : AllArriveRight exchanges → IsExpectedRun plan before after output_events status
 
 -- ---- over a wire
 
@@ -89,7 +89,7 @@ SessionStopped plan before after old now = StopsSession plan (wire_and_desk befo
 -- What a session of this plan did between these states of a wire, whatever the fates of its frames. It ran to its
 -- status, and all its output was done at the desk; or it stopped with status 1.
 pub record SessionOverWire (plan : Plan) (before after : WiredState) (old now : DeskState) (status : ℕ) : Type 0 where
-  pub line : OverExchanges plan (fresh_programmer before.wire.programmer.chip) after.wire.programmer
+  pub along_exchanges : OverExchanges plan (fresh_programmer before.wire.programmer.chip) after.wire.programmer
       (exchanges_of_fates before.wire.fates) (sent after.transcript)
   pub end : (EndsOverExchanges plan (memories before) (memories after) (exchanges_of_fates before.wire.fates)
       (outputs (events_over plan after)) status × ChangesRecord (after_events (outputs (events_over plan after))) old

@@ -21,8 +21,8 @@ ServesOn over part port file old new status =
 
 -- The contract of `serve_on` and `serve_net`. The part and the chip file of the settings were checked; then a client
 -- was served, or none could be accepted. Or the part or the chip file is refused, and the network was left unused.
-abbrev pub ServesNet : Type 0 → (Option LinkState → Type 0) → Settings → Bytes → Bytes → DeskState → DeskState → ℕ
-    → Type 0
+abbrev pub ServesNet : Type 0 → (Option LinkState → Type 0) → Settings → Bytes → Bytes → DeskState → DeskState
+    → ℕ → Type 0
 ServesNet unused over settings port file old new status =
     ((part : Part) × (checked_desk : DeskState) × ChecksPart settings file old checked_desk (Ok part)
     × ServesOn over part port file checked_desk new status)

@@ -11,7 +11,7 @@ use Rattle.avr_part.specs.ChipFile.{chip_file}
 use Rattle.avr_part.specs.Part.{Part}
 use Rattle.avr_part.specs.State as chips
 use Rattle.avr_plan.specs.Planning.{LacksPart, parts_stage, part_stage}
-use Rattle.avr_desk.specs.Playing.{OnlyAtStart, RunsStage, StageCompleted}
+use Rattle.avr_desk.specs.StageRuns.{OnlyAtStart, RunsStage, StageCompleted}
 use Rattle.avr_desk.specs.Stage.{Stage, Produced, ◌>>=◌}
 use Rattle.avr_session.specs.Lines.{unreceived_pieces, unsent_pieces}
 use Rattle.avr_session.specs.Runs.{Devices, devices}

@@ -52,8 +52,8 @@ pub record RepliesToAll (p : Programmer) (text bytes out : List ℕ) (now : Emul
 -- The emulator was fed a prefix of these bytes, and sending the reply to the last frame in it failed. All replies to
 -- the frames before were sent, and a part of this one. It was sent whole only if the send that failed had taken its
 -- end.
-pub record LastReplyFailed (p : Programmer) (text bytes : List ℕ) (transcript : Transcript) (now : EmulatorState) : Type
-    0 where
+pub record LastReplyFailed (p : Programmer) (text bytes : List ℕ) (transcript : Transcript)
+    (now : EmulatorState) : Type 0 where
   pub used : List ℕ
   pub unused : List ℕ
   pub bytes_are : bytes ≡ used ++ unused

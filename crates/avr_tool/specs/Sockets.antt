@@ -5,7 +5,7 @@ use Rattle.std.specs.declared.io.Write.{Ghosts as Writes}
 use Rattle.avr_desk.specs.Record.{Bytes}
 use Rattle.avr_tool.specs.declared.network.Callers.{Ghosts as Called}
 use Rattle.avr_tool.specs.declared.network.Network.{Ghosts as Networks}
-use Rattle.stk_host.specs.Links.{IsTrueSince, StreamState, stream_state}
+use Rattle.stk_host.specs.Links.{TranscriptIsTrueSince, StreamState, stream_state}
 use Rattle.stk_host.specs.Transcript.{LinkState}
 
 -- A link over two sides of this socket, over which nothing has passed.
@@ -23,7 +23,7 @@ pub record IsOver {S : Type 0} (reads : Reads S) (writes : Writes S) (closed IsS
   pub after : StreamState S S
   pub new : IsNewLink IsSide before
   pub shows : stream_state after ≡ now
-  pub truly : IsTrueSince reads.remaining writes.contents before after
+  pub truly : TranscriptIsTrueSince reads.remaining writes.contents before after
   pub reader : closed after.reader
   pub writer : closed after.writer
 
@@ -31,30 +31,27 @@ pub record IsOver {S : Type 0} (reads : Reads S) (writes : Writes S) (closed IsS
 
 -- A connection to this address.
 abbrev pub IsOverAddress : {N S L : Type 0} → Networks N S L → Reads S → Writes S → (S → Type 0) → Bytes
-    → Option LinkState
-    → Type 0
+    → Option LinkState → Type 0
 IsOverAddress network reads writes closed address (Some now) =
     IsOver reads writes closed (λ side. network.reaches side address) now
 IsOverAddress network reads writes closed address None = network.misses address
 
 -- A connection accepted at this listener.
-abbrev pub IsOverClient : {L S : Type 0} → Called L S → Reads S → Writes S → (S → Type 0) → L → Option LinkState
-    → Type 0
+abbrev pub IsOverClient : {L S : Type 0} → Called L S → Reads S → Writes S → (S → Type 0) → L
+    → Option LinkState → Type 0
 IsOverClient called reads writes closed listener (Some now) = IsOver reads writes closed (called.calls listener) now
 IsOverClient called reads writes closed listener None = called.lacks listener
 
 -- A connection accepted at a listener at this port.
 abbrev pub IsAtPort : {N S L : Type 0} → Networks N S L → Called L S → Reads S → Writes S → (S → Type 0) → ℕ
-    → Option LinkState
-    → Type 0
+    → Option LinkState → Type 0
 IsAtPort {L = L} network called reads writes closed port seen =
     (listener : L) × network.listens listener port × IsOverClient called reads writes closed listener seen
 
 -- Without a link there was no listener, or no client could be accepted. Or the port's text is no number, and the
 -- network was left unused.
 abbrev pub IsOverPort : {N S L : Type 0} → Networks N S L → Called L S → Reads S → Writes S → (S → Type 0) → Option ℕ
-    → Option LinkState
-    → Type 0
+    → Option LinkState → Type 0
 IsOverPort network called reads writes closed (Some port) (Some now) =
     IsAtPort network called reads writes closed port (Some now)
 IsOverPort network called reads writes closed (Some port) None =

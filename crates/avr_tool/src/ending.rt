@@ -29,7 +29,7 @@ pub(crate) fn report_end<D: Desk>(desk: &mut D, served: Served)
     }
 }
 
-pub(crate) fn status_of(served: Served) -> u8
+pub(crate) fn status_of_served(served: Served) -> u8
     ensures { result ≡ status_of_end served }
 {
     match served {

@@ -3,7 +3,7 @@
 ghost use Rattle.std.specs.Prelude.{◌≡◌, ◌⊎◌, ℕ, All};
 ghost use Rattle.avr_cli.specs.declared.settings.Settings.{Settings as AnySettings};
 ghost use Rattle.avr_desk.specs.Fault.{CountsNeverFall};
-ghost use Rattle.avr_desk.specs.Playing.{StageCompleted};
+ghost use Rattle.avr_desk.specs.StageRuns.{StageCompleted};
 ghost use Rattle.avr_desk.specs.Record.{DeskState};
 ghost use Rattle.avr_desk.specs.Stage.{Produced};
 ghost use Rattle.avr_part.specs.Sound.{IsSoundChip};

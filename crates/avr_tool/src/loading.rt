@@ -1,6 +1,6 @@
 ghost use Rattle.std.specs.Prelude.{◌≡◌, ◌≤◌, true, IfOk, Ok, length};
 ghost use Rattle.avr_part.specs.State.{fresh_state};
-ghost use Rattle.avr_desk.specs.Playing.{OnlyAtStart, RunsStage};
+ghost use Rattle.avr_desk.specs.StageRuns.{OnlyAtStart, RunsStage};
 ghost use Rattle.avr_desk.specs.Stage.{result_stage};
 ghost use Rattle.avr_tool.specs.Loading.{AtOpened, chip_or_line, chip_stage};
 ghost use Rattle.ghosts.specs.Preserves.{Preserves};

@@ -6,7 +6,7 @@ ghost use Rattle.avr_tool.specs.Program.{ActsAtPort, RunsProgram, ActsOnCommandL
 ghost use Rattle.avr_desk.specs.Shown.{IsTrueSince as IsTrueDesk, RecordsAll, system_desk_view};
 ghost use Rattle.avr_session.specs.Runs.{devices};
 ghost use Rattle.avr_tool.specs.Sockets.{peers_of};
-ghost use Rattle.stk_host.specs.Links.{IsTrueSince, stream_state};
+ghost use Rattle.stk_host.specs.Links.{TranscriptIsTrueSince, stream_state};
 ghost use Rattle.ghosts.specs.Preserves.{Preserves};
 
 use crate::asking::{NotAsked, asked};
@@ -40,7 +40,7 @@ fn run_port<N: Network, D: ChipDesk, R: Read + Drop, W: Write + Drop>(
         N.Stream.closed) settings.now.port
         settings.now (devices (stream_state link.old) (D.view desk.old))
         (devices (stream_state link.new) (D.view desk.new)) result }
-    ensures is_reported { IsTrueSince R.remaining W.contents link.old link.new }
+    ensures is_reported { TranscriptIsTrueSince R.remaining W.contents link.old link.new }
     ensures stays { Preserves D.started_as desk.old desk.new }
 {
     match &settings.port {
@@ -99,7 +99,7 @@ pub fn run_words<N: Network, D: ChipDesk, R: Read + Drop, W: Write + Drop>(
         N.Stream.closed)
         (map string_bytes words.now) (devices (stream_state link.old) (D.view desk.old))
         (devices (stream_state link.new) (D.view desk.new)) result }
-    ensures is_reported { IsTrueSince R.remaining W.contents link.old link.new }
+    ensures is_reported { TranscriptIsTrueSince R.remaining W.contents link.old link.new }
     ensures stays { Preserves D.started_as desk.old desk.new }
 {
     match asked(alloc, words, desk) {
@@ -159,7 +159,7 @@ pub fn run_program<N: Network, D: ChipDesk, R: Read + Drop, W: Write + Drop>(
         N.Stream.closed)
         (map string_bytes words.now) (devices (stream_state link.old) (D.view desk.old))
         (devices (stream_state link.new) (D.view desk.new)) result }
-    ensures is_reported { IsTrueSince R.remaining W.contents link.old link.new }
+    ensures is_reported { TranscriptIsTrueSince R.remaining W.contents link.old link.new }
     ensures stays { Preserves D.started_as desk.old desk.new }
 {
     match run_words(network, alloc, words, desk, link) {
@@ -193,7 +193,7 @@ pub fn run_command_line<
         N.Stream.Write N.Stream.closed)
         (devices (stream_state link.old) (system_desk_view desk.old))
         (devices (stream_state link.new) (system_desk_view desk.new)) result }
-    ensures is_reported { IsTrueSince R.remaining W.contents link.old link.new }
+    ensures is_reported { TranscriptIsTrueSince R.remaining W.contents link.old link.new }
     ensures shows { IsTrueDesk S.FileSystem S.File.Read S.File.Write S.Input.Read O.Write M.Write desk.old
         desk.new }
     ensures all { RecordsAll S.FileSystem S.File.Read S.File.Write S.Input.Read desk.old desk.new }

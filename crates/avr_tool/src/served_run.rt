@@ -1,6 +1,6 @@
 ghost use Rattle.std.specs.Prelude.{◌≡◌, ◌≤◌, [], None, IfErr, false};
 ghost use Rattle.avr_desk.specs.Fault.{CountsNeverFall};
-ghost use Rattle.avr_desk.specs.Playing.{OnlyAtStart, RunsStage};
+ghost use Rattle.avr_desk.specs.StageRuns.{OnlyAtStart, RunsStage};
 ghost use Rattle.avr_plan.specs.Planning.{LacksPart};
 ghost use Rattle.avr_tool.specs.ServedRun.{ChecksPart, settings_part};
 ghost use Rattle.avr_tool.specs.ServedRun.{RunsServed, RunsServedFor, ServesChip, ServesPart};
@@ -9,7 +9,7 @@ ghost use Rattle.avr_session.specs.Runs.{devices};
 ghost use Rattle.ghosts.specs.Preserves.{Preserves};
 
 use crate::answering::answer_all;
-use crate::ending::{report_end, status_of};
+use crate::ending::{report_end, status_of_served};
 use crate::holding::hold_chip;
 use crate::ports::chip_file;
 use crate::saving::save_after;
@@ -90,7 +90,7 @@ pub fn serve_chip<D: ChipDesk, L: Link>(
     let mut emulator = Emulator::new(chip);
     let served = answer_all(&mut emulator, link, turns);
     report_end(desk, served);
-    save_after(emulator.chip(), file, desk, status_of(served))
+    save_after(emulator.chip(), file, desk, status_of_served(served))
 }
 
 /// Serves the chip of this part over a link as [`serve_chip`] does. The chip is loaded from this file, or fresh if

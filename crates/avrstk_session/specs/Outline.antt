@@ -2,7 +2,7 @@
 use Rattle.std.specs.Prelude.{◌≡◌, ◌⊎◌, ◌+◌, ◌-◌, ◌*◌, ◌/◌, ◌^◌, ◌++◌, min, ℕ, zero, suc, List, [], ◌∷◌, Option, Result, Ok, Err, codes, decimal, if◌then◌else◌}
 use Rattle.avr_cli.specs.declared.settings.Settings.{Settings}
 use Rattle.avr_desk.specs.Lines.{error, memory_pieces}
-use Rattle.avr_desk.specs.Playing.{RunsStage}
+use Rattle.avr_desk.specs.StageRuns.{RunsStage}
 use Rattle.avr_desk.specs.Record.{Bytes, DeskState, ChangesRecord}
 use Rattle.avr_desk.specs.OutputEvents.{ReportsLine}
 use Rattle.avr_desk.specs.Stream.{SendsPart, after_sent}

@@ -35,15 +35,15 @@ pub record IsCommandLineRefused (words : List Bytes) (old new : DeskState) (stat
   pub memory : takes avrstk words ≡ true → kind_of error ≡ OutOfMemory
   pub notice : ReportsUsage (kind_of error) old new status
 
-abbrev pub status_of : Result Part ℕ → ℕ
-status_of (Ok part) = 0
-status_of (Err status) = status
+abbrev pub verdict_status : Result Part ℕ → ℕ
+verdict_status (Ok part) = 0
+verdict_status (Err status) = status
 
 -- The part of the settings was found and this file checked as a chip of it, or one of these is refused.
 pub record ChecksOnly (settings : Settings) (file : Bytes) (old new : DeskState) (status : ℕ) : Type 0 where
   pub verdict : Result Part ℕ
   pub checks_out : ChecksPart settings file old new verdict
-  pub status_is : status ≡ status_of verdict
+  pub status_is : status ≡ verdict_status verdict
 
 -- How the program is used was reported. Nothing was received or sent, and the status is 1.
 abbrev pub RefusesUse : Devices → Devices → ℕ → Type 0

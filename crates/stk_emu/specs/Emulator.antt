@@ -30,17 +30,17 @@ pub record RepliesToFrame (old : EmulatorState) (used : List ℕ) (new : Emulato
   pub executed : new.programmer ≡ after_frames device found old.programmer
 
 -- It was fed these bytes, and appended the replies to all frames that end in them, whatever text came before.
-pub record AppendsReplies (old : EmulatorState) (bytes : List ℕ) (new : EmulatorState) (before after : List ℕ) : Type 0
-  where
-    pub found : List (List ℕ)
-    pub ends : (text : List ℕ) → MayHaveBeenFed old.held text → frames (text ++ bytes) ≡ frames text ++ found
-    pub stands : (text : List ℕ) → MayHaveBeenFed old.held text → MayHaveBeenFed new.held (text ++ bytes)
-    pub appended : after ≡ before ++ answers device found old.programmer
-    pub executed : new.programmer ≡ after_frames device found old.programmer
+pub record AppendsReplies (old : EmulatorState) (bytes : List ℕ) (new : EmulatorState)
+    (before after : List ℕ) : Type 0 where
+  pub found : List (List ℕ)
+  pub ends : (text : List ℕ) → MayHaveBeenFed old.held text → frames (text ++ bytes) ≡ frames text ++ found
+  pub stands : (text : List ℕ) → MayHaveBeenFed old.held text → MayHaveBeenFed new.held (text ++ bytes)
+  pub appended : after ≡ before ++ answers device found old.programmer
+  pub executed : new.programmer ≡ after_frames device found old.programmer
 
 -- It was fed a proper prefix of these bytes, and all replies to that prefix were appended.
-pub record AppendsRepliesToPrefix (old : EmulatorState) (bytes : List ℕ) (new : EmulatorState) (before after : List ℕ) :
-    Type 0 where
+pub record AppendsRepliesToPrefix (old : EmulatorState) (bytes : List ℕ) (new : EmulatorState)
+    (before after : List ℕ) : Type 0 where
   pub used : List ℕ
   pub unused : List ℕ
   pub bytes_are : bytes ≡ used ++ unused

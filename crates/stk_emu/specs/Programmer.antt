@@ -125,10 +125,10 @@ program_byte code instruction p = if_programming code p (code ∷ 0 ∷ 0 ∷ []
 -- Reads a fuse, the lock, a signature byte or the calibration.
 abbrev pub read_byte : ℕ → ReadByte → Programmer → Response
 read_byte code f p =
-    if_programming code p (if nat_le 1 f.return_address && nat_le f.return_address 4
+    if_programming code p
+    (if nat_le 1 f.return_address && nat_le f.return_address 4
     then (
-      code ∷ 0 ∷ slice_index (spi_of f.instruction p.chip).0 (f.return_address - 1) ∷ 0
-          ∷ [],
+      code ∷ 0 ∷ slice_index (spi_of f.instruction p.chip).0 (f.return_address - 1) ∷ 0 ∷ [],
       with_instructions (f.instruction ∷ []) p,
     )
     else fail code p)
@@ -158,7 +158,8 @@ flash_fits f = not (f.count == 0) && f.count % 2 == 0 && f.count == length f.byt
 
 abbrev pub program_flash : ProgramBlock → Programmer → Response
 program_flash f p =
-    if_programming 0x13 p (if flash_fits f
+    if_programming 0x13 p
+    (if flash_fits f
     then (
       0x13 ∷ 0 ∷ [],
       with_address_moved (f.count / 2) (with_instructions
@@ -180,7 +181,8 @@ eeprom_fits f = not (f.count == 0) && f.count == length f.bytes
 
 abbrev pub program_eeprom : ProgramBlock → Programmer → Response
 program_eeprom f p =
-    if_programming 0x15 p (if eeprom_fits f
+    if_programming 0x15 p
+    (if eeprom_fits f
     then (
       0x15 ∷ 0 ∷ [],
       with_address_moved f.count (with_instructions
@@ -192,7 +194,7 @@ abbrev pub BytesAndChip : Type 0
 BytesAndChip = List ℕ × ChipState
 
 abbrev pub with_first_byte : ℕ → BytesAndChip → BytesAndChip
-with_first_byte b looked = (b ∷ looked.0, looked.1)
+with_first_byte b bytes_and_chip = (b ∷ bytes_and_chip.0, bytes_and_chip.1)
 
 -- The fourth output byte of an instruction, and then what is read from the chip after it.
 abbrev pub read_then : List ℕ → ChipState → (ChipState → BytesAndChip) → BytesAndChip
@@ -216,24 +218,27 @@ eeprom_reads cmd address i zero chip = ([], chip)
 eeprom_reads cmd address i (suc n) chip =
     read_then (at_address cmd (byte_address address i) 0) chip (eeprom_reads cmd address (suc i) n)
 
-abbrev pub block : ℕ → BytesAndChip → Programmer → Response
-block code looked p = (code ∷ 0 ∷ (looked.0 ++ 0 ∷ []), record p { chip = looked.1 })
+abbrev pub block_response : ℕ → BytesAndChip → Programmer → Response
+block_response code bytes_and_chip p = (code ∷ 0 ∷ (bytes_and_chip.0 ++ 0 ∷ []), record p { chip = bytes_and_chip.1 })
 
 abbrev pub read_flash : ReadBlock → Programmer → Response
 read_flash f p =
-    if_programming 0x14 p (if not (f.count == 0) && f.count % 2 == 0 && nat_le f.count LARGEST_READ
-    then block 0x14 (flash_reads p.wide f.cmd1 p.address 0 f.count p.chip) (with_address_moved (f.count / 2) p)
+    if_programming 0x14 p
+    (if not (f.count == 0) && f.count % 2 == 0 && nat_le f.count LARGEST_READ
+    then block_response 0x14 (flash_reads p.wide f.cmd1 p.address 0 f.count p.chip) (with_address_moved (f.count / 2) p)
     else fail 0x14 p)
 
 abbrev pub read_eeprom : ReadBlock → Programmer → Response
 read_eeprom f p =
-    if_programming 0x16 p (if not (f.count == 0) && nat_le f.count LARGEST_READ
-    then block 0x16 (eeprom_reads f.cmd1 p.address 0 f.count p.chip) (with_address_moved f.count p)
+    if_programming 0x16 p
+    (if not (f.count == 0) && nat_le f.count LARGEST_READ
+    then block_response 0x16 (eeprom_reads f.cmd1 p.address 0 f.count p.chip) (with_address_moved f.count p)
     else fail 0x16 p)
 
 abbrev pub spi_multi : ℕ → ℕ → ℕ → List ℕ → Programmer → Response
 spi_multi send_count receive_count receive_start bytes p =
-    if_programming 0x1D p (if send_count == 4 && length bytes == 4 && nat_le (receive_start + receive_count) 4
+    if_programming 0x1D p
+    (if send_count == 4 && length bytes == 4 && nat_le (receive_start + receive_count) 4
     then (
       0x1D ∷ 0 ∷ (take receive_count (drop receive_start (spi_of bytes p.chip).0) ++ 0 ∷ []),
       with_instructions (bytes ∷ []) p,

@@ -77,8 +77,8 @@ arrival m piece w =
 
 abbrev pub wire_after_frame : {P : Type 0} → Device P → List ℕ → Wire P → Wire P
 wire_after_frame m piece w = record {
-  programmer = after_exchange (exchange_of_fate (first_fate w.fates)) (after_frame m piece w.programmer) w.programmer
-      m.reset;
+  programmer = after_exchange (exchange_of_fate (first_fate w.fates)) (after_frame m piece w.programmer)
+      w.programmer m.reset;
   fates = other_fates w.fates;
   late = late_after (first_fate w.fates) (reply_frame m piece w.programmer) w.late;
 }

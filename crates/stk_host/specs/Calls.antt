@@ -70,8 +70,8 @@ HoldsReply _ held = Unit {0}
 -- What `listen` ensures: how it ends, what the reader holds, and which bytes are unread then.
 pub record ListensForReply {L : Type 0} (link : Ghosts L) (seq : ℕ) (old new : L) (before after held : List ℕ)
     (result : Result Reading LinkFault) : Type 0 where
-  pub ok : IfOk result (λ reading. ReceivesReply seq before (link.view old) (link.view new) (reading_of reading held)
-      after)
+  pub ok : IfOk result (λ reading. ReceivesReply seq before (link.view old) (link.view new)
+      (reading_of reading held) after)
   pub holds : IfOk result (λ reading. HoldsReply reading held)
   pub err : OnErr result (ReceivesNoReply seq before (link.view old) (link.view new))
   pub counts : LinkCounts (link.view old) (link.view new) result
@@ -147,13 +147,14 @@ pub record ReturnsReply {L : Type 0} (link : Ghosts L) (dialog : Dialog ⊥ step
   pub comes : Preserves link.started_as old new
 
 -- How a call of a host ends. Its dialog broke off if and only if the link failed, while sending or while receiving.
--- If `takes` is true, the call allocates. If that fails, nothing was sent or received. Else the dialog ran to its end.
+-- If `allocates` is true, the call allocates. If that fails, nothing was sent or received. Else the dialog ran to its
+-- end.
 abbrev pub EndsCall : {A : Type 0} → Bool → Dialog ⊥ (Result A HostFault) → Progress → LinkState → LinkState
     → Result A HostFault → Progress → Type 0
-EndsCall takes dialog before old new (Err SendFailed) after = BreaksOverLink SendFailed dialog before old new
-EndsCall takes dialog before old new (Err RecvFailed) after = BreaksOverLink RecvFailed dialog before old new
-EndsCall takes dialog before old new (Err Memory) after = (takes ≡ true) × (new ≡ old) × (after ≡ before)
-EndsCall takes dialog before old new result after = RunsOverLink dialog before old new result after
+EndsCall allocates dialog before old new (Err SendFailed) after = BreaksOverLink SendFailed dialog before old new
+EndsCall allocates dialog before old new (Err RecvFailed) after = BreaksOverLink RecvFailed dialog before old new
+EndsCall allocates dialog before old new (Err Memory) after = (allocates ≡ true) × (new ≡ old) × (after ≡ before)
+EndsCall allocates dialog before old new result after = RunsOverLink dialog before old new result after
 
 -- This value if the call succeeded, else its fault. `Host::read` has its bytes in a vector, not in its result.
 abbrev pub value_or_fault : {A : Type 0} → A → Result (Unit {0}) HostFault → Result A HostFault
@@ -178,11 +179,11 @@ pub record IsSizedStep (first : Option Command) (last : Command) : Type 0 where
   pub counted : IsSizedShape (shape last)
 
 -- What each call of `Host` ensures: it runs this dialog, or a prefix of it if the link fails.
-pub record Calls {A : Type 0} (takes : Bool) (dialog : Dialog ⊥ (Result A HostFault)) (old new : HostState)
+pub record Calls {A : Type 0} (allocates : Bool) (dialog : Dialog ⊥ (Result A HostFault)) (old new : HostState)
     (before after : LinkState) (result : Result A HostFault) : Type 0 where
   -- After a lasting fault each call returns that fault and changes nothing.
   pub stays : (fault : HostFault) → old.broken ≡ Some fault → (result ≡ Err fault) × (new ≡ old) × (after ≡ before)
-  pub played : old.broken ≡ None → EndsCall takes dialog old.progress before after result new.progress
+  pub played : old.broken ≡ None → EndsCall allocates dialog old.progress before after result new.progress
   pub lasts : old.broken ≡ None → new.broken ≡ lasting_fault result
   pub part : new.part ≡ old.part
   pub counted : before.failures ≤ after.failures

@@ -62,7 +62,7 @@ stream_state link = record { transcript = link.transcript; failures = link.failu
 
 -- The transcript since `old` is true: `started_as` of a `StreamLink`. The bytes received are those that the reader
 -- gave, in order and none lost. The bytes sent are those that the writer took, also in a send that failed.
-pub record IsTrueSince {R W : Type 0} (remaining : R → Option (List ℕ)) (contents : W → Option (List ℕ))
+pub record TranscriptIsTrueSince {R W : Type 0} (remaining : R → Option (List ℕ)) (contents : W → Option (List ℕ))
     (old new : StreamState R W) : Type 0 where
   pub during : Transcript
   pub grows : new.transcript ≡ old.transcript ++ during

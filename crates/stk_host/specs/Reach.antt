@@ -66,14 +66,14 @@ WaitsFrom seq tape (Got items ∷ transcript) = (answer seq tape ≡ None) × Wa
 WaitsFrom seq tape (other ∷ transcript) = ⊥
 
 -- The reply was waited for within the limit of bytes, and `left` is unread after it.
-pub record ReceivesReply (seq : ℕ) (unread : List ℕ) (old new : LinkState) (reading : Reading) (left : List ℕ) : Type 0
-  where
-    pub during : Transcript
-    pub grows : Grows old.transcript during new.transcript
-    pub waits : WaitsFrom seq (on_tape unread) during
-    pub few : length unread + length (heard during) ≤ reply_byte_limit
-    pub answers : (more : Tape) → answer seq (on_tape unread ++ (heard during ++ more))
-        ≡ Some (reading, on_tape left ++ more)
+pub record ReceivesReply (seq : ℕ) (unread : List ℕ) (old new : LinkState) (reading : Reading)
+    (left : List ℕ) : Type 0 where
+  pub during : Transcript
+  pub grows : Grows old.transcript during new.transcript
+  pub waits : WaitsFrom seq (on_tape unread) during
+  pub few : length unread + length (heard during) ≤ reply_byte_limit
+  pub answers : (more : Tape) → answer seq (on_tape unread ++ (heard during ++ more))
+      ≡ Some (reading, on_tape left ++ more)
 
 -- The wait broke off before the reply arrived.
 pub record ReceivesNoReply (seq : ℕ) (unread : List ℕ) (old new : LinkState) : Type 0 where

@@ -8,7 +8,7 @@ ghost use Rattle.stk_host.specs.WriteSteps.{write_steps};
 ghost use Rattle.stk_host.specs.ReadSteps.{read_steps};
 ghost use Rattle.stk_host.specs.Operations.{opening, erasing, writing, reading, verifying, closing};
 ghost use Rattle.stk_host.specs.Bound.{IsBoundedBy, opening_steps, erasing_steps, closing_steps};
-ghost use Rattle.stk_host.specs.Links.{ConsumesTape, IsTrueSince};
+ghost use Rattle.stk_host.specs.Links.{ConsumesTape, TranscriptIsTrueSince};
 ghost use Rattle.ghosts.specs.Preserves.{Preserves};
 
 use crate::stream_link::StreamLink;
@@ -37,8 +37,8 @@ pub fn a_record_of_streams_is_true<R: Read, W: Write>(
     before: &StreamLink<R, W>,
     after: &StreamLink<R, W>,
 )
-    requires { Preserves (IsTrueSince R.remaining W.contents) before.now after.now }
-    ensures { IsTrueSince R.remaining W.contents before.now after.now }
+    requires { Preserves (TranscriptIsTrueSince R.remaining W.contents) before.now after.now }
+    ensures { TranscriptIsTrueSince R.remaining W.contents before.now after.now }
 {}
 
 /// States that a tape link gives its own items, whatever was done with it. The items received, followed by those left,

@@ -1,7 +1,7 @@
 ghost use Rattle.std.specs.Prelude.{◌≡◌, ◌<◌, ◌≤◌, ◌++◌, ◌∷◌, [], length, take, OnOk, OnErr};
 ghost use Rattle.stk_host.specs.Tape.{bytes_on_tape};
 ghost use Rattle.stk_host.specs.Log.{heard_byte_count};
-ghost use Rattle.stk_host.specs.Transcript as piece;
+ghost use Rattle.stk_host.specs.Transcript as transcript;
 ghost use Rattle.stk_host.specs.Transcript.{FitsBuffer};
 
 use crate::link::Heard;
@@ -62,14 +62,14 @@ impl Log {
 
     /// Returns all bytes sent, in order.
     pub fn sent(&self) -> &[u8]
-        ensures { result.now ≡ piece.sent self.now.transcript }
+        ensures { result.now ≡ transcript.sent self.now.transcript }
     {
         self.out.as_slice()
     }
 
     /// Returns all bytes received, in order.
     pub fn heard(&self) -> &[u8]
-        ensures { result.now ≡ bytes_on_tape (piece.heard self.now.transcript) }
+        ensures { result.now ≡ bytes_on_tape (transcript.heard self.now.transcript) }
     {
         self.back.as_slice()
     }
@@ -89,7 +89,7 @@ impl Log {
     pub fn add_sent(&mut self, bytes: &[u8])
         requires piece { 0 < self.old.piece_room }
         requires bytes { length bytes.now ≤ self.old.byte_room }
-        ensures { self.new.transcript ≡ self.old.transcript ++ piece.Sent bytes.now ∷ [] }
+        ensures { self.new.transcript ≡ self.old.transcript ++ transcript.Sent bytes.now ∷ [] }
     {
         let _there_is_room = self.out.extend_from_slice(bytes);
         self.marks.push_reserved(Mark::Sent(bytes.len()));
@@ -98,8 +98,8 @@ impl Log {
     /// Adds what was received; its bytes are at the start of the buffer. If allocation fails, nothing is added.
     pub fn receive_piece(&mut self, heard: Heard, buffer: &[u8]) -> Result<(), AllocError>
         requires { FitsBuffer heard (length buffer.now) }
-        ensures ok { OnOk result (self.new.transcript ≡ self.old.transcript ++ piece.Got
-            (piece.items_of heard buffer.now) ∷ []) }
+        ensures ok { OnOk result (self.new.transcript ≡ self.old.transcript ++ transcript.Got
+            (transcript.items_of heard buffer.now) ∷ []) }
         ensures err { OnErr result (self.new.transcript ≡ self.old.transcript) }
     {
         self.marks.reserve(1)?;

@@ -2,7 +2,7 @@
 ghost use Rattle.std.specs.Prelude.{◌<◌, length};
 ghost use Rattle.ghosts.specs.Preserves.{Preserves};
 ghost use Rattle.stk_host.specs.Transcript.{Sends, Receives};
-ghost use Rattle.stk_host.specs.Watching.{LinkCallReport, Sent, Listened, link_call_report};
+ghost use Rattle.stk_host.specs.Watching.{LinkCallReport, Sent, Received, link_call_report};
 
 use crate::link::{Heard, Link, LinkFault};
 
@@ -12,7 +12,7 @@ pub enum LinkCall<'a> {
     /// [`Link::send`] was called with these bytes and returned this.
     Sent(&'a [u8], Result<usize, LinkFault>),
     /// [`Link::recv`] returned this; the buffer begins with the bytes received.
-    Listened(&'a [u8], Result<Heard, LinkFault>),
+    Received(&'a [u8], Result<Heard, LinkFault>),
 }
 
 /// Watches the calls of a link. It can't change the link or what a call returns.
@@ -65,19 +65,19 @@ impl<L: Link, W: WatchLink> Link for WatchedLink<L, W> {
         ensures comes { Preserves L.started_as self.old.link self.new.link }
         ensures notice { W.after (Sent bytes.now result) self.old.watcher self.new.watcher }
     {
-        let answer = self.link.send(bytes);
-        self.watcher.on_call(&LinkCall::Sent(bytes, answer));
-        answer
+        let outcome = self.link.send(bytes);
+        self.watcher.on_call(&LinkCall::Sent(bytes, outcome));
+        outcome
     }
 
     fn recv(&mut self, buffer: &mut [u8]) -> Result<Heard, LinkFault>
         requires { 0 < length buffer.old }
         ensures receives { Receives buffer.new (L.view self.old.link) (L.view self.new.link) result }
         ensures comes { Preserves L.started_as self.old.link self.new.link }
-        ensures notice { W.after (Listened buffer.new result) self.old.watcher self.new.watcher }
+        ensures notice { W.after (Received buffer.new result) self.old.watcher self.new.watcher }
     {
-        let answer = self.link.recv(buffer);
-        self.watcher.on_call(&LinkCall::Listened(buffer, answer));
-        answer
+        let outcome = self.link.recv(buffer);
+        self.watcher.on_call(&LinkCall::Received(buffer, outcome));
+        outcome
     }
 }

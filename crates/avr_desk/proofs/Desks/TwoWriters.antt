@@ -22,7 +22,7 @@ use Rattle.avr_desk.specs.Fault.{IsCall}
 use Rattle.avr_desk.specs.declared.desk.DeskFault.{DeskFault}
 use Rattle.avr_desk.specs.declared.desk.DeskFault.TheVariants.{Failed}
 use Rattle.avr_desk.specs.Handles.{CrashLeaves, IsTrueRecord, HandleGave, IsHeldBy, IsTrueOpen, IsTrueUse}
-use Rattle.avr_desk.specs.Standing.{OpenFileGives, GivesBytes, OpenFileGivesNothing, IsClosed, is_output}
+use Rattle.avr_desk.specs.OpenFile.{OpenFileGives, GivesBytes, OpenFileGivesNothing, IsClosed, is_output}
 use Rattle.avr_desk.specs.Shown.{Shown, IsTrueSince, RecordsAll, has_dash, writes_to_output}
 use Rattle.avr_desk.specs.declared.file_system.FileSystem.{Ghosts}
 use Rattle.avr_desk.specs.declared.record.FileUse.{FileUse}
@@ -439,10 +439,10 @@ module _ {S F I H O E : Type 0} (system : Ghosts S F I H) (reads : Reads F) (wri
   pub write_out_true : {b : Desk} {w : O} {f u : ℕ} {e : Option ErrorKind} {k : Record} (bytes : Bytes)
       → b.opened ≡ open_file.Output → k ≡ after_write bytes b.kept → Since b (Put b w f u e k)
   write_out_true {b = b} bytes was kept = rw kept (record {
-    emitted = [];
+    message_bytes = [];
     messages = sym (append-nil b.kept.messages);
-    notice = Appends-nil (messages_of.contents b.messages);
-    put = [];
+    messages_taken = Appends-nil (messages_of.contents b.messages);
+    output_bytes = [];
     output = sym (append-nil b.kept.output);
     dashes = λ none. sym (written_dashes bytes b.kept) ∙ none;
     out = λ none elsewhere. absurd (search rules);

@@ -12,7 +12,7 @@ use Rattle.avr_desk.specs.Lines.{memory_line, not_opened_line}
 use Rattle.avr_desk.specs.OutputEvents.{OutputEvent, Opens, PrintsLine, ReportsLineAs, ReportsFailureAs, after, after_events}
 use Rattle.avr_desk.proofs.Stages.Outputs.{after_append}
 use Rattle.avr_desk.proofs.FileUses.Uses.{openings_append}
-use Rattle.avr_desk.specs.Playing.{BreakCause, NoMemory, NoMemoryForFile, events_of_break, BreakFitsNext, AllocationPoints, AllocatesThere, ReportsBreakAs, StageRefused, RunsStage}
+use Rattle.avr_desk.specs.StageRuns.{BreakCause, NoMemory, NoMemoryForFile, events_of_break, BreakFitsNext, AllocationPoints, AllocatesThere, ReportsBreakAs, StageRefused, RunsStage}
 use Rattle.avr_desk.specs.Stage.{Stage, Refused, StageResult, events_with_refusal, ◌>>=◌, next_opening, file_stage}
 use Rattle.avr_desk.proofs.Stages.Played.{output_more}
 
@@ -30,21 +30,21 @@ sound_refusal taking stage before after k l m n status sound other l' = search (
 
 abbrev opening_in : OutputEvent → List Opening
 opening_in (Opens opening) = opening ∷ []
-opening_in output = []
+opening_in event = []
 
 abbrev pub openings_in : List OutputEvent → List Opening
 openings_in [] = []
-openings_in (output ∷ outputs) = opening_in output ++ openings_in outputs
+openings_in (event ∷ events) = opening_in event ++ openings_in events
 
-one_shown : (output : OutputEvent) (r : Record)
-    → all_openings (after output r) ≡ all_openings r ++ opening_in output
-one_shown output r = search (rules, nat_tests, openings_append, append-nil)
+one_shown : (event : OutputEvent) (r : Record)
+    → all_openings (after event r) ≡ all_openings r ++ opening_in event
+one_shown event r = search (rules, nat_tests, openings_append, append-nil)
 
 -- each opening is shown
-pub openings_shown : (outputs : List OutputEvent) (r : Record)
-    → all_openings (after_events outputs r) ≡ all_openings r ++ openings_in outputs
+pub openings_shown : (events : List OutputEvent) (r : Record)
+    → all_openings (after_events events r) ≡ all_openings r ++ openings_in events
 openings_shown [] r = sym (append-nil (all_openings r))
-openings_shown (output ∷ outputs) r = search (rules, one_shown, append_assoc, openings_shown outputs (after output r))
+openings_shown (event ∷ events) r = search (rules, one_shown, append_assoc, openings_shown events (after event r))
 
 -- so the same record shows the same openings
 same_openings : (first second : List OutputEvent) (r : Record) → after_events first r ≡ after_events second r
@@ -57,7 +57,7 @@ same_openings first second r kept =
 -- whatever files give, its first output event is the opening of the file of this name
 abbrev pub Begins : {A : Type 0} → Bytes → Stage A → Type 0
 Begins name stage = (openings : List Opening)
-    → (extra : List OutputEvent) × ((stage openings).emits ≡ Opens (next_opening name openings) ∷ extra)
+    → (extra : List OutputEvent) × ((stage openings).output_events ≡ Opens (next_opening name openings) ∷ extra)
 
 pub begins_then : {A B : Type 0} (name : Bytes) (stage : Stage A) (go_on : A → Stage B) → Begins name stage
     → Begins name (stage >>= go_on)
@@ -65,7 +65,7 @@ begins_then name stage go_on begins openings =
     let p = stage openings in grind (
       arith,
       nat_tests,
-      output_more p.emits p.openings_left go_on p.stage_outcome,
+      output_more p.output_events p.openings_left go_on p.stage_outcome,
       begins openings,
     )
 
@@ -91,13 +91,13 @@ module _ {A : Type 0} (taking : AllocationPoints) (name notice : Bytes) (stage :
   ReportedAs = ReportsFailureAs (not_opened_line name) notice Old New
       ⊎ (ReportsLineAs memory_line notice Old New × ((passed : List Opening) × taking passed []))
 
-  none_opened : (outputs : List OutputEvent) → after_err notice r ≡ after_events outputs r → [] ≡ openings_in outputs
-  none_opened outputs kept = same_openings (PrintsLine notice ∷ []) outputs r kept
+  none_opened : (events : List OutputEvent) → after_err notice r ≡ after_events events r → [] ≡ openings_in events
+  none_opened events kept = same_openings (PrintsLine notice ∷ []) events r kept
 
   -- a break before the file was opened, or while it was; a later one shows the opening
   by_break : (passed openings : List Opening) (p : StageResult A) (whole later : List OutputEvent) (break : BreakCause)
-      (line : Bytes) → (extra : List OutputEvent) × (p.emits ≡ Opens (next_opening name openings) ∷ extra)
-      → p.emits ≡ whole ++ later → BreakFitsNext break [] (events_with_refusal later p.stage_outcome)
+      (line : Bytes) → (extra : List OutputEvent) × (p.output_events ≡ Opens (next_opening name openings) ∷ extra)
+      → p.output_events ≡ whole ++ later → BreakFitsNext break [] (events_with_refusal later p.stage_outcome)
       → AllocatesThere taking break passed whole → ReportsBreakAs break line Old New → after_err notice r
       ≡ after_events (whole ++ events_of_break break line) r → ReportedAs
   by_break passed openings p [] later NoMemory line begun are is taken is_reported kept = search (rules, only_reported)
@@ -106,7 +106,7 @@ module _ {A : Type 0} (taking : AllocationPoints) (name notice : Bytes) (stage :
 
   pub unopened : (status : ℕ) → RunsStage taking stage Old New (Err status) → ReportedAs
   unopened status (one, inl (line, went)) =
-      let none = none_opened (went.emits ++ PrintsLine line ∷ []) went.kept in
+      let none = none_opened (went.output_events ++ PrintsLine line ∷ []) went.kept in
       search (rules, begins (went.passed ++ []))
   unopened status (one, inr b) = let rest = b.rest [] in search (rules, by_break, begins (b.passed ++ []))
 
@@ -129,15 +129,15 @@ module _ {A : Type 0} (name : Bytes) (limit : ℕ) (judge : Bytes → Result A B
 
   -- a break before the file was opened or while it was, or after it, if nothing more is reported
   by_prefix : (openings : List Opening) (whole later : List OutputEvent) (break : BreakCause) (line : Bytes)
-      → (file_stage name limit judge openings).emits ≡ whole ++ later
+      → (file_stage name limit judge openings).output_events ≡ whole ++ later
       → BreakFitsNext break [] (events_with_refusal later (file_stage name limit judge openings).stage_outcome)
       → ReportsBreakAs break line Before After → after_events done r
       ≡ after_events (whole ++ events_of_break break line) r → ReportsLineAs memory_line notice Before After
-  by_prefix openings (first ∷ []) later NoMemory line emits is is_reported kept =
+  by_prefix openings (first ∷ []) later NoMemory line output_events is is_reported kept =
       search (rules, same_openings, begins_file, nat_tests, append_cancel_left)
-  by_prefix openings [] later (NoMemoryForFile x) line emits is is_reported kept =
+  by_prefix openings [] later (NoMemoryForFile x) line output_events is is_reported kept =
       search (rules, nat_tests, append_cancel_left)
-  by_prefix openings x later break line emits is is_reported kept = grind (arith, common_steps)
+  by_prefix openings x later break line output_events is is_reported kept = grind (arith, common_steps)
 
   -- So the desk showed its opening, read to the end, and what was reported is the line of memory.
   pub opened_is_reported : (status : ℕ) → RunsStage taking (file_stage name limit judge) Before After (Err status)
@@ -151,7 +151,7 @@ module _ {A : Type 0} (name : Bytes) (limit : ℕ) (judge : Bytes → Result A B
 -- or a failed allocation, if the stage allocates there.
 module _ {A : Type 0} (line notice : Bytes) (stage : Stage A)
     (refuses : (openings : List Opening) → stage openings
-    ≡ record { emits = []; stage_outcome = Refused line; openings_left = openings })
+    ≡ record { output_events = []; stage_outcome = Refused line; openings_left = openings })
     (taking : AllocationPoints) (r : Record) (k l m n : ℕ) where
   abbrev Here : DeskState
   Here = showing r k m
@@ -167,8 +167,8 @@ module _ {A : Type 0} (line notice : Bytes) (stage : Stage A)
       → [] ≡ whole ++ later → BreakFitsNext break [] (events_with_refusal {A = A} later (Refused line))
       → AllocatesThere taking break passed whole → ReportsBreakAs break some Here There
       → after_err notice r ≡ after_events (whole ++ events_of_break break some) r → ReportsOne
-  at_once passed [] [] NoMemory some emits is taken is_reported kept = search (rules, only_reported)
-  at_once passed x y break some emits is taken is_reported kept = search (rules, only_reported)
+  at_once passed [] [] NoMemory some output_events is taken is_reported kept = search (rules, only_reported)
+  at_once passed x y break some output_events is taken is_reported kept = search (rules, only_reported)
 
   pub refused_once : (status : ℕ) → RunsStage taking stage Here There (Err status) → ReportsOne
   refused_once status (one, inl (other, went)) =

@@ -12,7 +12,7 @@ use Rattle.avr_desk.specs.Lines.{file_fault_line, not_opened_line}
 use Rattle.avr_desk.specs.OutputEvents.{OutputEvent, ReportsLine}
 use Rattle.avr_desk.proofs.Stages.Openings.{runs_open, runs_content, runs_until_break}
 use Rattle.avr_desk.proofs.Stages.Played.{runs_to_refusal}
-use Rattle.avr_desk.specs.Playing.{AllocationPoints, OnlyAtStart, RunsStage, StageCompleted}
+use Rattle.avr_desk.specs.StageRuns.{AllocationPoints, OnlyAtStart, RunsStage, StageCompleted}
 use Rattle.avr_desk.specs.Stage.{Produced, result_stage, content_stage, file_stage}
 
 -- nothing is allocated

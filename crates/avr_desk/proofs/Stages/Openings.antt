@@ -15,14 +15,14 @@ use Rattle.avr_desk.proofs.Lines.ReportedAs.{failure_reported, follows_on, follo
 use Rattle.avr_desk.specs.Lines.{file_fault_line, memory_line, not_opened_line, not_read_line}
 use Rattle.avr_desk.specs.OutputEvents.{OutputEvent, Opens, PrintsLine, ReportsLine, after_events}
 use Rattle.avr_desk.proofs.Stages.Played.{runs_then}
-use Rattle.avr_desk.specs.Playing.{BreakCause, NotOpened, NotRead, NoMemoryForFile, events_of_break, BreakFitsNext, AllocatesThere, AllocationPoints, ReportsBreakAs, RunsStage, opened_and_read_in_part}
+use Rattle.avr_desk.specs.StageRuns.{BreakCause, NotOpened, NotRead, NoMemoryForFile, events_of_break, BreakFitsNext, AllocatesThere, AllocationPoints, ReportsBreakAs, RunsStage, opened_and_read_in_part}
 use Rattle.avr_desk.specs.Stage.{Stage, Produced, StageResult, ◌>>=◌, result_stage, open_stage, renamed_opening, content_stage, next_opening}
 
 -- ---- the opening passed
 
 abbrev after_opening : List Opening → Opening → StageResult Opening
 after_opening more opening = record {
-  emits = Opens opening ∷ [];
+  output_events = Opens opening ∷ [];
   stage_outcome = Produced opening;
   openings_left = more;
 }
@@ -38,7 +38,7 @@ runs_open inner taking name next opening old mid new result is kept same behind 
     runs_then inner taking (open_stage name) next old mid new opening result
     (record {
       passed = opening ∷ [];
-      emits = Opens opening ∷ [];
+      output_events = Opens opening ∷ [];
       comes = λ more. ap (after_opening more) is;
       kept = kept;
       sound = same;

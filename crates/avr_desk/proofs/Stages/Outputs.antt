@@ -11,7 +11,7 @@ kept_none a = refl
 
 pub after_append : (x y : List OutputEvent) (r : Record) → after_events (x ++ y) r ≡ after_events y (after_events x r)
 after_append [] y r = refl
-after_append (output ∷ x) y r = after_append x y (after output r)
+after_append (event ∷ x) y r = after_append x y (after event r)
 
 pub kept_append : (x y : List OutputEvent) (a b c : Record) → b ≡ after_events x a → c ≡ after_events y b
     → c ≡ after_events (x ++ y) a

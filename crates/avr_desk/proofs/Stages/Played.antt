@@ -13,7 +13,7 @@ use Rattle.avr_desk.specs.OutputEvents.{OutputEvent, PrintsLine, ReportsLineAs, 
 use Rattle.avr_desk.proofs.Stages.Outputs.{kept_none, kept_append}
 use Rattle.avr_desk.proofs.Lines.ReportedAs.{follows_on, follows_same, same_here, same_on}
 use Rattle.avr_desk.specs.Lines.{memory_line}
-use Rattle.avr_desk.specs.Playing.{StageCompleted, BreakCause, LineNotPrinted, NoMemory, events_of_break, BreakFitsNext, ReportsBreakAs, RestOfStage, AllocationPoints, AllocatesThere, StageBrokeOff, RunsStage}
+use Rattle.avr_desk.specs.StageRuns.{StageCompleted, BreakCause, LineNotPrinted, NoMemory, events_of_break, BreakFitsNext, ReportsBreakAs, RestOfStage, AllocationPoints, AllocatesThere, StageBrokeOff, RunsStage}
 use Rattle.avr_desk.specs.Stage.{Stage, StageOutcome, Produced, Refused, StageResult, events_with_refusal, continued_stage, ◌>>=◌, result_stage, output_stage}
 
 -- ---- counts
@@ -25,11 +25,12 @@ break_since break notice first old new same is_reported = search (rules, nat_tes
 -- ---- a stage after another one
 
 -- the output of the next stage comes after this one's
-pub output_more : {A B : Type 0} (emits : List OutputEvent) (openings_left : List Opening) (go_on : A
+pub output_more : {A B : Type 0} (output_events : List OutputEvent) (openings_left : List Opening) (go_on : A
     → Stage B) (stage_outcome : StageOutcome A)
-    → (extra : List OutputEvent) × ((continued_stage emits openings_left go_on stage_outcome).emits ≡ emits ++ extra)
-output_more emits openings_left go_on (Produced a) = ((go_on a openings_left).emits, refl)
-output_more emits openings_left go_on x = ([], sym (append-nil emits))
+    → (extra : List OutputEvent)
+    × ((continued_stage output_events openings_left go_on stage_outcome).output_events ≡ output_events ++ extra)
+output_more output_events openings_left go_on (Produced a) = ((go_on a openings_left).output_events, refl)
+output_more output_events openings_left go_on x = ([], sym (append-nil output_events))
 
 -- the line of a refusal comes after both
 pub reported_append : {A : Type 0} (first second : List OutputEvent) (stage_outcome : StageOutcome A)
@@ -39,7 +40,7 @@ reported_append first second stage_outcome = search (rules, append_assoc)
 rest_more : {A B : Type 0} (p : StageResult A) (go_on : A → Stage B) (whole : List OutputEvent) (break : BreakCause)
     (more : List Opening)
     → RestOfStage p whole break more
-    → RestOfStage (continued_stage p.emits p.openings_left go_on p.stage_outcome) whole break more
+    → RestOfStage (continued_stage p.output_events p.openings_left go_on p.stage_outcome) whole break more
 rest_more p go_on whole break more rest = search (rules, nat_tests, append_assoc)
 
 pub completed_then : {A B : Type 0} (stage : Stage A) (go_on : A → Stage B) (old mid new : DeskState) (a : A)
@@ -48,7 +49,7 @@ pub completed_then : {A B : Type 0} (stage : Stage A) (go_on : A → Stage B) (o
     → StageCompleted (go_on a) mid new stage_outcome → StageCompleted (stage >>= go_on) old new stage_outcome
 completed_then stage go_on old mid new a stage_outcome first then = record {
   passed = first.passed ++ then.passed;
-  emits = first.emits ++ then.emits;
+  output_events = first.output_events ++ then.output_events;
   comes = grind (arith, nat_tests, append_assoc);
   kept = grind (arith, nat_tests, reported_append, kept_append);
   sound = same_on old mid new first.sound then.sound;
@@ -58,7 +59,7 @@ completed_then stage go_on old mid new a stage_outcome first then = record {
 abbrev pub TakesBehind : {A : Type 0} (inner taking : AllocationPoints) (stage : Stage A) (old mid : DeskState) (a : A)
     → StageCompleted stage old mid (Produced a) → Type 0
 TakesBehind inner taking stage old mid a first = (passed : List Opening) (emitted : List OutputEvent)
-    → inner passed emitted → taking (first.passed ++ passed) (first.emits ++ emitted)
+    → inner passed emitted → taking (first.passed ++ passed) (first.output_events ++ emitted)
 
 went_broke : {A B : Type 0} (inner taking : AllocationPoints) (stage : Stage A) (go_on : A
     → Stage B) (old mid new : DeskState) (a : A) (first : StageCompleted stage old mid (Produced a))
@@ -66,7 +67,7 @@ went_broke : {A B : Type 0} (inner taking : AllocationPoints) (stage : Stage A) 
     → StageBrokeOff inner (go_on a) mid new → StageBrokeOff taking (stage >>= go_on) old new
 went_broke inner taking stage go_on old mid new a first behind then = record {
   passed = first.passed ++ then.passed;
-  whole = first.emits ++ then.whole;
+  whole = first.output_events ++ then.whole;
   break = then.break;
   rest = grind (arith, nat_tests, append_assoc);
   taken = grind (arith, nat_tests);
@@ -107,7 +108,7 @@ pub completed_without_events : {A : Type 0} (d : DeskState) (a : A) → StageCom
     (Produced a)
 completed_without_events d a = record {
   passed = [];
-  emits = [];
+  output_events = [];
   comes = λ more. refl;
   kept = kept_none d.kept;
   sound = same_here d;
@@ -118,12 +119,12 @@ reported_whole : {A : Type 0} (old new : DeskState) (line : List ℕ)
     → ChangesRecord (after_events (PrintsLine line ∷ [])) old new → HasSameCounts old new
     → StageCompleted {A = A} (result_stage (Err line)) old new (Refused line)
 reported_whole old new line kept same =
-    record { passed = []; emits = []; comes = λ more. refl; kept = kept; sound = same }
+    record { passed = []; output_events = []; comes = λ more. refl; kept = kept; sound = same }
 
 -- or it broke off there
 broke_here : {A : Type 0} (taking : AllocationPoints) (stage : Stage A) (old new : DeskState) (break : BreakCause)
     (notice : List ℕ) → AllocatesThere taking break [] []
-    → ((more : List Opening) → BreakFitsNext break more (events_with_refusal (stage more).emits
+    → ((more : List Opening) → BreakFitsNext break more (events_with_refusal (stage more).output_events
     (stage more).stage_outcome)) → ReportsBreakAs break notice old new
     → ChangesRecord (after_events (events_of_break break notice)) old new → CountsNeverFall old new
     → StageBrokeOff taking stage old new
@@ -156,9 +157,9 @@ runs_to_refusal {A} taking old new line status one notice =
 -- a failed allocation
 pub runs_without_memory : {A : Type 0} (taking : AllocationPoints) (stage : Stage A) (old new : DeskState) (status : ℕ)
     → taking [] [] → status ≡ 1 → ReportsLine old new memory_line → RunsStage taking stage old new (Err status)
-runs_without_memory taking stage old new status takes one notice = (
+runs_without_memory taking stage old new status allocates one notice = (
   one,
-  inr (broke_here taking stage old new NoMemory notice.notice takes (λ more. tt) notice.is_reported notice.kept
+  inr (broke_here taking stage old new NoMemory notice.notice allocates (λ more. tt) notice.is_reported notice.kept
       notice.follows),
 )
 
@@ -179,7 +180,7 @@ goes_unsettled taking r line old new status is one notice =
 pub completed_silently : (d : DeskState) → StageCompleted (output_stage []) d d (Produced tt)
 completed_silently d = record {
   passed = [];
-  emits = [];
+  output_events = [];
   comes = λ more. refl;
   kept = kept_none d.kept;
   sound = same_here d;
@@ -188,7 +189,7 @@ completed_silently d = record {
 pub completed_output : (old new : DeskState) (line : List ℕ) → ChangesRecord (after_events (PrintsLine line ∷ [])) old
     new → HasSameCounts old new → StageCompleted (output_stage (PrintsLine line ∷ [])) old new (Produced tt)
 completed_output old new line kept same =
-    record { passed = []; emits = PrintsLine line ∷ []; comes = λ more. refl; kept = kept; sound = same }
+    record { passed = []; output_events = PrintsLine line ∷ []; comes = λ more. refl; kept = kept; sound = same }
 
 pub goes_output_part : (taking : AllocationPoints) (old new : DeskState) (line : List ℕ) (fault : DeskFault)
     → SendsPart Messages old new line → fault ≡ Failed → CountsFailure {T = Unit {0}} Messages old new (Err fault)

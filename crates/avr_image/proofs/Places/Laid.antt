@@ -4,24 +4,24 @@ use Rattle.std.proofs.lemmas.Bool.{cases_lt}
 use Rattle.std.proofs.lemmas.List.{get_or-set_same, get_or-set_other, length-set, length-drop, length-take, length-append, length-replicate, get_or_append_left, get_or-append_right, get_or-take, get_or-drop, length-map, map-append, set_at, append-nil}
 use Rattle.std.proofs.lemmas.Bool.Decides.{nat_tests}
 use Rattle.std.specs.List.{enumerate_from}
-use Rattle.avr_image.specs.Image.{byte_at, over, empty, image_of_pairs, with_bytes_at, from_zero, fits, with_byte}
+use Rattle.avr_image.specs.Image.{byte_at, over, empty, image_of_pairs, with_pairs, from_zero, fits, with_byte}
 use Rattle.avr_image.specs.Present.{is_present, is_within}
-use Rattle.avr_image.specs.Dense.{dense_image, with_span, IsKept}
+use Rattle.avr_image.specs.Dense.{dense_image, with_span, IsSoundStorage}
 use Rattle.avr_image.proofs.Fields.Masks.{within_low, within_high}
 use Rattle.avr_image.proofs.Fields.Shown.{same_items, byte_at-shown, length_shown, small-pasted}
 
-pub length-with_bytes_at : (image : List (Option ℕ)) (places : List (ℕ × ℕ))
-    → length (with_bytes_at image places) ≡ length image
-length-with_bytes_at image [] = refl
-length-with_bytes_at image ((a, b) ∷ places) = length-with_bytes_at (set image a (Some b)) places ∙ length-set image a
+pub length-with_pairs : (image : List (Option ℕ)) (places : List (ℕ × ℕ))
+    → length (with_pairs image places) ≡ length image
+length-with_pairs image [] = refl
+length-with_pairs image ((a, b) ∷ places) = length-with_pairs (set image a (Some b)) places ∙ length-set image a
     (Some b)
 
 -- ---- in parts
 
-pub with_bytes_at-append : (image : List (Option ℕ)) (xs ys : List (ℕ × ℕ))
-    → with_bytes_at image (xs ++ ys) ≡ with_bytes_at (with_bytes_at image xs) ys
-with_bytes_at-append image [] ys = refl
-with_bytes_at-append image ((a, b) ∷ xs) ys = with_bytes_at-append (set image a (Some b)) xs ys
+pub with_pairs-append : (image : List (Option ℕ)) (xs ys : List (ℕ × ℕ))
+    → with_pairs image (xs ++ ys) ≡ with_pairs (with_pairs image xs) ys
+with_pairs-append image [] ys = refl
+with_pairs-append image ((a, b) ∷ xs) ys = with_pairs-append (set image a (Some b)) xs ys
 
 -- bytes laid over an image are the image of these bytes alone, laid over it: `laid_over_laid`, for Walks/Runs
 over-set : (a b : List (Option ℕ)) (i n : ℕ) → length a ≤ length b
@@ -40,16 +40,16 @@ empty_over (None ∷ a) = ap (λ (zs : List (Option ℕ)). None ∷ zs) (empty_o
 empty_over (Some x ∷ a) = ap (λ (zs : List (Option ℕ)). Some x ∷ zs) (empty_over a)
 
 laid_over_over : (a b : List (Option ℕ)) (ys : List (ℕ × ℕ)) → length a ≤ length b
-    → with_bytes_at (over a b) ys ≡ over a (with_bytes_at b ys)
+    → with_pairs (over a b) ys ≡ over a (with_pairs b ys)
 laid_over_over a b [] l = refl
 laid_over_over a b ((i, n) ∷ ys) l =
-    ap (λ (image : List (Option ℕ)). with_bytes_at image ys) (over-set a b i n l)
+    ap (λ (image : List (Option ℕ)). with_pairs image ys) (over-set a b i n l)
     ∙ laid_over_over a (set b i (Some n)) ys (omega (arith, l, length-set b i (Some n)))
 
 pub laid_over_laid : (image : List (Option ℕ)) (ys : List (ℕ × ℕ))
-    → with_bytes_at image ys ≡ over image (image_of_pairs (length image) ys)
+    → with_pairs image ys ≡ over image (image_of_pairs (length image) ys)
 laid_over_laid image ys =
-    ap (λ (before : List (Option ℕ)). with_bytes_at before ys) (sym (over-empty image))
+    ap (λ (before : List (Option ℕ)). with_pairs before ys) (sym (over-empty image))
     ∙ laid_over_over image (empty (length image)) ys
     (omega (arith, length-replicate {A = Option ℕ} (length image) None))
 
@@ -58,9 +58,9 @@ pub laid_append : (size : ℕ) (xs ys : List (ℕ × ℕ))
 laid_append size xs ys = grind (
   arith,
   nat_tests,
-  length-with_bytes_at,
+  length-with_pairs,
   length-replicate,
-  with_bytes_at-append,
+  with_pairs-append,
   laid_over_laid,
 )
 
@@ -74,20 +74,20 @@ over_over y z w l = refl
 -- ---- a span, address by address
 
 pub span_low : (image : List (Option ℕ)) (addr : ℕ) (span : List ℕ) (i : ℕ) → i < addr
-    → byte_at (with_bytes_at image (enumerate_from addr span)) i ≡ byte_at image i
+    → byte_at (with_pairs image (enumerate_from addr span)) i ≡ byte_at image i
 span_low image addr [] i l = refl
 span_low image addr (b ∷ span) i l =
     search (rules, arith, span_low (set image addr (Some b)) (addr + 1) span i (omega (arith, l)))
 
 pub span_high : (image : List (Option ℕ)) (addr : ℕ) (span : List ℕ) (i : ℕ) → addr + length span ≤ i
-    → byte_at (with_bytes_at image (enumerate_from addr span)) i ≡ byte_at image i
+    → byte_at (with_pairs image (enumerate_from addr span)) i ≡ byte_at image i
 span_high image addr [] i l = refl
 span_high image addr (b ∷ span) i l =
     search (rules, span_high (set image addr (Some b)) (addr + 1) span i (omega (arith, l)))
 
 pub span_in : (image : List (Option ℕ)) (addr : ℕ) (span : List ℕ) (j : ℕ) → j < length span
     → addr + length span ≤ length image
-    → byte_at (with_bytes_at image (enumerate_from addr span)) (addr + j) ≡ Some (get_or span j 0)
+    → byte_at (with_pairs image (enumerate_from addr span)) (addr + j) ≡ Some (get_or span j 0)
 span_in image addr [] j l room = absurd (omega (arith, l))
 span_in image addr (b ∷ span) zero l room = grind (arith, nat_tests, span_low, get_or-set_same)
 span_in image addr (b ∷ span) (suc j) l room =
@@ -129,12 +129,12 @@ pasted_high start span bytes i room l = grind (arith, nat_tests, length-take, ge
 -- the bits of a span are those of its bytes
 pub shown-pasted : (words words' bytes span : List ℕ) (addr : ℕ) → addr + length span ≤ length bytes
     → ((k : ℕ) → is_present words' k ≡ (is_within addr (addr + length span) k || is_present words k))
-    → dense_image words' (with_span addr span bytes) ≡ with_bytes_at (dense_image words bytes)
+    → dense_image words' (with_span addr span bytes) ≡ with_pairs (dense_image words bytes)
     (enumerate_from addr span)
 shown-pasted words words' bytes span addr room bits =
     let size = length_shown words bytes in
     let left = length_shown words' (with_span addr span bytes) ∙ length-pasted addr span bytes room in
-    let right = length-with_bytes_at (dense_image words bytes) (enumerate_from addr span) ∙ size in
+    let right = length-with_pairs (dense_image words bytes) (enumerate_from addr span) ∙ size in
     same_items _ _ (left ∙ sym right) (λ i j.
     let inside : i < length bytes = omega (arith, j, right) in
     let see = byte_at-shown words' (with_span addr span bytes) i
@@ -151,7 +151,7 @@ shown-pasted words words' bytes span addr room bits =
             let there : addr + (i - addr) ≡ i = omega (arith, from) in
             see ∙ ap₂ (λ (b : Bool) (n : ℕ). cond b (Some n) None) bit (pasted_in addr span bytes i room from within)
             ∙ sym (search (rules, span_in))
-            ∙ ap (λ (n : ℕ). byte_at (with_bytes_at (dense_image words bytes) (enumerate_from addr span)) n) there
+            ∙ ap (λ (n : ℕ). byte_at (with_pairs (dense_image words bytes) (enumerate_from addr span)) n) there
         | inr past ↦
             search (rules, pasted_high, byte_at-shown, span_high)
       ]
@@ -160,7 +160,7 @@ shown-pasted words words' bytes span addr room bits =
 pub kept-pasted : (words words' bytes span : List ℕ) (addr : ℕ) → addr + length span ≤ length bytes
     → ((k : ℕ) → is_present words' k ≡ (is_within addr (addr + length span) k || is_present words k))
     → length words' ≡ length words
-    → ((i : ℕ) → get_or span i 0 < 256) → IsKept words bytes → IsKept words' (with_span addr span bytes)
+    → ((i : ℕ) → get_or span i 0 < 256) → IsSoundStorage words bytes → IsSoundStorage words' (with_span addr span bytes)
 kept-pasted words words' bytes span addr room bits same small kept =
     search (rules, length-pasted, small-pasted, pasted_low, within_high, pasted_high)
 
@@ -176,11 +176,11 @@ pub from_zero-next : (text : List ℕ) (byte size : ℕ) → length text < size
 from_zero-next text byte size l = grind (arith, nat_tests, length-map, length-append, set_at, append_assoc, map-append)
 
 pub from_zero-laid : (text span : List ℕ) (size addr : ℕ) → addr ≡ length text → length text + length span ≤ size
-    → with_bytes_at (from_zero text size) (enumerate_from addr span) ≡ from_zero (text ++ span) size
+    → with_pairs (from_zero text size) (enumerate_from addr span) ≡ from_zero (text ++ span) size
 from_zero-laid text [] size addr here l = ap (λ (xs : List ℕ). from_zero xs size) (sym (append-nil text))
 from_zero-laid text (byte ∷ span) size addr here l =
-    ap (λ (n : ℕ). with_bytes_at (set (from_zero text size) n (Some byte)) (enumerate_from (addr + 1) span)) here
-    ∙ ap (λ (image : List (Option ℕ)). with_bytes_at image (enumerate_from (addr + 1) span))
+    ap (λ (n : ℕ). with_pairs (set (from_zero text size) n (Some byte)) (enumerate_from (addr + 1) span)) here
+    ∙ ap (λ (image : List (Option ℕ)). with_pairs image (enumerate_from (addr + 1) span))
     (from_zero-next text byte size (omega (arith, l)))
     ∙ from_zero-laid (text ++ byte ∷ []) span size (addr + 1) (omega (arith, here, length-append text (byte ∷ [])))
     (omega (arith, l, length-append text (byte ∷ [])))

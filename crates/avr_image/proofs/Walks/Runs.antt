@@ -5,7 +5,7 @@ use Rattle.std.proofs.lemmas.List.{take_all, append_assoc, drop-drop, get_or-dro
 use Rattle.std.proofs.Common.{◌≡◌, ◌∙◌, sym, ap, ap₂, refl, arith, ℕ, zero, suc, ◌+◌, ◌-◌, ◌<◌, ◌≤◌, ◌==◌, Bool, cond, not, List, [], ◌∷◌, ◌++◌, length, take, drop, fold, min, Option, Some, None, is_some, inl, inr, add-zero, All, ◌⊎◌, rules}
 use Rattle.std.proofs.lemmas.List.Recursion.{is_count_by}
 use Rattle.std.proofs.lemmas.Bool.Decides.{nat_tests}
-use Rattle.avr_image.specs.Image.{empty, byte_at, with_byte, first_from, run_end, filled_bytes, image_of_pairs, with_bytes_at, over, byte_count}
+use Rattle.avr_image.specs.Image.{empty, byte_at, with_byte, first_from, run_end, filled_bytes, image_of_pairs, with_pairs, over, byte_count}
 use Rattle.avr_image.specs.Runs.{onto_runs, runs, leading_run, places_of}
 use Rattle.avr_image.proofs.Places.Laid.{laid_over_laid}
 use Rattle.avr_image.specs.Walk.{IsLongestRun}
@@ -225,7 +225,7 @@ runs-inside image = each (runs 0 image) (runs-end (length image) 0 image (omega 
 
 -- an image laid over one of its size, run by run
 pub runs-over : (image other : List (Option ℕ)) → length other ≡ length image
-    → with_bytes_at image (flat_map places_of (runs 0 other)) ≡ over image other
+    → with_pairs image (flat_map places_of (runs 0 other)) ≡ over image other
 runs-over image other same = search (rules, runs-hold, laid_over_laid, laid-image)
 
 -- ---- no byte at all

@@ -68,8 +68,8 @@ further_repairs plan w v x y d e f g status further sound fitted fits erases bot
             zero,
             done_further plan (memories w) (memories x) (memories y) sound fitted fits erases both kept
                 (record {
-                  count = first.line.write_operations.count;
-                  memories = same ∙ first.line.write_operations.memories;
+                  count = first.along_exchanges.write_operations.count;
+                  memories = same ∙ first.along_exchanges.write_operations.memories;
                 }) (came.0.comes.done zero),
           )
       | inr broke ↦ inr broke.0

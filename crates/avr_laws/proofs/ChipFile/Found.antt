@@ -6,7 +6,7 @@ use Rattle.avr_cli.specs.declared.settings.Settings.{Settings}
 use Rattle.avr_desk.proofs.Desks.InMemory.{all_true, true_behind}
 use Rattle.avr_desk.proofs.FileUses.Uses.{files_absent, files_append, files_used}
 use Rattle.avr_desk.specs.Memory.{MemDeskState, Stock, memory_state}
-use Rattle.avr_desk.specs.Playing.{StageCompleted}
+use Rattle.avr_desk.specs.StageRuns.{StageCompleted}
 use Rattle.avr_desk.specs.Record.{Bytes, DeskState, all_files, all_uses, files_among}
 use Rattle.avr_desk.specs.OutputEvents.{after_opening}
 use Rattle.avr_desk.specs.Stage.{Produced, next_opening}
@@ -58,7 +58,11 @@ module _ (settings : Settings) (file : Bytes) (stock : Stock) (old new : MemDesk
     (r : RunsOverEmulator settings file (memory_state old) (memory_state new) status) where
   -- the openings before the chip's file
   before : (openings : List Opening) × (all_uses r.planned_desk.kept ≡ all_uses old.kept ++ opened openings)
-  before = search (rules, only_opened r.made.emits old.kept (search (rules, only_reads settings (r.made.passed ++ []))))
+  before =
+      search (
+        rules,
+        only_opened r.made.output_events old.kept (search (rules, only_reads settings (r.made.passed ++ []))),
+      )
 
   abbrev first_uses : List FileUse
   first_uses = all_uses old.kept ++ opened before.0
@@ -70,13 +74,13 @@ module _ (settings : Settings) (file : Bytes) (stock : Stock) (old new : MemDesk
   loaded_past = search (rules, opened_past opening r.loaded.held_desk.kept)
 
   played_past : ArePast (first_uses ++ Opened opening ∷ []) r.played_desk.kept
-  played_past = run_past (first_uses ++ Opened opening ∷ []) _ _ _ _ _ r.ran r.runs loaded_past
+  played_past = run_past (first_uses ++ Opened opening ∷ []) _ _ _ _ _ r.session_status r.runs loaded_past
 
   ended : (more : List FileUse) × (all_uses new.kept ≡ (first_uses ++ Opened opening ∷ []) ++ more)
   ended =
       past_shown (first_uses ++ Opened opening ∷ []) new.kept
-      (saved_past (first_uses ++ Opened opening ∷ []) _ r.played_desk (memory_state new) file _ r.ran status r.saved
-      played_past)
+      (saved_past (first_uses ++ Opened opening ∷ []) _ r.played_desk (memory_state new) file _ r.session_status status
+      r.saved played_past)
 
   first_files : files_among first_uses ≡ all_files old.kept
   first_files = search (rules, files_append, none_made)

@@ -3,7 +3,7 @@ use Rattle.std.proofs.Common.{◌≡◌, ◌⊎◌, ◌∙◌, refl, inl, inr, a
 use Rattle.std.specs.declared.io.Read.{Ghosts as Reads}
 use Rattle.std.specs.declared.io.Write.{Ghosts as Writes}
 use Rattle.avr_cli.specs.declared.settings.Settings.{Settings}
-use Rattle.avr_desk.specs.Playing.{RunsStage, AllocationPoints, StageCompleted}
+use Rattle.avr_desk.specs.StageRuns.{RunsStage, AllocationPoints, StageCompleted}
 use Rattle.avr_desk.specs.Record.{Bytes, DeskState, Record}
 use Rattle.avr_desk.specs.OutputEvents.{OutputEvent, after, after_events}
 use Rattle.avr_desk.specs.Shown.{IsNewDesk, Shown, RecordsAll, system_desk_view}
@@ -21,9 +21,9 @@ use Rattle.stk_host.specs.Transcript.{LinkState}
 
 -- ---- what a run does before it saves its chip replaces nothing
 
-tried_all : (emits : List OutputEvent) (r : Record) → (after_events emits r).tried ≡ r.tried
+tried_all : (output_events : List OutputEvent) (r : Record) → (after_events output_events r).tried ≡ r.tried
 tried_all [] r = refl
-tried_all (output ∷ emits) r = let more = tried_all emits (after output r) in grind arith
+tried_all (event ∷ output_events) r = let more = tried_all output_events (after event r) in grind arith
 
 abbrev pub tried_at : DeskState → List Writing
 tried_at d = d.kept.tried

@@ -36,23 +36,23 @@ module _ (settings : Settings) (file : Bytes) (stock : Stock) (old new : MemDesk
   asked : IsAsked settings (FileHolds (content_of_name stock [])) r.plan
   asked =
       let verdict : ◌≡◌ {A = StageOutcome Plan} (Produced r.plan) NotReadToEnd → ⊥ = λ e. cc in
-      let emits : AreTrueOpenings stock r.made.emits =
+      let true_openings : AreTrueOpenings stock r.made.output_events =
       seen settings stock (memory_state old) r.planned_desk (Produced r.plan) unused
       (planned_true settings file stock old new 0 holds r) verdict r.made in
       seen_asked stock settings (r.made.passed ++ []) r.plan
-      (subst (λ (p : StageResult Plan). AreTrueOpenings stock p.emits) (sym (r.made.comes [])) emits)
+      (subst (λ (p : StageResult Plan). AreTrueOpenings stock p.output_events) (sym (r.made.comes [])) true_openings)
       (ap (λ (p : StageResult Plan). p.stage_outcome) (r.made.comes []))
 
-  zero : r.ran ≡ 0
+  zero : r.session_status ≡ 0
   zero = search rules
 
   came : EndsOverExchanges r.plan (memories_of r.chip) (memories_of r.after.wire.programmer.chip)
-      (exchanges_of_fates []) (outputs (events_over r.plan r.after)) r.ran
+      (exchanges_of_fates []) (outputs (events_over r.plan r.after)) r.session_status
       × ChangesRecord (after_events (outputs (events_over r.plan r.after))) r.loaded_desk r.played_desk
   came = search rules
 
   expected : IsExpectedRun r.plan (memories_of r.chip) (memories_of r.after.wire.programmer.chip)
-      (outputs (events_over r.plan r.after)) r.ran
+      (outputs (events_over r.plan r.after)) r.session_status
   expected = came.0.success zero
 
   abbrev files : List Writing
@@ -60,7 +60,7 @@ module _ (settings : Settings) (file : Bytes) (stock : Stock) (old new : MemDesk
 
   written : FilesAreSaved files r.loaded_desk r.played_desk
   written = these_saved (outputs (events_over r.plan r.after)) files r.loaded_desk r.played_desk
-      (subst (λ (emits : List OutputEvent). WritesFiles emits files) (sym expected.emitted)
+      (subst (λ (output_events : List OutputEvent). WritesFiles output_events files) (sym expected.emitted)
       (expected_writes r.plan (memories_of r.chip) (sym expected.status_is ∙ zero))) came.1
 
   created : all_files r.played_desk.kept ≡ named_files files
@@ -71,7 +71,7 @@ module _ (settings : Settings) (file : Bytes) (stock : Stock) (old new : MemDesk
       → contents_held stock new.kept name ≡ newest name (content_of_name stock [] name) (named_files files)
   kept name differs =
       stood_saved stock (sent r.after.transcript) r.played_desk (memory_state new) file
-      (chip_file r.after.wire.programmer.chip) r.ran name differs r.saved
+      (chip_file r.after.wire.programmer.chip) r.session_status name differs r.saved
       ∙ (ap (λ (made : List Writing). content_of_name stock made name) created ∙ stood_named stock files name)
 
   pub promised : Promised settings file (content_of_name stock []) (contents_held stock new.kept)

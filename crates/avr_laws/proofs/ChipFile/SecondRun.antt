@@ -90,8 +90,8 @@ pub chip_left : (settings : Settings) (file : Bytes) (stock : Stock) (old new : 
     → contents_held stock new.kept file ≡ Some (chip_file r.after.wire.programmer.chip)
 chip_left settings file stock old new status no_dash zero r =
     zero_held file stock no_dash (sent r.after.transcript) r.played_desk (memory_state new)
-    (chip_file r.after.wire.programmer.chip) r.ran
-    (no_silence r.plan r.chip r.after r.loaded_desk r.played_desk r.ran r.runs)
+    (chip_file r.after.wire.programmer.chip) r.session_status
+    (no_silence r.plan r.chip r.after r.loaded_desk r.played_desk r.session_status r.runs)
     (search rules)
 
 -- ---- two runs
@@ -127,13 +127,14 @@ module _ (settings : Settings) (file : Bytes) (stock : Stock) (old mid new : Mem
   fits = search rules
 
   left : FitsPart plan.part (memories one.after)
-  left = subst (FitsPart plan.part) (sym one.line.line.write_operations.memories)
-      (effects_sizes plan.part is_part (take one.line.line.write_operations.count (write_operations plan)) before fits)
+  left = subst (FitsPart plan.part) (sym one.session.along_exchanges.write_operations.memories)
+      (effects_sizes plan.part is_part (take one.session.along_exchanges.write_operations.count (write_operations plan))
+      before fits)
 
   -- the second run begins after some first write operations of the first one
   touched : HasFirstOperations plan before (memories_of two.chip)
   touched = elim (saved_held file stock no_dash (sent one.after.transcript) one.played_desk (memory_state mid)
-      (chip_file one.after.wire.programmer.chip) one.ran status one.saved) [
+      (chip_file one.after.wire.programmer.chip) one.session_status status one.saved) [
         | inl is ↦
             (search (rules, second_chip, same_memories, left))
         | inr same ↦
@@ -143,14 +144,14 @@ module _ (settings : Settings) (file : Bytes) (stock : Stock) (old mid new : Mem
             }
       ]
 
-  second : OverAnyWire plan (new_wire two.chip []) two.after two.loaded_desk two.played_desk two.ran
+  second : OverAnyWire plan (new_wire two.chip []) two.after two.loaded_desk two.played_desk two.session_status
   second =
-      subst (λ (p : Plan). OverAnyWire p (new_wire two.chip []) two.after two.loaded_desk two.played_desk two.ran)
-      same_plan (emulated_wire two)
+      subst (λ (p : Plan). OverAnyWire p (new_wire two.chip []) two.after two.loaded_desk two.played_desk
+      two.session_status) same_plan (emulated_wire two)
 
   pub repairs_file : has_erase (items plan) ≡ true → AgreesOnTwoChips plan
       → (erase_keeps_eeprom plan.part before ≡ true → ItemsKeepEeprom plan.part (items plan))
-      → ((two.ran ≡ 0) × IsDone plan before (memories two.after))
+      → ((two.session_status ≡ 0) × IsDone plan before (memories two.after))
       ⊎ SessionStopped plan (new_wire two.chip []) two.after two.loaded_desk two.played_desk
   repairs_file erases both kept = elim second.end [
     | inl came ↦

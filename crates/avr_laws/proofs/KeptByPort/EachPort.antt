@@ -24,7 +24,8 @@ over_link : (s : Settings) (old new : DeskState) (link : LinkState)
     → WithPlan s old (λ plan desk. RunsSession plan (devices new_link desk) (devices link new) 0)
     → KeepsPlan s old new (λ plan. IsKept plan link.transcript old new)
 over_link s old new link with =
-    elim (session_is_run s with.plan (devices new_link old) with.between (devices link new) 0 with.made with.then_is).1 [
+    elim (session_is_run s with.plan (devices new_link old) with.between (devices link new) 0 with.made
+    with.then_is).1 [
       | inl ran ↦ promised s (devices new_link old) (devices link new) 0 (inl ran.0) refl refl
       | inr stopped ↦ absurd (no_one stopped.1)
     ]

@@ -36,7 +36,7 @@ use Rattle.avr_laws.specs.ChipFound.{IsChipInFile}
 use Rattle.avr_laws.specs.FilesRead.{read_whole}
 use Rattle.avr_laws.specs.Kept.{FilesAreSaved, named_files, dash_output, saved_files}
 use Rattle.avr_laws.specs.KeptByPort.{IsKeptInFile, KeepsPlan}
-use Rattle.avr_laws.specs.OnlyReading.{OnlyReads}
+use Rattle.avr_laws.specs.OnlyReading.{OnlyReadsAndPrints}
 use Rattle.avr_laws.specs.TrueReports.{IsTrueReport, EmittedTrue, SignatureRead, ChipErased, EraseLeftOut, BytesWritten, WriteLeftOut, BytesVerified, Differed, BytesSaved, BytesRead, StepFailed, SessionDone}
 
 pub no_one : ◌≡◌ {A = ℕ} 0 1 → ⊥
@@ -54,38 +54,38 @@ gave_chip part file (Found reading ∷ openings) chip made =
 
 -- ---- reading changes no file
 
-quiet : (emits : List OutputEvent) → OnlyReads emits → (k : Record)
-    → (all_files (after_events emits k) ≡ all_files k) × ((after_events emits k).output ≡ k.output)
-quiet emits reads k =
-    let writes : WritesFiles emits [] = reading_writes emits reads in
+quiet : (output_events : List OutputEvent) → OnlyReadsAndPrints output_events → (k : Record)
+    → (all_files (after_events output_events k) ≡ all_files k) × ((after_events output_events k).output ≡ k.output)
+quiet output_events reads k =
+    let writes : WritesFiles output_events [] = reading_writes output_events reads in
     (writes.created k ∙ append-nil (all_files k), writes.output k ∙ append-nil k.output)
 
 -- ---- a session opens no file
 
 module _ (plan : Plan) (before : Memories) where
-  not_opened : (now : Memories) (output : OutputEvent) (later : List OutputEvent) → IsTrueReport plan before now output
-      → openings_in (output ∷ later) ≡ openings_in later
-  not_opened now output later (SignatureRead e) = ap (λ o. openings_in (o ∷ later)) e
-  not_opened now output later (ChipErased has e after) = ap (λ o. openings_in (o ∷ later)) e
-  not_opened now output later (EraseLeftOut has e) = ap (λ o. openings_in (o ∷ later)) e
-  not_opened now output later (BytesWritten mem image first rest e order after) = ap (λ o. openings_in (o ∷ later)) e
-  not_opened now output later (WriteLeftOut mem image has e) = ap (λ o. openings_in (o ∷ later)) e
-  not_opened now output later (BytesVerified mem image has e shows) = ap (λ o. openings_in (o ∷ later)) e
-  not_opened now output later (Differed mem image fault has e differs) = ap (λ o. openings_in (o ∷ later)) e
-  not_opened now output later (BytesSaved mem format file has (inl e)) = ap (λ o. openings_in (o ∷ later)) e
-  not_opened now output later (BytesSaved mem format file has (inr (inl e))) = ap (λ o. openings_in (o ∷ later)) e
-  not_opened now output later (BytesSaved mem format file has (inr (inr e))) = ap (λ o. openings_in (o ∷ later)) e
-  not_opened now output later (BytesRead mem format file has e) = ap (λ o. openings_in (o ∷ later)) e
-  not_opened now output later (StepFailed fault e) = ap (λ o. openings_in (o ∷ later)) e
-  not_opened now output later (SessionDone e) = ap (λ o. openings_in (o ∷ later)) e
+  not_opened : (now : Memories) (event : OutputEvent) (later : List OutputEvent) → IsTrueReport plan before now event
+      → openings_in (event ∷ later) ≡ openings_in later
+  not_opened now event later (SignatureRead e) = ap (λ o. openings_in (o ∷ later)) e
+  not_opened now event later (ChipErased has e after) = ap (λ o. openings_in (o ∷ later)) e
+  not_opened now event later (EraseLeftOut has e) = ap (λ o. openings_in (o ∷ later)) e
+  not_opened now event later (BytesWritten mem image first rest e order after) = ap (λ o. openings_in (o ∷ later)) e
+  not_opened now event later (WriteLeftOut mem image has e) = ap (λ o. openings_in (o ∷ later)) e
+  not_opened now event later (BytesVerified mem image has e shows) = ap (λ o. openings_in (o ∷ later)) e
+  not_opened now event later (Differed mem image fault has e differs) = ap (λ o. openings_in (o ∷ later)) e
+  not_opened now event later (BytesSaved mem format file has (inl e)) = ap (λ o. openings_in (o ∷ later)) e
+  not_opened now event later (BytesSaved mem format file has (inr (inl e))) = ap (λ o. openings_in (o ∷ later)) e
+  not_opened now event later (BytesSaved mem format file has (inr (inr e))) = ap (λ o. openings_in (o ∷ later)) e
+  not_opened now event later (BytesRead mem format file has e) = ap (λ o. openings_in (o ∷ later)) e
+  not_opened now event later (StepFailed fault e) = ap (λ o. openings_in (o ∷ later)) e
+  not_opened now event later (SessionDone e) = ap (λ o. openings_in (o ∷ later)) e
 
   none_opened : (events : List (Event OutputEvent)) (exchanges : List Exchange) (p : Programmer)
-      → EmittedTrue device (λ q output. IsTrueReport plan before (memories_of q.chip) output) events exchanges p
+      → EmittedTrue device (λ q event. IsTrueReport plan before (memories_of q.chip) event) events exchanges p
       → openings_in (outputs events) ≡ []
   none_opened [] exchanges p were = refl
   none_opened (Frame bytes ∷ events) exchanges p were = none_opened events (later_exchanges exchanges) _ were
-  none_opened (Emitted output ∷ events) exchanges p were =
-      not_opened (memories_of p.chip) output (outputs events) were.0 ∙ none_opened events exchanges p were.1
+  none_opened (Emitted event ∷ events) exchanges p were =
+      not_opened (memories_of p.chip) event (outputs events) were.0 ∙ none_opened events exchanges p were.1
 
 openings_replaced : (name bytes : Bytes) (r : Record) → all_openings (with_replaced name bytes r) ≡ all_openings r
 openings_replaced name bytes r = grind (arith, nat_tests, append-nil, openings_append)
@@ -111,19 +111,19 @@ module _ (settings : Settings) (file : Bytes) (old new : DeskState) (r : RunsOve
   abbrev files : List Writing
   files = saved_files r.plan before
 
-  zero : r.ran ≡ 0
+  zero : r.session_status ≡ 0
   zero = search rules
 
-  came : EndsOverExchanges r.plan before (memories_of left) (exchanges_of_fates []) emitted r.ran
+  came : EndsOverExchanges r.plan before (memories_of left) (exchanges_of_fates []) emitted r.session_status
       × ChangesRecord (after_events emitted) r.loaded_desk r.played_desk
-  came = came_to r.plan (new_wire r.chip []) r.after r.loaded_desk r.played_desk r.ran r.line zero
+  came = came_to r.plan (new_wire r.chip []) r.after r.loaded_desk r.played_desk r.session_status r.session zero
 
-  expected : IsExpectedRun r.plan before (memories_of left) emitted r.ran
+  expected : IsExpectedRun r.plan before (memories_of left) emitted r.session_status
   expected = came.0.success zero
 
   replaced : ChangesRecord (with_replaced file (chip_file left)) r.played_desk new
-  replaced = saved_so (sent r.after.transcript) r.played_desk new file (chip_file left) r.ran
-      (no_silence r.plan r.chip r.after r.loaded_desk r.played_desk r.ran r.runs) r.saved
+  replaced = saved_so (sent r.after.transcript) r.played_desk new file (chip_file left) r.session_status
+      (no_silence r.plan r.chip r.after r.loaded_desk r.played_desk r.session_status r.runs) r.saved
 
   -- ---- the opening of the chip file
 
@@ -139,7 +139,7 @@ module _ (settings : Settings) (file : Bytes) (old new : DeskState) (r : RunsOve
 
   none : openings_in emitted ≡ []
   none = none_opened r.plan before (events_over r.plan r.after) (exchanges_of_fates []) (fresh_programmer r.chip)
-      (emulated_wire r).line.reports_are_true
+      (emulated_wire r).along_exchanges.reports_are_true
 
   opened : all_openings new.kept ≡ all_openings r.planned_desk.kept ++ read_whole file gave.0 ∷ []
   opened =
@@ -156,12 +156,12 @@ module _ (settings : Settings) (file : Bytes) (old new : DeskState) (r : RunsOve
 
   -- ---- the files that memories were read into
 
-  planned_read : OnlyReads r.made.emits
+  planned_read : OnlyReadsAndPrints r.made.output_events
   planned_read = search (rules, only_reads settings (r.made.passed ++ []))
 
   begun : (all_files r.loaded_desk.kept ≡ all_files old.kept) × (r.loaded_desk.kept.output ≡ old.kept.output)
   begun =
-      let first = quiet r.made.emits planned_read old.kept in
+      let first = quiet r.made.output_events planned_read old.kept in
       let second = quiet (Opens opening ∷ []) tt r.loaded.held_desk.kept in (
         ap all_files loads ∙ (second.0 ∙ (ap all_files r.loaded.held.0 ∙ (ap all_files r.made.kept ∙ first.0))),
         ap (λ (k : Record). k.output) loads
@@ -171,7 +171,7 @@ module _ (settings : Settings) (file : Bytes) (old new : DeskState) (r : RunsOve
 
   session_saved : FilesAreSaved files r.loaded_desk r.played_desk
   session_saved = these_saved emitted files r.loaded_desk r.played_desk
-      (subst (λ (emits : List OutputEvent). WritesFiles emits files) (sym expected.emitted)
+      (subst (λ (output_events : List OutputEvent). WritesFiles output_events files) (sym expected.emitted)
       (expected_writes r.plan before (sym expected.status_is ∙ zero))) came.1
 
   saved : FilesAreSaved files old r.played_desk

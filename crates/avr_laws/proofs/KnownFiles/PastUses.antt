@@ -10,8 +10,8 @@ use Rattle.avr_desk.specs.declared.record.Opening.TheVariants.{Absent, Found}
 use Rattle.avr_desk.specs.declared.record.Open.TheVariants.{ToRead}
 use Rattle.avr_desk.specs.declared.record.Reading.{Reading}
 use Rattle.avr_tool.specs.Emulated.{IsSavedIfSent}
-use Rattle.avr_laws.specs.OnlyReading.{OnlyReads}
-use Rattle.avr_session.specs.Runs.{RunsWholeOrStops, Devices, MayAllocate}
+use Rattle.avr_laws.specs.OnlyReading.{OnlyReadsAndPrints}
+use Rattle.avr_session.specs.Runs.{RunsWholeOrStops, Devices, RunAllocationPoints}
 use Rattle.stk_host.specs.Dialog.{Dialog, outputs}
 
 -- These are the first uses at a desk. The file that it is reading may be the last of them; the file that it is writing
@@ -29,19 +29,19 @@ past_shown uses r (inr (x, reads, is)) = ([], ap (λ o. r.uses ++ use_of o) read
 put_by : (uses later : List FileUse) (r s : Record) → ArePast uses r → s.uses ≡ all_uses r ++ later → ArePast uses s
 put_by uses later r s past is = search (rules, append_assoc)
 
-past_on : (uses : List FileUse) (output : OutputEvent) (r : Record) → ArePast uses r → ArePast uses (after output r)
+past_on : (uses : List FileUse) (event : OutputEvent) (r : Record) → ArePast uses r → ArePast uses (after event r)
 past_on uses (Opens (Absent name)) r past = put_by uses (Opened (Absent name) ∷ []) r (with_absent name r) past refl
 past_on uses (Opens (Found x)) r past = put_by uses [] r (after (Opens (Found x)) r) past
     (sym (append-nil (all_uses r)))
 past_on uses (PrintsLine bytes) r past = past
 past_on uses (CreatesFile name) r past =
     put_by uses [] r (after (CreatesFile name) r) past (sym (append-nil (all_uses r)))
-past_on uses output r past = search rules
+past_on uses event r past = search rules
 
-pub past_all : (uses : List FileUse) (emits : List OutputEvent) (r : Record) → ArePast uses r
-    → ArePast uses (after_events emits r)
+pub past_all : (uses : List FileUse) (output_events : List OutputEvent) (r : Record) → ArePast uses r
+    → ArePast uses (after_events output_events r)
 past_all uses [] r past = past
-past_all uses (output ∷ emits) r past = past_all uses emits (after output r) (past_on uses output r past)
+past_all uses (event ∷ output_events) r past = past_all uses output_events (after event r) (past_on uses event r past)
 
 -- ---- reading and reporting alone
 
@@ -52,19 +52,19 @@ pub none_made : (openings : List Opening) → files_among (opened openings) ≡ 
 none_made [] = refl
 none_made (opening ∷ openings) = none_made openings
 
-pub only_opened : (emits : List OutputEvent) (r : Record) → OnlyReads emits
-    → (openings : List Opening) × (all_uses (after_events emits r) ≡ all_uses r ++ opened openings)
+pub only_opened : (output_events : List OutputEvent) (r : Record) → OnlyReadsAndPrints output_events
+    → (openings : List Opening) × (all_uses (after_events output_events r) ≡ all_uses r ++ opened openings)
 only_opened [] r reads = ([], sym (append-nil (all_uses r)))
-only_opened (Opens (Absent name) ∷ emits) r reads =
-    let later = only_opened emits (with_absent name r) reads in (
+only_opened (Opens (Absent name) ∷ output_events) r reads =
+    let later = only_opened output_events (with_absent name r) reads in (
       Absent name ∷ later.0,
       (search (rules, append_assoc)),
     )
-only_opened (Opens (Found x) ∷ emits) r reads =
-    let later = only_opened emits (after (Opens (Found x)) r) reads in
+only_opened (Opens (Found x) ∷ output_events) r reads =
+    let later = only_opened output_events (after (Opens (Found x)) r) reads in
     (Found x ∷ later.0, (search (rules, append_assoc)))
-only_opened (PrintsLine bytes ∷ emits) r reads = only_opened emits (after (PrintsLine bytes) r) reads
-only_opened (output ∷ emits) r reads = absurd reads
+only_opened (PrintsLine bytes ∷ output_events) r reads = only_opened output_events (after (PrintsLine bytes) r) reads
+only_opened (event ∷ output_events) r reads = absurd reads
 
 -- ---- what a session and a save do
 
@@ -73,13 +73,13 @@ pub opened_past : (opening : Opening) (r : Record)
 opened_past (Absent name) r = inl ([], sym (append-nil (all_uses r ++ Opened (Absent name) ∷ [])))
 opened_past (Found x) r = inr (x, refl, refl)
 
-pub run_past : (uses : List FileUse) (dialog : Dialog OutputEvent ℕ) (old new : Devices) (takes : Bool)
-    (Lacks : MayAllocate)
+pub run_past : (uses : List FileUse) (dialog : Dialog OutputEvent ℕ) (old new : Devices) (allocates : Bool)
+    (points : RunAllocationPoints)
     (status : ℕ)
-    → RunsWholeOrStops dialog old new takes Lacks status → ArePast uses old.desk.kept → ArePast uses new.desk.kept
-run_past uses dialog old new takes Lacks status (inl (place, ran)) past =
+    → RunsWholeOrStops dialog old new allocates points status → ArePast uses old.desk.kept → ArePast uses new.desk.kept
+run_past uses dialog old new allocates points status (inl (place, ran)) past =
     subst (ArePast uses) (sym ran.kept) (past_all uses (outputs ran.events) old.desk.kept past)
-run_past uses dialog old new takes Lacks status (inr (broke, one)) past =
+run_past uses dialog old new allocates points status (inr (broke, one)) past =
     subst (ArePast uses) (sym broke.kept) (search (rules, past_all))
 
 pub saved_past : (uses : List FileUse) (sent : List ℕ) (old new : DeskState) (file bytes : Bytes) (ran status : ℕ)

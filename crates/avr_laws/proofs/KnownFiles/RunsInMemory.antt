@@ -8,7 +8,7 @@ use Rattle.avr_desk.proofs.Stages.Outputs.{after_append}
 use Rattle.avr_desk.proofs.Desks.InMemory.{all_true, begins_true}
 use Rattle.avr_desk.proofs.FileUses.Uses.{absent_used, files_used, openings_used}
 use Rattle.avr_desk.specs.Memory.{MemDeskState, Stock, memory_state, stock_of}
-use Rattle.avr_desk.specs.Playing.{StageCompleted, StageRefused}
+use Rattle.avr_desk.specs.StageRuns.{StageCompleted, StageRefused}
 use Rattle.avr_desk.specs.Record.{Bytes, DeskState, Record, all_files, all_openings, all_uses, file_of, files_among, nothing_kept, openings_among}
 use Rattle.avr_desk.specs.OutputEvents.{OutputEvent, Opens, PrintsLine, CreatesFile, WritesFile, WritesOutput, after, after_events}
 use Rattle.avr_desk.specs.Stage.{StageOutcome, Produced, Refused, NotReadToEnd, StageResult, events_with_refusal, all_events_of}
@@ -20,7 +20,7 @@ use Rattle.avr_desk.specs.declared.record.Writing.{Writing}
 use Rattle.avr_laws.proofs.Plans.FilesRead.{seen_first, seen_is_planned}
 use Rattle.avr_laws.proofs.Plans.OnlyReading.{only_reads}
 use Rattle.avr_laws.specs.FilesRead.{AreTrueOpenings, lines_in, planned_from_files}
-use Rattle.avr_laws.specs.OnlyReading.{OnlyReads}
+use Rattle.avr_laws.specs.OnlyReading.{OnlyReadsAndPrints}
 use Rattle.avr_plan.specs.Plan.{Plan}
 use Rattle.avr_plan.specs.Planning.{planned}
 use Rattle.avr_session.specs.Run.{RunsSettings}
@@ -28,7 +28,7 @@ use Rattle.avr_session.specs.Runs.{devices}
 use Rattle.avr_session.specs.Session.{session}
 use Rattle.avr_session.specs.Stopping.{RanToStatus}
 use Rattle.stk_host.specs.Dialog.{Event, Emitted, bytes_sent, outputs}
-use Rattle.stk_host.specs.Links.{ConsumesTape, IsTrueSince, StreamState, TapeState, stream_state, tape_state}
+use Rattle.stk_host.specs.Links.{ConsumesTape, TranscriptIsTrueSince, StreamState, TapeState, stream_state, tape_state}
 use Rattle.stk_host.specs.Transcript.{LinkState, Transcript, heard, sent}
 use Rattle.avr_tool.proofs.Runs.Joined.{emitted_outputs, emitted_bytes}
 use Rattle.avr_tool.specs.Headline.{IsStopped}
@@ -49,11 +49,11 @@ opened_uses stock (Opened opening ∷ uses) none are = (are.0, opened_uses stock
 opened_uses stock (Created file ∷ uses) none are = absurd (cc)
 
 -- the openings among these output events
-seen_outputs : (stock : Stock) (emits : List OutputEvent) → AreOpened stock (openings_in emits)
-    → AreTrueOpenings stock emits
+seen_outputs : (stock : Stock) (output_events : List OutputEvent) → AreOpened stock (openings_in output_events)
+    → AreTrueOpenings stock output_events
 seen_outputs stock [] are = tt
-seen_outputs stock (Opens opening ∷ emits) are = (are.0, seen_outputs stock emits are.1)
-seen_outputs stock (output ∷ emits) are = seen_outputs stock emits are
+seen_outputs stock (Opens opening ∷ output_events) are = (are.0, seen_outputs stock output_events are.1)
+seen_outputs stock (event ∷ output_events) are = seen_outputs stock output_events are
 
 -- ---- what is left, apart from openings
 
@@ -82,14 +82,16 @@ left_after (WritesOutput bytes) v = record v { output = v.output ++ bytes }
 
 abbrev left_after_all : List OutputEvent → Left → Left
 left_after_all [] v = v
-left_after_all (output ∷ emits) v = left_after_all emits (left_after output v)
+left_after_all (event ∷ output_events) v = left_after_all output_events (left_after event v)
 
-left_on : (output : OutputEvent) (r : Record) → left_in (after output r) ≡ left_after output (left_in r)
-left_on output r = search (rules, absent_used, files_used)
+left_on : (event : OutputEvent) (r : Record) → left_in (after event r) ≡ left_after event (left_in r)
+left_on event r = search (rules, absent_used, files_used)
 
-left_all : (emits : List OutputEvent) (r : Record) → left_in (after_events emits r) ≡ left_after_all emits (left_in r)
+left_all : (output_events : List OutputEvent) (r : Record) → left_in (after_events output_events r)
+    ≡ left_after_all output_events (left_in r)
 left_all [] r = refl
-left_all (output ∷ emits) r = left_all emits (after output r) ∙ ap (left_after_all emits) (left_on output r)
+left_all (event ∷ output_events) r = left_all output_events (after event r) ∙ ap (left_after_all output_events)
+    (left_on event r)
 
 -- reading and reporting make no file
 abbrev joined : List Bytes → Bytes
@@ -99,41 +101,43 @@ joined (line ∷ lines) = line ++ joined lines
 abbrev reported_left : Bytes → Bytes → Left
 reported_left messages output = record { messages = messages; output = output; files = []; file = [] }
 
-only_reported : (emits : List OutputEvent) (messages output : Bytes) → OnlyReads emits
-    → left_after_all emits (reported_left messages output) ≡ reported_left (messages ++ joined (lines_in emits)) output
+only_reported : (output_events : List OutputEvent) (messages output : Bytes) → OnlyReadsAndPrints output_events
+    → left_after_all output_events (reported_left messages output)
+    ≡ reported_left (messages ++ joined (lines_in output_events)) output
 only_reported [] messages output reads = ap (λ (m : Bytes). reported_left m output) (sym (append-nil messages))
-only_reported (Opens opening ∷ emits) messages output reads = only_reported emits messages output reads
-only_reported (PrintsLine bytes ∷ emits) messages output reads = only_reported emits (messages ++ bytes) output reads
-    ∙ ap (λ (m : Bytes). reported_left m output) (append_assoc messages bytes (joined (lines_in emits)))
-only_reported (event ∷ emits) messages output reads = absurd reads
+only_reported (Opens opening ∷ output_events) messages output reads = only_reported output_events messages output reads
+only_reported (PrintsLine bytes ∷ output_events) messages output reads =
+    only_reported output_events (messages ++ bytes) output reads ∙ ap (λ (m : Bytes). reported_left m output)
+    (append_assoc messages bytes (joined (lines_in output_events)))
+only_reported (event ∷ output_events) messages output reads = absurd reads
 
 -- so what planning leaves is the lines that it prints
-planning_left : (emits : List OutputEvent) → OnlyReads emits
-    → left_in (after_events emits nothing_kept) ≡ reported_left (joined (lines_in emits)) []
-planning_left emits reads = left_all emits nothing_kept ∙ only_reported emits [] [] reads
+planning_left : (output_events : List OutputEvent) → OnlyReadsAndPrints output_events
+    → left_in (after_events output_events nothing_kept) ≡ reported_left (joined (lines_in output_events)) []
+planning_left output_events reads = left_all output_events nothing_kept ∙ only_reported output_events [] [] reads
 
 -- ---- planning
 
 -- so were the openings before a refusal
-seen_before : (stock : Stock) (emits : List OutputEvent) (stage_outcome : StageOutcome Plan)
-    → AreTrueOpenings stock (events_with_refusal emits stage_outcome)
-    → AreTrueOpenings stock emits
-seen_before stock emits stage_outcome seen = search (rules, seen_first)
+seen_before : (stock : Stock) (output_events : List OutputEvent) (stage_outcome : StageOutcome Plan)
+    → AreTrueOpenings stock (events_with_refusal output_events stage_outcome)
+    → AreTrueOpenings stock output_events
+seen_before stock output_events stage_outcome seen = search (rules, seen_first)
 
 module _ (settings : Settings) (stock : Stock) (old m : DeskState) (stage_outcome : StageOutcome Plan)
     (unused : old.kept ≡ nothing_kept) (are : OpeningsAreTrue stock [] (all_uses m.kept))
     (verdict : stage_outcome ≡ NotReadToEnd → ⊥) (went : StageCompleted (planned settings) old m stage_outcome) where
   planned_is : planned settings (went.passed ++ []) ≡ record {
-    emits = went.emits;
+    output_events = went.output_events;
     stage_outcome = stage_outcome;
     openings_left = [];
   }
   planned_is = went.comes []
 
   abbrev notice : List OutputEvent
-  notice = events_with_refusal went.emits stage_outcome
+  notice = events_with_refusal went.output_events stage_outcome
 
-  only_read : OnlyReads notice
+  only_read : OnlyReadsAndPrints notice
   only_read = search (rules, only_reads settings (went.passed ++ []))
 
   kept_is : m.kept ≡ after_events notice nothing_kept
@@ -157,8 +161,8 @@ module _ (settings : Settings) (stock : Stock) (old m : DeskState) (stage_outcom
   same_answer : (planned_from_files settings stock).stage_outcome ≡ stage_outcome
   same_answer = both.0 ∙ ap (λ (p : StageResult Plan). p.stage_outcome) planned_is
 
-  same_left : left_in (after_events (events_with_refusal (planned_from_files settings stock).emits stage_outcome)
-      nothing_kept) ≡ left_in m.kept
+  same_left : left_in (after_events (events_with_refusal (planned_from_files settings stock).output_events
+      stage_outcome) nothing_kept) ≡ left_in m.kept
   same_left =
       let whole = all_events_of (planned_from_files settings stock) in
       search (rules, both, same_answer, planning_left, only_reads, only_read, kept_is)
@@ -174,12 +178,12 @@ abbrev pub left_by : List (Event OutputEvent) → ℕ → RunOutcome
 left_by events status = outcome_shown status (bytes_sent events) (after_events (outputs events) nothing_kept)
 
 -- planning's output events, then these events, leave what the desk shows
-left_is : (status : ℕ) (emits : List OutputEvent) (events : List (Event OutputEvent)) (between kept : Record)
+left_is : (status : ℕ) (output_events : List OutputEvent) (events : List (Event OutputEvent)) (between kept : Record)
     (transcript : Transcript)
-    → left_in (after_events emits nothing_kept) ≡ left_in between → kept ≡ after_events (outputs events) between
+    → left_in (after_events output_events nothing_kept) ≡ left_in between → kept ≡ after_events (outputs events) between
     → bytes_sent events ≡ sent transcript
-    → left_by (map Emitted emits ++ events) status ≡ outcome_shown status (sent transcript) kept
-left_is status emits events between kept transcript alike then frames =
+    → left_by (map Emitted output_events ++ events) status ≡ outcome_shown status (sent transcript) kept
+left_is status output_events events between kept transcript alike then frames =
     search (rules, emitted_outputs, after_append, left_all, emitted_bytes)
 
 module _ (settings : Settings) (old new : MemDeskState) (before after : LinkState) (status : ℕ)
@@ -207,9 +211,10 @@ module _ (settings : Settings) (old new : MemDeskState) (before after : LinkStat
       verdict went in
       let during : after.transcript ≡ ran.during =
       ran.grows ∙ ap (λ transcript. transcript ++ ran.during) silent_before in
-      let left : left_by (map Emitted p.emits ++ ran.events) status ≡ outcome_shown status (sent after.transcript)
+      let left : left_by (map Emitted p.output_events ++ ran.events) status
+      ≡ outcome_shown status (sent after.transcript)
       new.kept =
-      left_is status p.emits ran.events between.kept new.kept after.transcript alike ran.kept
+      left_is status p.output_events ran.events between.kept new.kept after.transcript alike ran.kept
       (ran.plays.all_sent ∙ ap sent (sym during)) in search rules
 
   -- it was refused
@@ -224,13 +229,14 @@ module _ (settings : Settings) (old new : MemDeskState) (before after : LinkStat
       same_answer settings stock (memory_state old) (memory_state new) (Refused line) unused.desk_is are verdict went in
       let alike = same_left settings stock (memory_state old) (memory_state new) (Refused line) unused.desk_is are
       verdict went in
-      let events : map Emitted (p.emits ++ PrintsLine line ∷ []) ++ [] ≡ map Emitted p.emits
+      let events : map Emitted (p.output_events ++ PrintsLine line ∷ []) ++ [] ≡ map Emitted p.output_events
       ++ Emitted (PrintsLine line) ∷ [] =
-      append-nil (map Emitted (p.emits ++ PrintsLine line ∷ [])) ∙ map-append Emitted p.emits (PrintsLine line ∷ []) in
-      let left : left_by (map Emitted p.emits ++ Emitted (PrintsLine line) ∷ []) 1
+      append-nil (map Emitted (p.output_events ++ PrintsLine line ∷ [])) ∙ map-append Emitted p.output_events
+      (PrintsLine line ∷ []) in
+      let left : left_by (map Emitted p.output_events ++ Emitted (PrintsLine line) ∷ []) 1
       ≡ outcome_shown 1 (sent after.transcript) new.kept =
       ap (λ (es : List (Event OutputEvent)). left_by es 1) (sym events)
-      ∙ left_is 1 (p.emits ++ PrintsLine line ∷ []) [] new.kept new.kept after.transcript alike refl
+      ∙ left_is 1 (p.output_events ++ PrintsLine line ∷ []) [] new.kept new.kept after.transcript alike refl
       (ap sent (sym (silent ∙ silent_before))) in search rules
 
   -- over what was received it leaves what is shown, and the link has not failed
@@ -283,7 +289,7 @@ module _ (settings : Settings) (old new : MemDeskState) (status : ℕ) where
 
   pub run_is_over_streams : {R W : Type 0} (remaining : R → Option Bytes) (contents : W → Option Bytes)
       (before after : StreamState R W) (between : MemDeskState)
-      (unused : AreUnused old (stream_state before)) → IsTrueSince remaining contents before after
+      (unused : AreUnused old (stream_state before)) → TranscriptIsTrueSince remaining contents before after
       → Preserves HoldsTrue old between → Preserves HoldsTrue old new
       → RunsSettings settings (devices (stream_state before) (memory_state old)) (memory_state between)
       (devices (stream_state after) (memory_state new)) status

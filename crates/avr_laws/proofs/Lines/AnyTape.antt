@@ -39,18 +39,18 @@ none_asked m (Done r) p exchanges = refl
 none_asked m (Emit e d) p exchanges = none_asked m d p exchanges
 none_asked m (Ask bytes go_on) p exchanges = refl
 
--- A run over a tape is the run along these exchanges, of which `answered` are read. If it is done, these are as many as
--- its frames. After any first frames the programmer is as the list of what happened to it gives.
+-- A run over a tape is the run along these exchanges, of which `reply_count` are read. If it is done, these are as many
+-- as its frames. After any first frames the programmer is as the list of what happened to it gives.
 record HeardAs {E R P : Type 0} (m : Device P) (d : Dialog E R) (n : ℕ) (tape : Tape) (p : P)
     (executions : List Execution) (exchanges : List Exchange) : Type 0 where
-  answered : ℕ
+  reply_count : ℕ
   left : Tape
-  play : played d n tape ≡ played_along m answered d n p exchanges left
-  all : (r : R) (seq : ℕ) (rest : Tape) → (played_along m answered d n p exchanges left).outcome ≡ Some (r, seq, rest)
-      → length (frames_in (played_along m answered d n p exchanges left).events) ≡ answered
-  programmer : (k : ℕ) → k ≤ length (frames_in (played_along m answered d n p exchanges left).events)
+  play : played d n tape ≡ played_along m reply_count d n p exchanges left
+  all : (r : R) (seq : ℕ) (rest : Tape) → (played_along m reply_count d n p exchanges left).outcome
+      ≡ Some (r, seq, rest) → length (frames_in (played_along m reply_count d n p exchanges left).events) ≡ reply_count
+  programmer : (k : ℕ) → k ≤ length (frames_in (played_along m reply_count d n p exchanges left).events)
       → (state_after m k d p exchanges).programmer ≡ after_sent_frames m
-      (take k (frames_in (played_along m answered d n p exchanges left).events)) executions p
+      (take k (frames_in (played_along m reply_count d n p exchanges left).events)) executions p
 
 module _ {P : Type 0} (m : Device P) where
   module _ {E R : Type 0} (bytes : List ℕ) (go_on : Reading → Dialog E R) (n : ℕ) (tape : Tape) (p : P)
@@ -80,7 +80,7 @@ module _ {P : Type 0} (m : Device P) where
         (goes : HeardAs m (go_on (reading_of_exchange one_exchange (m.answer bytes p))) (next n) left
         (after_exchange one_exchange (m.after bytes p) p m.reset) (later_executions executions) later) where
       abbrev fs : List (List ℕ)
-      fs = frames_in (played_along m goes.answered (go_on (reading_of_exchange one_exchange (m.answer bytes p)))
+      fs = frames_in (played_along m goes.reply_count (go_on (reading_of_exchange one_exchange (m.answer bytes p)))
           (next n) (after_exchange one_exchange (m.after bytes p) p m.reset) later goes.left).events
 
       stands : (k : ℕ) → k ≤ suc (length fs) → (state_after m k (Ask bytes go_on) p (one_exchange ∷ later)).programmer
@@ -89,7 +89,7 @@ module _ {P : Type 0} (m : Device P) where
 
       by_exchange : HeardAs m (Ask bytes go_on) n tape p executions (one_exchange ∷ later)
       by_exchange = record {
-        answered = suc goes.answered;
+        reply_count = suc goes.reply_count;
         left = goes.left;
         play = ap on_asking read ∙ ap (prepend_events (Frame (frame n bytes) ∷ [])) goes.play;
         all = λ r seq rest o. ap suc (goes.all r seq rest o);
@@ -111,7 +111,7 @@ module _ {P : Type 0} (m : Device P) where
       → SendsValidBodies d → RepliesAreAuthentic m d n tape p executions
       → HeardAs m d n tape p executions (exchanges_on_tape d n tape executions)
   heard_as (Done r) n tape p executions asks h =
-      record { answered = 0; left = tape; play = refl; all = λ q seq rest o. refl; programmer = none_sent }
+      record { reply_count = 0; left = tape; play = refl; all = λ q seq rest o. refl; programmer = none_sent }
     where
       none_sent : (k : ℕ) → k ≤ 0 → p ≡ after_sent_frames m (take k []) executions p
       none_sent zero le = refl

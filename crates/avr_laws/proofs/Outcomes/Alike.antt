@@ -13,25 +13,25 @@ abbrev pub without_lines : List (Event OutputEvent) → List (Event OutputEvent)
 without_lines [] = []
 without_lines (Frame bytes ∷ events) = Frame bytes ∷ without_lines events
 without_lines (Emitted (PrintsLine line) ∷ events) = without_lines events
-without_lines (Emitted output ∷ events) = Emitted output ∷ without_lines events
+without_lines (Emitted event ∷ events) = Emitted event ∷ without_lines events
 
 pub joined : (a b : List (Event OutputEvent)) → without_lines (a ++ b) ≡ without_lines a ++ without_lines b
 joined [] b = refl
 joined (Frame bytes ∷ a) b = ap (λ events. Frame bytes ∷ events) (joined a b)
 joined (Emitted (PrintsLine line) ∷ a) b = joined a b
-joined (Emitted output ∷ a) b = ap (λ events. Emitted output ∷ events) (joined a b)
+joined (Emitted event ∷ a) b = ap (λ events. Emitted event ∷ events) (joined a b)
 
 frames_kept : (events : List (Event OutputEvent)) → frames_in (without_lines events) ≡ frames_in events
 frames_kept [] = refl
 frames_kept (Frame bytes ∷ events) = ap (λ frames. bytes ∷ frames) (frames_kept events)
 frames_kept (Emitted (PrintsLine line) ∷ events) = frames_kept events
-frames_kept (Emitted output ∷ events) = frames_kept events
+frames_kept (Emitted event ∷ events) = frames_kept events
 
 bytes_kept : (events : List (Event OutputEvent)) → bytes_sent (without_lines events) ≡ bytes_sent events
 bytes_kept [] = refl
 bytes_kept (Frame bytes ∷ events) = ap (λ more. bytes ++ more) (bytes_kept events)
 bytes_kept (Emitted (PrintsLine line) ∷ events) = bytes_kept events
-bytes_kept (Emitted output ∷ events) = bytes_kept events
+bytes_kept (Emitted event ∷ events) = bytes_kept events
 
 -- a run without its printed lines
 abbrev pub silent : {R : Type 0} → Played OutputEvent R → Played OutputEvent R
@@ -121,7 +121,7 @@ pub record SameButLines (these those : List OutputEvent) : Type 0 where
 played_emits : {R : Type 0} (outputs : List OutputEvent) (d : Dialog OutputEvent R) (seq : ℕ) (tape : Tape)
     → played (emits outputs d) seq tape ≡ prepend_events (map Emitted outputs) (played d seq tape)
 played_emits [] d seq tape = refl
-played_emits (output ∷ outputs) d seq tape = ap (prepend_events (Emitted output ∷ [])) (played_emits outputs d seq tape)
+played_emits (event ∷ outputs) d seq tape = ap (prepend_events (Emitted event ∷ [])) (played_emits outputs d seq tape)
 
 pub alike_emits : {R : Type 0} (these those : List OutputEvent) (d : Dialog OutputEvent R) → SameButLines these those
     → AreAlike (emits these d) (emits those d)

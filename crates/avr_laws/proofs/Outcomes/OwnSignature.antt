@@ -129,7 +129,7 @@ module _ (plan : Plan) where
   no_fault [] NoFault n tape seq left is = refl
   no_fault [] Faulty n tape seq left is = absurd (never_fine closing n tape seq left is)
   no_fault [] Over n tape seq left is = absurd (not_zero n seq tape left is)
-  no_fault (output ∷ outputs) standing n tape seq left is = no_fault outputs standing n tape seq left is
+  no_fault (event ∷ outputs) standing n tape seq left is = no_fault outputs standing n tape seq left is
 
   -- the signature that a chip gave, if it was accepted
   abbrev HasAccepted : StepOutcome → Type 0

@@ -28,7 +28,7 @@ use Rattle.avr_tool.specs.Headline.{run_after_planning, IsRun}
 use Rattle.avr_tool.proofs.Runs.Joined.{emitted_bytes, emitted_outputs}
 use Rattle.avr_laws.specs.AskedPlan.{FileGave, IsAsked}
 use Rattle.avr_laws.specs.Kept.{FilesAreSaved, Keeps, saved_files}
-use Rattle.avr_laws.specs.OnlyReading.{OnlyReads}
+use Rattle.avr_laws.specs.OnlyReading.{OnlyReadsAndPrints}
 use Rattle.avr_laws.proofs.Outcomes.Alike.{AreAlike, alike, same_bytes, same_events, same_outcome}
 use Rattle.avr_laws.proofs.Outcomes.Saved.{WritesFiles, both, expected_writes, reading_writes, these_saved, writes_alike}
 use Rattle.avr_laws.proofs.Plans.Given.{desk_asked}
@@ -42,7 +42,7 @@ module _ (s : Settings) (x y : Devices) (r : IsRun s x y 0) where
   left_over = on_tape r.left ++ []
 
   abbrev before : List (Event OutputEvent)
-  before = map Emitted (planned s r.openings).emits
+  before = map Emitted (planned s r.openings).output_events
 
   -- the run over exactly what was opened and received
   over : prepend_events before (run_after_planning (planned s r.openings).stage_outcome tape)
@@ -71,18 +71,19 @@ module _ (s : Settings) (x y : Devices) (r : IsRun s x y 0) where
     pub sent_is : bytes_sent done ≡ sent r.during
     sent_is = search (rules, emitted_bytes, over_plan)
 
-    outputs_are : outputs r.events ≡ (planned s r.openings).emits ++ outputs done
+    outputs_are : outputs r.events ≡ (planned s r.openings).output_events ++ outputs done
     outputs_are = ap (λ (p : Played OutputEvent ℕ). outputs p.events) (sym over_plan)
-        ∙ emitted_outputs (planned s r.openings).emits done
+        ∙ emitted_outputs (planned s r.openings).output_events done
 
-    only_read : OnlyReads (planned s r.openings).emits
-    only_read = subst (λ (stage_outcome : StageOutcome Plan). OnlyReads
-        (events_with_refusal (planned s r.openings).emits stage_outcome)) made_is (only_reads s r.openings)
+    only_read : OnlyReadsAndPrints (planned s r.openings).output_events
+    only_read = subst (λ (stage_outcome : StageOutcome Plan). OnlyReadsAndPrints
+        (events_with_refusal (planned s r.openings).output_events stage_outcome)) made_is (only_reads s r.openings)
 
     -- so the plan is the one that the settings and the files that were opened ask for
     pub asked : IsAsked s (FileGave x.desk y.desk) plan
     asked = desk_asked s r.openings plan x.desk y.desk (outputs done) made_is
-        (subst (λ (emits : List OutputEvent). ChangesRecord (after_events emits) x.desk y.desk) outputs_are r.kept)
+        (subst (λ (output_events : List OutputEvent). ChangesRecord (after_events output_events) x.desk y.desk)
+        outputs_are r.kept)
 
     -- A plan whose session differs from this one in printed lines alone was kept: this plan on a chip of another
     -- signature.
@@ -99,15 +100,17 @@ module _ (s : Settings) (x y : Devices) (r : IsRun s x y 0) where
       other_sent = sym (same_bytes are_alike 1 tape) ∙ sent_is
 
       keeps_files : (m : Memories) → (expected_run other m).status ≡ 0
-          → outputs done_other ≡ (expected_run other m).emits → FilesAreSaved (saved_files other m) x.desk y.desk
+          → outputs done_other ≡ (expected_run other m).output_events
+          → FilesAreSaved (saved_files other m) x.desk y.desk
       keeps_files m zero emitted =
-          these_saved ((planned s r.openings).emits ++ outputs done) (saved_files other m) x.desk y.desk
-          (both (planned s r.openings).emits (outputs done) [] (saved_files other m)
-          (reading_writes (planned s r.openings).emits only_read)
+          these_saved ((planned s r.openings).output_events ++ outputs done) (saved_files other m) x.desk y.desk
+          (both (planned s r.openings).output_events (outputs done) [] (saved_files other m)
+          (reading_writes (planned s r.openings).output_events only_read)
           (writes_alike done_other done (saved_files other m) (sym (same_events are_alike 1 tape))
-          (subst (λ (emits : List OutputEvent). WritesFiles emits (saved_files other m)) (sym emitted)
+          (subst (λ (output_events : List OutputEvent). WritesFiles output_events (saved_files other m)) (sym emitted)
           (expected_writes other m zero))))
-          (subst (λ (emits : List OutputEvent). ChangesRecord (after_events emits) x.desk y.desk) outputs_are r.kept)
+          (subst (λ (output_events : List OutputEvent). ChangesRecord (after_events output_events) x.desk y.desk)
+          outputs_are r.kept)
 
       pub promise_for : All (IsFitted other.part) other.tasks → (p : Programmer) (got : List ℕ)
           (later : List (List ℕ)) (executions : List Execution) → IsSoundChip p.chip → p.chip.part ≡ other.part

@@ -29,14 +29,16 @@ some_is a b e = cc
 pub too_much : (plan : Plan) (w v : WiredState) (d e : DeskState) (status : ℕ) (weight : Weight)
     → 4 * total_weight weight (bodies_in (run_steps plan)) < total_weight weight
     (map body_of (frames (sent v.transcript))) → SessionOverWire plan w v d e status → ⊥
-too_much plan w v d e status weight more over = let most = over.line.four weight in absurd (omega (arith, more, most))
+too_much plan w v d e status weight more over = let most = over.along_exchanges.four weight in
+    absurd (omega (arith, more, most))
 
 pub not_all_written : (plan : Plan) (w v : WiredState) (d e : DeskState)
     → (memories v ≡ effects plan.part (items plan) (memories w) → ⊥) → SessionOverWire plan w v d e 0 → ⊥
 not_all_written plan w v d e other over = other ((came_to plan w v d e 0 over refl).0.done refl).memories
 
 pub output_otherwise : (plan : Plan) (w v : WiredState) (d e : DeskState)
-    → (ChangesRecord (after_events (expected_run plan (memories w)).emits) d e → ⊥) → SessionOverWire plan w v d e 0 → ⊥
+    → (ChangesRecord (after_events (expected_run plan (memories w)).output_events) d e → ⊥)
+    → SessionOverWire plan w v d e 0 → ⊥
 output_otherwise plan w v d e other over = search rules
 
 pub touched_in_silence : (plan : Plan) (w v : WiredState) (d e : DeskState) (status : ℕ)

@@ -25,14 +25,14 @@ use Rattle.stk_host.specs.Dialog.{Event, Frame, Emitted, outputs}
 use Rattle.avr_tool.specs.ExpectedRun.{Expected, action_expected, actions_expected, ending_output, expected_run, then_from}
 use Rattle.avr_tool.specs.Items.{action_items}
 use Rattle.avr_laws.specs.Kept.{FilesAreSaved, action_files, actions_files, named_files, dash_output, saved_files}
-use Rattle.avr_laws.specs.OnlyReading.{OnlyReads}
+use Rattle.avr_laws.specs.OnlyReading.{OnlyReadsAndPrints}
 use Rattle.avr_laws.proofs.Outcomes.Alike.{without_lines}
 
 -- ---- what is done at a desk writes these files
 
-pub record WritesFiles (emits : List OutputEvent) (files : List Writing) : Type 0 where
-  pub created : (r : Record) → all_files (after_events emits r) ≡ all_files r ++ named_files files
-  pub output : (r : Record) → (after_events emits r).output ≡ r.output ++ dash_output files
+pub record WritesFiles (output_events : List OutputEvent) (files : List Writing) : Type 0 where
+  pub created : (r : Record) → all_files (after_events output_events r) ≡ all_files r ++ named_files files
+  pub output : (r : Record) → (after_events output_events r).output ≡ r.output ++ dash_output files
 
 named_joined : (fs gs : List Writing) → named_files (fs ++ gs) ≡ named_files fs ++ named_files gs
 named_joined fs gs = filter-append (λ (file : Writing). not (is_dash file.name)) fs gs
@@ -91,19 +91,19 @@ saved_as false file text is =
 abbrev unprinted : Record → Record
 unprinted r = record r { messages = [] }
 
-one_unprinted : (output : OutputEvent) (r : Record)
-    → unprinted (after output (unprinted r)) ≡ unprinted (after output r)
+one_unprinted : (event : OutputEvent) (r : Record)
+    → unprinted (after event (unprinted r)) ≡ unprinted (after event r)
 one_unprinted (Opens (Absent name)) r = refl
 one_unprinted (Opens (Found reading)) r = refl
-one_unprinted output r = refl
+one_unprinted event r = refl
 
-all_unprinted : (emits : List OutputEvent) (r : Record)
-    → unprinted (after_events emits (unprinted r)) ≡ unprinted (after_events emits r)
+all_unprinted : (output_events : List OutputEvent) (r : Record)
+    → unprinted (after_events output_events (unprinted r)) ≡ unprinted (after_events output_events r)
 all_unprinted [] r = refl
-all_unprinted (output ∷ emits) r =
-    sym (all_unprinted emits (after output (unprinted r)))
-    ∙ (ap (λ (k : Record). unprinted (after_events emits k)) (one_unprinted output r)
-    ∙ all_unprinted emits (after output r))
+all_unprinted (event ∷ output_events) r =
+    sym (all_unprinted output_events (after event (unprinted r)))
+    ∙ (ap (λ (k : Record). unprinted (after_events output_events k)) (one_unprinted event r)
+    ∙ all_unprinted output_events (after event r))
 
 lines_dropped : (events : List (Event OutputEvent)) (r : Record)
     → unprinted (after_events (outputs (without_lines events)) r) ≡ unprinted (after_events (outputs events) r)
@@ -112,7 +112,7 @@ lines_dropped (Frame bytes ∷ events) r = lines_dropped events r
 lines_dropped (Emitted (PrintsLine bytes) ∷ events) r =
     lines_dropped events r
     ∙ (sym (all_unprinted (outputs events) r) ∙ all_unprinted (outputs events) (after (PrintsLine bytes) r))
-lines_dropped (Emitted output ∷ events) r = lines_dropped events (after output r)
+lines_dropped (Emitted event ∷ events) r = lines_dropped events (after event r)
 
 pub writes_alike : (a b : List (Event OutputEvent)) (files : List Writing) → without_lines a ≡ without_lines b
     → WritesFiles (outputs a) files → WritesFiles (outputs b) files
@@ -128,13 +128,14 @@ writes_alike a b files same writes = record {
 
 -- ---- planning writes none
 
-pub reading_writes : (emits : List OutputEvent) → OnlyReads emits → WritesFiles emits []
+pub reading_writes : (output_events : List OutputEvent) → OnlyReadsAndPrints output_events
+    → WritesFiles output_events []
 reading_writes [] reads = none
-reading_writes (Opens opening ∷ emits) reads =
-    both (Opens opening ∷ []) emits [] [] (opened opening) (reading_writes emits reads)
-reading_writes (PrintsLine bytes ∷ emits) reads =
-    both (PrintsLine bytes ∷ []) emits [] [] (line bytes) (reading_writes emits reads)
-reading_writes (output ∷ emits) reads = absurd reads
+reading_writes (Opens opening ∷ output_events) reads =
+    both (Opens opening ∷ []) output_events [] [] (opened opening) (reading_writes output_events reads)
+reading_writes (PrintsLine bytes ∷ output_events) reads =
+    both (PrintsLine bytes ∷ []) output_events [] [] (line bytes) (reading_writes output_events reads)
+reading_writes (event ∷ output_events) reads = absurd reads
 
 -- ---- the actions of the expected run
 
@@ -156,12 +157,13 @@ notice : {A : Type 0} (part : Part) (good : A → List OutputEvent) (outcome : R
 notice part good (Ok a) each = each a
 notice part good (Err fault) each = line _
 
-same_signature : (b : Bool) (emits : List OutputEvent) → WritesFiles emits [] → WritesFiles (if b then [] else emits) []
-same_signature true emits writes = none
-same_signature false emits writes = writes
+same_signature : (b : Bool) (output_events : List OutputEvent) → WritesFiles output_events []
+    → WritesFiles (if b then [] else output_events) []
+same_signature true output_events writes = none
+same_signature false output_events writes = writes
 
 module _ (part : Part) (s : Switches) where
-  of_action : (action : Action) (m : Memories) → WritesFiles (action_expected part s action m).emits
+  of_action : (action : Action) (m : Memories) → WritesFiles (action_expected part s action m).output_events
       (action_files part s action m)
   of_action OpenSession m = search (rules, both, informed, warned, same_signature)
   of_action EraseChip m = search (rules, informed)
@@ -181,24 +183,25 @@ module _ (part : Part) (s : Switches) where
   leaves (SkipAction what) m = refl
 
   in_turn : (first : Expected) (standing : Standing) (next : Memories → Expected) (fs gs : List Writing)
-      → first.standing ≡ standing → WritesFiles first.emits fs
-      → ((next first.memories).standing ≡ NoFault → WritesFiles (next first.memories).emits gs)
-      → (then_from first standing next).standing ≡ NoFault → WritesFiles (then_from first standing next).emits (fs
-      ++ gs)
+      → first.standing ≡ standing → WritesFiles first.output_events fs
+      → ((next first.memories).standing ≡ NoFault → WritesFiles (next first.memories).output_events gs)
+      → (then_from first standing next).standing ≡ NoFault → WritesFiles (then_from first standing next).output_events
+      (fs ++ gs)
   in_turn first NoFault next fs gs is one more fine = both _ _ fs gs one (more fine)
   in_turn first Faulty next fs gs is one more fine = absurd (cc (sym is ∙ fine))
   in_turn first Over next fs gs is one more fine = absurd (cc (sym is ∙ fine))
 
   of_actions : (all : List Action) (m : Memories) → (actions_expected part s all m).standing ≡ NoFault
-      → WritesFiles (actions_expected part s all m).emits (actions_files part s all m)
+      → WritesFiles (actions_expected part s all m).output_events (actions_files part s all m)
   of_actions [] m fine = none
   of_actions (action ∷ all) m fine =
       let first = action_expected part s action m in
       in_turn first first.standing (actions_expected part s all) (action_files part s action m)
       (actions_files part s all (effects part (action_items action) m)) refl (of_action action m)
       (subst (λ (n : Memories). (actions_expected part s all n).standing ≡ NoFault
-      → WritesFiles (actions_expected part s all n).emits (actions_files part s all (effects part (action_items action)
-      m))) (sym (leaves action m)) (of_actions all (effects part (action_items action) m))) fine
+      → WritesFiles (actions_expected part s all n).output_events
+      (actions_files part s all (effects part (action_items action) m))) (sym (leaves action m))
+      (of_actions all (effects part (action_items action) m))) fine
 
 fine_by : (standing : Standing) → status_of standing ≡ 0 → standing ≡ NoFault
 fine_by NoFault is = refl
@@ -206,21 +209,21 @@ fine_by Faulty is = absurd (cc is)
 fine_by Over is = absurd (cc is)
 
 pub expected_writes : (plan : Plan) (m : Memories) → (expected_run plan m).status ≡ 0
-    → WritesFiles (expected_run plan m).emits (saved_files plan m)
+    → WritesFiles (expected_run plan m).output_events (saved_files plan m)
 expected_writes plan m zero =
     let working = actions_expected plan.part plan.switches (actions plan) m in
     let fine : working.standing ≡ NoFault = fine_by working.standing zero in
-    subst (λ (files : List Writing). WritesFiles (expected_run plan m).emits files) (append-nil (saved_files plan m))
-    (both working.emits (ending_output plan working.standing) (saved_files plan m) []
-    (of_actions plan.part plan.switches (actions plan) m fine)
+    subst (λ (files : List Writing). WritesFiles (expected_run plan m).output_events files)
+    (append-nil (saved_files plan m)) (both working.output_events (ending_output plan working.standing)
+    (saved_files plan m) [] (of_actions plan.part plan.switches (actions plan) m fine)
     (subst (λ (standing : Standing). WritesFiles (ending_output plan standing) []) (sym fine)
     (informed plan.switches.quiet (codes "done" ∷ []))))
 
 -- ---- a whole run
 
-pub these_saved : (emits : List OutputEvent) (files : List Writing) (old now : DeskState) → WritesFiles emits files
-    → ChangesRecord (after_events emits) old now → FilesAreSaved files old now
-these_saved emits files old now writes passes = record {
+pub these_saved : (output_events : List OutputEvent) (files : List Writing) (old now : DeskState)
+    → WritesFiles output_events files → ChangesRecord (after_events output_events) old now → FilesAreSaved files old now
+these_saved output_events files old now writes passes = record {
   created = ap all_files passes ∙ writes.created old.kept;
   output = ap (λ (r : Record). r.output) passes ∙ writes.output old.kept;
 }

@@ -36,27 +36,27 @@ module _ (Gives : GivesText) where
   -- Each whole opening among these output events gave this.
   abbrev pub AreGiven : List OutputEvent → Type 0
   AreGiven [] = Unit {0}
-  AreGiven (Opens (Found reading) ∷ emits) =
-      (reading.ended ≡ true → Gives reading.name reading.bytes) × AreGiven emits
-  AreGiven (output ∷ emits) = AreGiven emits
+  AreGiven (Opens (Found reading) ∷ output_events) =
+      (reading.ended ≡ true → Gives reading.name reading.bytes) × AreGiven output_events
+  AreGiven (event ∷ output_events) = AreGiven output_events
 
   given_first : (first second : List OutputEvent) → AreGiven (first ++ second) → AreGiven first
   given_first [] second are = tt
   given_first (Opens (Found reading) ∷ first) second are = (are.0, given_first first second are.1)
   given_first (Opens (Absent name) ∷ first) second are = given_first first second are
-  given_first (output ∷ first) second are = given_first first second are
+  given_first (event ∷ first) second are = given_first first second are
 
   given_second : (first second : List OutputEvent) → AreGiven (first ++ second) → AreGiven second
   given_second [] second are = are
   given_second (Opens (Found reading) ∷ first) second are = given_second first second are.1
   given_second (Opens (Absent name) ∷ first) second are = given_second first second are
-  given_second (output ∷ first) second are = given_second first second are
+  given_second (event ∷ first) second are = given_second first second are
 
   -- ---- what a stage made over openings that gave this
 
   record Saw {A : Type 0} (stage : Stage A) (openings : List Opening) (a : A) : Type 0 where
     made : (stage openings).stage_outcome ≡ Produced a
-    are : AreGiven (stage openings).emits
+    are : AreGiven (stage openings).output_events
 
   saw_first : {A B : Type 0} (stage : Stage A) (go_on : A → Stage B) (openings : List Opening) (b : B)
       → Saw (stage >>= go_on) openings b
@@ -174,7 +174,7 @@ module _ (Gives : GivesText) where
       (file.0, file.1.0, parts_given name file.0 parts file.1.1)
 
   -- THE LAW
-  pub plan_asked : (s : Settings) (openings : List Opening) (plan : Plan) → AreGiven (planned s openings).emits
+  pub plan_asked : (s : Settings) (openings : List Opening) (plan : Plan) → AreGiven (planned s openings).output_events
       → (planned s openings).stage_outcome ≡ Produced plan → IsAsked s Gives plan
   plan_asked s openings plan are made =
       let of_part : Part → Stage Plan = λ part. tasks_stage s.switches part [] s.updates

@@ -24,31 +24,31 @@ pub seen_first : (stock : Stock) (first second : List OutputEvent) → AreTrueOp
     → AreTrueOpenings stock first
 seen_first stock [] second seen = tt
 seen_first stock (Opens opening ∷ first) second seen = (seen.0, seen_first stock first second seen.1)
-seen_first stock (output ∷ first) second seen = seen_first stock first second seen
+seen_first stock (event ∷ first) second seen = seen_first stock first second seen
 
 pub seen_second : (stock : Stock) (first second : List OutputEvent) → AreTrueOpenings stock (first ++ second)
     → AreTrueOpenings stock second
 seen_second stock [] second seen = seen
 seen_second stock (Opens opening ∷ first) second seen = seen_second stock first second seen.1
-seen_second stock (output ∷ first) second seen = seen_second stock first second seen
+seen_second stock (event ∷ first) second seen = seen_second stock first second seen
 
 lines_append : (first second : List OutputEvent) → lines_in (first ++ second) ≡ lines_in first ++ lines_in second
 lines_append [] second = refl
 lines_append (PrintsLine bytes ∷ first) second = ap (λ (ls : List Bytes). bytes ∷ ls) (lines_append first second)
-lines_append (output ∷ first) second = lines_append first second
+lines_append (event ∷ first) second = lines_append first second
 
 -- ---- one stage over two lists of openings
 
 -- it has the same outcome and the same output, and if it succeeds it leaves the rest
 pub record IsSame {A : Type 0} (p q : StageResult A) (rest : List Opening) : Type 0 where
   pub stage_outcome : q.stage_outcome ≡ p.stage_outcome
-  pub lines : lines_in q.emits ≡ lines_in p.emits
+  pub lines : lines_in q.output_events ≡ lines_in p.output_events
   pub openings_left : (a : A) → p.stage_outcome ≡ Produced a → q.openings_left ≡ rest
 
 module _ (stock : Stock) where
   -- a stage that reads the files of these names: over the bytes that it saw it is what it is over the whole files
   abbrev Sees : {A : Type 0} → Stage A → List Bytes → Type 0
-  Sees stage names = (openings rest : List Opening) → AreTrueOpenings stock (stage openings).emits
+  Sees stage names = (openings rest : List Opening) → AreTrueOpenings stock (stage openings).output_events
       → ((stage openings).stage_outcome ≡ NotReadToEnd → ⊥)
       → IsSame (stage openings) (stage (openings_of_files stock names ++ rest)) rest
 
@@ -59,8 +59,8 @@ module _ (stock : Stock) where
   settled_fixed : {A : Type 0} (result : Result A Bytes) → Sees (result_stage result) []
   settled_fixed result openings rest seen read = same_verdict result result openings rest refl
 
-  output_fixed : (emits : List OutputEvent) → Sees (output_stage emits) []
-  output_fixed emits openings rest seen read = record {
+  output_fixed : (output_events : List OutputEvent) → Sees (output_stage output_events) []
+  output_fixed output_events openings rest seen read = record {
     stage_outcome = refl;
     lines = refl;
     openings_left = λ made is. refl;
@@ -73,17 +73,17 @@ module _ (stock : Stock) where
       search (rules, map-append, append_assoc, of_first, whole)
     where
       of_first : (p : StageResult A) (stage_outcome : StageOutcome A) → p.stage_outcome ≡ stage_outcome
-          → AreTrueOpenings stock (continued_stage p.emits p.openings_left go_on stage_outcome).emits
-          → AreTrueOpenings stock p.emits
-      of_first p (Produced a) is seen = seen_first stock p.emits (go_on a p.openings_left).emits seen
+          → AreTrueOpenings stock (continued_stage p.output_events p.openings_left go_on stage_outcome).output_events
+          → AreTrueOpenings stock p.output_events
+      of_first p (Produced a) is seen = seen_first stock p.output_events (go_on a p.openings_left).output_events seen
       of_first p (Refused line) is seen = seen
       of_first p NotReadToEnd is seen = seen
 
       whole : (p q : StageResult A) → IsSame p q (openings_of_files stock back ++ rest)
-          → AreTrueOpenings stock (continued_stage p.emits p.openings_left go_on p.stage_outcome).emits
-          → ((continued_stage p.emits p.openings_left go_on p.stage_outcome).stage_outcome ≡ NotReadToEnd → ⊥)
-          → IsSame (continued_stage p.emits p.openings_left go_on p.stage_outcome)
-          (continued_stage q.emits q.openings_left go_on q.stage_outcome) rest
+          → AreTrueOpenings stock (continued_stage p.output_events p.openings_left go_on p.stage_outcome).output_events
+          → ((continued_stage p.output_events p.openings_left go_on p.stage_outcome).stage_outcome ≡ NotReadToEnd → ⊥)
+          → IsSame (continued_stage p.output_events p.openings_left go_on p.stage_outcome)
+          (continued_stage q.output_events q.openings_left go_on q.stage_outcome) rest
       whole p q same seen read = search (rules, seen_second, lines_append)
 
   -- ---- a file
@@ -150,9 +150,9 @@ module _ (stock : Stock) where
       (λ A B stage go_on first back f g. onward stage go_on first back f g)
 
   -- planning over what was seen of the files is planning over the files
-  pub seen_is_planned : (s : Settings) (openings : List Opening) → AreTrueOpenings stock (planned s openings).emits
-      → ((planned s openings).stage_outcome ≡ NotReadToEnd → ⊥)
-      → ((planned_from_files s stock).stage_outcome ≡ (planned s openings).stage_outcome)
+  pub seen_is_planned : (s : Settings) (openings : List Opening)
+      → AreTrueOpenings stock (planned s openings).output_events → ((planned s openings).stage_outcome ≡ NotReadToEnd
+      → ⊥) → ((planned_from_files s stock).stage_outcome ≡ (planned s openings).stage_outcome)
       × (lines_in (all_events_of (planned_from_files s stock)) ≡ lines_in (all_events_of (planned s openings)))
   seen_is_planned s openings seen read =
       let same = plan_sees s openings [] seen read in search (rules, lines_append)

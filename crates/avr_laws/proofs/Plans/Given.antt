@@ -10,7 +10,7 @@ use Rattle.avr_desk.proofs.Stages.Breaks.{openings_in, openings_shown}
 use Rattle.avr_desk.specs.Memory.{Stock, content_of_name}
 use Rattle.avr_desk.specs.Record.{Bytes, DeskState, ChangesRecord, Record, all_openings}
 use Rattle.avr_desk.specs.OutputEvents.{OutputEvent, Opens, after_events}
-use Rattle.avr_desk.specs.Playing.{StageCompleted}
+use Rattle.avr_desk.specs.StageRuns.{StageCompleted}
 use Rattle.avr_desk.specs.Stage.{Produced, StageResult}
 use Rattle.avr_desk.specs.declared.record.Opening.{Opening}
 use Rattle.avr_desk.specs.declared.record.Opening.TheVariants.{Absent, Found}
@@ -26,29 +26,29 @@ use Rattle.avr_laws.specs.FilesRead.{AreTrueOpenings}
 
 -- ---- at files in memory
 
-seen_given : (stock : Stock) (emits : List OutputEvent) → AreTrueOpenings stock emits
-    → AreGiven (FileHolds (content_of_name stock [])) emits
+seen_given : (stock : Stock) (output_events : List OutputEvent) → AreTrueOpenings stock output_events
+    → AreGiven (FileHolds (content_of_name stock [])) output_events
 seen_given stock [] seen = tt
-seen_given stock (Opens (Found reading) ∷ emits) seen = search (rules, seen_given stock emits seen.1)
-seen_given stock (Opens (Absent name) ∷ emits) seen = seen_given stock emits seen.1
-seen_given stock (output ∷ emits) seen = seen_given stock emits seen
+seen_given stock (Opens (Found reading) ∷ output_events) seen = search (rules, seen_given stock output_events seen.1)
+seen_given stock (Opens (Absent name) ∷ output_events) seen = seen_given stock output_events seen.1
+seen_given stock (event ∷ output_events) seen = seen_given stock output_events seen
 
 pub seen_asked : (stock : Stock) (s : Settings) (openings : List Opening) (plan : Plan)
-    → AreTrueOpenings stock (planned s openings).emits
+    → AreTrueOpenings stock (planned s openings).output_events
     → (planned s openings).stage_outcome ≡ Produced plan → IsAsked s (FileHolds (content_of_name stock [])) plan
 seen_asked stock s openings plan seen made =
-    plan_asked (FileHolds (content_of_name stock [])) s openings plan (seen_given stock (planned s openings).emits seen)
-    made
+    plan_asked (FileHolds (content_of_name stock [])) s openings plan
+    (seen_given stock (planned s openings).output_events seen) made
 
 -- ---- by a desk's record
 
 module _ (G H : GivesText) (each : (name text : Bytes) → G name text → H name text) where
-  given_more : (emits : List OutputEvent) → AreGiven G emits → AreGiven H emits
+  given_more : (output_events : List OutputEvent) → AreGiven G output_events → AreGiven H output_events
   given_more [] are = tt
-  given_more (Opens (Found reading) ∷ emits) are =
-      (λ ended. each reading.name reading.bytes (are.0 ended), given_more emits are.1)
-  given_more (Opens (Absent name) ∷ emits) are = given_more emits are
-  given_more (output ∷ emits) are = given_more emits are
+  given_more (Opens (Found reading) ∷ output_events) are =
+      (λ ended. each reading.name reading.bytes (are.0 ended), given_more output_events are.1)
+  given_more (Opens (Absent name) ∷ output_events) are = given_more output_events are
+  given_more (event ∷ output_events) are = given_more output_events are
 
 -- this whole text is of one of these openings
 abbrev Among : List Opening → GivesText
@@ -58,23 +58,24 @@ later : (first : List Opening) (openings : List Opening) (name text : Bytes) →
     → Among (first ++ openings) name text
 later first openings name text among = Contains-append_right first openings _ among
 
-among : (emits : List OutputEvent) → AreGiven (Among (openings_in emits)) emits
+among : (output_events : List OutputEvent) → AreGiven (Among (openings_in output_events)) output_events
 among [] = tt
-among (Opens (Found reading) ∷ emits) = (
-  λ ended. subst (λ (b : Bool). Contains (Found reading ∷ openings_in emits) (Found (record reading { ended = b })))
+among (Opens (Found reading) ∷ output_events) = (
+  λ ended. subst (λ (b : Bool). Contains (Found reading ∷ openings_in output_events)
+      (Found (record reading { ended = b })))
       ended (0, omega arith, refl),
-  given_more (Among (openings_in emits)) (Among (Found reading ∷ openings_in emits))
-      (later (Found reading ∷ []) (openings_in emits)) emits (among emits),
+  given_more (Among (openings_in output_events)) (Among (Found reading ∷ openings_in output_events))
+      (later (Found reading ∷ []) (openings_in output_events)) output_events (among output_events),
 )
-among (Opens (Absent name) ∷ emits) =
-    given_more (Among (openings_in emits)) (Among (Absent name ∷ openings_in emits))
-    (later (Absent name ∷ []) (openings_in emits)) emits (among emits)
-among (output ∷ emits) = among emits
+among (Opens (Absent name) ∷ output_events) =
+    given_more (Among (openings_in output_events)) (Among (Absent name ∷ openings_in output_events))
+    (later (Absent name ∷ []) (openings_in output_events)) output_events (among output_events)
+among (event ∷ output_events) = among output_events
 
 openings_joined : (first second : List OutputEvent)
     → openings_in (first ++ second) ≡ openings_in first ++ openings_in second
 openings_joined [] second = refl
-openings_joined (output ∷ first) second = search (rules, append_assoc, openings_joined first second)
+openings_joined (event ∷ first) second = search (rules, append_assoc, openings_joined first second)
 
 past : {A : Type 0} (xs ys : List A) → drop (length xs) (xs ++ ys) ≡ ys
 past [] ys = refl
@@ -91,25 +92,26 @@ since old new outputs passes =
 -- so a plan is the one that the settings and the files that were opened ask for
 pub desk_asked : (s : Settings) (openings : List Opening) (plan : Plan) (old new : DeskState)
     (more : List OutputEvent) → (planned s openings).stage_outcome ≡ Produced plan
-    → ChangesRecord (after_events ((planned s openings).emits ++ more)) old new → IsAsked s (FileGave old new) plan
+    → ChangesRecord (after_events ((planned s openings).output_events ++ more)) old new
+    → IsAsked s (FileGave old new) plan
 desk_asked s openings plan old new more made passes =
-    let emits = (planned s openings).emits in
-    let are : openings_in emits ++ openings_in more
+    let output_events = (planned s openings).output_events in
+    let are : openings_in output_events ++ openings_in more
     ≡ drop (length (all_openings old.kept)) (all_openings new.kept) =
-    sym (since old new (emits ++ more) passes ∙ openings_joined emits more) in
+    sym (since old new (output_events ++ more) passes ∙ openings_joined output_events more) in
     plan_asked (FileGave old new) s openings plan
-    (given_more (Among (openings_in emits)) (FileGave old new)
+    (given_more (Among (openings_in output_events)) (FileGave old new)
     (λ name text among. subst (λ (os : List Opening). Among os name text) are
-    (Contains-append_left (openings_in emits) (openings_in more) _ among))
-    emits (among emits)) made
+    (Contains-append_left (openings_in output_events) (openings_in more) _ among))
+    output_events (among output_events)) made
 
 pub went_asked : (s : Settings) (plan : Plan) (old new : DeskState) → StageCompleted (planned s) old new (Produced plan)
     → IsAsked s (FileGave old new) plan
 went_asked s plan old new went =
     desk_asked s (went.passed ++ []) plan old new []
     (ap (λ (p : StageResult Plan). p.stage_outcome) (went.comes []))
-    (subst (λ (emits : List OutputEvent). ChangesRecord (after_events emits) old new)
-    (sym (append-nil _ ∙ ap (λ (p : StageResult Plan). p.emits) (went.comes []))) went.kept)
+    (subst (λ (output_events : List OutputEvent). ChangesRecord (after_events output_events) old new)
+    (sym (append-nil _ ∙ ap (λ (p : StageResult Plan). p.output_events) (went.comes []))) went.kept)
 
 -- ---- a later state of the desk shows the same openings, and more
 

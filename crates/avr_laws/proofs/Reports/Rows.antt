@@ -31,7 +31,7 @@ zeros = chip_filled_with tiny 0
 -- the last bytes of a line, last first
 abbrev ends : OutputEvent → List ℕ
 ends (PrintsLine bytes) = take 10 (reverse bytes)
-ends output = []
+ends event = []
 
 joined : (m n c d e l : List ℕ) → m ++ ((n ++ (c ++ (d ++ (e ++ [])))) ++ l) ≡ (m ++ (n ++ (c ++ d))) ++ (e ++ l)
 joined (x ∷ m) n c d e l = ap (λ t. x ∷ t) (joined m n c d e l)
@@ -60,7 +60,7 @@ not_begun mem bytes (x ∷ y ∷ rest) later order now = search (rules, no_more)
 -- the byte of a line at this place, and whether it is a line
 abbrev byte : ℕ → OutputEvent → ℕ
 byte place (PrintsLine bytes) = slice_index bytes place
-byte place output = 0
+byte place event = 0
 
 not_saved : (line file text : Bytes) → (PrintsLine line ≡ CreatesFile file)
     ⊎ ((PrintsLine line ≡ WritesFile text) ⊎ (PrintsLine line ≡ WritesOutput text)) → ⊥

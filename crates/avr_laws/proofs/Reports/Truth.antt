@@ -45,10 +45,10 @@ link = this_link device
 -- each output event of a dialog that prints what is true is true at that moment
 all_true : (True : OutputEvent → Programmer → Type 0) {R : Type 0} (Now : Moment) (After : End R) (k : ℕ)
     (d : Dialog OutputEvent R) (z : Spot) → PrintsFrom True Now After d z
-    → ReportsTrue device (λ q output. True output q) k d z.0 z.1
+    → ReportsTrue device (λ q event. True event q) k d z.0 z.1
 all_true True Now After k (Done r) z h = tt
-all_true True Now After k (Emit output d) z h =
-    (h.0, all_true True (λ x. Now (output ∷ x)) (λ r x. After r (output ∷ x)) k d z h.1)
+all_true True Now After k (Emit event d) z h =
+    (h.0, all_true True (λ x. Now (event ∷ x)) (λ r x. After r (event ∷ x)) k d z h.1)
 all_true True Now After zero (Ask bytes go_on) z h = tt
 all_true True Now After (suc k) (Ask bytes go_on) z h = all_true True Now After k (go_on _) (link.after bytes z tt) h.1
 
@@ -65,7 +65,7 @@ hold_unless T false x q t = (t, tt)
 
 module _ (plan : Plan) (sound : IsPart plan.part) (m0 : Memories) (f0 : FitsPart plan.part m0) where
   abbrev pub T : OutputEvent → Programmer → Type 0
-  T output q = IsTrueReport plan m0 (memories_of q.chip) output
+  T event q = IsTrueReport plan m0 (memories_of q.chip) event
 
   informs_hold : (quiet : ℕ) (pieces : List Bytes) (q : Programmer) → T (PrintsLine (information pieces)) q
       → AllTrue T (informs quiet pieces) q
@@ -198,7 +198,7 @@ module _ (plan : Plan) (sound : IsPart plan.part) (m0 : Memories) (f0 : FitsPart
 
   pub session_reports : All (IsFitted plan.part) plan.tasks → (k : ℕ) (p : Programmer) (exchanges : List Exchange)
       → HasMemories plan.part m0 p
-      → ReportsTrue device (λ q output. IsTrueReport plan m0 (memories_of q.chip) output) k (session plan) p exchanges
+      → ReportsTrue device (λ q event. IsTrueReport plan m0 (memories_of q.chip) event) k (session plan) p exchanges
   session_reports fitted k p exchanges idle =
       all_true T (AtMoment plan m0) (AtEnd plan m0 ⊤) k (session plan) (p, exchanges)
       (session_goes fitted p exchanges idle).holds

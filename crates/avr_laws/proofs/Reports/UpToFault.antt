@@ -65,9 +65,9 @@ was_fine first next at stands fine = search (rules, then_at)
 
 actions_prefix : (part : Part) (s : Switches) (done more : List Action) (m : Memories)
     → (actions_expected part s done m).standing ≡ NoFault
-    → (later : List OutputEvent) × ((actions_expected part s (done ++ more) m).emits
-    ≡ (actions_expected part s done m).emits ++ later)
-actions_prefix part s [] more m fine = ((actions_expected part s more m).emits, refl)
+    → (later : List OutputEvent) × ((actions_expected part s (done ++ more) m).output_events
+    ≡ (actions_expected part s done m).output_events ++ later)
+actions_prefix part s [] more m fine = ((actions_expected part s more m).output_events, refl)
 actions_prefix part s (action ∷ done) more m fine =
     let c = action_expected part s action m in
     let stands = was_fine c (actions_expected part s done) c.standing refl fine in
@@ -75,13 +75,13 @@ actions_prefix part s (action ∷ done) more m fine =
     let rest = actions_prefix part s done more c.memories (sym (ap (λ x. x.standing) on) ∙ fine) in
     search (rules, then_at, append_assoc)
 
-pub first_prefix : (plan : Plan) (m : Memories) (emits : List OutputEvent)
-    → FirstActionsOutput plan.part plan.switches (actions plan) m emits
-    → (later : List OutputEvent) × ((expected_run plan m).emits ≡ emits ++ later)
-first_prefix plan m emits first =
+pub first_prefix : (plan : Plan) (m : Memories) (output_events : List OutputEvent)
+    → FirstActionsOutput plan.part plan.switches (actions plan) m output_events
+    → (later : List OutputEvent) × ((expected_run plan m).output_events ≡ output_events ++ later)
+first_prefix plan m output_events first =
     let prefix = actions_prefix plan.part plan.switches first.done first.more m first.fine in
     let ending = ending_output plan (working_expected plan m).standing in (
       prefix.0 ++ ending,
       ap (λ xs. xs ++ ending) (search rules)
-          ∙ append_assoc emits prefix.0 ending,
+          ∙ append_assoc output_events prefix.0 ending,
     )

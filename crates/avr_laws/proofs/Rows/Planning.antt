@@ -23,7 +23,7 @@ use Rattle.avr_plan.specs.Lines.{no_part_line}
 use Rattle.avr_plan.specs.Plan.{Plan}
 use Rattle.avr_plan.specs.Planning.{planned, file_image_stage, checked_image}
 use Rattle.avr_plan.specs.AllocationPoints.{AtAllocatingUpdate, op_allocates}
-use Rattle.avr_desk.specs.Playing.{OnlyAtStart, RunsStage}
+use Rattle.avr_desk.specs.StageRuns.{OnlyAtStart, RunsStage}
 use Rattle.avr_desk.specs.Stage.{Stage, Produced, Refused, result_stage, file_stage, ◌>>=◌}
 use Rattle.avr_plan.specs.declared.planned.Task.{Task}
 use Rattle.avr_plan.specs.declared.planned.Task.TheVariants.{Write}
@@ -93,17 +93,17 @@ begins_mixed : (passed : List Opening) (emitted : List OutputEvent) (done : List
     (made : Plan)
     → of_values ∷ of_file ∷ [] ≡ done ++ due ∷ more → op_allocates due due.op ≡ true
     → planned (record mixed { updates = done }) passed ≡ record {
-      emits = emitted;
+      output_events = emitted;
       stage_outcome = Produced made;
       openings_left = [];
     } → (passed ≡ []) × (emitted ≡ [])
-begins_mixed passed emitted [] due more made is takes planned_so = search rules
-begins_mixed passed emitted (x ∷ done) due more made is takes planned_so = search (rules, only_due)
+begins_mixed passed emitted [] due more made is allocates planned_so = search rules
+begins_mixed passed emitted (x ∷ done) due more made is allocates planned_so = search (rules, only_due)
 
 takes_first : (passed : List Opening) (emitted : List OutputEvent) → AtAllocatingUpdate mixed passed emitted
     → (passed ≡ []) × (emitted ≡ [])
 takes_first passed emitted at =
-    begins_mixed passed emitted at.done at.due at.more at.plan at.updates_are at.takes at.is_planned
+    begins_mixed passed emitted at.done at.due at.more at.plan at.updates_are at.allocates at.is_planned
 
 -- values alone, and a part file: not before that was opened
 abbrev parted : Settings
@@ -183,7 +183,7 @@ abbrev refusal : Bytes
 refusal = no_part_line (codes "t99")
 
 lacks : (openings : List Opening) → planned lacking openings
-    ≡ record { emits = []; stage_outcome = Refused refusal; openings_left = openings }
+    ≡ record { output_events = []; stage_outcome = Refused refusal; openings_left = openings }
 lacks openings = refl
 
 module _ (r : Record) (k l m n status : ℕ) where

@@ -168,7 +168,7 @@ output_few : {R : Type 0} (Post : ℕ → R → Type 0) (k : ℕ) (outputs : Lis
     → Misses Post k d
     → Misses Post k (emits outputs d)
 output_few Post k [] d f = f
-output_few Post k (output ∷ outputs) d f = output_few Post k outputs d f
+output_few Post k (event ∷ outputs) d f = output_few Post k outputs d f
 
 reported_few : {A : Type 0} (call : Dialog ⊥ (Result A HostFault)) (is_reported : Result A HostFault → List OutputEvent)
     → Misses AfterCall 8 call → Misses AfterAction 8 (reported call is_reported)

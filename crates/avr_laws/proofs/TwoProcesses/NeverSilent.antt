@@ -77,7 +77,8 @@ pub record Straight {E R P : Type 0} (m : Device P) (d : Dialog E R) (n : ℕ) (
   pub dialog : (state_after m (length (frames_in (played d n tape).events)) d p []).dialog ≡ Done r
   pub programmer : (state_after m (length (frames_in (played d n tape).events)) d p []).programmer
       ≡ after_sent_frames m (frames_in (played d n tape).events) (all_executed h) p
-  pub emits : outputs (played d n tape).events ≡ outputs_after m (length (frames_in (played d n tape).events)) d p []
+  pub output_is : outputs (played d n tape).events ≡ outputs_after m (length (frames_in (played d n tape).events))
+      d p []
 
 abbrev result_of : {R : Type 0} → R → Option (R × ℕ × Tape) → R
 result_of other None = other

@@ -151,7 +151,7 @@ module _ (plan : Plan) (s : chips.ChipState) (is_sound : IsSoundChip s) (part_is
       pub expected_of : (left : Programmer) → HasServed (fresh_programmer s) server left → IsJoined host server
           → HasNoTimeout (heard host)
           → (status ≡ (expected_run plan (memories_of s)).status)
-          × (outputs events ≡ (expected_run plan (memories_of s)).emits)
+          × (outputs events ≡ (expected_run plan (memories_of s)).output_events)
           × (memories_of left.chip ≡ (expected_run plan (memories_of s)).memories)
       expected_of left serves joined prompt =
           let p : Programmer = fresh_programmer s in
@@ -241,7 +241,7 @@ module _ (plan : Plan) (s : chips.ChipState) (is_sound : IsSoundChip s) (part_is
         → (ran : RanWhole (session plan) start old new status after)
         → (serves : ServesChip s file most server_old server_new served_status)
         → (status ≡ (expected_run plan (memories_of s)).status)
-        × (outputs ran.events ≡ (expected_run plan (memories_of s)).emits)
+        × (outputs ran.events ≡ (expected_run plan (memories_of s)).output_events)
         × (memories_of serves.left.programmer.chip ≡ (expected_run plan (memories_of s)).memories)
     one_expected after ordered prompt host_old host_new server_none server_some ran serves =
         expected_of (host_transcript calls) (server_transcript calls) ordered.endless

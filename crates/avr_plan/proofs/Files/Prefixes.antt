@@ -56,7 +56,7 @@ records-long found size reader text takes =
     ∙ reads-sound reader.kind reader.progress reader.part text takes.stands.reads in
     subst (λ f. TooLong ≡ fault_of_long_file f text size) (sym takes.of_kind) (sound-long reader.kind size text none)
 
-pub raw-too-long : (found : Found) (size : ℕ) (reader : raw_file.Holding) (text : Bytes)
+pub raw-too-long : (found : Found) (size : ℕ) (reader : raw_file.RawReaderState) (text : Bytes)
     → RawReaderWasFed found size reader text
     → TooLong ≡ fault_of_long_file found text size
 raw-too-long found size reader text takes = subst (λ f. TooLong ≡ fault_of_long_file f text size) (sym takes.of_kind)

@@ -15,7 +15,7 @@ use Rattle.avr_plan.specs.declared.image_file.TheConstants.{LARGEST_IMAGE_FILE}
 use Rattle.avr_plan.specs.ImageReading.{ReadsImage, ImageIsRead, CountsReadFault}
 use Rattle.avr_plan.specs.Lines.{bad_file_line, image_line}
 use Rattle.avr_plan.specs.Planning.{file_image_stage, checked_image, image_or_line, warning_events}
-use Rattle.avr_desk.specs.Playing.{OnlyAtStart, RunsStage, StageCompleted}
+use Rattle.avr_desk.specs.StageRuns.{OnlyAtStart, RunsStage, StageCompleted}
 use Rattle.avr_desk.specs.Stage.{Stage, Produced, ◌>>=◌, result_stage, output_stage, file_stage}
 use Rattle.avr_plan.specs.declared.intake.BadFile.{BadFile}
 use Rattle.avr_plan.specs.declared.image_file.ReadFault.{ReadFault}

@@ -16,7 +16,7 @@ use Rattle.avr_desk.proofs.Stages.Played.{went_settled, goes_unsettled}
 use Rattle.avr_plan.specs.declared.part_choice.TheConstants.{LARGEST_PART_FILE}
 use Rattle.avr_plan.specs.Lines.{part_file_line}
 use Rattle.avr_plan.specs.Planning.{checked_parts, parts_or_line}
-use Rattle.avr_desk.specs.Playing.{OnlyAtStart, RunsStage, StageCompleted}
+use Rattle.avr_desk.specs.StageRuns.{OnlyAtStart, RunsStage, StageCompleted}
 use Rattle.avr_desk.specs.Stage.{Produced, file_stage}
 
 pub goes_long_parts : (file bytes : Bytes) (ended : Bool) (old mid new : DeskState) (status : ℕ)

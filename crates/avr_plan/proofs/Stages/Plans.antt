@@ -9,7 +9,7 @@ use Rattle.avr_desk.proofs.Stages.Files.{never_allocates}
 use Rattle.avr_desk.proofs.Stages.Played.{runs_then, runs_first_only, completed_then}
 use Rattle.avr_plan.specs.Plan.{Plan}
 use Rattle.avr_plan.specs.Planning.{parts_stage, part_stage, tasks_stage, planned}
-use Rattle.avr_desk.specs.Playing.{OnlyAtStart, RunsStage, AllocationPoints, StageCompleted}
+use Rattle.avr_desk.specs.StageRuns.{OnlyAtStart, RunsStage, AllocationPoints, StageCompleted}
 use Rattle.avr_plan.specs.AllocationPoints.{AtAllocatingUpdate, AtAllocatingTask}
 use Rattle.avr_desk.specs.Stage.{Stage, Produced, continued_stage, ◌>>=◌, result_stage}
 use Rattle.avr_plan.specs.declared.planned.Task.{Task}
@@ -44,7 +44,8 @@ at_due : (s : Settings) (old first mid : DeskState) (parts : List Part) (part : 
     (went : StageCompleted (parts_stage s.parts) old first (Produced parts))
     (found : StageCompleted (part_stage s.part parts) first mid (Produced part)) (passed : List Opening)
     (emitted : List OutputEvent) → AtAllocatingTask s.switches part [] s.updates passed emitted
-    → AtAllocatingUpdate s (went.passed ++ (found.passed ++ passed)) (went.emits ++ (found.emits ++ emitted))
+    → AtAllocatingUpdate s (went.passed ++ (found.passed ++ passed)) (went.output_events
+    ++ (found.output_events ++ emitted))
 at_due s old first mid parts part went found passed emitted due = search (rules, planned_so, before)
   where
     before : Settings
@@ -54,16 +55,16 @@ at_due s old first mid parts part went found passed emitted due = search (rules,
     made = tasks_stage s.switches part [] due.done >>= λ tasks. result_stage (Ok (plan_of s part tasks))
 
     made_so : made passed ≡ record {
-      emits = emitted ++ [];
+      output_events = emitted ++ [];
       stage_outcome = Produced (plan_of s part due.made);
       openings_left = [];
     }
-    made_so = ap (λ p. continued_stage p.emits p.openings_left (λ ts. result_stage (Ok (plan_of s part ts)))
+    made_so = ap (λ p. continued_stage p.output_events p.openings_left (λ ts. result_stage (Ok (plan_of s part ts)))
         p.stage_outcome) due.are_made
 
     planned_so : planned before (went.passed ++ (found.passed ++ passed))
         ≡ record {
-          emits = went.emits ++ (found.emits ++ emitted);
+          output_events = went.output_events ++ (found.output_events ++ emitted);
           stage_outcome = Produced (plan_of s part due.made);
           openings_left = [];
         }
@@ -72,16 +73,16 @@ at_due s old first mid parts part went found passed emitted due = search (rules,
 
 -- allocation points after the part file
 abbrev Behind : Settings → List Opening → List OutputEvent → AllocationPoints
-Behind s before emits passed emitted = AtAllocatingUpdate s (before ++ passed) (emits ++ emitted)
+Behind s before output_events passed emitted = AtAllocatingUpdate s (before ++ passed) (output_events ++ emitted)
 
 pub goes_without_tasks : (s : Settings) (old first mid new : DeskState) (status : ℕ) (parts : List Part) (part : Part)
     → StageCompleted (parts_stage s.parts) old first (Produced parts) → StageCompleted (part_stage s.part parts) first
     mid (Produced part) → RunsStage (AtAllocatingTask s.switches part [] s.updates) (tasks_stage s.switches part []
     s.updates) mid new (Err status) → RunsStage (AtAllocatingUpdate s) (planned s) old new (Err status)
 goes_without_tasks s old first mid new status parts part went found goes =
-    runs_then (Behind s went.passed went.emits) (AtAllocatingUpdate s) (parts_stage s.parts) (behind_parts s) old first
-    new parts (Err status) went (λ passed emitted there. there)
-    (runs_then (AtAllocatingTask s.switches part [] s.updates) (Behind s went.passed went.emits)
+    runs_then (Behind s went.passed went.output_events) (AtAllocatingUpdate s) (parts_stage s.parts) (behind_parts s)
+    old first new parts (Err status) went (λ passed emitted there. there)
+    (runs_then (AtAllocatingTask s.switches part [] s.updates) (Behind s went.passed went.output_events)
     (part_stage s.part parts) (behind_part s) first mid new part (Err status) found (at_due s old first mid parts part
     went found) (search (rules, runs_first_only)))
 

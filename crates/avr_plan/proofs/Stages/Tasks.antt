@@ -14,7 +14,7 @@ use Rattle.avr_part.specs.declared.part.Mem.{Mem}
 use Rattle.avr_desk.proofs.Stages.Played.{runs_to_refusal, runs_then, runs_first_only, goes_within}
 use Rattle.avr_plan.specs.Lines.{read_only_line}
 use Rattle.avr_plan.specs.Planning.{file_image_stage, image_stage, update_image, write_stage, task_stage, tasks_stage}
-use Rattle.avr_desk.specs.Playing.{OnlyAtStart, RunsStage, StageCompleted}
+use Rattle.avr_desk.specs.StageRuns.{OnlyAtStart, RunsStage, StageCompleted}
 use Rattle.avr_plan.specs.AllocationPoints.{AtAllocatingTask, has_immediate_values, op_allocates}
 use Rattle.avr_desk.specs.Stage.{Stage, Produced, ◌>>=◌, result_stage}
 use Rattle.avr_plan.specs.declared.planned.Task.{Task}
@@ -28,11 +28,11 @@ file_stage-is switches memory size file format other = search rules
 
 module _ (switches : Switches) (memory : Mem) (size size' : ℕ) (file file' : Bytes) (format : Format)
     (old new : DeskState) (result : Result (List (Option ℕ)) ℕ) (sizes : size ≡ size') (files : file ≡ file') where
-  goes_of_same : (takes : Bool) → has_immediate_values format ≡ takes
-      → RunsStage (OnlyAtStart takes) (image_stage switches memory size file format) old new result
+  goes_of_same : (allocates : Bool) → has_immediate_values format ≡ allocates
+      → RunsStage (OnlyAtStart allocates) (image_stage switches memory size file format) old new result
       → RunsStage (OnlyAtStart (has_immediate_values format)) (image_stage switches memory size' file' format) old new
       result
-  goes_of_same takes values goes = search rules
+  goes_of_same allocates values goes = search rules
 
   pub goes_of_file : (format ≡ Immediate → ⊥)
       → RunsStage (OnlyAtStart false) (file_image_stage switches file format size) old new result
@@ -64,27 +64,27 @@ module _ (switches : Switches) (part : Part) (tasks : List Task) (u : Update) (u
   -- the update is due
   at_first : (passed : List Opening) (emitted : List OutputEvent) → OnlyAtStart (op_allocates u u.op) passed emitted
       → AtAllocatingTask switches part tasks (u ∷ updates) passed emitted
-  at_first passed emitted takes = record {
+  at_first passed emitted allocates = record {
     done = [];
     due = u;
     more = updates;
     updates_are = refl;
-    takes = takes.0;
+    allocates = allocates.0;
     made = tasks;
-    are_made = rw (takes.1, takes.2) refl;
+    are_made = rw (allocates.1, allocates.2) refl;
   }
 
   -- or a later update, whose task it is
   at_later : (old mid : DeskState) (task : Task) (went : StageCompleted (task_stage switches part u) old mid
       (Produced task)) (passed : List Opening) (emitted : List OutputEvent)
       → AtAllocatingTask switches part (tasks ++ task ∷ []) updates passed emitted
-      → AtAllocatingTask switches part tasks (u ∷ updates) (went.passed ++ passed) (went.emits ++ emitted)
+      → AtAllocatingTask switches part tasks (u ∷ updates) (went.passed ++ passed) (went.output_events ++ emitted)
   at_later old mid task went passed emitted later = record {
     done = u ∷ later.done;
     due = later.due;
     more = later.more;
     updates_are = ap (λ (us : List Update). u ∷ us) later.updates_are;
-    takes = later.takes;
+    allocates = later.allocates;
     made = later.made;
     are_made = search rules;
   }

@@ -12,7 +12,7 @@ use Rattle.avr_part.specs.declared.part.Mem.{Mem}
 use Rattle.avr_desk.proofs.Stages.Played.{went_settled, goes_unsettled, runs_without_memory}
 use Rattle.avr_plan.specs.Lines.{values_line}
 use Rattle.avr_plan.specs.Planning.{image_stage, values_or_line}
-use Rattle.avr_desk.specs.Playing.{OnlyAtStart, RunsStage, StageCompleted}
+use Rattle.avr_desk.specs.StageRuns.{OnlyAtStart, RunsStage, StageCompleted}
 use Rattle.avr_desk.specs.Stage.{Produced}
 
 abbrev Image : Type 0

@@ -6,13 +6,13 @@ use Rattle.std.proofs.lemmas.Bool.Decides.{nat_tests}
 use Rattle.std.proofs.Math.Seq.{take-append-add}
 use Rattle.std.proofs.lemmas.List.{append-nil, append_assoc, length-replicate, length-take-le, map-append, take_all}
 use Rattle.avr_image.specs.Image.{empty}
-use Rattle.avr_records.proofs.Readers.Held.{holds-more, holds-next, holds-bad, together-holds}
+use Rattle.avr_records.proofs.Readers.Held.{holds-more, holds-next, holds-bad, image_of_lines-holds}
 use Rattle.avr_records.proofs.Readers.LaterLines.{parts-some, pasted-last, slice_split-append}
 use Rattle.avr_records.specs.Closed.{all_but_last, first_fault_among, ended_lines_fault, unit_unless_fault}
 use Rattle.avr_records.specs.Lines.{lines, is_line_end}
 use Rattle.avr_records.specs.Progress.{image_size}
-use Rattle.avr_records.specs.Reader.{kept, ReadsLines}
-use Rattle.avr_records.specs.Reading.{line_result, together, image_in_text}
+use Rattle.avr_records.specs.Reader.{kept_of_line, ReadsLines}
+use Rattle.avr_records.specs.Reading.{line_result, image_of_lines, image_in_text}
 use Rattle.avr_records.specs.Meaning.{Nothing}
 use Rattle.avr_records.specs.Record.{longest}
 use Rattle.avr_records.specs.Steps.{next_progress, ending_of, no_lines}
@@ -45,7 +45,7 @@ but_last first (next ∷ more) = let rest = but_last next more in (rest.0, ap (�
 -- ---- what is kept of a line
 
 pub kept-more : (part more : List ℕ) (room : ℕ) → room + length part ≡ longest + 1
-    → part ++ take room more ≡ kept (part ++ more)
+    → part ++ take room more ≡ kept_of_line (part ++ more)
 kept-more part more room is = search (rules, take-append-add part more room)
 
 take-again : (n : ℕ) (xs ys : List ℕ) → take n (take n xs ++ ys) ≡ take n (xs ++ ys)
@@ -57,17 +57,17 @@ emits-too_long : (kind : Kind) (line : List ℕ) → nat_lt longest (length line
 emits-too_long x line is = grind (arith, nat_tests)
 
 -- the kept bytes of a line mean what the line means
-pub result-kept : (kind : Kind) (line : List ℕ) → line_result kind (kept line) ≡ line_result kind line
+pub result-kept : (kind : Kind) (line : List ℕ) → line_result kind (kept_of_line line) ≡ line_result kind line
 result-kept kind line =
     elim (cases_Bool (nat_lt longest (length line))) [
       | inl t ↦
           let len = length-take-le (longest + 1) line (grind (arith, nat_tests)) in
-          emits-too_long kind (kept line) (grind (arith, nat_tests)) ∙ sym (emits-too_long kind line t)
+          emits-too_long kind (kept_of_line line) (grind (arith, nat_tests)) ∙ sym (emits-too_long kind line t)
       | inr f ↦ ap (line_result kind) (take_all (longest + 1) line (grind (arith, nat_tests, f)))
     ]
 
 -- the kept bytes, continued, mean what the line continued means
-meant-on : (kind : Kind) (part last rest : List ℕ) → part ≡ kept last
+meant-on : (kind : Kind) (part last rest : List ℕ) → part ≡ kept_of_line last
     → line_result kind (part ++ rest) ≡ line_result kind (last ++ rest)
 meant-on kind part last rest is =
     search (rules, result-kept kind (part ++ rest), take-again (longest + 1) last rest, result-kept kind (last ++ rest))
@@ -76,13 +76,13 @@ meant-on kind part last rest is =
 
 -- the piece continues the last line without an end
 keeps : (kind : Kind) (p : Progress) (part text more : List ℕ) → lines more ≡ more ∷ [] → p.extent.ended ≡ false
-    → ReadsLines kind p part text → ReadsLines kind p (kept (part ++ more)) (text ++ more)
+    → ReadsLines kind p part text → ReadsLines kind p (kept_of_line (part ++ more)) (text ++ more)
 keeps kind p part text more one on r = record {
   prefix = r.prefix;
   last = r.last ++ more;
   cut = goes-on text more r.prefix r.last more [] r.cut one;
   holds = r.holds;
-  keeps = λ _. ap (λ (zs : List ℕ). kept (zs ++ more)) (r.keeps on) ∙ take-again (longest + 1) r.last more;
+  keeps = λ _. ap (λ (zs : List ℕ). kept_of_line (zs ++ more)) (r.keeps on) ∙ take-again (longest + 1) r.last more;
 }
 
 -- nothing counts after an end record
@@ -164,7 +164,7 @@ whole-meant kind text prefix last cut = ap (map (line_result kind)) cut ∙ resu
 whole-next : (kind : Kind) (p new : Progress) (part text : List ℕ) (r : ReadsLines kind p part text)
     → image_size new ≡ image_size p → next_progress p (line_result kind r.last) ≡ Ok new
     → image_in_text kind text (image_size p) ≡ Ok (new.image, ending_of new.extent)
-whole-next kind p new part text r same is = grind (arith, common_steps, together-holds, holds-next)
+whole-next kind p new part text r same is = grind (arith, common_steps, image_of_lines-holds, holds-next)
 
 -- a text with a good last line reads as the state after that line
 pub whole-good : (kind : Kind) (p new : Progress) (part text : List ℕ) → image_size new ≡ image_size p
@@ -178,11 +178,11 @@ pub whole-bad : (kind : Kind) (p : Progress) (part text : List ℕ) (fault : Rec
     → next_progress p (line_result kind (part ++ [])) ≡ Err fault → ReadsLines kind p part text
     → image_in_text kind text (image_size p) ≡ Err fault
 whole-bad kind p part text fault is r =
-    ap (together (image_size p)) (whole-meant kind text r.prefix r.last r.cut)
+    ap (image_of_lines (image_size p)) (whole-meant kind text r.prefix r.last r.cut)
     ∙ rw (holds-bad p _ [] (line_result kind r.last) fault r.holds
     (rw (append-nil r.last) at (line-step kind p part text [] r) ∙ is)) refl
 
-kept-nothing : (line : List ℕ) → [] ≡ kept line → line ≡ []
+kept-nothing : (line : List ℕ) → [] ≡ kept_of_line line → line ≡ []
 kept-nothing line is = search rules
 
 pub result-nothing : (kind : Kind) → line_result kind [] ≡ Ok Nothing
@@ -239,7 +239,7 @@ carries-fault kind old now piece left line more fault carries one end is same te
 
 pub carries-last : (kind : Kind) (old now new : LineState) (piece left : List ℕ)
     → Carries kind old now piece left → (now.progress.extent.ended ≡ false → lines left ≡ left ∷ [])
-    → new.progress ≡ now.progress → (now.progress.extent.ended ≡ false → new.part ≡ kept (now.part ++ left))
+    → new.progress ≡ now.progress → (now.progress.extent.ended ≡ false → new.part ≡ kept_of_line (now.part ++ left))
     → (text : List ℕ) → ReadsLines kind old.progress old.part text
     → ReadsLines kind new.progress new.part (text ++ piece)
 carries-last kind old now new piece left carries one is goes text r =

@@ -8,11 +8,11 @@ use Rattle.std.proofs.lemmas.List.Folds.{list_any-append}
 use Rattle.std.proofs.lemmas.List.Sums.{fold-append, sum_by-append}
 use Rattle.std.specs.List.{list_any}
 use Rattle.std.specs.Prelude.{if◌then◌else◌}
-use Rattle.avr_image.specs.Image.{with_bytes_at, with_byte}
+use Rattle.avr_image.specs.Image.{with_pairs, with_byte}
 use Rattle.avr_records.specs.Closed.{first_fault_among}
 use Rattle.avr_records.specs.Needed.{end_after, end_of_bytes}
 use Rattle.avr_records.specs.Progress.{IsExtentOf, HoldsLines, image_size}
-use Rattle.avr_records.specs.Reading.{LineResult, is_end_record, is_data_record, up_to_end, with_lines_before, bytes_of_lines, bytes_under_base, bytes_of_line, first_fault, fault_of_line, together}
+use Rattle.avr_records.specs.Reading.{LineResult, is_end_record, is_data_record, up_to_end, with_lines_before, bytes_of_lines, bytes_under_base, bytes_of_line, first_fault, fault_of_line, image_of_lines}
 use Rattle.avr_records.specs.Steps.{next_extent, with_extent, next_progress, ending_of}
 use Rattle.avr_records.specs.declared.extent.Extent.{Extent}
 use Rattle.avr_records.specs.declared.fault.RecordFault.{RecordFault}
@@ -73,14 +73,14 @@ counts-bad size e meant more line fault on m is = grind (arith, nat_tests, up_to
 
 -- ---- with the image
 
-length-with_bytes_at : (places : List (ℕ × ℕ)) (image : List (Option ℕ)) → length (with_bytes_at image places)
+length-with_pairs : (places : List (ℕ × ℕ)) (image : List (Option ℕ)) → length (with_pairs image places)
     ≡ length image
-length-with_bytes_at [] image = refl
-length-with_bytes_at (p ∷ ps) image = length-with_bytes_at ps (with_byte image p.0 p.1) ∙ length-set image p.0
+length-with_pairs [] image = refl
+length-with_pairs (p ∷ ps) image = length-with_pairs ps (with_byte image p.0 p.1) ∙ length-set image p.0
     (Some p.1)
 
 with-good : (p new : Progress) (line : LineResult) (step : Result Extent RecordFault) → with_extent p line step ≡ Ok new
-    → (step ≡ Ok new.extent) × (new.image ≡ with_bytes_at p.image (bytes_under_base p.extent.base line))
+    → (step ≡ Ok new.extent) × (new.image ≡ with_pairs p.image (bytes_under_base p.extent.base line))
 with-good p new line step is = search (rules, nat_tests)
 
 pub holds-more : (p : Progress) (meant more : List LineResult) → p.extent.ended ≡ true → HoldsLines p meant
@@ -93,7 +93,7 @@ holds-on p new meant line on h is =
     let parts = with-good p new line (next_extent (image_size p) p.extent line)
     (sym (cond-false p.extent.ended _ _ on) ∙ is) in
     let size : image_size new ≡ image_size p =
-    ap length parts.1 ∙ length-with_bytes_at (bytes_under_base p.extent.base line) p.image in
+    ap length parts.1 ∙ length-with_pairs (bytes_under_base p.extent.base line) p.image in
     let extent = counts-next (image_size p) p.extent new.extent meant line on h.extent parts.0 in
     search (rules, nat_tests, upto-last, with_lines_before-append, flat_map-append, fold-append)
 
@@ -118,6 +118,6 @@ pub holds-bad : (p : Progress) (meant more : List LineResult) (line : LineResult
 holds-bad p meant more line fault h is = grind (arith, nat_tests, counts-bad)
 
 -- a file of such lines has this image and ending
-pub together-holds : (p : Progress) (meant : List LineResult) → HoldsLines p meant
-    → together (image_size p) meant ≡ Ok (p.image, ending_of p.extent)
-together-holds p meant h = grind (arith, nat_tests, up_to_end-any)
+pub image_of_lines-holds : (p : Progress) (meant : List LineResult) → HoldsLines p meant
+    → image_of_lines (image_size p) meant ≡ Ok (p.image, ending_of p.extent)
+image_of_lines-holds p meant h = grind (arith, nat_tests, up_to_end-any)

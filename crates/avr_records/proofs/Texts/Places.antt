@@ -6,7 +6,7 @@ use Rattle.std.proofs.lemmas.List.{length-take-le, length-drop, take-append-drop
 use Rattle.std.proofs.lemmas.List.Sums.{fold-append}
 use Rattle.std.specs.List.{enumerate_from}
 use Rattle.std.specs.Prelude.{OnOk, if◌then◌else◌}
-use Rattle.avr_image.specs.Image.{fits, with_bytes_at}
+use Rattle.avr_image.specs.Image.{fits, with_pairs}
 use Rattle.avr_image.specs.declared.fault.ImageFault.{ImageFault}
 use Rattle.avr_image.specs.declared.fault.ImageFault.TheVariants.{OutOfRange}
 use Rattle.avr_records.specs.Reading.{address, places, first_outside}
@@ -156,8 +156,8 @@ pub lays-span : (old new : List (Option ℕ)) (addr : ℕ) (bytes : List ℕ) (r
     → first_outside (length old) (enumerate_from addr bytes) ≡ None
     → result ≡ (if fits addr bytes (length old) then Ok (addr + length bytes)
     else Err (OutOfRange (max addr (length old))))
-    → OnOk result (new ≡ with_bytes_at old (enumerate_from addr bytes)) → new
-    ≡ with_bytes_at old (enumerate_from addr bytes)
+    → OnOk result (new ≡ with_pairs old (enumerate_from addr bytes)) → new
+    ≡ with_pairs old (enumerate_from addr bytes)
 lays-span old new addr bytes result none is laid = grind (arith, nat_tests, first_outside-span-end)
 
 -- ---- addresses in range

@@ -7,7 +7,7 @@ use Rattle.std.proofs.lemmas.Bool.{cases_Bool}
 use Rattle.std.proofs.lemmas.List.Sums.{fold-append}
 use Rattle.avr_image.specs.Image.{image_of_pairs}
 use Rattle.avr_records.specs.Meaning.{Nothing, Data, Rebase, Counted, End}
-use Rattle.avr_records.specs.Reading.{LineResult, is_end_record, up_to_end, with_lines_before, next_base, base_after, address, places, bytes_of_line, first_outside, first_fault, file_ending, together}
+use Rattle.avr_records.specs.Reading.{LineResult, is_end_record, up_to_end, with_lines_before, next_base, base_after, address, places, bytes_of_line, first_outside, first_fault, file_ending, image_of_lines}
 use Rattle.avr_records.specs.declared.kind.AddressBase.{AddressBase}
 use Rattle.avr_records.specs.declared.kind.AddressBase.TheVariants.{Linear}
 use Rattle.avr_records.specs.declared.kind.Ending.TheVariants.{Ended, NoEnd}
@@ -81,11 +81,11 @@ first_fault-none size before (s ∷ prefix) on inside =
 
 -- Lines of data and the end record read as the image of their bytes, if all are inside. What comes after the end record
 -- doesn't matter.
-pub together-laid : (size : ℕ) (image : List (Option ℕ)) (places : List (ℕ × ℕ)) (prefix more : List LineResult)
+pub image_of_lines-laid : (size : ℕ) (image : List (Option ℕ)) (places : List (ℕ × ℕ)) (prefix more : List LineResult)
     → AllGoOn prefix
     → threaded (Linear 0) (then_end prefix) ≡ places → first_outside size places ≡ None → image_of_pairs size places
-    ≡ image → together size (prefix ++ Ok End ∷ more) ≡ Ok (image, Ended)
-together-laid size image places prefix more on follow inside_is laid_is =
+    ≡ image → image_of_lines size (prefix ++ Ok End ∷ more) ≡ Ok (image, Ended)
+image_of_lines-laid size image places prefix more on follow inside_is laid_is =
     grind (arith, nat_tests, placed-threaded, stops, first_fault-none, ended)
 
 -- under a linear base the addresses of a data record's bytes follow each other

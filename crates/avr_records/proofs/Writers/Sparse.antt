@@ -9,7 +9,7 @@ use Rattle.avr_image.proofs.Lemmas.{runs_are_whole, runs_inside}
 use Rattle.hex.specs.Hex.{IsBytes}
 use Rattle.avr_image.specs.Image.{HoldsBytes, empty, image_of_pairs}
 use Rattle.avr_records.specs.Meaning.{Nothing}
-use Rattle.avr_records.specs.Reading.{first_outside, image_in_text, together}
+use Rattle.avr_records.specs.Reading.{first_outside, image_in_text, image_of_lines}
 use Rattle.avr_records.specs.Text.{address_size}
 use Rattle.avr_records.specs.Sparse.{row_size, rows_of, last_held, image_text, ReadsBack}
 use Rattle.avr_records.specs.declared.kind.Ending.TheVariants.{Ended}
@@ -17,7 +17,7 @@ use Rattle.avr_records.specs.declared.kind.Kind.{Kind}
 use Rattle.avr_records.specs.declared.kind.Kind.TheVariants.{Ihex, Srec}
 use Rattle.avr_records.proofs.Rows.Cuts.{IsRow, Every, rows_behind-are, rows-hold}
 use Rattle.avr_records.proofs.Writers.Pieces.{wide_row}
-use Rattle.avr_records.proofs.Writers.Reread.{together-laid}
+use Rattle.avr_records.proofs.Writers.Reread.{image_of_lines-laid}
 use Rattle.avr_records.proofs.Writers.Ihex as hex
 use Rattle.avr_records.proofs.Writers.Srec as srec
 
@@ -125,9 +125,9 @@ pub reads-back : (kind : Kind) → ReadsBack kind
 reads-back Ihex image more fits bytes =
     let size : ℕ = length image + more in
     let cut : List (ℕ × List ℕ) = rows_of (row_size Ihex) (runs 0 image) in
-    ap (together size)
+    ap (image_of_lines size)
     (hex.lines-results 0 (last_held 0 0 image + 1) cut (omega (arith, last-below image fits))
-    (rows-are Ihex image bytes)) ∙ together-laid size (image ++ empty more) (flat_map places_of (runs 0 image))
+    (rows-are Ihex image bytes)) ∙ image_of_lines-laid size (image ++ empty more) (flat_map places_of (runs 0 image))
     (hex.row_results 0 cut) (Ok Nothing ∷ []) (hex.rows-go_on 0 cut)
     (hex.rows-threaded 0 cut ∙ rows_of-hold (row_size Ihex) (runs 0 image) (wide_row Ihex))
     (first_outside-image image more) (laid-padded image more)
@@ -135,9 +135,9 @@ reads-back Srec image more fits bytes =
     let size : ℕ = length image + more in
     let cut : List (ℕ × List ℕ) = rows_of (row_size Srec) (runs 0 image) in
     let last : ℕ = last_held 0 0 image in
-    ap (together size) (srec.lines-results (address_size last) (last + 1) cut
+    ap (image_of_lines size) (srec.lines-results (address_size last) (last + 1) cut
     (omega (arith, srec.wide_enough last (last-below image fits))) (rows-are Srec image bytes))
-    ∙ together-laid size (image ++ empty more) (flat_map places_of (runs 0 image)) (map srec.emitted_of cut)
+    ∙ image_of_lines-laid size (image ++ empty more) (flat_map places_of (runs 0 image)) (map srec.emitted_of cut)
     (Ok Nothing ∷ []) (srec.rows-go_on cut)
     (srec.rows-threaded cut ∙ rows_of-hold (row_size Srec) (runs 0 image) (wide_row Srec))
     (first_outside-image image more) (laid-padded image more)

@@ -42,15 +42,15 @@ StopsAs outcome stop = outcome ≡ Err (fault_at stop)
 
 -- the link broke the dialog off; or allocation, if it is needed, failed before anything was sent or received
 abbrev pub StopsOver : {R : Type 0} → Bool → Dialog ⊥ R → Progress → LinkState → LinkState → Stop → Type 0
-StopsOver takes dialog m o p Lacks = (takes ≡ true) × (p ≡ o)
-StopsOver takes dialog m o p stop = BreaksOverLink (fault_at stop) dialog m o p
+StopsOver allocates dialog m o p Lacks = (allocates ≡ true) × (p ≡ o)
+StopsOver allocates dialog m o p stop = BreaksOverLink (fault_at stop) dialog m o p
 
 -- How a call ended: it ran to an outcome that stops nothing, or it stopped.
 abbrev pub Ended : {A : Type 0} → Bool → Dialog ⊥ (Result A HostFault) → Progress → LinkState → LinkState
     → Result A HostFault → Progress → Type 0
-Ended takes dialog m o p outcome n =
+Ended allocates dialog m o p outcome n =
     (RunsOverLink dialog m o p outcome n × (standing_after (after_outcome outcome) ≡ Ok (standing outcome)))
-    ⊎ ((stop : Stop) × StopsAs outcome stop × StopsOver takes dialog m o p stop)
+    ⊎ ((stop : Stop) × StopsAs outcome stop × StopsOver allocates dialog m o p stop)
 
 line_at : (part : Part) (stop : Stop) → fault_line part (fault_at stop) ≡ cause_line (cause_at stop)
 unfolding cause_line fault_line
@@ -70,20 +70,21 @@ pub opening_line : (quiet : ℕ) (part : Part) (stop : Stop)
 opening_line quiet part stop = search rules
 
 -- what stops a run is counted, or is a failed allocation
-pub stop_come : {R : Type 0} (takes : Bool) (dialog : Dialog ⊥ R) (m : Progress) (o p : LinkState) (d : DeskState)
-    (stop : Stop) → StopsOver takes dialog m o p stop → CauseOccurred takes (devices o d) (devices p d) (cause_at stop)
-stop_come takes dialog m o p d stop over = search (rules, same_here)
+pub stop_come : {R : Type 0} (allocates : Bool) (dialog : Dialog ⊥ R) (m : Progress) (o p : LinkState) (d : DeskState)
+    (stop : Stop) → StopsOver allocates dialog m o p stop
+    → CauseOccurred allocates (devices o d) (devices p d) (cause_at stop)
+stop_come allocates dialog m o p d stop over = search (rules, same_here)
 
 -- An operation and its report are an action of a session.
 pub operation_runs : {A : Type 0} (operation : Dialog ⊥ (Result A HostFault))
     (outcome_output : Result A HostFault → List OutputEvent) (m n : Progress) {o p : LinkState} {d e : DeskState}
     (outcome : Result A HostFault) (emitted : Result (Unit {0}) DeskFault) (terms : Terms)
     (By : DeskState → DeskState → Cause → List ℕ → Type 0) → StopsReport terms p d e (outcome_output outcome) By
-    → Ended terms.takes operation m o p outcome n → length n.unread ≤ 281
+    → Ended terms.allocates operation m o p outcome n → length n.unread ≤ 281
     → OutputsOrStops By d e (outcome_output outcome) emitted
-    → ((stop : Stop) → StopsAs outcome stop → StopsOver terms.takes operation m o p stop
+    → ((stop : Stop) → StopsAs outcome stop → StopsOver terms.allocates operation m o p stop
     → ReportedBy terms (cause_at stop) (devices o d) (devices p e))
-    → Runs (reported operation outcome_output) m (devices o d) (devices p e) terms (AtStartOnly terms.takes)
+    → Runs (reported operation outcome_output) m (devices o d) (devices p e) terms (AtStartOnly terms.allocates)
     (standing_after (conclusion outcome emitted)) n
 unfolding came_lifted
 operation_runs operation outcome_output m n {p = p} {d = d} outcome (Ok done) terms By why (inl played) few reports

@@ -30,7 +30,7 @@ use Rattle.avr_session.specs.Concluding.{HostIsUsable, conclusion, standing_afte
 use Rattle.avr_session.specs.Lines.{fault_line}
 use Rattle.avr_session.specs.Outcomes.{EndsWithFaultLine}
 use Rattle.avr_session.specs.Session.{emits, standing, reported, unless_fault, fault_line_or, action_dialog, actions_dialog, ending, session, status_of}
-use Rattle.avr_session.specs.Runs.{Cause, PrintingFailed, cause_line, reports_fault, Devices, devices, start, Terms, before_fault, ReportsCause, StopsAfterOutput, MayAllocate, RanWhole}
+use Rattle.avr_session.specs.Runs.{Cause, PrintingFailed, cause_line, reports_fault, Devices, devices, start, Terms, before_fault, ReportsCause, StopsAfterOutput, RunAllocationPoints, RanWhole}
 use Rattle.avr_session.specs.Reporting.{DeskStops, PrintStops, ReadStops, Reports}
 use Rattle.avr_session.specs.Run.{StopsSession}
 use Rattle.avr_session.specs.Stopping.{RanToStatus}
@@ -56,10 +56,11 @@ print_stops_run terms o d e le emitted PrintingFailed notice stops = search (rul
 print_stops_run terms o d e le emitted cause notice stops = absurd stops
 
 -- so does a desk that failed at a file, if no fault was reported
-desk_stops_run : (takes : Bool) (o : LinkState) (d e : DeskState) → CountsNeverFall d e → (emitted : List OutputEvent)
-    → reports_fault emitted ≡ false → (cause : Cause) (notice : List ℕ) → DeskStops d e cause notice
-    → StopsAfterOutput (before_fault takes) (devices o d) (devices o e) emitted cause notice
-desk_stops_run takes o d e le emitted none cause notice stops = search (rules, print_stops_run)
+desk_stops_run : (allocates : Bool) (o : LinkState) (d e : DeskState) → CountsNeverFall d e
+    → (emitted : List OutputEvent) → reports_fault emitted ≡ false → (cause : Cause) (notice : List ℕ)
+    → DeskStops d e cause notice
+    → StopsAfterOutput (before_fault allocates) (devices o d) (devices o e) emitted cause notice
+desk_stops_run allocates o d e le emitted none cause notice stops = search (rules, print_stops_run)
 
 -- the cause that stops a report, after a prefix of its output
 
@@ -68,15 +69,16 @@ pub print_stops_report : (terms : Terms) (o : LinkState) {d e : DeskState} {outp
     → StopsReport terms o d e outputs PrintStops
 print_stops_report terms o {d = d} {e = e} reports mid cause prefix notice stops = search (rules, print_stops_run)
 
-notice_by : {R : Type 0} (takes : Bool) (dialog : Dialog ⊥ R) (m : Progress) (o p : LinkState) {d e : DeskState}
-    (stop : Stop) → StopsOver takes dialog m o p stop → ReportsLine d e (cause_line (cause_at stop))
-    → ReportedBy (before_fault takes) (cause_at stop) (devices o d) (devices p e)
-notice_by takes dialog m o p {d = d} stop over some = search (rules, stop_come)
+notice_by : {R : Type 0} (allocates : Bool) (dialog : Dialog ⊥ R) (m : Progress) (o p : LinkState) {d e : DeskState}
+    (stop : Stop) → StopsOver allocates dialog m o p stop → ReportsLine d e (cause_line (cause_at stop))
+    → ReportedBy (before_fault allocates) (cause_at stop) (devices o d) (devices p e)
+notice_by allocates dialog m o p {d = d} stop over some = search (rules, stop_come)
 
 -- a call of an equal operation
-pub calls_of : {A : Type 0} {takes : Bool} {a b : Dialog ⊥ (Result A HostFault)} {old new : HostState} {o p : LinkState}
-    {outcome : Result A HostFault} → a ≡ b → Calls takes a old new o p outcome → Calls takes b old new o p outcome
-calls_of {takes = takes} {old = old} {new = new} {o = o} {p = p} {outcome = outcome} is = search rules
+pub calls_of : {A : Type 0} {allocates : Bool} {a b : Dialog ⊥ (Result A HostFault)} {old new : HostState}
+    {o p : LinkState} {outcome : Result A HostFault} → a ≡ b → Calls allocates a old new o p outcome
+    → Calls allocates b old new o p outcome
+calls_of {allocates = allocates} {old = old} {new = new} {o = o} {p = p} {outcome = outcome} is = search rules
 
 -- An operation of the host and the output about its outcome, for a call that ended and was reported like this.
 module _ {A : Type 0} (operation : Dialog ⊥ (Result A HostFault)) (outcome_output : Result A HostFault
@@ -85,31 +87,33 @@ module _ {A : Type 0} (operation : Dialog ⊥ (Result A HostFault)) (outcome_out
     {By : DeskState → DeskState → Cause → List ℕ → Type 0} (reports : Reports By d e (outcome_output outcome) notice)
   where
     action_performs : (terms : Terms) → StopsReport terms p d e (outcome_output outcome) By
-        → ((stop : Stop) → StopsAs outcome stop → StopsOver terms.takes operation old.progress o p stop
+        → ((stop : Stop) → StopsAs outcome stop → StopsOver terms.allocates operation old.progress o p stop
         → ReportedBy terms (cause_at stop) (devices o d) (devices p e)) → old.broken ≡ None
-        → Calls terms.takes operation old new o p outcome → result ≡ conclusion outcome notice
-        → PerformsOnTerms terms (AtStartOnly terms.takes) (reported operation outcome_output) old new (devices o d)
+        → Calls terms.allocates operation old new o p outcome → result ≡ conclusion outcome notice
+        → PerformsOnTerms terms (AtStartOnly terms.allocates) (reported operation outcome_output) old new (devices o d)
         (devices p e) (standing_after result)
     action_performs terms why is_reported sound calls is = search (rules, operation_runs)
 
-    pub operation_performs : (takes : Bool) → StopsReport (before_fault takes) p d e (outcome_output outcome) By
+    pub operation_performs : (allocates : Bool) → StopsReport (before_fault allocates) p d e (outcome_output outcome) By
         → ((stop : Stop) → StopsAs outcome stop → ReportsLine d e (cause_line (cause_at stop)))
-        → old.broken ≡ None → Calls takes operation old new o p outcome → result ≡ conclusion outcome notice
-        → Performs takes (reported operation outcome_output) old new (devices o d) (devices p e) (standing_after result)
-    operation_performs takes why some sound calls = search (rules, action_performs, notice_by)
+        → old.broken ≡ None → Calls allocates operation old new o p outcome → result ≡ conclusion outcome notice
+        → Performs allocates (reported operation outcome_output) old new (devices o d) (devices p e)
+        (standing_after result)
+    operation_performs allocates why some sound calls = search (rules, action_performs, notice_by)
 
-left_out_runs : (takes : Bool) (outputs : List OutputEvent) (m : Progress) (o : LinkState) (d e : DeskState)
+left_out_runs : (allocates : Bool) (outputs : List OutputEvent) (m : Progress) (o : LinkState) (d e : DeskState)
     (notice : Result (Unit {0}) DeskFault) → Reports PrintStops d e outputs notice
-    → Runs (emits outputs (Done NoFault)) m (devices o d) (devices o e) (before_fault takes) (AtStartOnly takes)
+    → Runs (emits outputs (Done NoFault)) m (devices o d) (devices o e) (before_fault allocates) (AtStartOnly allocates)
     (standing_after (conclusion {A = Unit {0}} (Ok tt) notice)) m
-left_out_runs takes outputs m o d e (Ok done) reports = ran_from (came_emitted outputs (Done NoFault) m o reports.emits)
-left_out_runs takes outputs m o d e (Err _) reports = search (rules, broke_output, print_stops_report)
+left_out_runs allocates outputs m o d e (Ok done) reports =
+    ran_from (came_emitted outputs (Done NoFault) m o reports.emits)
+left_out_runs allocates outputs m o d e (Err _) reports = search (rules, broke_output, print_stops_report)
 
-pub left_out_performs : (takes : Bool) (outputs : List OutputEvent) {host : HostState} {o : LinkState} {d e : DeskState}
-    {notice : Result (Unit {0}) DeskFault} (result : Result (Unit {0}) End) → host.broken ≡ None
+pub left_out_performs : (allocates : Bool) (outputs : List OutputEvent) {host : HostState} {o : LinkState}
+    {d e : DeskState} {notice : Result (Unit {0}) DeskFault} (result : Result (Unit {0}) End) → host.broken ≡ None
     → Reports PrintStops d e outputs notice → result ≡ conclusion {A = Unit {0}} (Ok tt) notice
-    → Performs takes (emits outputs (Done NoFault)) host host (devices o d) (devices o e) (standing_after result)
-left_out_performs takes outputs {host = host} {o = o} {d = d} {e = e} result sound reports is =
+    → Performs allocates (emits outputs (Done NoFault)) host host (devices o d) (devices o e) (standing_after result)
+left_out_performs allocates outputs {host = host} {o = o} {d = d} {e = e} result sound reports is =
     search (rules, left_out_runs)
 
 -- the output in place of an action reports no fault
@@ -119,32 +123,33 @@ pub ends_unreported : (part : Part) (view : DeskState) (notice : Result (Unit {0
 ends_unreported part view (Ok done) is = rw is tt
 ends_unreported part view (Err _) is = rw is tt
 
-pub nothing_performs : {terms : Terms} {L : MayAllocate} (standing : Standing) (host : HostState) (o : Devices)
+pub nothing_performs : {terms : Terms} {L : RunAllocationPoints} (standing : Standing) (host : HostState) (o : Devices)
     → HostIsUsable (Ok standing) host.broken → PerformsOnTerms terms L (Done standing) host host o o (Ok standing)
 nothing_performs standing host o serves = search (rules, ran_from, came_here, follows_here)
 
 -- after an action that was done a session goes on as its state chooses
-module _ {first : Dialog OutputEvent Standing} {K : MayAllocate} {x y : HostState} {o p : Devices} (takes : Bool)
-    (standing : Standing) (done : PerformsOnTerms (before_fault takes) K first x y o p (Ok standing)) where
-  after_done : {terms : Terms} {L M : MayAllocate} {more whole : Dialog OutputEvent Standing} {z : HostState}
+module _ {first : Dialog OutputEvent Standing} {K : RunAllocationPoints} {x y : HostState} {o p : Devices}
+    (allocates : Bool) (standing : Standing)
+    (done : PerformsOnTerms (before_fault allocates) K first x y o p (Ok standing)) where
+  after_done : {terms : Terms} {L M : RunAllocationPoints} {more whole : Dialog OutputEvent Standing} {z : HostState}
       {q : Devices} {result : Result Standing (Unit {0})} → PerformsOnTerms terms M more y z p q result
-      → Runs whole x.progress o q (before_fault takes) L result z.progress
-      → PerformsOnTerms (before_fault takes) L whole x z o q result
+      → Runs whole x.progress o q (before_fault allocates) L result z.progress
+      → PerformsOnTerms (before_fault allocates) L whole x z o q result
   after_done {q = q} rest runs = search rules
 
-  pub performs_on : {L M : MayAllocate} (more_takes : Bool) (go_on : Standing → Dialog OutputEvent Standing)
-      {z : HostState} {q : Devices} (result : Result Standing (Unit {0})) → (more_takes ≡ true → takes ≡ true)
+  pub performs_on : {L M : RunAllocationPoints} (more_allocates : Bool) (go_on : Standing → Dialog OutputEvent Standing)
+      {z : HostState} {q : Devices} (result : Result Standing (Unit {0})) → (more_allocates ≡ true → allocates ≡ true)
       → Foretells first → LacksLater L x.progress done.runs.during done.runs.events M y.progress
-      → PerformsOnTerms (record { takes = more_takes; has_reported = has_fault standing }) M (go_on standing) y z p q
-      result → PerformsOnTerms (before_fault takes) L (first >>= go_on) x z o q result
+      → PerformsOnTerms (record { allocates = more_allocates; has_reported = has_fault standing }) M (go_on standing) y
+      z p q result → PerformsOnTerms (before_fault allocates) L (first >>= go_on) x z o q result
   unfolding came_part
-  performs_on more_takes go_on (Ok then) both foretells lack rest =
+  performs_on more_allocates go_on (Ok then) both foretells lack rest =
       after_done rest (ran_on (came_part go_on done.runs) rest.runs)
-  performs_on more_takes go_on {q = q} (Err stopped) both foretells lack rest =
+  performs_on more_allocates go_on {q = q} (Err stopped) both foretells lack rest =
       after_done rest (broke_on (came_part go_on done.runs) (search (rules, stops_in, foretold)) lack rest.runs)
 
 -- the same run of the host and its devices, as another action
-abbrev performs_as : {terms all : Terms} {L M : MayAllocate} {first whole : Dialog OutputEvent Standing}
+abbrev performs_as : {terms all : Terms} {L M : RunAllocationPoints} {first whole : Dialog OutputEvent Standing}
     {x y : HostState} {o p : Devices} {one other : Result Standing (Unit {0})}
     → PerformsOnTerms terms L first x y o p one → Runs whole x.progress o p all M other y.progress
     → HostIsUsable other y.broken → PerformsOnTerms all M whole x y o p other
@@ -153,13 +158,13 @@ performs_as done runs serves =
 
 -- memory is allocated in the one or in the other
 
-module _ (takes more_takes : Bool) where
+module _ (allocates more_allocates : Bool) where
   -- an action at which a session ends
-  performs_last : {first : Dialog OutputEvent Standing} {L M : MayAllocate} (more : Dialog OutputEvent Standing)
+  performs_last : {first : Dialog OutputEvent Standing} {L M : RunAllocationPoints} (more : Dialog OutputEvent Standing)
       {x y : HostState}
       {o p : Devices} (end : End) → LacksLater L x.progress [] [] M x.progress
-      → PerformsOnTerms (before_fault takes) M first x y o p (standing_after (Err end))
-      → PerformsOnTerms (before_fault (takes || more_takes)) L (first >>=
+      → PerformsOnTerms (before_fault allocates) M first x y o p (standing_after (Err end))
+      → PerformsOnTerms (before_fault (allocates || more_allocates)) L (first >>=
       unless_fault more) x y o p (standing_after (Err end))
   performs_last more {o = o} {p = p} ends.Stopped lack done = search (rules, broke_part, none_failed_here)
   performs_last more end lack done =
@@ -174,7 +179,7 @@ taking_one part s action m during shown at = record {
   due = action;
   more = [];
   actions_are = refl;
-  takes = at.0;
+  allocates = at.0;
   next = m.next;
   left = on_tape m.unread ++ heard during;
   is_played = search rules;
@@ -196,7 +201,7 @@ taking_then part s xs ys {m = m} {n = n} ran during shown at =
       due = at.due;
       more = at.more;
       actions_are = search (rules, append_assoc);
-      takes = at.takes;
+      allocates = at.allocates;
       next = at.next;
       left = at.left;
       is_played = search (rules, actions_dialog-append, played_bind, followed);
@@ -209,7 +214,7 @@ pub does_nothing : (plan : Plan) (host : HostState) (o : Devices) → host.broke
 does_nothing plan host o sound = nothing_performs NoFault host o sound
 
 -- the same action, by the other places that may allocate
-performs_lacking : {terms : Terms} {L M : MayAllocate} {dialog : Dialog OutputEvent Standing} {x y : HostState}
+performs_lacking : {terms : Terms} {L M : RunAllocationPoints} {dialog : Dialog OutputEvent Standing} {x y : HostState}
     {o p : Devices}
     → LacksLater L x.progress [] [] M x.progress → (result : Result Standing (Unit {0}))
     → PerformsOnTerms terms M dialog x y o p result
@@ -290,14 +295,15 @@ given_reported a good part (Err fault) reports stop is =
 -- only if bytes were read is there something to save, and they are reported without a fault
 pub read_stops_report : (part : Part) (good : List ℕ → List OutputEvent) (items : List ℕ) → reports_fault (good items)
     ≡ false
-    → (outcome : Result (Unit {0}) HostFault) (takes : Bool) (o : LinkState) {d e : DeskState}
+    → (outcome : Result (Unit {0}) HostFault) (allocates : Bool) (o : LinkState) {d e : DeskState}
     {notice : Result (Unit {0}) DeskFault}
     → Reports (ReadStops outcome) d e (fault_line_or part good (value_or_fault items outcome)) notice
-    → StopsReport (before_fault takes) o d e (fault_line_or part good (value_or_fault items outcome))
+    → StopsReport (before_fault allocates) o d e (fault_line_or part good (value_or_fault items outcome))
     (ReadStops outcome)
-read_stops_report part good items none (Ok done) takes o {d = d} {e = e} reports =
+read_stops_report part good items none (Ok done) allocates o {d = d} {e = e} reports =
     search (rules, desk_stops_run, prefix_reports_none)
-read_stops_report part good items none (Err fault) takes o reports = print_stops_report (before_fault takes) o reports
+read_stops_report part good items none (Err fault) allocates o reports =
+    print_stops_report (before_fault allocates) o reports
 
 -- the tasks are the first and those after it
 pub first_task : (tasks : List Task) (task : Task) → 1 ≤ length tasks → task ≡ get_or tasks 0 task
@@ -312,14 +318,14 @@ tasks_behind tasks = grind (arith, common_steps)
 
 -- the end of a session
 
-pub performs_until : {terms : Terms} {L : MayAllocate} {first : Dialog OutputEvent Standing}
+pub performs_until : {terms : Terms} {L : RunAllocationPoints} {first : Dialog OutputEvent Standing}
     (go_on : Standing → Dialog OutputEvent Standing) {x y : HostState} {o p : Devices} (stopped : Unit {0})
     → PerformsOnTerms terms L first x y o p (Err stopped)
     → PerformsOnTerms terms L (first >>= go_on) x y o p (Err stopped)
 performs_until go_on stopped done = search (rules, broke_part)
 
 abbrev reported_before : Terms
-reported_before = record { takes = false; has_reported = true }
+reported_before = record { allocates = false; has_reported = true }
 
 -- a failed link isn't reported there, and nothing is allocated
 silent_at : {R : Type 0} (dialog : Dialog ⊥ R) (m : Progress) (o p : LinkState) (d : DeskState) (stop : Stop)
@@ -344,7 +350,7 @@ quietly_performs {old = old} {o = o} {p = p} d sound calls is =
     search (rules, action_performs, print_stops_report, reported_nothing)
 
 -- after it nothing more goes over the link
-pub quietly_over : {first : Dialog OutputEvent Standing} {L : MayAllocate} {x y : HostState} {o p : Devices}
+pub quietly_over : {first : Dialog OutputEvent Standing} {L : RunAllocationPoints} {x y : HostState} {o p : Devices}
     (standing : Standing)
     → PerformsOnTerms reported_before L first x y o p (Ok standing)
     → PerformsOnTerms reported_before L (first >>= λ _. Done Over) x y o p (Ok Over)

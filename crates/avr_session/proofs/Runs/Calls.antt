@@ -19,7 +19,7 @@ use Rattle.avr_desk.specs.OutputEvents.{OutputEvent, IsPartOfEvent, after_events
 use Rattle.avr_desk.proofs.Stages.Outputs.{kept_on, kept_none, after_append}
 use Rattle.avr_desk.proofs.Lines.ReportedAs.{follows_on, follows_same, same_here, same_on}
 use Rattle.avr_session.specs.Session.{emits}
-use Rattle.avr_session.specs.Runs.{Devices, devices, NoDeviceFailed, Cause, SendingFailed, ReceivingFailed, AllocationFailed, reports_fault, StopsAt, Listens, MayAllocate, Terms, StopsAfterOutput, RanWhole, BrokeOff}
+use Rattle.avr_session.specs.Runs.{Devices, devices, NoDeviceFailed, Cause, SendingFailed, ReceivingFailed, AllocationFailed, reports_fault, StopsAt, Listens, RunAllocationPoints, Terms, StopsAfterOutput, RanWhole, BrokeOff}
 use Rattle.avr_session.specs.Reporting.{IsOfDesk, OutputsPrefix, OutputsPrefixAndReports}
 use Rattle.avr_session.proofs.Runs.Stops.{place_behind, outputs_emitted, map_append}
 
@@ -121,15 +121,16 @@ StopsWhole some all before o p q = (emitted : List OutputEvent) (cause : Cause) 
     → StopsAfterOutput some p q emitted cause notice → StopsAfterOutput all o q (before ++ emitted) cause notice
 
 -- if a failed allocation may stop the rest of a dialog, it may stop the whole, after this transcript and these events
-abbrev pub LacksLater : MayAllocate → Progress → Transcript → List (Event OutputEvent) → MayAllocate → Progress → Type 0
+abbrev pub LacksLater : RunAllocationPoints → Progress → Transcript → List (Event OutputEvent) → RunAllocationPoints
+    → Progress → Type 0
 LacksLater L m transcript events M n = (during : Transcript) (shown : List (Event OutputEvent)) → M n during shown
     → L m (transcript ++ during) (events ++ shown)
 
 -- after other output events, if these report as the terms assume
-pub stops_in : (some all : Terms) (before : List OutputEvent) (o p q : Devices) → (some.takes ≡ true → all.takes ≡ true)
-    → NoDeviceFailed o p → (all.has_reported || reports_fault before) ≡ some.has_reported
+pub stops_in : (some all : Terms) (before : List OutputEvent) (o p q : Devices) → (some.allocates ≡ true → all.allocates
+    ≡ true) → NoDeviceFailed o p → (all.has_reported || reports_fault before) ≡ some.has_reported
     → StopsWhole some all before o p q
-stops_in some all before o p q takes sound same emitted cause notice stops =
+stops_in some all before o p q allocates sound same emitted cause notice stops =
     search (rules, or_assoc, list_any-append, follows_on, follows_same)
 
 -- the events that happened, up to where the cause stopped them
@@ -163,7 +164,8 @@ abbrev pub ReportedBy : Terms → Cause → Devices → Devices → Type 0
 ReportedBy terms cause o p = (notice : List ℕ) × StopsAfterOutput terms o p [] cause notice
     × ChangesRecord (after_err notice) o.desk p.desk
 
-module _ {R : Type 0} {dialog : Dialog OutputEvent R} {m : Progress} {o p : Devices} {terms : Terms} {L : MayAllocate}
+module _ {R : Type 0} {dialog : Dialog OutputEvent R} {m : Progress} {o p : Devices} {terms : Terms}
+    {L : RunAllocationPoints}
   where
     placed_of : (f : BrokeOff dialog m o p terms L)
         → Placed f.cause f.during f.shown (played_over dialog m f.during).events
@@ -176,7 +178,7 @@ module _ {R : Type 0} {dialog : Dialog OutputEvent R} {m : Progress} {o p : Devi
         → Listens cause (played_over dialog m during).outcome → StopsAfterOutput terms o p (outputs shown) cause notice
         → ChangesRecord (λ r. after_err notice (after_events (outputs shown) r)) o.desk p.desk
         → (cause ≡ AllocationFailed → L m during shown) → BrokeOff dialog m o p terms L
-    broke_off during shown cause notice grows placed all_sent in_turn listens stops kept lacks = record {
+    broke_off during shown cause notice grows placed all_sent in_turn listens stops kept at_point = record {
       during = during;
       shown = shown;
       cause = cause;
@@ -186,7 +188,7 @@ module _ {R : Type 0} {dialog : Dialog OutputEvent R} {m : Progress} {o p : Devi
       place = placed.place;
       listens = listens;
       stops = stops;
-      lacks = lacks;
+      at_point = at_point;
       kept = kept;
     }
 
@@ -195,14 +197,14 @@ module _ {R : Type 0} {dialog : Dialog OutputEvent R} {m : Progress} {o p : Devi
         → Placed cause during shown (played_over dialog m during).events → bytes_sent shown ≡ sent during
         → InTurn dialog m during → Listens cause (played_over dialog m during).outcome
         → (cause ≡ AllocationFailed → L m during shown) → BrokeOff dialog m o p terms L
-    broke_silent during shown cause quiet some grows placed all_sent in_turn listens lacks =
+    broke_silent during shown cause quiet some grows placed all_sent in_turn listens at_point =
         broke_off during shown cause some.0 grows placed all_sent in_turn listens
         (subst (λ emitted. StopsAfterOutput terms o p emitted cause some.0) (sym quiet) some.1)
         (subst (λ emitted. ChangesRecord (λ r. after_err some.0 (after_events emitted r)) o.desk p.desk) (sym quiet)
-        some.2) lacks
+        some.2) at_point
 
-pub broke_on : {R : Type 0} {x y : Point R} {q : Devices} {some all : Terms} {L M : MayAllocate} (came : Came x y)
-    → StopsWhole some all (outputs came.events) x.devices y.devices q
+pub broke_on : {R : Type 0} {x y : Point R} {q : Devices} {some all : Terms} {L M : RunAllocationPoints}
+    (came : Came x y) → StopsWhole some all (outputs came.events) x.devices y.devices q
     → LacksLater L x.progress_at came.during came.events M y.progress_at
     → BrokeOff y.left y.progress_at y.devices q some M → BrokeOff x.left x.progress_at x.devices q all L
 broke_on {R = R} {x = x} {y = y} {q = q} {all = all} came why lack broke =
@@ -220,14 +222,14 @@ broke_on {R = R} {x = x} {y = y} {q = q} {all = all} came why lack broke =
     whole.in_turn (subst (λ (play : Played OutputEvent R). Listens broke.cause play.outcome) (sym play) broke.listens)
     (search (rules, outputs_append))
     (search (rules, kept_on, after_both))
-    (λ is. lack broke.during broke.shown (broke.lacks is))
+    (λ is. lack broke.during broke.shown (broke.at_point is))
 
-abbrev pub Never : MayAllocate
+abbrev pub Never : RunAllocationPoints
 Never before during shown = ⊥
 
 -- after a part without output, if nothing is allocated since
-pub broke_quietly : {R : Type 0} {x y : Point R} {q : Devices} {terms : Terms} {L : MayAllocate} (came : Came x y)
-    → outputs came.events ≡ [] → BrokeOff y.left y.progress_at y.devices q terms Never
+pub broke_quietly : {R : Type 0} {x y : Point R} {q : Devices} {terms : Terms} {L : RunAllocationPoints}
+    (came : Came x y) → outputs came.events ≡ [] → BrokeOff y.left y.progress_at y.devices q terms Never
     → BrokeOff x.left x.progress_at x.devices q terms L
 broke_quietly {x = x} {y = y} {q = q} {terms = terms} came quiet broke =
     broke_on came (search rules)
@@ -240,7 +242,7 @@ broken_cause SendFailed = SendingFailed
 broken_cause fault = ReceivingFailed
 
 broke_raised : {A : Type 0} (by : HostFault) {dialog : Dialog ⊥ A} {m : Progress} {o p : Devices} {terms : Terms}
-    {L : MayAllocate} → BreaksOverLink by dialog m o.link p.link → ReportedBy terms (broken_cause by) o p
+    {L : RunAllocationPoints} → BreaksOverLink by dialog m o.link p.link → ReportedBy terms (broken_cause by) o p
     → BrokeOff (lifted dialog) m o p terms L
 broke_raised SendFailed {dialog = dialog} {m = m} f some =
     let g = by_lifted OutputEvent SendFailed dialog m f.during f.shown f.breaks in
@@ -279,8 +281,8 @@ module _ {A R : Type 0} (go_on : A → Dialog OutputEvent R) where
       → Came (point (a >>= go_on) m o) (point (go_on result) n p)
   came_part f = came_of f (leads_bind go_on (leads_from f.plays))
 
-  pub broke_part : {a : Dialog OutputEvent A} {m : Progress} {o p : Devices} {some all : Terms} {L M : MayAllocate}
-      → StopsWhole some all [] o o p → LacksLater L m [] [] M m → BrokeOff a m o p some M
+  pub broke_part : {a : Dialog OutputEvent A} {m : Progress} {o p : Devices} {some all : Terms}
+      {L M : RunAllocationPoints} → StopsWhole some all [] o o p → LacksLater L m [] [] M m → BrokeOff a m o p some M
       → BrokeOff (a >>= go_on) m o p all L
   broke_part {a = a} {m = m} why lack f =
       let play = played a m.next (on_tape m.unread ++ heard f.during) in
@@ -291,10 +293,10 @@ module _ {A R : Type 0} (go_on : A → Dialog OutputEvent R) where
       (continued play.outcome next).events (search rules) (placed_of f)))
       f.breaks.all_sent (breaks_bind IsPartOfEvent go_on f.breaks).in_turn
       (search rules) (why (outputs f.shown) f.cause f.notice f.stops) f.kept
-      (λ is. lack f.during f.shown (f.lacks is))
+      (λ is. lack f.during f.shown (f.at_point is))
 
   pub broke_operation : (by : HostFault) {dialog : Dialog ⊥ A} {m : Progress} {o p : Devices} {terms : Terms}
-      {L : MayAllocate} → BreaksOverLink by dialog m o.link p.link → ReportedBy terms (broken_cause by) o p
+      {L : RunAllocationPoints} → BreaksOverLink by dialog m o.link p.link → ReportedBy terms (broken_cause by) o p
       → BrokeOff (lifted dialog >>= go_on) m o p terms L
   broke_operation by {L = L} f some =
       broke_part {M = L} (λ emitted cause notice s. s) (λ during shown lack. lack) (broke_raised by f some)
@@ -333,7 +335,7 @@ module _ {R : Type 0} (xs : List OutputEvent) (dialog : Dialog OutputEvent R) (m
     outputs_emitted xs,
   )
 
-  pub broke_output : {By : DeskState → DeskState → Cause → List ℕ → Type 0} {terms : Terms} {L : MayAllocate}
+  pub broke_output : {By : DeskState → DeskState → Cause → List ℕ → Type 0} {terms : Terms} {L : RunAllocationPoints}
       {d e : DeskState}
       → StopsReport terms o d e xs By → OutputsPrefixAndReports By d e xs
       → BrokeOff (emits xs dialog) m (devices o d) (devices o e) terms L
@@ -349,8 +351,8 @@ module _ {R : Type 0} (xs : List OutputEvent) (dialog : Dialog OutputEvent R) (m
       (search (rules, kept_on, outputs_emitted)) (λ is. absurd (subst IsOfDesk is prefix.by_desk))
 
 -- at once, for a failed allocation
-pub broke_lacking : {R : Type 0} {terms : Terms} {L : MayAllocate} {o p : Devices} (dialog : Dialog OutputEvent R)
-    (m : Progress)
+pub broke_lacking : {R : Type 0} {terms : Terms} {L : RunAllocationPoints} {o p : Devices}
+    (dialog : Dialog OutputEvent R) (m : Progress)
     → p.link ≡ o.link → ReportedBy terms AllocationFailed o p → L m [] [] → BrokeOff dialog m o p terms L
 broke_lacking {o = o} dialog m same some lack =
     broke_silent [] [] AllocationFailed refl some

@@ -7,7 +7,7 @@ use Rattle.stk_host.specs.Transcript.{LinkState}
 use Rattle.stk_host.specs.Dialog.{Dialog}
 use Rattle.avr_desk.specs.OutputEvents.{OutputEvent}
 use Rattle.avr_session.specs.Actions.{plan_allocates}
-use Rattle.avr_session.specs.Runs.{Devices, devices, before_fault, MayAllocate, BrokeOff}
+use Rattle.avr_session.specs.Runs.{Devices, devices, before_fault, RunAllocationPoints, BrokeOff}
 use Rattle.avr_session.specs.Run.{RunsSession}
 use Rattle.avr_session.specs.Session.{session}
 use Rattle.avr_session.specs.Stopping.{keeping, IsSound, EndsOutOfMemory, RanToStatus}
@@ -15,12 +15,12 @@ use Rattle.avr_session.specs.Stopping.{keeping, IsSound, EndsOutOfMemory, RanToS
 -- sound devices leave only allocation as a cause
 
 -- so a run that broke off reports it
-pub broke_lacks : {R : Type 0} {L : MayAllocate} (dialog : Dialog OutputEvent R) (m : Progress) (o p : LinkState)
-    (before after : Record) (a b : ℕ × ℕ) (takes : Bool)
+pub broke_lacks : {R : Type 0} {L : RunAllocationPoints} (dialog : Dialog OutputEvent R) (m : Progress)
+    (o p : LinkState) (before after : Record) (a b : ℕ × ℕ) (allocates : Bool)
     → IsSound (devices o (keeping before a)) (devices p (keeping after b))
-    → BrokeOff dialog m (devices o (keeping before a)) (devices p (keeping after b)) (before_fault takes) L
+    → BrokeOff dialog m (devices o (keeping before a)) (devices p (keeping after b)) (before_fault allocates) L
     → EndsOutOfMemory after.messages
-broke_lacks dialog m o p before after a b takes sound f = search rules
+broke_lacks dialog m o p before after a b allocates sound f = search rules
 
 -- a run is complete if no device failed and, by its messages, no allocation did
 pub sound_run : (plan : Plan) (o p : LinkState) (before after : Record) (a b : ℕ × ℕ) (status : ℕ)

@@ -121,7 +121,8 @@ module _ (w : Weight) where
   operation_spends : {A : Type 0} (steps : List (List Command)) (judge : List ℕ → Result A HostFault)
       → Spends (4 * total steps) (operation steps judge)
   unfolding operation
-  operation_spends steps judge k left le = outcome_mapped (checked_by judge) (play_spends steps [] k left le) (λ o t e. e)
+  operation_spends steps judge k left le = outcome_mapped (checked_by judge) (play_spends steps [] k left le)
+      (λ o t e. e)
 
   opening_spends : (signature : List ℕ) (force : Bool) → Spends (4 * total opening_steps) (opening signature force)
   unfolding opening handshake
@@ -143,7 +144,7 @@ module _ (w : Weight) where
   output_costs : (outputs : List OutputEvent) (s : Standing) (k left : ℕ) → k ≤ left
       → OneAction (λ r rest. k ≤ rest) (emits outputs (Done s)) left
   output_costs [] s k left le = done le
-  output_costs (output ∷ outputs) s k left le = emit tt (output_costs outputs s k left le)
+  output_costs (event ∷ outputs) s k left le = emit tt (output_costs outputs s k left le)
 
   reported_costs : {A : Type 0} (n : ℕ) (operation : Dialog ⊥ (Result A HostFault))
       (is_reported : Result A HostFault → List OutputEvent) → Spends n operation

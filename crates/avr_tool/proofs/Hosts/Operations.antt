@@ -84,7 +84,8 @@ module _ (part : Part) (sound : IsPart part) where
       (p : Programmer) → AreSteps part steps → FitsPart part m → Settled part m p
       → Keeps device (Reached part steps m) (AfterCall steps m judge) (operation steps judge) p
   unfolding operation
-  operation_goes {A = A} steps m judge p are f s = outcome_mapped (checked_by judge) (play_goes steps m [] p are f s) verdict
+  operation_goes {A = A} steps m judge p are f s =
+      outcome_mapped (checked_by judge) (play_goes steps m [] p are f s) verdict
     where
       verdict : (o : StepOutcome) (q : Programmer) → AfterSteps part steps m [] o q
           → AfterCall steps m judge (checked_by judge o) q
@@ -122,8 +123,8 @@ pub closing_goes : (Stands : Programmer → Type 0) → IsRepeatable device (lea
     → Stands p → Keeps device Stands (λ r q. Stands q × IsClosed r) closing p
 unfolding closing
 closing_goes Stands fits p stands =
-    outcome_mapped without_bytes (step_leads device (leave ∷ []) Stands Stands fits Stands (λ o q. Stands q) p (λ q i. i)
-    (λ q i. i) (λ fault q i. i) stands) left
+    outcome_mapped without_bytes (step_leads device (leave ∷ []) Stands Stands fits Stands (λ o q. Stands q) p
+    (λ q i. i) (λ q i. i) (λ fault q i. i) stands) left
   where
     left : (o : StepOutcome) (q : Programmer)
         → OnOutcome (λ got q. Stands q × IsDataOfAttempt device (leave ∷ []) Stands Stands got)
@@ -146,4 +147,5 @@ module _ {E P : Type 0} (m : Device P) where
   pub along_reported : {A B : Type 0} (k : ℕ) (d : Dialog E A) (report_line : A → B) (p : P) (exchanges : List Exchange)
       → state_after m k (d >>= (λ a. Done (report_line a))) p exchanges
       ≡ reported report_line (state_after m k d p exchanges)
-  along_reported {A = A} {B = B} k d report_line p exchanges = search (rules, along_bind, outcome_mapped, along_next_dialog)
+  along_reported {A = A} {B = B} k d report_line p exchanges =
+      search (rules, along_bind, outcome_mapped, along_next_dialog)

@@ -21,14 +21,14 @@ link = this_link device
 -- each of these output events is true of a programmer
 abbrev pub AllTrue : (OutputEvent → Programmer → Type 0) → List OutputEvent → Programmer → Type 0
 AllTrue True [] q = ⊤
-AllTrue True (output ∷ outputs) q = True output q × AllTrue True outputs q
+AllTrue True (event ∷ outputs) q = True event q × AllTrue True outputs q
 
 abbrev pub Anything : OutputEvent → Programmer → Type 0
-Anything output q = ⊤
+Anything event q = ⊤
 
 pub any_outputs : (outputs : List OutputEvent) (q : Programmer) → AllTrue Anything outputs q
 any_outputs [] q = tt
-any_outputs (output ∷ outputs) q = (tt, any_outputs outputs q)
+any_outputs (event ∷ outputs) q = (tt, any_outputs outputs q)
 
 -- a condition on the output so far, and one on a result too
 abbrev pub Moment : Type 1
@@ -48,8 +48,8 @@ module _ (True : OutputEvent → Programmer → Type 0) where
   -- Each output event is true when it is printed. The first condition holds at each command, the second at the end.
   abbrev pub PrintsFrom : {R : Type 0} → Moment → End R → Dialog OutputEvent R → Spot → Type 0
   PrintsFrom Now After (Done r) z = After r [] z
-  PrintsFrom Now After (Emit output d) z =
-      True output z.0 × PrintsFrom (λ x. Now (output ∷ x)) (λ r x. After r (output ∷ x)) d z
+  PrintsFrom Now After (Emit event d) z =
+      True event z.0 × PrintsFrom (λ x. Now (event ∷ x)) (λ r x. After r (event ∷ x)) d z
   PrintsFrom Now After (Ask bytes go_on) z =
       Now [] z × PrintsFrom Now After (go_on (link.reads bytes z tt)) (link.after bytes z tt)
 
@@ -63,8 +63,8 @@ module _ (True : OutputEvent → Programmer → Type 0) where
   on_outputs : {R : Type 0} (Now : Moment) (After : End R) (outputs : List OutputEvent) (r : R) (z : Spot)
       → AllTrue True outputs z.0 → After r outputs z → PrintsFrom Now After (emits outputs (Done r)) z
   on_outputs Now After [] r z all a = a
-  on_outputs Now After (output ∷ outputs) r z all a =
-      (all.0, on_outputs (λ x. Now (output ∷ x)) (λ r x. After r (output ∷ x)) outputs r z all.1 a)
+  on_outputs Now After (event ∷ outputs) r z all a =
+      (all.0, on_outputs (λ x. Now (event ∷ x)) (λ r x. After r (event ∷ x)) outputs r z all.1 a)
 
   pub prints_reported : {A : Type 0} {During : Spot → Type 0} {After : Result A HostFault → Spot → Type 0}
       {Now : Moment} {Then : End Standing} {d : Dialog ⊥ (Result A HostFault)} {z : Spot}
@@ -88,10 +88,10 @@ module _ (True : OutputEvent → Programmer → Type 0) where
       → Prints (λ x. Now' (emitted ++ x)) (λ b x. After b (emitted ++ x)) (next a) y)
       → (d : Dialog OutputEvent A) (z : Spot) → PrintsFrom Now Between d z → PrintsFrom Now' After (d >>= next) z
   on_bind Now Now' Between After next f more (Done a) z h = (more a [] z h).holds
-  on_bind Now Now' Between After next f more (Emit output d) z h = (
+  on_bind Now Now' Between After next f more (Emit event d) z h = (
     h.0,
-    on_bind (λ x. Now (output ∷ x)) (λ x. Now' (output ∷ x)) (λ a x. Between a (output ∷ x))
-        (λ b x. After b (output ∷ x)) next (λ x. f (output ∷ x)) (λ a x. more a (output ∷ x)) d z h.1,
+    on_bind (λ x. Now (event ∷ x)) (λ x. Now' (event ∷ x)) (λ a x. Between a (event ∷ x))
+        (λ b x. After b (event ∷ x)) next (λ x. f (event ∷ x)) (λ a x. more a (event ∷ x)) d z h.1,
   )
   on_bind Now Now' Between After next f more (Ask bytes go_on) z h =
       (f [] z h.0, on_bind Now Now' Between After next f more (go_on _) (link.after bytes z tt) h.1)
@@ -117,8 +117,8 @@ module _ (True : OutputEvent → Programmer → Type 0) where
       → ((r : R) (emitted : List OutputEvent) (y : Spot) → After r emitted y → Now emitted y)
       → (k : ℕ) (d : Dialog OutputEvent R) (z : Spot) → PrintsFrom Now After d z → Printed Now After k d z
   on_moment Now After last k (Done a) z h = search (rules, done_is)
-  on_moment Now After last k (Emit output d) z h =
-      let more = on_moment (λ x. Now (output ∷ x)) (λ r x. After r (output ∷ x)) (λ r x. last r (output ∷ x)) k d z h.1
+  on_moment Now After last k (Emit event d) z h =
+      let more = on_moment (λ x. Now (event ∷ x)) (λ r x. After r (event ∷ x)) (λ r x. last r (event ∷ x)) k d z h.1
       in record { now = more.now; after = more.after }
   on_moment Now After last zero (Ask bytes go_on) z h =
       record { now = h.0; after = λ r e. absurd (asks≢done bytes go_on r e) }

@@ -16,12 +16,12 @@ module _ {P : Type 0} (m : Device P) where
   output_programmer : (k : ℕ) (outputs : List OutputEvent) (s : Standing) (p : P) (exchanges : List Exchange)
       → (state_after m k (emits outputs (Done s)) p exchanges).programmer ≡ p
   output_programmer k [] s p exchanges = refl
-  output_programmer k (output ∷ outputs) s p exchanges = output_programmer k outputs s p exchanges
+  output_programmer k (event ∷ outputs) s p exchanges = output_programmer k outputs s p exchanges
 
   output_dialog : (k : ℕ) (outputs : List OutputEvent) (s : Standing) (p : P) (exchanges : List Exchange)
       → (state_after m k (emits outputs (Done s)) p exchanges).dialog ≡ Done s
   output_dialog k [] s p exchanges = refl
-  output_dialog k (output ∷ outputs) s p exchanges = output_dialog k outputs s p exchanges
+  output_dialog k (event ∷ outputs) s p exchanges = output_dialog k outputs s p exchanges
 
   module _ {A : Type 0} (judge : List ℕ → Result A HostFault)
       (outcome_output : Result A HostFault → List OutputEvent) where

@@ -54,7 +54,7 @@ module _ (part : Part) (s : Switches) (At : Memories → Spot → Type 0) (Fails
   -- as the expected run: its state, its output and its memories
   pub record Own (c : Expected) (at : Standing) (emitted : List OutputEvent) (z : Spot) : Type 0 where
     pub stands : c.standing ≡ at
-    pub output_events_are : emitted ≡ c.emits
+    pub output_events_are : emitted ≡ c.output_events
     pub left : At c.memories z
 
   -- a step failed, and its line was printed last
@@ -224,7 +224,7 @@ module _ (part : Part) (sound : IsPart part) (s : Switches) (True : OutputEvent 
         → (action_expected part s action m then next) ≡ then_from c at next
     goes_as next at e = ap (λ x. x then next) (expected_is part s action m) ∙ ap (λ x. then_from c x next) e
 
-    module _ (emitted : List OutputEvent) (is : emitted ≡ c.emits) (fine : c.standing ≡ NoFault) where
+    module _ (emitted : List OutputEvent) (is : emitted ≡ c.output_events) (fine : c.standing ≡ NoFault) where
       first_behind : (x : List OutputEvent) → FirstActionsOutput part s rest c.memories x
           → FirstActionsOutput part s (action ∷ rest) m (emitted ++ x)
       first_behind x first =
@@ -234,7 +234,7 @@ module _ (part : Part) (sound : IsPart part) (s : Switches) (True : OutputEvent 
             more = first.more;
             actions_are = ap (λ xs. action ∷ xs) first.actions_are;
             fine = ap (λ y. y.standing) on ∙ first.fine;
-            output_events_are = ap₂ ◌++◌ is first.output_events_are ∙ sym (ap (λ y. y.emits) on);
+            output_events_are = ap₂ ◌++◌ is first.output_events_are ∙ sym (ap (λ y. y.output_events) on);
           }
 
       rests_later : (y : Spot) → RestsIn part (actions_items rest) c.memories y

@@ -75,7 +75,7 @@ module _ (plan : Plan) (sound : IsPart plan.part) (fitted : All (IsFitted plan.p
   abbrev w : Expected
   w = working_expected plan m
 
-  all_done : (emitted : List OutputEvent) → emitted ≡ w.emits → w.standing ≡ NoFault
+  all_done : (emitted : List OutputEvent) → emitted ≡ w.output_events → w.standing ≡ NoFault
       → FirstActionsOutput part s (actions plan) m emitted
   all_done emitted is fine = record {
     done = actions plan;
@@ -102,7 +102,7 @@ module _ (plan : Plan) (sound : IsPart plan.part) (fitted : All (IsFitted plan.p
         left z i,
         inl (record {
           emitted = ap (λ xs. xs ++ closing_output s.quiet part (Ok tt)) own.output_events_are
-              ∙ sym (ap (λ t. w.emits ++ ending_output plan t) own.stands);
+              ∙ sym (ap (λ t. w.output_events ++ ending_output plan t) own.stands);
           status_is = sym (ap status_of own.stands);
           memories = i.memories;
         }),

@@ -4,12 +4,12 @@ use Rattle.avr_cli.specs.declared.settings.Settings.{Settings}
 use Rattle.avr_desk.specs.Fault.{CountsNeverFall}
 use Rattle.avr_desk.specs.Lines.{memory_line, not_opened_line, not_read_line}
 use Rattle.avr_desk.specs.Record.{DeskState, Record, Bytes, after_err}
-use Rattle.avr_desk.specs.OutputEvents.{OutputEvent, PrintsLine, IsPartOfEvent, IsPrefixOf, ReportsLineAs, after_events}
+use Rattle.avr_desk.specs.OutputEvents.{OutputEvent, PrintsLine, IsPartOfEvent, IsPrefixOfBytes, ReportsLineAs, after_events}
 use Rattle.avr_desk.proofs.Stages.Outputs.{kept_append, after_append}
 use Rattle.avr_desk.proofs.Lines.ReportedAs.{follows_on, follows_same, same_on}
 use Rattle.avr_plan.specs.Plan.{Plan}
 use Rattle.avr_plan.specs.Planning.{planned}
-use Rattle.avr_desk.specs.Playing.{StageCompleted, StageRefused, BreakCause, LineNotPrinted, NotOpened, NotRead, NoMemory, NoMemoryForFile, ReportsBreakAs, events_of_break}
+use Rattle.avr_desk.specs.StageRuns.{StageCompleted, StageRefused, BreakCause, LineNotPrinted, NotOpened, NotRead, NoMemory, NoMemoryForFile, ReportsBreakAs, events_of_break}
 use Rattle.avr_desk.specs.Stage.{Produced, StageResult}
 use Rattle.stk_host.specs.Dialog.{Event, Played, Emitted, prepend_events, bytes_sent, outputs}
 use Rattle.stk_host.specs.Transcript.{LinkState, heard, Grows}
@@ -22,19 +22,19 @@ use Rattle.avr_session.specs.Session.{session}
 use Rattle.avr_session.specs.Stopping.{RanToStatus}
 use Rattle.avr_tool.specs.Headline.{run, run_after_planning, IsInTurn, IsRun, IsPrefixOfRun, InSession, InPlanning, stop_line, opened_at, StoppedInSession, StoppedPlanning, IsStopped}
 
-pub emitted_outputs : (emits : List OutputEvent) (events : List (Event OutputEvent))
-    → outputs (map Emitted emits ++ events) ≡ emits ++ outputs events
+pub emitted_outputs : (output_events : List OutputEvent) (events : List (Event OutputEvent))
+    → outputs (map Emitted output_events ++ events) ≡ output_events ++ outputs events
 emitted_outputs [] events = refl
-emitted_outputs (output ∷ emits) events = ap (λ rest. output ∷ rest) (emitted_outputs emits events)
+emitted_outputs (event ∷ output_events) events = ap (λ rest. event ∷ rest) (emitted_outputs output_events events)
 
-pub emitted_bytes : (emits : List OutputEvent) (events : List (Event OutputEvent))
-    → bytes_sent (map Emitted emits ++ events) ≡ bytes_sent events
+pub emitted_bytes : (output_events : List OutputEvent) (events : List (Event OutputEvent))
+    → bytes_sent (map Emitted output_events ++ events) ≡ bytes_sent events
 emitted_bytes [] events = refl
-emitted_bytes (output ∷ emits) events = emitted_bytes emits events
+emitted_bytes (event ∷ output_events) events = emitted_bytes output_events events
 
 -- the run of what planning gave
 abbrev after_planning : StageResult Plan → Tape → Played OutputEvent ℕ
-after_planning p tape = prepend_events (map Emitted p.emits) (run_after_planning p.stage_outcome tape)
+after_planning p tape = prepend_events (map Emitted p.output_events) (run_after_planning p.stage_outcome tape)
 
 answered : {p q : StageResult Plan} → p ≡ q → p.stage_outcome ≡ q.stage_outcome
 answered e = ap (λ (p : StageResult Plan). p.stage_outcome) e
@@ -47,12 +47,12 @@ ran_whole settings plan x y between status went whole =
     record {
       openings = went.passed;
       during = ran.during;
-      events = map Emitted went.emits ++ ran.events;
+      events = map Emitted went.output_events ++ ran.events;
       next = whole.0.next;
       left = whole.0.unread;
       is = search rules;
       in_turn = search rules;
-      all_sent = emitted_bytes went.emits ran.events ∙ ran.plays.all_sent;
+      all_sent = emitted_bytes went.output_events ran.events ∙ ran.plays.all_sent;
       grows = ran.grows;
       kept = search (rules, kept_append, emitted_outputs);
       few = ran.few (omega arith);
@@ -71,15 +71,15 @@ pub refused_whole : (settings : Settings) (x y : Devices) → y.link ≡ x.link
 refused_whole settings x y same (line, went) = record {
   openings = went.passed;
   during = [];
-  events = map Emitted went.emits ++ Emitted (PrintsLine line) ∷ [];
+  events = map Emitted went.output_events ++ Emitted (PrintsLine line) ∷ [];
   next = 1;
   left = [];
   is = λ later more. ap (λ q. after_planning q more) (went.comes later);
   in_turn = λ later. subst (λ stage_outcome. IsInTurn stage_outcome []) (sym (answered (went.comes later))) refl;
-  all_sent = emitted_bytes went.emits (Emitted (PrintsLine line) ∷ []);
+  all_sent = emitted_bytes went.output_events (Emitted (PrintsLine line) ∷ []);
   grows = subst (λ (l : LinkState). Grows x.link.transcript [] l.transcript) (sym same) (grows_none x.link.transcript);
-  kept = went.kept ∙ ap (λ emits. after_events emits x.desk.kept)
-      (sym (emitted_outputs went.emits (Emitted (PrintsLine line) ∷ [])));
+  kept = went.kept ∙ ap (λ output_events. after_events output_events x.desk.kept)
+      (sym (emitted_outputs went.output_events (Emitted (PrintsLine line) ∷ [])));
   few = omega arith;
   sound = (ap (λ (l : LinkState). l.failures) same, went.sound);
 }
@@ -117,32 +117,36 @@ is_run settings x between y status (inl runs) = elim runs.runs [
 ]
 is_run settings x between y status (inr (lacks, same)) = search (rules, refused_whole)
 
-behind_prefix : (emits : List OutputEvent) {shown events : List (Event OutputEvent)}
+behind_prefix : (output_events : List OutputEvent) {shown events : List (Event OutputEvent)}
     → IsPrefixOfEvents IsPartOfEvent shown events
-    → IsPrefixOfEvents IsPartOfEvent (map Emitted emits ++ shown) (map Emitted emits ++ events)
-behind_prefix emits f =
-    search (rules, append_assoc (map Emitted emits) f.whole f.begun, append_assoc (map Emitted emits) f.whole f.later)
+    → IsPrefixOfEvents IsPartOfEvent (map Emitted output_events ++ shown) (map Emitted output_events ++ events)
+behind_prefix output_events f =
+    search (
+      rules,
+      append_assoc (map Emitted output_events) f.whole f.begun,
+      append_assoc (map Emitted output_events) f.whole f.later,
+    )
 
 -- all that the desk did, in planning and then in the session
-shown_kept : (emits : List OutputEvent) (shown : List (Event OutputEvent)) (notice : Bytes) (r s t : Record)
-    → s ≡ after_events emits r → t ≡ after_err notice (after_events (outputs shown) s)
-    → t ≡ after_err notice (after_events (outputs (map Emitted emits ++ shown) ++ []) r)
-shown_kept emits shown notice r s t first then =
+shown_kept : (output_events : List OutputEvent) (shown : List (Event OutputEvent)) (notice : Bytes) (r s t : Record)
+    → s ≡ after_events output_events r → t ≡ after_err notice (after_events (outputs shown) s)
+    → t ≡ after_err notice (after_events (outputs (map Emitted output_events ++ shown) ++ []) r)
+shown_kept output_events shown notice r s t first then =
     then ∙ ap (λ k. after_err notice (after_events (outputs shown) k)) first
-    ∙ ap (after_err notice) (sym (after_append emits (outputs shown) r))
+    ∙ ap (after_err notice) (sym (after_append output_events (outputs shown) r))
     ∙ ap (λ done. after_err notice (after_events done r))
-    (sym (append-nil (outputs (map Emitted emits ++ shown)) ∙ emitted_outputs emits shown))
+    (sym (append-nil (outputs (map Emitted output_events ++ shown)) ∙ emitted_outputs output_events shown))
 
 -- what was reported is a part of the reason's line
-line_part : (line notice : Bytes) (x y : DeskState) → ReportsLineAs line notice x y → IsPrefixOf notice line
+line_part : (line notice : Bytes) (x y : DeskState) → ReportsLineAs line notice x y → IsPrefixOfBytes notice line
 line_part line notice x y (inl whole) = ([], append-nil notice ∙ whole.0)
 line_part line notice x y (inr part) = part.0
 
-none_part : (line notice : Bytes) → notice ≡ [] → IsPrefixOf notice line
+none_part : (line notice : Bytes) → notice ≡ [] → IsPrefixOfBytes notice line
 none_part line notice none = (line, ap (λ t. t ++ line) none)
 
 cause_part : (has_reported : Bool) (cause : Cause) (notice : Bytes) (x y : DeskState)
-    → ReportsCause has_reported cause notice x y → IsPrefixOf notice (cause_line cause)
+    → ReportsCause has_reported cause notice x y → IsPrefixOfBytes notice (cause_line cause)
 cause_part false cause notice x y is_reported = line_part (cause_line cause) notice x y is_reported
 cause_part true SendingFailed notice x y none = none_part (cause_line SendingFailed) notice none
 cause_part true ReceivingFailed notice x y none = none_part (cause_line ReceivingFailed) notice none
@@ -151,7 +155,7 @@ cause_part true (FileFailed file trouble) notice x y is_reported = absurd is_rep
 cause_part true AllocationFailed notice x y is_reported = absurd is_reported
 
 break_part : (break : BreakCause) (notice : Bytes) (x y : DeskState)
-    → ReportsBreakAs break notice x y → IsPrefixOf notice (stop_line (InPlanning break))
+    → ReportsBreakAs break notice x y → IsPrefixOfBytes notice (stop_line (InPlanning break))
 break_part (LineNotPrinted line) notice x y is_reported = is_reported.0
 break_part (NotOpened name) notice x y is_reported =
     line_part (not_opened_line name) notice is_reported.between y is_reported.is_reported
@@ -164,23 +168,23 @@ stopped_prefix : (settings : Settings) (x y : Devices) → StoppedInSession sett
 stopped_prefix settings x y stopped = record {
   openings = stopped.made.passed;
   during = stopped.then_is.during;
-  shown = map Emitted stopped.made.emits ++ stopped.then_is.shown;
+  shown = map Emitted stopped.made.output_events ++ stopped.then_is.shown;
   reason = InSession stopped.then_is.cause;
   notice = stopped.then_is.notice;
   reported_part = cause_part _ stopped.then_is.cause stopped.then_is.notice _ y.desk stopped.then_is.stops.is_reported;
   prefix = search (rules, behind_prefix);
   in_turn = λ later. subst (λ stage_outcome. IsInTurn stage_outcome stopped.then_is.during)
       (sym (answered (stopped.made.comes later))) stopped.then_is.breaks.in_turn;
-  all_sent = emitted_bytes stopped.made.emits stopped.then_is.shown ∙ stopped.then_is.breaks.all_sent;
+  all_sent = emitted_bytes stopped.made.output_events stopped.then_is.shown ∙ stopped.then_is.breaks.all_sent;
   grows = stopped.then_is.grows;
-  kept = shown_kept stopped.made.emits stopped.then_is.shown stopped.then_is.notice x.desk.kept stopped.between.kept
-      y.desk.kept stopped.made.kept stopped.then_is.kept;
+  kept = shown_kept stopped.made.output_events stopped.then_is.shown stopped.then_is.notice x.desk.kept
+      stopped.between.kept y.desk.kept stopped.made.kept stopped.then_is.kept;
 }
 
 emitted_append : (whole later : List OutputEvent) (events : List (Event OutputEvent))
     → map Emitted (whole ++ later) ++ events ≡ map Emitted whole ++ (map Emitted later ++ events)
 emitted_append [] later events = refl
-emitted_append (output ∷ whole) later events = ap (λ rest. Emitted output ∷ rest) (emitted_append whole later events)
+emitted_append (event ∷ whole) later events = ap (λ rest. Emitted event ∷ rest) (emitted_append whole later events)
 
 last_is : (break : BreakCause) (notice : Bytes) → events_of_break break notice ≡ opened_at (InPlanning break)
     ++ PrintsLine notice ∷ []

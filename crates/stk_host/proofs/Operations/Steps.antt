@@ -85,11 +85,11 @@ plays_all steps_at place end {before = before} come past = search (rules, play_d
 -- the outcome of an operation, from the outcome of its steps
 
 -- a stop, as the host reports it
-reported_ends : {A : Type 0} (takes : Bool) (steps : List (List Command)) (judge : List ℕ → Result A HostFault)
+reported_ends : {A : Type 0} (allocates : Bool) (steps : List (List Command)) (judge : List ℕ → Result A HostFault)
     (fault : HostFault) (m n : Progress) (o p : LinkState)
-    → StopsSteps (play steps []) m o p fault n → EndsCall takes (operation steps judge) m o p (Err fault) n
+    → StopsSteps (play steps []) m o p fault n → EndsCall allocates (operation steps judge) m o p (Err fault) n
 unfolding operation
-reported_ends takes steps judge fault m n o p e = search (rules, stop_ends)
+reported_ends allocates steps judge fault m n o p e = search (rules, stop_ends)
 
 checked_from : {A : Type 0} (steps : List (List Command)) (judge : List ℕ → Result A HostFault) (bytes : List ℕ)
     {m n : Progress} {o p : LinkState}

@@ -3,7 +3,7 @@ use Rattle.std.proofs.Common.{◌≡◌, ℕ, List, [], ◌∷◌, ◌++◌, ◌
 use Rattle.std.proofs.KnownBytes.{Appends-nil, Appends-kept}
 use Rattle.std.specs.Io.KnownBytes.{Keeps, Appends}
 use Rattle.stk_host.specs.declared.link.Heard.{Heard}
-use Rattle.stk_host.specs.Links.{StreamState, IsTrueSince, TakesKnownBytes, ReceivesKnownBytes}
+use Rattle.stk_host.specs.Links.{StreamState, TranscriptIsTrueSince, TakesKnownBytes, ReceivesKnownBytes}
 use Rattle.stk_host.specs.Transcript.{Transcript, Sent, Taken, Got, items_of}
 use Rattle.stk_host.proofs.Transcripts.Laws.{sent_append, heard_append}
 use Rattle.stk_host.proofs.Tapes.Answers.{bytes_of_append, bytes_of_on_tape}
@@ -32,26 +32,26 @@ takes_nothing bytes before now a b is keeps = record {
 }
 
 module _ {R W : Type 0} (remaining : R → Option (List ℕ)) (contents : W → Option (List ℕ)) where
-  pub true_now : (a : StreamState R W) → IsTrueSince remaining contents a a
+  pub true_now : (a : StreamState R W) → TranscriptIsTrueSince remaining contents a a
   true_now a = search rules
 
-  pub true_on : (a b c : StreamState R W) → IsTrueSince remaining contents a b → IsTrueSince remaining contents b c
-      → IsTrueSince remaining contents a c
+  pub true_on : (a b c : StreamState R W) → TranscriptIsTrueSince remaining contents a b
+      → TranscriptIsTrueSince remaining contents b c → TranscriptIsTrueSince remaining contents a c
   true_on a b c f g = search (rules, append_assoc, heard_append, bytes_of_append, sent_append)
 
   pub true_of_sent : (a b : StreamState R W) (bytes : List ℕ) → b.reader ≡ a.reader → b.failures ≡ a.failures
       → b.transcript ≡ a.transcript ++ Sent bytes ∷ [] → Appends (contents a.writer) (contents b.writer) bytes
-      → IsTrueSince remaining contents a b
+      → TranscriptIsTrueSince remaining contents a b
   true_of_sent a b bytes reader failures transcript took = search rules
 
   pub true_of_taken : (a b : StreamState R W) (bytes : List ℕ) → b.reader ≡ a.reader → a.failures ≤ b.failures
       → TakesKnownBytes bytes a.transcript b.transcript (contents a.writer) (contents b.writer)
-      → IsTrueSince remaining contents a b
+      → TranscriptIsTrueSince remaining contents a b
   true_of_taken a b bytes reader failures t = search rules
 
   pub true_of_heard : (a b : StreamState R W) (h : Heard) (buffer : List ℕ) → b.writer ≡ a.writer
       → b.failures ≡ a.failures
       → b.transcript ≡ a.transcript ++ Got (items_of h buffer) ∷ []
       → ReceivesKnownBytes h buffer (remaining a.reader) (remaining b.reader)
-      → IsTrueSince remaining contents a b
+      → TranscriptIsTrueSince remaining contents a b
   true_of_heard a b h buffer writer failures transcript given = search (rules, bytes_of_on_tape)

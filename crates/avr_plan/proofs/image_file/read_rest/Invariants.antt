@@ -1,7 +1,7 @@
 use Rattle.std.proofs.Common.{◌≤◌, ◌+◌}
 use Rattle.avr_desk.specs.Fault.{HasSameCounts}
 use Rattle.avr_plan.specs.ImageReading.{FedSoFar}
-use Rattle.avr_plan.specs.Intake.{fed_count}
+use Rattle.avr_plan.specs.Intake.{record_bytes_fed}
 use Rattle.ghosts.specs.Preserves.{Preserves}
 use Rattle.avr_plan.proofs.image_file.read_rest.Given as goal
 
@@ -10,7 +10,7 @@ invariant-pieces g l = record {
   going : FedSoFar (g.D.Desk.view l.initial.desk) (g.D.Desk.view l.desk) l.initial.intake l.intake l.initial.left
       l.left;
   same : HasSameCounts (g.D.Desk.view l.initial.desk) (g.D.Desk.view l.desk);
-  room : fed_count l.intake + l.left ≤ fed_count l.initial.intake + l.initial.left;
+  room : record_bytes_fed l.intake + l.left ≤ record_bytes_fed l.initial.intake + l.initial.left;
   stays : Preserves g.D.Desk.started_as l.initial.desk l.desk;
 }
 

@@ -1,5 +1,5 @@
 use Rattle.std.proofs.Common.{sym, ap, false}
-use Rattle.avr_desk.specs.Playing.{OnlyAtStart}
+use Rattle.avr_desk.specs.StageRuns.{OnlyAtStart}
 use Rattle.avr_plan.specs.Lines.{no_part_line}
 use Rattle.avr_plan.specs.Planning.{part_or_line}
 use Rattle.avr_desk.proofs.Stages.Played.{went_settled, goes_unsettled}

@@ -1,5 +1,5 @@
 use Rattle.std.proofs.Common.{refl, Ok, [], false, rules}
-use Rattle.avr_desk.specs.Playing.{OnlyAtStart}
+use Rattle.avr_desk.specs.StageRuns.{OnlyAtStart}
 use Rattle.avr_plan.specs.declared.part_choice.TheConstants.{LARGEST_PART_FILE}
 use Rattle.avr_plan.proofs.Stages.Parts.{went_parts, goes_bad_parts, goes_long_parts}
 use Rattle.avr_desk.proofs.Stages.Files.{goes_file_fault}

@@ -1,16 +1,16 @@
 use Rattle.std.proofs.lemmas.Bool.Decides.{nat_tests}
 use Rattle.std.proofs.Common.{◌≡◌, ◌∙◌, sym, ap, arith, ℕ, ◌+◌, ◌-◌, ◌≤◌, List, ◌++◌, length, drop}
 use Rattle.std.proofs.lemmas.List.{length-drop}
-use Rattle.avr_records.specs.Writing.{left}
+use Rattle.avr_records.specs.Writing.{text_left}
 use Rattle.avr_records_c.proofs.Rooms.{IsPut, NextLine, all-put, line-out, more-put, room-length}
 use Rattle.avr_records_c.proofs.writing.put_rest.Goals as goal
 
 pub returns-then-gone-count-clause-put : goal.returns-then-gone-count-clause-put
 returns-then-gone-count-clause-put c =
     let kept = c.lines.invariant in
-    let text : List ℕ = drop c.args.gone.now (left c.args.lines.now c.args.memory.now) in
-    let whole : List ℕ = left c.lines.lines c.args.memory.now in
-    let more : List ℕ = left c.next_line.new.self c.args.memory.now in
+    let text : List ℕ = drop c.args.gone.now (text_left c.args.lines.now c.args.memory.now) in
+    let whole : List ℕ = text_left c.lines.lines c.args.memory.now in
+    let more : List ℕ = text_left c.next_line.new.self c.args.memory.now in
     let line : List ℕ = c.as_slice.result.now in
     let after : List ℕ = c.put_part-count.new.room in
     let count : ℕ = c.put_part-count.result in
@@ -27,9 +27,9 @@ returns-then-gone-count-clause-put c =
 pub lines-preserved : goal.lines-preserved
 lines-preserved c =
     let kept = c.lines.invariant in
-    let text : List ℕ = drop c.args.gone.now (left c.args.lines.now c.args.memory.now) in
-    let whole : List ℕ = left c.lines.lines c.args.memory.now in
-    let more : List ℕ = left c.next_line.new.self c.args.memory.now in
+    let text : List ℕ = drop c.args.gone.now (text_left c.args.lines.now c.args.memory.now) in
+    let whole : List ℕ = text_left c.lines.lines c.args.memory.now in
+    let more : List ℕ = text_left c.next_line.new.self c.args.memory.now in
     let line : List ℕ = c.as_slice.result.now in
     let after : List ℕ = c.put_part-count.new.room in
     let count : ℕ = c.put_part-count.result in

@@ -1,5 +1,5 @@
 use Rattle.std.proofs.Common.{refl, true, rules}
-use Rattle.avr_desk.specs.Playing.{OnlyAtStart}
+use Rattle.avr_desk.specs.StageRuns.{OnlyAtStart}
 use Rattle.avr_desk.specs.declared.record.Opening.TheVariants.{Absent}
 use Rattle.avr_desk.proofs.Stages.Openings.{breaks_as, counted_as, runs_open, runs_until_break}
 use Rattle.avr_tool.specs.Loading.{AtOpened, chip_given}

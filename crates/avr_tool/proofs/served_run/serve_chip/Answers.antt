@@ -19,6 +19,6 @@ returns-clause-serves g c =
       fails = c.answer_all-served.ensures.failed;
       notice = c.report_end.ensures.notice;
       rises = c.report_end.ensures.follows;
-      saved = rw (c.chip.ensures, c.status_of.ensures) at c.save_after.ensures.saved;
+      saved = rw (c.chip.ensures, c.status_of_served.ensures) at c.save_after.ensures.saved;
       follows = c.save_after.ensures.follows;
     }

@@ -8,8 +8,8 @@ returns-in_err-write_all-clause-prints g c =
     let p = err_from_is_err_and c.from_residual.result c.from_residual.ensures.1 in
     let part = c.part_of-part.result.items in
     let sent = rw c.as_slice.ensures.value at c.in_err-write_all.ensures.part in
-    rw p.1 (printed_part _ c.args.stream _ _ _ part _ _ _ c.loop-round.invariant.printed c.part_of-part.ensures.part sent
-    (search rules) (search rules))
+    rw p.1 (printed_part _ c.args.stream _ _ _ part _ _ _ c.loop-round.invariant.printed c.part_of-part.ensures.part
+    sent (search rules) (search rules))
 
 pub loop-round-preserved : goal.loop-round-preserved
 loop-round-preserved g c = search (rules, printed_more)

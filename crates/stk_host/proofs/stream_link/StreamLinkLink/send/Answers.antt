@@ -1,5 +1,5 @@
 use Rattle.std.proofs.Common.{◌≤◌, Some, refl, subst, rules}
-use Rattle.stk_host.specs.Links.{StreamState, IsTrueSince}
+use Rattle.stk_host.specs.Links.{StreamState, TranscriptIsTrueSince}
 use Rattle.stk_host.proofs.Transcripts.Streams.{true_on, true_of_sent, true_of_taken}
 use Rattle.stk_host.proofs.stream_link.StreamLinkLink.send.Goals as goal
 
@@ -17,6 +17,6 @@ returns-in-Err-clause-comes g c = λ start since.
     } in
     let counted : c.self.inside.failures ≤ c.saturating_add-self-inside.result = search rules in
     true_on g.R.Read.remaining g.W.Write.contents start c.args.self.now after since
-    (subst (λ (mid : StreamState g.row.R.Denot g.row.W.Denot). IsTrueSince g.R.Read.remaining g.W.Write.contents mid
-    after) c.self.view_is
+    (subst (λ (mid : StreamState g.row.R.Denot g.row.W.Denot). TranscriptIsTrueSince g.R.Read.remaining
+    g.W.Write.contents mid after) c.self.view_is
     (true_of_taken g.R.Read.remaining g.W.Write.contents _ after c.args.bytes.now refl counted c.in-Err.ensures.taken))

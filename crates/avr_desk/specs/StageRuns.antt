@@ -6,22 +6,22 @@ use Rattle.avr_desk.specs.declared.record.Opening.{Opening}
 use Rattle.avr_desk.specs.declared.record.Opening.TheVariants.{Found}
 use Rattle.avr_desk.specs.declared.record.Reading.{Reading}
 use Rattle.avr_desk.specs.Lines.{memory_line, not_opened_line, not_read_line}
-use Rattle.avr_desk.specs.OutputEvents.{OutputEvent, Opens, PrintsLine, IsPrefixOf, ReportsLineAs, ReportsFailureAs, after_events}
+use Rattle.avr_desk.specs.OutputEvents.{OutputEvent, Opens, PrintsLine, IsPrefixOfBytes, ReportsLineAs, ReportsFailureAs, after_events}
 use Rattle.avr_desk.specs.Stage.{Stage, StageOutcome, Produced, Refused, StageResult, events_with_refusal, next_opening}
 
 -- The stage ran to its end and no call of the desk failed. For the openings that passed, the desk has the stage's
 -- events, whatever later openings would give. The line of a refusal came last.
-pub record StageCompleted {A : Type 0} (stage : Stage A) (old new : DeskState) (stage_outcome : StageOutcome A) : Type 0
-  where
-    pub passed : List Opening
-    pub emits : List OutputEvent
-    pub comes : (more : List Opening) → stage (passed ++ more) ≡ record {
-      emits = emits;
-      stage_outcome = stage_outcome;
-      openings_left = more;
-    }
-    pub kept : ChangesRecord (after_events (events_with_refusal emits stage_outcome)) old new
-    pub sound : HasSameCounts old new
+pub record StageCompleted {A : Type 0} (stage : Stage A) (old new : DeskState)
+    (stage_outcome : StageOutcome A) : Type 0 where
+  pub passed : List Opening
+  pub output_events : List OutputEvent
+  pub comes : (more : List Opening) → stage (passed ++ more) ≡ record {
+    output_events = output_events;
+    stage_outcome = stage_outcome;
+    openings_left = more;
+  }
+  pub kept : ChangesRecord (after_events (events_with_refusal output_events stage_outcome)) old new
+  pub sound : HasSameCounts old new
 
 -- Why a stage broke off. The next line couldn't be printed, the next file couldn't be opened, or reading it failed
 -- after these bytes. Or allocation failed, with no file open or after this much of the next file.
@@ -42,7 +42,7 @@ events_of_break (NoMemoryForFile reading) notice = Opens (Found reading) ∷ Pri
 events_of_break break notice = PrintsLine notice ∷ []
 
 abbrev pub IsNextEvent : OutputEvent → List OutputEvent → Type 0
-IsNextEvent output later = (behind : List OutputEvent) × (later ≡ output ∷ behind)
+IsNextEvent event later = (behind : List OutputEvent) × (later ≡ event ∷ behind)
 
 -- the break fits the next event, and the openings that would have passed
 abbrev pub BreakFitsNext : BreakCause → List Opening → List OutputEvent → Type 0
@@ -57,9 +57,9 @@ BreakFitsNext (NoMemoryForFile reading) more later = IsNextEvent (Opens (next_op
 abbrev pub AllocationPoints : Type 1
 AllocationPoints = List Opening → List OutputEvent → Type 0
 
--- only before any event, and only if `takes`
+-- only before any event, and only if `allocates`
 abbrev pub OnlyAtStart : Bool → AllocationPoints
-OnlyAtStart takes passed emitted = (takes ≡ true) × (passed ≡ []) × (emitted ≡ [])
+OnlyAtStart allocates passed emitted = (allocates ≡ true) × (passed ≡ []) × (emitted ≡ [])
 
 abbrev pub AllocatesThere : AllocationPoints → BreakCause → List Opening → List OutputEvent → Type 0
 AllocatesThere taking NoMemory passed emitted = taking passed emitted
@@ -68,7 +68,7 @@ AllocatesThere taking break passed emitted = Unit {0}
 -- The desk failed at a file or allocation failed, and the line about that was reported. Or a line couldn't be
 -- printed: a prefix of it was printed, a write to the messages failed, and nothing else is reported.
 abbrev pub ReportsBreakAs : BreakCause → Bytes → DeskState → DeskState → Type 0
-ReportsBreakAs (LineNotPrinted line) notice old new = IsPrefixOf notice line × HasFailedToReport old new
+ReportsBreakAs (LineNotPrinted line) notice old new = IsPrefixOfBytes notice line × HasFailedToReport old new
 ReportsBreakAs (NotOpened name) notice old new = ReportsFailureAs (not_opened_line name) notice old new
 ReportsBreakAs (NotRead name bytes) notice old new = ReportsFailureAs (not_read_line name) notice old new
 ReportsBreakAs NoMemory notice old new = ReportsLineAs memory_line notice old new
@@ -78,7 +78,7 @@ ReportsBreakAs (NoMemoryForFile reading) notice old new = ReportsLineAs memory_l
 pub record RestOfStage {A : Type 0} (played : StageResult A) (whole : List OutputEvent) (break : BreakCause)
     (more : List Opening) : Type 0 where
   pub later : List OutputEvent
-  pub output_events_are : played.emits ≡ whole ++ later
+  pub output_events_are : played.output_events ≡ whole ++ later
   pub broken : BreakFitsNext break more (events_with_refusal later played.stage_outcome)
 
 -- The stage broke off. For the openings that passed, a prefix of its events was done, whatever later openings would
