@@ -810,6 +810,8 @@ def hints():
         ("signature FF", FLASH, "the programmer finds no chip", "error: signature is", instead(0x1B, 0, 0xFF, 0)),
         ("signature 12", FLASH, "another part (12 12 12), which is not known", "error: sig", instead(0x1B, 0, 0x12, 0)),
         ("command 10", FLASH, "the programmer can't reach the chip, which is unch", "command 10", instead(0x10, 0xC0)),
+        # (here the erase was done: the hint may not say that the chip is unchanged)
+        ("command 12", FLASH, "a bootloader can't erase the chip: use -D", "command 12 refused", instead(0x12, 0xC0)),
         ("command 13", FLASH, f"the programmer refused the command: {partly}", "command 13", instead(0x13, 0xC0)),
         ("no bit", [*reading, "efuse:w:0xFD:m"], nobit, "expected, 05 found", instead(0x18, 0, 0x05, 0)),
         ("flash", FLASH, "run the same command again; if it always", found, instead(0x14, 0, *bytes(256), 0)),

@@ -179,7 +179,7 @@ REFUSALS = {
 ANSWERED = {
     r"(\w+): address (\w+): (\w+) expected, (\w+) found": differs,
     r"signature is (\w\w \w\w \w\w)": another_part,
-    "command 12 ": lambda words, _: "a bootloader can't erase the chip, which is unchanged: {}use -D{}".format(
+    "command 12 ": lambda words, _: "a bootloader can't erase the chip: {}use -D{}".format(
         "leave out -e, and " if "-e" in words.flags else "", "" if words.is_whole() else f", and {ONE_IMAGE}"
     ),
     "command 10 ": "the programmer can't reach the chip, which is unchanged: check wires, power, clock and reset pin",
