@@ -19,7 +19,7 @@ ghost use Rattle.stk_emu.specs.Exchange.{Execution};
 ghost use Rattle.avr_tool.specs.Headline.{IsRun};
 ghost use Rattle.avr_laws.specs.AnyTape.{ReceivedSentFrames, executions_by_arrival};
 ghost use Rattle.avr_laws.specs.Damaged.{Arrived, Arrival, BringsReplies, tape_of_arrivals};
-ghost use Rattle.avr_laws.specs.Kept.{Keeps};
+ghost use Rattle.avr_laws.specs.Kept.{HasGeometryOf, KeepsOnPart};
 ghost use Rattle.avr_laws.specs.NoForgedFrame.{ForgesNoFrame};
 
 /// States when a link that loses, delays and damages frames forges none. It changes at most one byte of a frame, which
@@ -40,14 +40,18 @@ pub fn a_link_that_damages_one_byte_forges_no_frame<E, R>()
 /// States what status 0 means over a link that loses or delays frames, or damages one byte of them. Of the frames sent,
 /// in order, each arrived whole, damaged or not at all. The replies came as in
 /// [`a_link_that_damages_one_byte_forges_no_frame`].
-// Proof: `over_damage` (Outcomes/OverDamage).
+///
+/// The chip has the sizes, pages and EESAVE bit of the plan's part. Its id and signature may be others: the plan that
+/// was kept is the one for the chip's own part. Without `-F` status 0 means that the chip has the signature of the
+/// plan's part.
+// Proof: `over_damage` (Outcomes/OverDamage), by `kept` (Outcomes/Kept): such a link meets its condition.
 pub fn over_a_link_that_damages_one_byte_status_0_means_the_images()
     ensures { (s : Settings) (plan : Plan) (before now : Devices) (r : IsRun s before now 0)
         → (planned s r.openings).stage_outcome ≡ Produced plan → before.link.transcript ≡ []
         → (p : Programmer) (got : List ℕ) (through : List Bool) (come : List Arrival)
-        → IsSoundChip p.chip → p.chip.part ≡ plan.part
+        → IsSoundChip p.chip → HasGeometryOf plan.part p.chip.part
         → Arrived (frames (sent now.link.transcript)) through got → heard now.link.transcript ≡ tape_of_arrivals come
         → BringsReplies device (session plan) 1 come p (executions_by_arrival through) []
-        → Keeps plan (memories_of p.chip) (memories_of (after_frames device (frames got) p).chip)
-        before.desk now.desk }
+        → KeepsOnPart p.chip.part plan (memories_of p.chip)
+        (memories_of (after_frames device (frames got) p).chip) before.desk now.desk }
 {}

@@ -33,7 +33,7 @@ ghost use Rattle.stk_emu.specs.Device.{device};
 ghost use Rattle.stk_emu.specs.Effect.{memories_of, erase_keeps_eeprom, effects};
 ghost use Rattle.avr_laws.specs.FewBadFrames.{AtMostThreeBadOfSeven};
 ghost use Rattle.avr_laws.specs.AskedPlan.{FileGave, IsAsked};
-ghost use Rattle.avr_laws.specs.Kept.{IsKept, NoneForged};
+ghost use Rattle.avr_laws.specs.Kept.{HasGeometryOf, IsKept, NoneForged};
 ghost use Rattle.stk_emu.specs.Programmer.{Programmer, fresh_programmer};
 ghost use Rattle.stk_host.specs.Play.{IsBytePrefixOf};
 ghost use Rattle.avr_tool.specs.ComparisonsAgree.{MemoryHoldsImage};
@@ -88,26 +88,29 @@ pub fn status_0_means_the_images<D: Desk, L: Link>(
 /// with a fuse. No frame is forged. The first sent any prefix of its bytes: it was killed, or its link failed. The
 /// programmer may then be in any state, as long as its chip holds what the first run left.
 ///
+/// The chip has the sizes, pages and EESAVE bit of the plan's part. Its id and signature may be others.
+///
 /// If the plan erases and the chip keeps EEPROM at an erase, each byte that it writes to the high fuse must keep it
 /// too. If the second run was verified, each memory holds its images.
-// Proof: `as_one` and `images_there` (Outcomes/TwoRuns), by `done_again` (SecondRun/Status).
+// Proof: `as_one` and `images_there` (Outcomes/TwoRuns), by `done_again` (SecondRun/Status) and, for another signature,
+// `session_alike` (Outcomes/OtherPart).
 pub fn an_ended_run_and_one_with_status_0_are_as_one()
     ensures { (plan : Plan) (first second : Transcript) (old now : DeskState) (p q : Programmer)
-        → All (IsFitted plan.part) plan.tasks → IsSoundChip p.chip → p.chip.part ≡ plan.part
-        → (has_erase (items plan) ≡ true → erase_keeps_eeprom plan.part (memories_of p.chip) ≡ true
-        → ItemsKeepEeprom plan.part (items plan))
+        → All (IsFitted plan.part) plan.tasks → IsSoundChip p.chip → HasGeometryOf plan.part p.chip.part
+        → (has_erase (items plan) ≡ true → erase_keeps_eeprom p.chip.part (memories_of p.chip) ≡ true
+        → ItemsKeepEeprom p.chip.part (items plan))
         → (got : List ℕ) (later : List (List ℕ)) (executions : List Execution)
         → IsBytePrefixOf (sent first) (bytes_sent (played (session plan) 1 (heard first)).events)
         → ReceivedSentFrames got later (frames (sent first)) executions
         → ForgesNoFrame device (session plan) 1 (heard first) p executions []
         → (over : List ℕ) (more : List (List ℕ)) (others : List Execution) → IsSoundChip q.chip
-        → q.chip.part ≡ plan.part → memories_of q.chip ≡ memories_of (after_received_bytes device got later p).chip
+        → q.chip.part ≡ p.chip.part → memories_of q.chip ≡ memories_of (after_received_bytes device got later p).chip
         → IsKept plan second old now → ReceivedSentFrames over more (frames (sent second)) others
         → NoneForged device (frames (sent second)) (heard second) q others []
         → (memories_of (after_received_bytes device over more q).chip
-        ≡ effects plan.part (items plan) (memories_of p.chip))
-        × (plan.switches.no_verify ≡ false → (mem : Mem) → MemoryHoldsImage plan.part mem
-        (written_to plan.part mem (asked_items plan)) (memories_of (after_received_bytes device over more q).chip)) }
+        ≡ effects p.chip.part (items plan) (memories_of p.chip))
+        × (plan.switches.no_verify ≡ false → (mem : Mem) → MemoryHoldsImage p.chip.part mem
+        (written_to p.chip.part mem (asked_items plan)) (memories_of (after_received_bytes device over more q).chip)) }
 {}
 
 /// States what can't be the outcome of a run over a wire. With status 0: memories that the plan's writes don't leave,

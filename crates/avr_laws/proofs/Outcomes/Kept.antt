@@ -1,12 +1,9 @@
 -- Status 0 means the plan, by what was sent and received alone.
-use Rattle.std.proofs.Common.{◌≡◌, ◌⊎◌, ℕ, All, List, [], ◌∷◌, ◌++◌, take, sym, ap, arith, ◌∙◌, append-nil, inl, inr, subst, Option, Some, None}
-use Rattle.std.proofs.lemmas.Bool.{cases_Bool}
-use Rattle.std.proofs.lemmas.List.Elements.{All-weaker}
+use Rattle.std.proofs.Common.{◌≡◌, ◌⊎◌, ℕ, All, List, [], ◌∷◌, ◌++◌, take, sym, ap, arith, ◌∙◌, append-nil, inl, inr, refl, subst, Option, Some, None}
 use Rattle.std.specs.Prelude.{false}
 use Rattle.avr_cli.specs.declared.settings.Settings.{Settings}
 use Rattle.avr_desk.specs.OutputEvents.{OutputEvent}
 use Rattle.avr_desk.specs.Stage.{Produced}
-use Rattle.avr_part.specs.Part.{Part}
 use Rattle.avr_part.specs.Sound.{IsSoundChip}
 use Rattle.avr_plan.specs.Plan.{Plan, IsFitted}
 use Rattle.avr_plan.specs.Planning.{planned}
@@ -34,41 +31,39 @@ use Rattle.avr_tool.proofs.Lines.InTurn.{frames_sent, sends_whole}
 use Rattle.avr_tool.proofs.OverExchanges.{asks, is_idle, its_part as sound_part, its_sizes}
 use Rattle.avr_laws.specs.AnyTape.{ReceivedSentFrames, after_received_bytes}
 use Rattle.avr_laws.specs.AskedPlan.{FileGave, IsAsked}
-use Rattle.avr_laws.specs.Kept.{HasGeometryOf, IsKept, Keeps, KeepsOnPart, NoneForged, on_part}
+use Rattle.avr_laws.specs.Kept.{HasGeometryOf, IsKept, KeepsOnPart, NoneForged, on_part}
 use Rattle.avr_laws.specs.NoForgedFrame.{ForgesNoFrame, AreNotForged, frame_of_reply}
 use Rattle.avr_laws.proofs.Lines.NoForgedFrame.{no_forged_frame_authentic}
-use Rattle.avr_laws.proofs.Outcomes.Alike.{AreAlike, alike}
-use Rattle.avr_laws.proofs.Outcomes.OtherPart.{fits_other, other, session_alike}
+use Rattle.avr_laws.proofs.Outcomes.Alike.{AreAlike, same_frames}
+use Rattle.avr_laws.proofs.Outcomes.OtherPart.{session_alike, tasks_fit}
 use Rattle.avr_laws.proofs.Outcomes.OwnSignature.{IsFirstPart, first_frames, from_handshake, own_signature, sends_valid, session_is}
-use Rattle.avr_laws.proofs.Outcomes.Promise.{asked as asked_for, done, left_over, made, other_sent, played_is, promise_for, same, sent_is, tape as over_tape}
+use Rattle.avr_laws.proofs.Outcomes.Promise.{asked as asked_for, left_over, made, other_sent, played_is, promise_for, same, sent_is, tape as over_tape}
 use Rattle.avr_laws.proofs.Plans.Fitted.{plan_fitted}
 
--- ---- of the frames that a dialog sent first, over the tape that it received, none was forged: the same of the dialog
+-- ---- no frame was forged, by the dialog or by the frames that it sent first, over the tape that it received
+
+-- if the reply hasn't come, there is nothing to show
+pub on_each_reading : (A B : Option (Reading × Tape) → Reading → Tape → Type 0) (o : Option (Reading × Tape))
+    → ((reading : Reading) (left : Tape) → A (Some (reading, left)) reading left
+    → B (Some (reading, left)) reading left) → on_reading (A o) o → on_reading (B o) o
+on_each_reading A B None each read = tt
+on_each_reading A B (Some (reading, left)) each read = each reading left read
+
+-- the frames sent after a reading, and these
+abbrev sent_then : {E R : Type 0} → (Reading → Dialog E R) → ℕ → List (List ℕ) → Option (Reading × Tape)
+    → List (List ℕ)
+sent_then go_on n more o =
+    frames_in (continue_with_reading (λ reading. played (go_on reading) (next n)) o).events ++ more
 
 module _ {P : Type 0} (m : Device P) where
-  asked : {E R : Type 0} (bytes : List ℕ) (go_on : Reading → Dialog E R) (n : ℕ) (tape : Tape) (p : P)
-      (executions : List Execution) (before more : List (List ℕ)) (o : Option (Reading × Tape))
-      → ((reading : Reading) (left : Tape)
-      → NoneForged m (frames_in (played (go_on reading) (next n) left).events ++ more) left
-      (after_execution (first_execution executions) (m.after bytes p) p m.reset) (later_executions executions)
-      (frame_of_reply m n bytes p (first_execution executions) ∷ before)
-      → ForgesNoFrame m (go_on reading) (next n) left
-      (after_execution (first_execution executions) (m.after bytes p) p m.reset) (later_executions executions)
-      (frame_of_reply m n bytes p (first_execution executions) ∷ before))
-      → on_reading (λ reading left.
+  -- none is forged up to the reply to a command, and then this holds
+  abbrev pub NotForgedThen : ℕ → List ℕ → Tape → P → List Execution → List (List ℕ)
+      → (Reading → Tape → P → List Execution → List (List ℕ) → Type 0) → Reading → Tape → Type 0
+  NotForgedThen n bytes tape p executions before Claim reading left =
       AreNotForged n (frame_of_reply m n bytes p (first_execution executions)
       ∷ before) (cut (take reply_byte_limit (leading_bytes tape)))
-      × NoneForged m (frames_in (continue_with_reading (λ reading. played (go_on reading) (next n)) o).events ++ more)
-      left (after_execution (first_execution executions) (m.after bytes p) p m.reset) (later_executions executions)
-      (frame_of_reply m n bytes p (first_execution executions) ∷ before)) o
-      → on_reading (λ reading left.
-      AreNotForged n (frame_of_reply m n bytes p (first_execution executions)
-      ∷ before) (cut (take reply_byte_limit (leading_bytes tape))) × ForgesNoFrame m (go_on reading) (next n) left
-      (after_execution (first_execution executions) (m.after bytes p) p m.reset) (later_executions executions)
-      (frame_of_reply m n bytes p (first_execution executions) ∷ before)) o
-  asked bytes go_on n tape p executions before more None each forged = tt
-  asked bytes go_on n tape p executions before more (Some (reading, left)) each forged =
-      (forged.0, each reading left forged.1)
+      × Claim reading left (after_execution (first_execution executions) (m.after bytes p) p m.reset)
+      (later_executions executions) (frame_of_reply m n bytes p (first_execution executions) ∷ before)
 
   pub none_forged : {E R : Type 0} (d : Dialog E R) (n : ℕ) (tape : Tape) (p : P) (executions : List Execution)
       (before more : List (List ℕ)) → NoneForged m (frames_in (played d n tape).events ++ more) tape p executions before
@@ -76,16 +71,37 @@ module _ {P : Type 0} (m : Device P) where
   none_forged (Done r) n tape p executions before more forged = tt
   none_forged (Emit e d) n tape p executions before more forged = none_forged d n tape p executions before more forged
   none_forged (Ask bytes go_on) n tape p executions before more forged =
-      asked bytes go_on n tape p executions before more (answer n tape)
-      (λ reading left inner. none_forged (go_on reading) (next n) left _ (later_executions executions)
-      (frame_of_reply m n bytes p (first_execution executions) ∷ before) more inner)
-      (subst (λ (b : List ℕ). on_reading (λ reading left.
-      AreNotForged n (frame_of_reply m n b p (first_execution executions)
-      ∷ before) (cut (take reply_byte_limit (leading_bytes tape)))
-      × NoneForged m (frames_in (continue_with_reading (λ reading. played (go_on reading) (next n))
-      (answer n tape)).events ++ more) left (after_execution (first_execution executions) (m.after b p) p m.reset)
-      (later_executions executions) (frame_of_reply m n b p (first_execution executions) ∷ before)) (answer n tape))
-      (body_of_frame n bytes) forged)
+      on_each_reading
+      (λ o. NotForgedThen n bytes tape p executions before (λ reading. NoneForged m (sent_then go_on n more o)))
+      (λ o. NotForgedThen n bytes tape p executions before (λ reading. ForgesNoFrame m (go_on reading) (next n)))
+      (answer n tape) (λ reading left both. (both.0, none_forged (go_on reading) (next n) left _ _ _ more both.1))
+      (subst (λ (b : List ℕ). on_reading (NotForgedThen n b tape p executions before
+      (λ reading. NoneForged m (sent_then go_on n more (answer n tape)))) (answer n tape)) (body_of_frame n bytes)
+      forged)
+
+  -- and conversely, of its own frames alone
+  pub its_none_forged : {E R : Type 0} (d : Dialog E R) (n : ℕ) (tape : Tape) (p : P) (executions : List Execution)
+      (before : List (List ℕ)) → ForgesNoFrame m d n tape p executions before
+      → NoneForged m (frames_in (played d n tape).events ++ []) tape p executions before
+  its_none_forged (Done r) n tape p executions before none = tt
+  its_none_forged (Emit e d) n tape p executions before none = its_none_forged d n tape p executions before none
+  its_none_forged (Ask bytes go_on) n tape p executions before none =
+      subst (λ (b : List ℕ). on_reading (NotForgedThen n b tape p executions before
+      (λ reading. NoneForged m (sent_then go_on n [] (answer n tape)))) (answer n tape)) (sym (body_of_frame n bytes))
+      (on_each_reading
+      (λ o. NotForgedThen n bytes tape p executions before (λ reading. ForgesNoFrame m (go_on reading) (next n)))
+      (λ o. NotForgedThen n bytes tape p executions before (λ reading. NoneForged m (sent_then go_on n [] o)))
+      (answer n tape) (λ reading left both. (both.0, its_none_forged (go_on reading) (next n) left _ _ _ both.1))
+      none)
+
+  -- over dialogs that differ in printed lines alone
+  pub alike_forges_none : {R : Type 0} (a b : Dialog OutputEvent R) (n : ℕ) (tape : Tape) (p : P)
+      (executions : List Execution) (before : List (List ℕ)) → AreAlike a b
+      → ForgesNoFrame m a n tape p executions before → ForgesNoFrame m b n tape p executions before
+  alike_forges_none a b n tape p executions before are none =
+      none_forged b n tape p executions before []
+      (subst (λ (fs : List (List ℕ)). NoneForged m (fs ++ []) tape p executions before) (same_frames are n tape)
+      (its_none_forged a n tape p executions before none))
 
 -- ---- so with status 0 the plan is kept, on a chip of its part's geometry
 
@@ -101,54 +117,34 @@ module _ (s : Settings) (plan : Plan) (x y : Devices) (r : IsRun s x y 0)
   these = same s x y r plan made_is silent
 
   -- a plan whose session differs in printed lines alone sends the same frames
-  frames_alike : (other : Plan) → AreAlike (session plan) (session other) → SendsValidBodies (session other)
+  pub frames_alike : (other : Plan) → AreAlike (session plan) (session other) → SendsValidBodies (session other)
       → frames (sent passed) ≡ frames_in (played (session other) 1 tape).events
   frames_alike other are_alike bodies =
       ap (λ (t : Transcript). frames (sent t)) these
       ∙ (ap frames (sym (other_sent s x y r plan made_is silent other are_alike))
       ∙ frames_sent (played (session other) 1 tape).events (sends_whole (session other) 1 tape bodies))
 
-  pub frames_are : SendsValidBodies (session plan)
-      → frames (sent passed) ≡ frames_in (done s x y r plan made_is silent)
-  frames_are bodies = frames_alike plan (alike (session plan)) bodies
-
-  module _ (p : Programmer) (got : List ℕ) (later : List (List ℕ)) (executions : List Execution)
-      (sound : IsSoundChip p.chip) (fits : HasGeometryOf plan.part p.chip.part)
-      (came : ReceivedSentFrames got later (frames (sent passed)) executions)
-      (none : NoneForged device (frames (sent passed)) (heard passed) p executions []) where
-    -- the plan on a part with the chip's id and signature
-    abbrev its_part : Part
-    its_part = other plan.part p.chip.part.id p.chip.part.signature
-
+  module _ (p : Programmer) (executions : List Execution) (sound : IsSoundChip p.chip)
+      (fits : HasGeometryOf plan.part p.chip.part) where
+    -- the plan on the chip's own part
     abbrev its_plan : Plan
-    its_plan = on_part its_part plan
+    its_plan = on_part p.chip.part plan
 
     abbrev before : Memories
     before = memories_of p.chip
 
-    its_tasks : All (IsFitted its_part) plan.tasks
-    its_tasks = All-weaker (IsFitted plan.part) (IsFitted its_part)
-        (fits_other plan.part p.chip.part.id p.chip.part.signature) plan.tasks
-        (plan_fitted s r.openings plan made_is)
+    its_tasks : All (IsFitted p.chip.part) plan.tasks
+    its_tasks = tasks_fit plan p.chip.part fits (plan_fitted s r.openings plan made_is)
 
-    its_bodies : SendsValidBodies (session its_plan)
-    its_bodies = asks its_plan p sound fits its_tasks
-
-    -- none of these frames was forged, as a reply to those of a dialog that were sent first
-    none_of : {E R : Type 0} (d : Dialog E R) (more : List (List ℕ))
-        → frames (sent passed) ≡ frames_in (played d 1 tape).events ++ more
-        → ForgesNoFrame device d 1 tape p executions []
-    none_of d more are =
-        none_forged device d 1 tape p executions [] more
-        (subst (λ (fs : List (List ℕ)). NoneForged device fs tape p executions []) are
-        (subst (λ (t : Transcript). NoneForged device (frames (sent passed)) (heard t) p executions []) these none))
+    pub its_bodies : SendsValidBodies (session its_plan)
+    its_bodies = asks its_plan p sound refl its_tasks
 
     -- ---- without -F it has the signature of the plan's part
 
-    begins : Upholds (over_any_exchange device) (λ body q. HasMemories its_part before q) NoOutput
-        (AfterBeginning its_part before) handshake p
-    begins = beginning_goes its_part (sound_part its_plan p sound fits its_tasks) before p
-        (its_sizes its_plan p sound fits its_tasks) (is_idle its_plan p sound fits its_tasks)
+    begins : Upholds (over_any_exchange device) (λ body q. HasMemories p.chip.part before q) NoOutput
+        (AfterBeginning p.chip.part before) handshake p
+    begins = beginning_goes p.chip.part (sound_part its_plan p sound refl its_tasks) before p
+        (its_sizes its_plan p sound refl its_tasks) (is_idle its_plan p sound refl its_tasks)
 
     abbrev run : Dialog OutputEvent ℕ → Played OutputEvent ℕ
     run d = played d 1 tape
@@ -157,44 +153,55 @@ module _ (s : Settings) (plan : Plan) (x y : Devices) (r : IsRun s x y 0)
     ended = sym (ap (λ (d : Dialog OutputEvent ℕ). (run d).outcome) (session_is plan))
         ∙ ap (λ (q : Played OutputEvent ℕ). q.outcome) (played_is s x y r plan made_is silent)
 
-    sent_first : IsFirstPart (played handshake 1 tape) (run (from_handshake plan handshake))
-    sent_first = first_frames plan handshake 1 tape (sends_valid its_plan handshake
-        (subst (λ (d : Dialog OutputEvent ℕ). SendsValidBodies d) (session_is its_plan) its_bodies))
+    module _ (first : ForgesNoFrame device handshake 1 tape p executions []) where
+      pub own : plan.switches.force ≡ false → p.chip.part.signature ≡ plan.part.signature
+      own unforced =
+          own_signature plan p.chip.part before handshake 1 tape p executions r.next (left_over s x y r) begins.holds
+          (no_forged_frame_authentic device handshake 1 tape p executions [] tt first) ended unforced
 
-    first_are : frames (sent passed) ≡ frames_in (played handshake 1 tape).events ++ sent_first.0
-    first_are = ap (λ (t : Transcript). frames (sent t)) these
-        ∙ (ap frames (sym (sent_is s x y r plan made_is silent))
-        ∙ (ap (λ (d : Dialog OutputEvent ℕ). frames (bytes_sent (run d).events)) (session_is plan) ∙ sent_first.1))
+      -- so its session differs in printed lines alone
+      pub are_alike : AreAlike (session plan) (session its_plan)
+      are_alike = session_alike plan p.chip.part fits own
 
-    own : plan.switches.force ≡ false → p.chip.part.signature ≡ plan.part.signature
-    own unforced =
-        own_signature plan its_part before handshake 1 tape p executions r.next (left_over s x y r) begins.holds
-        (no_forged_frame_authentic device handshake 1 tape p executions [] tt
-        (none_of handshake sent_first.0 first_are))
-        ended unforced
+    -- ---- none of the frames was forged
 
-    -- ---- so its session differs in printed lines alone
+    module _ (got : List ℕ) (later : List (List ℕ))
+        (came : ReceivedSentFrames got later (frames (sent passed)) executions)
+        (none : NoneForged device (frames (sent passed)) (heard passed) p executions []) where
+      -- none of these, as a reply to those of a dialog that were sent first
+      none_of : {E R : Type 0} (d : Dialog E R) (more : List (List ℕ))
+          → frames (sent passed) ≡ frames_in (played d 1 tape).events ++ more
+          → ForgesNoFrame device d 1 tape p executions []
+      none_of d more are =
+          none_forged device d 1 tape p executions [] more
+          (subst (λ (fs : List (List ℕ)). NoneForged device fs tape p executions []) are
+          (subst (λ (t : Transcript). NoneForged device (frames (sent passed)) (heard t) p executions []) these none))
 
-    are_alike : AreAlike (session plan) (session its_plan)
-    are_alike = session_alike plan p.chip.part.id p.chip.part.signature (elim (cases_Bool plan.switches.force) [
-      | inl forced ↦ inl forced
-      | inr unforced ↦ inr (sym (own unforced))
-    ])
+      sent_first : IsFirstPart (played handshake 1 tape) (run (from_handshake plan handshake))
+      sent_first = first_frames plan handshake 1 tape (sends_valid its_plan handshake
+          (subst (λ (d : Dialog OutputEvent ℕ). SendsValidBodies d) (session_is its_plan) its_bodies))
 
-    kept_on_part : KeepsOnPart p.chip.part plan before (memories_of (after_received_bytes device got later p).chip)
-        x.desk y.desk
-    kept_on_part = record {
-      keeps = subst (λ (part : Part). Keeps (on_part part plan) before
-          (memories_of (after_received_bytes device got later p).chip) x.desk y.desk) (sym fits)
-          (promise_for s x y r plan made_is silent its_plan are_alike its_tasks p got later executions sound fits came
-          (subst (λ (t : Transcript). ForgesNoFrame device (session its_plan) 1 (heard t) p executions []) (sym these)
-          (none_of (session its_plan) [] (frames_alike its_plan are_alike its_bodies
-          ∙ sym (append-nil (frames_in (run (session its_plan)).events))))));
-      signature = own;
-    }
+      first_are : frames (sent passed) ≡ frames_in (played handshake 1 tape).events ++ sent_first.0
+      first_are = ap (λ (t : Transcript). frames (sent t)) these
+          ∙ (ap frames (sym (sent_is s x y r plan made_is silent))
+          ∙ (ap (λ (d : Dialog OutputEvent ℕ). frames (bytes_sent (run d).events)) (session_is plan) ∙ sent_first.1))
+
+      first_forged : ForgesNoFrame device handshake 1 tape p executions []
+      first_forged = none_of handshake sent_first.0 first_are
+
+      kept_on_part : KeepsOnPart p.chip.part plan before (memories_of (after_received_bytes device got later p).chip)
+          x.desk y.desk
+      kept_on_part = record {
+        keeps = promise_for s x y r plan made_is silent its_plan (are_alike first_forged) its_tasks p got later
+            executions sound refl came
+            (subst (λ (t : Transcript). ForgesNoFrame device (session its_plan) 1 (heard t) p executions []) (sym these)
+            (none_of (session its_plan) [] (frames_alike its_plan (are_alike first_forged) its_bodies
+            ∙ sym (append-nil (frames_in (run (session its_plan)).events)))));
+        signature = own first_forged;
+      }
 
   pub kept : IsKept plan passed x.desk y.desk
-  kept p got later executions sound fits came none = kept_on_part p got later executions sound fits came none
+  kept p got later executions sound fits came none = kept_on_part p executions sound fits got later came none
 
 -- ---- whatever a call over a link and a desk came to, as avr_tool's `run` states it
 

@@ -1,6 +1,8 @@
 -- A plan on a chip that has another id and signature: what differs is printed lines alone.
-use Rattle.std.proofs.Common.{◌≡◌, ◌∙◌, ◌⊎◌, inl, inr, sym, ap, subst, refl, ℕ, Bool, true, false, List, [], ◌∷◌, ◌++◌, map, Option, Result, Ok, Err}
+use Rattle.std.proofs.Common.{◌≡◌, ◌∙◌, ◌⊎◌, inl, inr, sym, ap, subst, refl, ℕ, All, Bool, true, false, List, [], ◌∷◌, ◌++◌, map, Option, Result, Ok, Err}
+use Rattle.std.proofs.lemmas.Bool.{cases_Bool}
 use Rattle.std.proofs.lemmas.List.{map-append}
+use Rattle.std.proofs.lemmas.List.Elements.{All-weaker}
 use Rattle.std.specs.Prelude.{length, if◌then◌else◌}
 use Rattle.avr_cli.specs.declared.settings.Switches.{Switches}
 use Rattle.avr_desk.specs.OutputEvents.{OutputEvent, PrintsLine}
@@ -81,7 +83,7 @@ reported_alike a b these those first same =
 
 -- The part has another id and signature; if -F isn't given, the same signature.
 module _ (part : Part) (id signature : Bytes) where
-  abbrev pub other : Part
+  abbrev other : Part
   other = record part { id = id; signature = signature }
 
   same_size : (mem : Mem) → size_of mem part ≡ size_of mem other
@@ -100,7 +102,7 @@ module _ (part : Part) (id signature : Bytes) where
   same_reading Eeprom = refl
   same_reading mem = refl
 
-  pub fits_other : (task : Task) → IsFitted part task → IsFitted other task
+  fits_other : (task : Task) → IsFitted part task → IsFitted other task
   fits_other (Write mem image) fits = subst (λ n. (length image ≡ n) × (is_writable mem ≡ true)) (same_size mem) fits
   fits_other (Verify mem image) fits = fits ∙ same_size mem
   fits_other (Read mem format file) fits = fits
@@ -171,14 +173,26 @@ module _ (part : Part) (id signature : Bytes) where
     ending_alike Faulty = alike (ending part s Faulty)
     ending_alike Over = alike (Done Over)
 
--- ---- the whole session
+-- ---- the whole session, and the tasks, on a part of the same geometry
 
-pub session_alike : (plan : Plan) (id signature : Bytes)
-    → (plan.switches.force ≡ true) ⊎ (plan.part.signature ≡ signature)
-    → AreAlike (session plan) (session (on_part (other plan.part id signature) plan))
-unfolding session
-session_alike plan id signature accepted =
-    alike_bind
-    (alike_bind (actions_alike plan.part id signature plan.switches accepted (actions plan))
-    (ending_alike plan.part id signature plan.switches accepted))
-    (λ standing. alike (Done (status_of standing)))
+module _ (plan : Plan) (part : Part) (fits : HasGeometryOf plan.part part) where
+  pub session_alike : (plan.switches.force ≡ false → part.signature ≡ plan.part.signature)
+      → AreAlike (session plan) (session (on_part part plan))
+  unfolding session
+  session_alike own =
+      let accepted : (plan.switches.force ≡ true) ⊎ (plan.part.signature ≡ part.signature) =
+      elim (cases_Bool plan.switches.force) [
+        | inl forced ↦ inl forced
+        | inr unforced ↦ inr (sym (own unforced))
+      ] in
+      subst (λ (other : Part). AreAlike (session plan) (session (on_part other plan))) (sym fits)
+      (alike_bind
+      (alike_bind (actions_alike plan.part part.id part.signature plan.switches accepted (actions plan))
+      (ending_alike plan.part part.id part.signature plan.switches accepted))
+      (λ standing. alike (Done (status_of standing))))
+
+  pub tasks_fit : All (IsFitted plan.part) plan.tasks → All (IsFitted part) plan.tasks
+  tasks_fit fitted =
+      subst (λ (other : Part). All (IsFitted other) plan.tasks) (sym fits)
+      (All-weaker (IsFitted plan.part) (IsFitted (other plan.part part.id part.signature))
+      (fits_other plan.part part.id part.signature) plan.tasks fitted)

@@ -1,8 +1,9 @@
 -- Status 0 means the images, over a link that loses, delays and damages frames.
-use Rattle.std.proofs.Common.{◌≡◌, ℕ, true, Bool, List, [], ◌∷◌, Option, Some, None, sym, subst}
+use Rattle.std.proofs.Common.{◌≡◌, ◌∙◌, ap, append-nil, ℕ, true, Bool, List, [], ◌∷◌, ◌++◌, Option, Some, None, sym, subst}
 use Rattle.std.proofs.lemmas.List.Elements.{All-nil, All-cons}
 use Rattle.std.specs.Prelude.{All}
 use Rattle.avr_cli.specs.declared.settings.Settings.{Settings}
+use Rattle.avr_desk.specs.OutputEvents.{OutputEvent}
 use Rattle.avr_desk.specs.Stage.{Produced}
 use Rattle.avr_part.specs.Sound.{IsSoundChip}
 use Rattle.avr_plan.specs.Plan.{Plan}
@@ -12,24 +13,27 @@ use Rattle.avr_session.specs.Session.{session}
 use Rattle.stk_frame.specs.Cut.{IsPiece, frames, is_good}
 use Rattle.stk_frame.proofs.Laws.{frame_is_good}
 use Rattle.stk_host.specs.Dialog.{Dialog, Done, Emit, Ask, Played, played, continue_with_reading, next, frames_in}
+use Rattle.stk_host.specs.Operations.{handshake}
+use Rattle.stk_host.specs.Steps.{StepOutcome}
 use Rattle.stk_host.specs.Tape.{Tape, Reading, answer}
-use Rattle.stk_host.specs.Transcript.{heard, sent}
+use Rattle.stk_host.specs.Transcript.{Transcript, heard, sent}
 use Rattle.stk_emu.specs.DialogOverExchanges.{SendsValidBodies}
-use Rattle.stk_emu.specs.Device.{device, after_frames}
+use Rattle.stk_emu.specs.Device.{Device, device, after_frames}
 use Rattle.stk_emu.specs.Effect.{memories_of}
+use Rattle.stk_emu.specs.Exchange.{Execution}
 use Rattle.stk_emu.specs.Programmer.{Programmer}
 use Rattle.stk_emu.proofs.Answers.BodySizes.{reply_fits_frame}
 use Rattle.avr_tool.specs.Headline.{IsRun}
 use Rattle.avr_tool.proofs.Lines.InTurn.{AreWhole, sends_whole}
-use Rattle.avr_tool.proofs.OverExchanges.{asks}
 use Rattle.avr_laws.specs.AnyTape.{executions_by_arrival}
-use Rattle.avr_laws.specs.Kept.{Keeps}
+use Rattle.avr_laws.specs.Kept.{HasGeometryOf, KeepsOnPart, NoneForged, on_part}
 use Rattle.avr_laws.specs.Damaged.{Arrived, Arrival, BringsReplies, tape_of_arrivals}
 use Rattle.avr_laws.specs.NoForgedFrame.{ForgesNoFrame}
 use Rattle.avr_laws.proofs.Lines.Damaged.{arrived_came, brings_no_frame}
-use Rattle.avr_laws.proofs.Plans.Fitted.{plan_fitted}
-use Rattle.avr_laws.proofs.Outcomes.Kept.{frames_are}
-use Rattle.avr_laws.proofs.Outcomes.Promise.{tape, promise}
+use Rattle.avr_laws.proofs.Outcomes.Alike.{AreAlike, same_frames}
+use Rattle.avr_laws.proofs.Outcomes.Kept.{NotForgedThen, are_alike, frames_alike, its_bodies, its_none_forged, kept, on_each_reading}
+use Rattle.avr_laws.proofs.Outcomes.OwnSignature.{from_handshake, session_is}
+use Rattle.avr_laws.proofs.Outcomes.Promise.{same, tape}
 
 abbrev IsGood : List ℕ → Type 0
 IsGood piece = is_good piece ≡ true
@@ -53,19 +57,63 @@ sends_good (Ask bytes go_on) n t sound = All-cons IsGood _ _ (frame_is_good n by
     (good_by (λ reading. played (go_on reading) (next n)) (answer n t)
     (λ reading left. sends_good (go_on reading) (next n) left (sound.1 reading)))
 
-module _ (s : Settings) (x y : Devices) (r : IsRun s x y 0) (plan : Plan)
-    (made_is : (planned s r.openings).stage_outcome ≡ Produced plan) (silent : x.link.transcript ≡ []) where
-  pub over_damage : (p : Programmer) (got : List ℕ) (through : List Bool) (come : List Arrival) → IsSoundChip p.chip
-      → p.chip.part ≡ plan.part
-      → Arrived (frames (sent y.link.transcript)) through got → heard y.link.transcript ≡ tape_of_arrivals come
-      → BringsReplies device (session plan) 1 come p (executions_by_arrival through) []
-      → Keeps plan (memories_of p.chip) (memories_of (after_frames device (frames got) p).chip) x.desk y.desk
-  over_damage p got through come sound part_is arrived is brings =
-      let asked : SendsValidBodies (session plan) = asks plan p sound part_is (plan_fitted s r.openings plan made_is) in
-      let these = frames_are s plan x y r made_is silent asked in
-      promise s x y r plan made_is silent p got [] (executions_by_arrival through) sound part_is
+-- if a link forges no frame for a session, it forges none for its handshake
+module _ {P : Type 0} (m : Device P) (plan : Plan) where
+  handshake_forges_none : (d : Dialog ⊥ StepOutcome) (n : ℕ) (tape : Tape) (p : P) (executions : List Execution)
+      (before : List (List ℕ)) → ForgesNoFrame m (from_handshake plan d) n tape p executions before
+      → ForgesNoFrame m d n tape p executions before
+  handshake_forges_none (Done outcome) n t p executions before none = tt
+  handshake_forges_none (Emit e d) n t p executions before none = absurd e
+  handshake_forges_none (Ask bytes go_on) n t p executions before none =
+      on_each_reading
+      (λ o. NotForgedThen m n bytes t p executions before
+      (λ reading. ForgesNoFrame m (from_handshake plan (go_on reading)) (next n)))
+      (λ o. NotForgedThen m n bytes t p executions before (λ reading. ForgesNoFrame m (go_on reading) (next n)))
+      (answer n t) (λ reading left both. (both.0, handshake_forges_none (go_on reading) (next n) left _ _ _ both.1))
+      none
+
+module _ (s : Settings) (plan : Plan) (x y : Devices) (r : IsRun s x y 0)
+    (made_is : (planned s r.openings).stage_outcome ≡ Produced plan) (silent : x.link.transcript ≡ [])
+    (p : Programmer) (got : List ℕ) (through : List Bool) (come : List Arrival) (sound : IsSoundChip p.chip)
+    (fits : HasGeometryOf plan.part p.chip.part) (arrived : Arrived (frames (sent y.link.transcript)) through got)
+    (is : heard y.link.transcript ≡ tape_of_arrivals come)
+    (brings : BringsReplies device (session plan) 1 come p (executions_by_arrival through) []) where
+  abbrev executions : List Execution
+  executions = executions_by_arrival through
+
+  forges_none : ForgesNoFrame device (session plan) 1 (tape s x y r) p executions []
+  forges_none = subst (λ (t : Tape). ForgesNoFrame device (session plan) 1 t p executions [])
+      (sym is ∙ ap heard (same s x y r plan made_is silent))
+      (brings_no_frame device reply_fits_frame (session plan) 1 come p executions [] tt brings)
+
+  -- the session of the plan for the chip's own part
+  abbrev its : Dialog OutputEvent ℕ
+  its = session (on_part p.chip.part plan)
+
+  are : AreAlike (session plan) its
+  are = are_alike s plan x y r made_is silent p executions sound fits
+      (handshake_forges_none device plan handshake 1 (tape s x y r) p executions []
+      (subst (λ (d : Dialog OutputEvent ℕ). ForgesNoFrame device d 1 (tape s x y r) p executions []) (session_is plan)
+      forges_none))
+
+  bodies : SendsValidBodies its
+  bodies = its_bodies s plan x y r made_is silent p executions sound fits
+
+  these : frames (sent y.link.transcript) ≡ frames_in (played its 1 (tape s x y r)).events
+  these = frames_alike s plan x y r made_is silent (on_part p.chip.part plan) are bodies
+
+  own : frames_in (played (session plan) 1 (tape s x y r)).events ++ [] ≡ frames (sent y.link.transcript)
+  own = append-nil (frames_in (played (session plan) 1 (tape s x y r)).events)
+      ∙ (same_frames are 1 (tape s x y r) ∙ sym these)
+
+  pub over_damage : KeepsOnPart p.chip.part plan (memories_of p.chip)
+      (memories_of (after_frames device (frames got) p).chip) x.desk y.desk
+  over_damage =
+      kept s plan x y r made_is silent p got [] executions sound fits
       (arrived_came (frames (sent y.link.transcript)) through got
-      (subst (All IsPiece) (sym these) (all_pieces _ (sends_whole (session plan) 1 (tape s x y r) asked)))
-      (subst (All IsGood) (sym these) (sends_good (session plan) 1 (tape s x y r) asked)) arrived)
-      (subst (λ t. ForgesNoFrame device (session plan) 1 t p (executions_by_arrival through) []) (sym is)
-      (brings_no_frame device reply_fits_frame (session plan) 1 come p (executions_by_arrival through) [] tt brings))
+      (subst (All IsPiece) (sym these) (all_pieces _ (sends_whole its 1 (tape s x y r) bodies)))
+      (subst (All IsGood) (sym these) (sends_good its 1 (tape s x y r) bodies)) arrived)
+      (subst (λ (fs : List (List ℕ)). NoneForged device fs (heard y.link.transcript) p executions []) own
+      (subst (λ (t : Transcript). NoneForged device (frames_in (played (session plan) 1 (tape s x y r)).events ++ [])
+      (heard t) p executions []) (sym (same s x y r plan made_is silent))
+      (its_none_forged device (session plan) 1 (tape s x y r) p executions [] forges_none)))

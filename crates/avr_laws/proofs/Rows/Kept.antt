@@ -27,7 +27,7 @@ use Rattle.avr_laws.specs.Kept.{FilesAreSaved, NoneForged, named_files, saved_fi
 use Rattle.avr_laws.specs.NoForgedFrame.{AreNotForged}
 use Rattle.avr_laws.specs.Worked.{worked_frames, fuse_plan, worked_replies}
 
-abbrev programmer : Programmer
+abbrev pub programmer : Programmer
 programmer = fresh_programmer (fresh_state m328p)
 
 abbrev executed : List Execution
@@ -38,23 +38,23 @@ pub worked_came : ReceivedSentFrames worked_frames [] (frames worked_frames) exe
 worked_came = record { good = refl }
 
 -- and each reply is the programmer's own
-abbrev first : List ℕ
+abbrev pub first : List ℕ
 first = 0x1B ∷ 0x01 ∷ 0x00 ∷ 0x0B ∷ 0x0E ∷ 0x01 ∷ 0x00 ∷ 0x08 ∷ 0x53 ∷ 0x54 ∷ 0x4B ∷ 0x35 ∷ 0x30 ∷ 0x30 ∷ 0x5F ∷ 0x32
     ∷ 0x02 ∷ []
 
-abbrev second : List ℕ
+abbrev pub second : List ℕ
 second = 0x1B ∷ 0x02 ∷ 0x00 ∷ 0x02 ∷ 0x0E ∷ 0x10 ∷ 0x00 ∷ 0x05 ∷ []
 
-abbrev third : List ℕ
+abbrev pub third : List ℕ
 third = 0x1B ∷ 0x03 ∷ 0x00 ∷ 0x04 ∷ 0x0E ∷ 0x1B ∷ 0x00 ∷ 0x1E ∷ 0x00 ∷ 0x17 ∷ []
 
-abbrev fourth : List ℕ
+abbrev pub fourth : List ℕ
 fourth = 0x1B ∷ 0x04 ∷ 0x00 ∷ 0x04 ∷ 0x0E ∷ 0x1B ∷ 0x00 ∷ 0x95 ∷ 0x00 ∷ 0x9B ∷ []
 
-abbrev fifth : List ℕ
+abbrev pub fifth : List ℕ
 fifth = 0x1B ∷ 0x05 ∷ 0x00 ∷ 0x04 ∷ 0x0E ∷ 0x1B ∷ 0x00 ∷ 0x0F ∷ 0x00 ∷ 0x00 ∷ []
 
-abbrev sixth : List ℕ
+abbrev pub sixth : List ℕ
 sixth = 0x1B ∷ 0x06 ∷ 0x00 ∷ 0x02 ∷ 0x0E ∷ 0x11 ∷ 0x00 ∷ 0x00 ∷ []
 
 own : (piece reply : List ℕ) (pieces others : List (List ℕ)) (tape left : Tape) (p : Programmer)

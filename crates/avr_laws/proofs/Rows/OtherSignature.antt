@@ -1,6 +1,7 @@
 -- `-p m328 -F`, of a part file, over the worked run: its chip, an m328p, has another id and signature, and the same
 -- geometry.
-use Rattle.std.proofs.Common.{◌≡◌, ◌∙◌, ap, sym, arith, ℕ, Bool, true, false, List, [], ◌∷◌, ◌++◌, refl, Some}
+use Rattle.std.proofs.Common.{◌≡◌, ◌≢◌, ◌∙◌, ap, sym, arith, inl, inr, ℕ, Bool, true, false, List, [], ◌∷◌, ◌++◌, drop, refl, Some}
+use Rattle.std.proofs.lemmas.Bool.{true≢false}
 use Rattle.std.specs.Prelude.{codes, slice_index}
 use Rattle.avr_cli.specs.declared.update.Format.TheVariants.{Raw}
 use Rattle.avr_desk.specs.Record.{Bytes, DeskState, all_files}
@@ -12,13 +13,18 @@ use Rattle.avr_plan.specs.Plan.{Plan}
 use Rattle.avr_plan.specs.declared.planned.Task.TheVariants.{Read}
 use Rattle.avr_session.specs.FileText.{file_text}
 use Rattle.avr_session.specs.Session.{session}
+use Rattle.stk_emu.specs.Device.{device}
 use Rattle.stk_emu.specs.Effect.{Memories}
+use Rattle.stk_frame.specs.Cut.{frames}
 use Rattle.stk_host.specs.Dialog.{bytes_sent, played}
 use Rattle.stk_host.specs.Operations.{handshake, opening, closing, operation}
 use Rattle.stk_host.specs.Steps.{exchange, attempt, attempts_or_fault, play}
 use Rattle.stk_host.specs.Tape.{answer}
+use Rattle.avr_laws.specs.AnyTape.{executions_by_arrival}
+use Rattle.avr_laws.specs.Damaged.{Arrived, Arrival, FrameArrives, BringsReplies, tape_of_arrivals}
 use Rattle.avr_laws.specs.Kept.{FilesAreSaved, HasGeometryOf, KeepsOnPart, named_files, on_part, saved_files}
 use Rattle.avr_laws.specs.Worked.{worked_frames, worked_replies, worked_settings}
+use Rattle.avr_laws.proofs.Rows.Kept.{programmer, first, second, third, fourth, fifth, sixth}
 
 abbrev m328 : Part
 m328 = record m328p { id = codes "m328"; signature = 0x1E ∷ 0x95 ∷ 0x14 ∷ [] }
@@ -42,6 +48,61 @@ unforced_run_fails = refl
 
 pub chip_fits : HasGeometryOf m328 m328p
 chip_fits = refl
+
+-- ---- over a link that damages one byte: the first reply came twice, at first with another number
+
+abbrev damaged : List ℕ
+damaged = 0x1B ∷ 0x07 ∷ 0x00 ∷ 0x0B ∷ 0x0E ∷ drop 5 first
+
+abbrev come : List Arrival
+come = FrameArrives damaged ∷ FrameArrives first ∷ FrameArrives second ∷ FrameArrives third ∷ FrameArrives fourth
+    ∷ FrameArrives fifth ∷ FrameArrives sixth ∷ []
+
+pub damaged_run_succeeds : (played (session (plan true)) 1 (tape_of_arrivals come)).outcome ≡ Some (0, 7, [])
+unfolding session opening handshake operation closing play attempts_or_fault attempt exchange answer
+damaged_run_succeeds = refl
+
+pub damaged_run_sends : bytes_sent (played (session (plan true)) 1 (tape_of_arrivals come)).events ≡ worked_frames
+unfolding session opening handshake operation closing play attempts_or_fault attempt exchange answer
+damaged_run_sends = refl
+
+another_number : ◌≢◌ {A = ℕ} 0x01 0x07
+another_number same = omega (arith, same)
+
+abbrev all_whole : List Bool
+all_whole = true ∷ true ∷ true ∷ true ∷ true ∷ true ∷ []
+
+abbrev from : ℕ → List ℕ
+from n = drop n worked_frames
+
+pub damaged_run_arrived : Arrived (frames worked_frames) all_whole worked_frames
+damaged_run_arrived =
+    (from 7, refl, (from 25, refl, (from 37, refl, (from 49, refl, (from 61, refl, ([], refl, refl))))))
+
+-- nothing is skipped behind a reply that is taken
+none_skipped : {A : Type 0} → true ≡ false → A
+none_skipped skipped = absurd (true≢false skipped)
+
+pub damaged_run_brings_replies : BringsReplies device (session (plan true)) 1 come programmer
+    (executions_by_arrival all_whole) []
+unfolding session opening handshake operation closing play attempts_or_fault attempt exchange answer
+damaged_run_brings_replies = (
+  omega arith,
+  (inl (inr (inl (0x07, drop 5 first, refl, inl (another_number, refl)))), λ skipped. (inl (inl refl), none_skipped)),
+  (
+    omega arith,
+    (inl (inl refl), none_skipped),
+    (
+      omega arith,
+      (inl (inl refl), none_skipped),
+      (
+        omega arith,
+        (inl (inl refl), none_skipped),
+        (omega arith, (inl (inl refl), none_skipped), (omega arith, (inl (inl refl), none_skipped), tt)),
+      ),
+    ),
+  ),
+)
 
 -- ---- what is refused: a chip of another size
 
