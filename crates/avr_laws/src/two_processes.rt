@@ -74,8 +74,8 @@ pub fn two_processes_never_both_wait()
         → bytes_on_tape (heard (host_transcript first)) ≡ sent (server_transcript first) → ⊥ }
 {}
 
-/// States that a session that ran whole and a server that ended in any way are one run, over a link that keeps bytes in
-/// order and has timeouts only between replies. The status means for the server's chip what it means for one behind a
+/// States that a session that ran to its end and a server that ended in any way did one run. The link keeps bytes in
+/// order, and times out only between replies. The status means for the server's chip what it means for one behind a
 /// wire. `anywhere`: timeouts may occur within replies too, if no frame is forged. `saved`: with status 0 the server
 /// saved that chip.
 pub fn a_session_and_a_server_are_one_run()
