@@ -51,7 +51,7 @@ module _ (plan : Plan) (begun : Programmer) (is_sound : IsSoundChip begun.chip) 
     reports_over_exchanges tape executions prefix is_authentic same = record {
       leaves = over_exchanges plan begun is_sound part_is fitted exchanges q bytes stands tape prefix;
       reports_are_true = search (rules, reported_any, asks, session_reports, sound, sizes, idle);
-      foretold = foretold_on_tape plan sound fitted before sizes begun tape executions idle is_authentic;
+      output_is_expected = foretold_on_tape plan sound fitted before sizes begun tape executions idle is_authentic;
     }
 
     -- and the session has come to a status there

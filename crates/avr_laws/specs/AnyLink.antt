@@ -1,5 +1,5 @@
 -- What holds of a session over a link that forges no frame, besides what avr_tool's OverFaultyLink says of it: its
--- reports are true and foretold, and few bad frames change nothing.
+-- reports are true and expected, and few bad frames change nothing.
 use Rattle.std.specs.Prelude.{ℕ, ◌≡◌, ◌⊎◌, true, List}
 use Rattle.avr_desk.specs.Record.{DeskState, ChangesRecord}
 use Rattle.avr_desk.specs.OutputEvents.{OutputEvent, after_events}
@@ -34,7 +34,7 @@ pub record ReportsOverExchanges (plan : Plan) (p q : Programmer) (exchanges : Li
   -- each line reported and each file written was true of the chip at that moment
   pub reports_are_true : ReportsWereTrue plan p exchanges events
   -- the output is the expected run's, or that of the actions that ended and then the line of a failed step
-  pub foretold : IsExpectedOutput plan (memories_of p.chip) (outputs events)
+  pub output_is_expected : IsExpectedOutput plan (memories_of p.chip) (outputs events)
 
 -- What holds besides for a session with this status.
 pub record EndsAndReportsOverExchanges (plan : Plan) (before after : Memories) (exchanges : List Exchange)

@@ -68,7 +68,7 @@ TimesOutBetweenReplies tape = (before after : Tape) → tape ≡ before ++ Silen
 pub record HasServed (p : Programmer) (transcript : Transcript) (left : Programmer) : Type 0 where
   pub used : List ℕ
   pub unused : List ℕ
-  pub heard_is : used ++ unused ≡ bytes_on_tape (heard transcript)
+  pub used_and_unused : used ++ unused ≡ bytes_on_tape (heard transcript)
   pub unsent : List ℕ
   pub sent_is : sent transcript ++ unsent ≡ answers device (frames used) p
   pub left_is : left ≡ after_frames device (frames used) p

@@ -93,7 +93,7 @@ module _ (plan : Plan) (s : chips.ChipState) (is_sound : IsSoundChip s) (part_is
         let serves : HasServed p server (after_frames device (frames (bytes_on_tape (heard server))) p) = record {
           used = bytes_on_tape (heard server);
           unused = [];
-          heard_is = append-nil (bytes_on_tape (heard server));
+          used_and_unused = append-nil (bytes_on_tape (heard server));
           unsent = [];
           sent_is = append-nil (sent server) ∙ answered;
           left_is = refl;
