@@ -253,8 +253,8 @@ fn faults_have_texts(rt: HostRuntime) -> Result<(), Fail> {
     Ok(())
 }
 
-/// A file of the format `i`: a record, then lines without a byte, and lines of blanks past the limit. Its line is judged
-/// first.
+/// A file of the format `i`: a record, then lines without a byte, and lines of blanks past the limit. Its line is
+/// checked first.
 #[test]
 fn empty_lines_past_the_limit(rt: HostRuntime) -> Result<(), Fail> {
     let alloc = rt.alloc();
