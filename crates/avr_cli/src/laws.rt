@@ -9,7 +9,8 @@ ghost use Rattle.avr_cli.specs.declared.update.Format.{Format};
 ghost use Rattle.avr_cli.specs.declared.update.Op.{Op};
 ghost use Rattle.avr_part.specs.declared.part.Mem.{Mem};
 
-/// The text of an update with all four parts reads back, whatever colons the file's name has.
+/// An update written with all four parts (memory, operation, file, format) reads back, whatever colons the file's name
+/// has.
 #[tactic(auto, using(crate::proofs::UpdatesReread::update_is_read))]
 pub fn a_written_update_is_read()
     ensures { (memory : Mem) (op : Op) (file : Bytes) (letter : ℕ) (format : Format) → file ≢ []
@@ -18,7 +19,7 @@ pub fn a_written_update_is_read()
         { memory = memory; op = op; format = format; file = file }) }
 {}
 
-/// A text `net:HOST:PORT` is split at its last colon, whatever colons the host has.
+/// A text `net:HOST:PORT` is split at its last colon, so HOST may have colons.
 #[tactic(auto, using(crate::proofs::AddressCuts::address_is_cut))]
 pub fn an_address_is_cut_at_its_last_colon()
     ensures { (host port : Bytes) (number : ℕ) → host ≢ [] → port_number port ≡ Some number

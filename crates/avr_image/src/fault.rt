@@ -14,7 +14,7 @@ use thiserror::Error;
 /// ```
 #[derive(Clone, Copy, Drop, PartialEq, Eq, Error)]
 pub enum ImageFault {
-    /// This byte address is outside the memory. Of a raw file that is too long it is the memory's size.
+    /// This byte address is outside the memory. For a raw file that is too long, it is the memory's size.
     #[error("address {0:08X} out of range")]
     OutOfRange(u32),
     /// The value at this 1-based place is no number.

@@ -84,7 +84,8 @@ pub record Keeps (plan : Plan) (before after : Memories) (old now : DeskState) :
 abbrev pub on_part : Part → Plan → Plan
 on_part part plan = record plan { part = part }
 
--- The part has the sizes, pages and EESAVE bit of the other one. Its id and signature may be others.
+-- The part has the sizes and pages of the other one, and EESAVE at the same bit of the high fuse. Its id and signature
+-- may be others.
 abbrev pub HasGeometryOf : Part → Part → Type 0
 HasGeometryOf other part = part ≡ record other { id = part.id; signature = part.signature }
 

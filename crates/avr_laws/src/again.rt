@@ -12,9 +12,9 @@ ghost use Rattle.avr_tool.specs.ExpectedRun.{expected_run};
 ghost use Rattle.avr_tool.specs.Items.{items, has_erase};
 ghost use Rattle.avr_tool.specs.Outcome.{write_operations, HasFirstOperations, IsDone};
 
-/// States that a plan leaves the same memories if some of its first write operations were done before, except for one
-/// case with a fuse. If the plan erases and the chip keeps EEPROM at an erase, each byte that the plan writes to the
-/// high fuse must keep it too.
+/// States that a plan's first write operations and then the whole plan leave the same memories as the plan alone,
+/// except for one case with a fuse. If the plan erases and the chip keeps EEPROM at an erase, each byte that the plan
+/// writes to the high fuse must keep it too.
 pub fn a_second_run_repairs_the_first()
     ensures { (plan : Plan) (k : ℕ) (m : Memories) → IsPart plan.part → All (IsFitted plan.part) plan.tasks
         → FitsPart plan.part m
@@ -24,9 +24,9 @@ pub fn a_second_run_repairs_the_first()
         ≡ effects plan.part (items plan) m }
 {}
 
-/// States that a plan with an erase agrees on every chip if its comparisons agree on a chip of 00 and on one of FF.
-/// Its expected run then has status 0, whatever the chip held. `needed`: a plan that agrees on every chip agrees on
-/// these two.
+/// States that the comparisons of a plan that erases agree on every chip, if they agree on one full of 00 and on one
+/// full of FF. The plan's run over a perfect link then has status 0, whatever the chip held. `needed`: comparisons that
+/// agree on every chip agree on these two.
 pub fn what_agrees_on_two_chips_agrees_on_all()
     ensures agrees { (plan : Plan) (m : Memories) → FitsPart plan.part m
         → has_erase (items plan) ≡ true → AgreesOnTwoChips plan → ComparisonsAgree plan m }
@@ -37,9 +37,10 @@ pub fn what_agrees_on_two_chips_agrees_on_all()
         → AgreesOnTwoChips plan }
 {}
 
-/// States when the same run again repairs what a broken-off run left. The plan erases, and its comparisons agree on a
-/// chip of 00 and on one of FF. A write to the high fuse is as in [`a_second_run_repairs_the_first`]. Then the expected
-/// run has status 0, and leaves what one run would have left. `done`: every second run with status 0 leaves that.
+/// States that after a broken-off run the same run over a perfect link ends with status 0 and repairs the chip, under
+/// conditions on plan and fuse. It leaves what one run would have left. The plan erases, and its comparisons agree on a
+/// chip full of 00 and on one full of FF. A write to the high fuse is as in [`a_second_run_repairs_the_first`]. `done`:
+/// every second run with status 0 leaves what one run would have left, also if the plan doesn't erase.
 pub fn the_same_run_again_repairs()
     ensures touched { (plan : Plan) (before after : Memories) → IsPart plan.part → All (IsFitted plan.part) plan.tasks
         → FitsPart plan.part before

@@ -43,8 +43,8 @@ ghost use Rattle.avr_tool.specs.Completed.{operations_completed};
 ghost use Rattle.avr_laws.specs.TrueReports.{ReportsTrue, IsTrueReport};
 ghost use Rattle.avr_tool.specs.Outcome.{write_operations};
 
-/// States that over any link that forges no frame the memories are at each moment those of the plan's first write
-/// operations, in order. These are the completed ones, and perhaps one more.
+/// States that at each moment the memories are what the plan's first write operations make, in order, over any link
+/// that forges no frame. These are the completed ones, and perhaps one more.
 // Proof: avr_tool's `session_makes` (OverFaultyLink/WriteOperationOrder), by `makes_items`
 // (OverFaultyLink/WriteOperations).
 pub fn a_run_does_its_write_operations_in_order()
@@ -54,23 +54,23 @@ pub fn a_run_does_its_write_operations_in_order()
         ≡ effects plan.part (take j (write_operations plan)) m) p exchanges }
 {}
 
-/// States that a run sends at most four frames for each command in the steps of its plan, counted over all steps.
-/// This holds whatever the link does, and also if the run breaks off.
+/// States that a session sends at most four times as many frames as the steps of its plan have commands. This holds
+/// whatever the link does, and also if the session breaks off.
 pub fn a_run_sends_at_most_four_times_its_commands()
     ensures { (plan : Plan) → SendsAtMost IsPartOfEvent (4 * commands_in (run_steps plan)) (session plan) }
 {}
 
-/// States that a session has at most one timeout for each frame sent, and reads at most 4,096 bytes for each, whatever
-/// the link does. So it has at most four timeouts for each command of its steps, also if it breaks off.
+/// States that a session has at most one timeout and reads at most 4,096 bytes for each frame sent, whatever the link
+/// does. So it has at most four timeouts for each command of its steps, also if it breaks off.
 pub fn a_run_times_out_at_most_once_for_each_frame()
     ensures { (plan : Plan) → IsPart plan.part → All (IsFitted plan.part) plan.tasks
         → ListensAtMost (4 * commands_in (run_steps plan)) (session plan) }
 {}
 
-/// States that everything reported over a link that forges no frame is true of the chip at that moment, whatever the
-/// status. So each line of a run that failed later can be trusted. What was written is there as the plan's writes so
-/// far make it, and what was verified is held. What was read and saved is what the chip has, and a reported
-/// difference exists.
+/// States that each report of a run is true of the chip at that moment, whatever the status, over a link that forges no
+/// frame. So each line of a run that failed later can be trusted. What was reported as written has been done to the
+/// chip, and what was verified is in it. What was read and saved is what the chip has, and a reported difference
+/// exists.
 pub fn what_a_run_reports_is_true()
     ensures { (plan : Plan) (m : Memories) (k : ℕ) (p : Programmer) (exchanges : List Exchange)
         → IsPart plan.part → All (IsFitted plan.part) plan.tasks → FitsPart plan.part m → HasMemories plan.part m p
@@ -78,8 +78,8 @@ pub fn what_a_run_reports_is_true()
         exchanges }
 {}
 
-/// States that everything reported over a wire was true of the chip at that moment, up to an output that was cut short.
-/// Only a session that stopped can have one.
+/// States that each report of a session over the emulated link, unless it was cut short, was true of the chip at that
+/// moment. Only the last report of a session that stopped can be cut short.
 pub fn what_was_reported_was_true()
     ensures played { (plan : Plan) (w v : WiredState) (d e : DeskState) (status : ℕ)
         → w.transcript ≡ [] → OverAnyWire plan w v d e status
@@ -93,12 +93,12 @@ pub fn what_was_reported_was_true()
         stopped.breaks.prefix.whole }
 {}
 
-/// States that a session outputs its expected run up to a fault, at each moment, over any link that forges no frame.
-/// Its output so far is that of the expected run, or of its first actions, each of which ended. After these at most
-/// the line of a failed step follows.
+/// States that a session outputs what it would output over a perfect link, up to a fault, if the link forges no frame.
+/// At each moment its output so far is that of the expected run, or of its first actions, each of which ended. After
+/// these at most the line of a failed step follows.
 ///
-/// With a status the output is all of the expected run, with its status, or the output up to a failed step, with
-/// status 1. The output of first actions is a prefix of the expected run's.
+/// With a status the output is all of the expected run, with its status, or the output up to a failed step, with status
+/// 1. The output of first actions is a prefix of the expected run's.
 pub fn a_session_outputs_its_expected_run_up_to_a_fault()
     ensures moment { (plan : Plan) (m : Memories) (k : ℕ) (p : Programmer) (exchanges : List Exchange)
         → IsPart plan.part → All (IsFitted plan.part) plan.tasks → FitsPart plan.part m → HasMemories plan.part m p
@@ -112,9 +112,9 @@ pub fn a_session_outputs_its_expected_run_up_to_a_fault()
         → (later : List OutputEvent) × ((expected_run plan m).output_events ≡ output_events ++ later) }
 {}
 
-/// States that a session over a new wire reports what is true, and what its expected run reports up to a fault. The
-/// chip is of the plan's part, and the frames have any lawful fates. The premises are what avr_tool's `drive_wired` and
-/// `run_emu` state of a call.
+/// States that a session over a new emulated link reports what is true, and up to a fault what it would report over a
+/// perfect link. The chip is of the plan's part, and the frames have any lawful fates. The premises are what avr_tool's
+/// `drive_wired` and `run_emu` state of a call.
 // Proof: `over_any_wire` and `emulated_wire` (AnyWire), by `ends_and_reports_over_exchanges` (ReportsOverExchanges).
 pub fn a_session_over_a_wire_can_be_believed()
     ensures wire { (plan : Plan) (w v : WiredState) (d e : DeskState) (status : ℕ)
@@ -128,9 +128,10 @@ pub fn a_session_over_a_wire_can_be_believed()
         → OverAnyWire r.plan (new_wire r.chip []) r.after r.loaded_desk r.played_desk r.session_status }
 {}
 
-/// States what a session does over any link that forges no frame, with a programmer in any state. The link may lose,
-/// spoil, cut, delay and hold anything, and repeat replies. The session goes along the exchanges of its commands.
-/// These follow from what was read and what happened to the programmer.
+/// States that a session over a link that forges no frame makes the plan's first write operations and true reports,
+/// whatever state the programmer is in. The link may lose, spoil, cut, delay and hold anything, and repeat replies.
+/// Each command has an exchange: what was read in reply, and whether the programmer executed it or restarted. All that
+/// the session does follows from its exchanges.
 ///
 /// `bytes` states this in bytes. The programmer may have got any bytes whose good frames are some of those sent, in
 /// order, each at most once: a frame that arrives twice is forged. On the tape that came back each good frame that the
@@ -167,9 +168,9 @@ pub fn a_session_over_any_link()
         (exchanges_on_tape (session plan) 1 tape executions) bytes (played (session plan) 1 tape).events }
 {}
 
-/// States what a session leaves over a new link that forges no frame, whether it ran whole or broke off. The memories
-/// are those of its first write operations: those completed by what was received, and at most one more. Its output is
-/// the expected run's, up to the line of a failed step. This holds also if the link fails.
+/// States that a session over a new link that forges no frame makes the plan's first write operations, also if it
+/// breaks off. These are the ones completed by what was received, and at most one more. Its output is the expected
+/// run's, up to the line of a failed step. This holds also if the link fails.
 // Proof: `over_any_run` (AnyLink); its write operations are avr_tool's `session_makes`
 // (OverFaultyLink/WriteOperationOrder).
 pub fn whatever_becomes_of_a_session_its_first_write_operations_were_done()

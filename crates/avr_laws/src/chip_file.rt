@@ -17,9 +17,9 @@ ghost use Rattle.avr_laws.specs.Promise.{Promised};
 ghost use Rattle.avr_part.specs.ChipFile.{chip_file};
 ghost use Rattle.stk_emu.specs.Effect.{memories_of, erase_keeps_eeprom};
 
-/// States which chip a run over the emulator begins with, over a desk in memory: the one in its file, or a fresh one
-/// if the file doesn't exist. The file is read as it was before the run, and has the part's length. With status 0 the
-/// run leaves its chip there, unless the file's name is `-`, which is standard input.
+/// States that a run over the emulator begins with the chip in its file, or a fresh one if that doesn't exist, with
+/// files in memory. The file is read as it was before the run, and has the part's length. With status 0 the run leaves
+/// its chip there, unless the file's name is `-`, which is standard input.
 // Proof: `chip_found` (ChipFile/Found) and `chip_left` (ChipFile/SecondRun).
 pub fn a_run_finds_and_leaves_the_chip_of_its_file()
     ensures finds { (settings : Settings) (file : Bytes) (stock : Stock) (old new : MemDeskState) (status : ℕ)
@@ -31,9 +31,10 @@ pub fn a_run_finds_and_leaves_the_chip_of_its_file()
         → contents_held stock new.kept file ≡ Some (chip_file r.after.wire.programmer.chip) }
 {}
 
-/// States the promise over files alone, for a run over the emulator with status 0 and a desk in memory. The settings
-/// and files ask for a plan. The chip file held a chip of its part, and holds what the plan makes of it. If the run was
-/// verified, these are the images. No other file has changed, except those that the plan reads into.
+/// States that after a run over the emulator with status 0 the chip file holds what the plan makes of its chip, with
+/// files in memory. The settings and files ask for the plan. The file held a chip of the plan's part, or didn't exist,
+/// and then the chip was fresh. If the run was verified, the images are in its memories. No other file has changed,
+/// except those that the plan reads into. The file's name isn't `-`, and nothing was done at the desk before.
 // Proof: `promised` (ChipFile/Promised). The plan is `plan_asked` (Plans/AskedPlan), the memories are
 // avr_tool's `ends_over_exchanges` (OverExchanges), the other files are `stood_saved` (ChipFile/Others).
 pub fn the_chip_file_holds_the_images()
@@ -43,8 +44,9 @@ pub fn the_chip_file_holds_the_images()
         → Promised settings file (content_of_name stock []) (contents_held stock new.kept) }
 {}
 
-/// States when a further run over its chip file repairs the chip, however the first run and the saving of its chip
-/// ended. The plan is as in [`a_further_run_repairs`], and no update of the first run is read into the chip file. If no
+/// States that a second run over the emulator repairs the chip in its file, however the first ended, under conditions
+/// on plan and chip, unless it stops. The saving of the first run's chip may have ended in any way, too. The plan and
+/// the chip are as in [`a_further_run_repairs`], and no update of the first run is read into the chip file. If no
 /// device and no allocation fails, the status is 0, and the chip is as one run would have left it.
 // Proof: `repairs_file` (ChipFile/SecondRun), by `done_again` (SecondRun/Status).
 pub fn a_further_run_over_its_chip_file_repairs()

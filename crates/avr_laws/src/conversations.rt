@@ -31,8 +31,9 @@ ghost use Rattle.avr_tool.specs.OverFaultyLink.{AllArriveRight};
 ghost use Rattle.stk_host.specs.declared.fault.StepFault.TheVariants.{NoAnswer};
 ghost use Rattle.stk_frame.specs.declared.command.Command.TheVariants.{LoadAddress};
 
-/// States that steps return all their data if at most three of any seven consecutive frames go wrong. The bound is
-/// sharp: four lost commands in a row are too many, and so are three lost of any six, if every second one is lost.
+/// States that in programming mode each step (one or two commands) gets its data, with retries, if at most three of any
+/// seven consecutive frames go wrong. The bound is sharp: four lost commands in a row are too many, and so are three
+/// lost of any six, if every second one is lost.
 pub fn few_bad_fates_bring_all_data()
     ensures step { (part : Part) (commands : List Command) (m : Memories) (k : ℕ) (p : Programmer)
         (exchanges : List Exchange)
@@ -58,9 +59,9 @@ pub fn few_bad_fates_bring_all_data()
         ≡ Done (Err NoAnswer) }
 {}
 
-/// States that a conversation over any tape goes along exchanges, one for each frame sent, if the link forges no
-/// frame. It has the same output and result as along them. The programmer has the same state, if the good frames that
-/// it received are some of those sent, in order.
+/// States that a conversation follows from its exchanges (what became of each command and its reply), if no reply that
+/// it takes is forged. Its output and result are those of a run command by command over these exchanges, one for each
+/// frame sent. So is the programmer's state, if the good frames that it received are some of those sent, in order.
 pub fn over_any_tape_a_conversation_follows_its_exchanges<E, R>()
     ensures goes { (d : Dialog E R) (n : ℕ) (tape : Tape) (p : Programmer) (executions : List Execution)
         → SendsValidBodies d → RepliesAreAuthentic device d n tape p executions
@@ -70,16 +71,17 @@ pub fn over_any_tape_a_conversation_follows_its_exchanges<E, R>()
         ≡ after_sent_frames device sent executions p }
 {}
 
-/// States that everything read on a link that forges no frame is authentic, from the first frame on. A reply that is
-/// taken has the number of its command, and of the last 256 frames only that command has it.
+/// States that each reply taken on a link that forges no frame is the programmer's own to that command, or a refusal.
+/// The reply taken has the number of its command, and of the last 256 frames only that command has it.
 // Proof: `no_forged_frame_authentic` (Lines/NoForgedFrame).
 pub fn a_link_that_forges_no_frame_is_authentic<E, R>()
     ensures { (d : Dialog E R) (n : ℕ) (tape : Tape) (p : Programmer) (executions : List Execution)
         → ForgesNoFrame device d n tape p executions [] → RepliesAreAuthentic device d n tape p executions }
 {}
 
-/// States that everything read over a wire with lawful fates is authentic. `prefix`: a programmer that received a
-/// prefix of the bytes sent received the first frames, each once.
+/// States that each reply over the emulated link is the programmer's own or a refusal, if its noise is short and has no
+/// valid frame. Short is at most 2,048 bytes. Late replies are those to the last three frames. `prefix`: a programmer
+/// that received a prefix of the bytes sent received the first frames, each once.
 // Proof: avr_tool's `over_wire` (Lines/WireTapes) and `prefix_came` (Lines/NoForgedFrame).
 pub fn a_wire_is_an_authentic_link<E, R>()
     ensures wire { (d : Dialog E R) (n : ℕ) (w : Wire Programmer) (sent more : List (List ℕ)) → SendsValidBodies d
@@ -92,15 +94,16 @@ pub fn a_wire_is_an_authentic_link<E, R>()
         (executions_by_arrival (replicate (length (frames got)) true)) }
 {}
 
-/// States that a conversation over a wire never receives while nothing waits, if it receives only when due.
+/// States that over a wire (the emulated link) something always waits when the host receives, if it receives only while
+/// a reply is due. The fates of its frames are lawful: noise has at most 2,048 bytes and no valid frame.
 pub fn a_conversation_in_turn_is_never_idle<E, R>()
     ensures { (d : Dialog E R) (n : ℕ) (p : Programmer) (fates : List Fate) (transcript : Transcript)
         → SendsValidBodies d → AreLawful fates → InTurn d (progress_at n []) transcript → NeverIdle p fates transcript }
 {}
 
-/// States that a conversation over a wire goes along the exchanges of its fates, one for each frame sent. A whole
-/// conversation has the same result and output as along them. The programmer has the same state, also if the
-/// conversation broke off.
+/// States that over a wire (the emulated link) the result and output of a conversation follow from what the link does
+/// to each frame. They are those of a run command by command over the exchanges of the fates, one for each frame sent.
+/// So is the programmer's state, also if the conversation broke off.
 pub fn over_a_wire_a_conversation_follows_its_exchanges<E, R>()
     ensures programmer { (d : Dialog E R) (n : ℕ) (p : Programmer) (fates : List Fate) (w : WiredState)
         → SendsValidBodies d → AreLawful fates → FollowsFates p fates w → InTurn d (progress_at n []) w.transcript

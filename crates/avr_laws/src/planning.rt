@@ -21,8 +21,8 @@ pub fn a_plan_only_reads_and_warns()
     ensures { (s : Settings) (openings : List Opening) → OnlyReadsAndPrints (all_events_of (planned s openings)) }
 {}
 
-/// States that planning reports why it fails, if no device failed: its refusal, or that memory ran out. The refusal is
-/// that of `planned`, with its line. In the other case the messages end with the out-of-memory line.
+/// States that planning that makes no plan reports the reason, or that memory ran out, if no file or stream failed. The
+/// reason is the refusal of `planned`, with its line. In the other case the messages end with the out-of-memory line.
 pub fn a_sound_plan_is_refused_aloud()
     ensures { (s : Settings) (before after : Record) (k l m n status : ℕ) → NoFailureCounted k l
         → ((prefix : Bytes) → after.messages ≡ prefix ++ memory_line → ⊥)
@@ -30,8 +30,8 @@ pub fn a_sound_plan_is_refused_aloud()
         → StageRefused (planned s) (showing before k m) (showing after l n) }
 {}
 
-/// States that planning is a function of the files, if each opening was true of them, and each file was read to its
-/// end or past its limit. The result and the printed lines are those of planning over the whole files.
+/// States that planning gives the same result as over the whole files, if each opening gave what its file held, to the
+/// end or past its limit. The printed lines are the same, too.
 pub fn a_plan_is_of_whole_files()
     ensures { (s : Settings) (stock : Stock) (openings : List Opening)
         → AreTrueOpenings stock (planned s openings).output_events
@@ -40,15 +40,15 @@ pub fn a_plan_is_of_whole_files()
         × (lines_in (all_events_of (planned_from_files s stock)) ≡ lines_in (all_events_of (planned s openings))) }
 {}
 
-/// States that a plan that was made fits its part. Each image has the size of its memory, and the plan writes only to
-/// memories that can be written.
+/// States that each image of a plan has the size of its memory, and that each memory that the plan writes can be
+/// written.
 pub fn a_plan_fits_its_part()
     ensures { (s : Settings) (openings : List Opening) (plan : Plan)
         → (planned s openings).stage_outcome ≡ Produced plan → All (IsFitted plan.part) plan.tasks }
 {}
 
-/// States that a plan that was made is the one that the settings and the files ask for, if each opening was true of the
-/// files.
+/// States that a plan has the part, the tasks and the switches that settings and files ask for, if reading gave what
+/// the files held.
 pub fn a_plan_is_the_one_asked_for()
     ensures { (s : Settings) (stock : Stock) (openings : List Opening) (plan : Plan)
         → AreTrueOpenings stock (planned s openings).output_events → (planned s openings).stage_outcome ≡ Produced plan

@@ -57,16 +57,16 @@ use std::io::{Read, Write};
 use stk_host::Link;
 
 /// Runs what the settings ask for over a new link, as [`avr_tool::run`] does, and states what status 0 means then. The
-/// settings and the files that were opened ask for a plan, and the chip holds its images.
+/// settings and the files that were opened ask for a plan, and the chip holds what that plan makes of it.
 ///
 /// The programmer may be in any state. It received any bytes whose good frames are some of those sent, also after it
 /// restarted, and no reply was forged. Then the memories of its chip are what the plan's writes make of them, and all
 /// that the plan compares agreed. If the run was verified, each memory holds its images. Elsewhere it holds what it
 /// held before, or the FF of an erase. Each file that a memory was read into has the text of what the chip held then.
 ///
-/// The chip has the sizes, pages and EESAVE bit of the plan's part. Its id and signature may be others: the plan that
-/// was kept is the one for the chip's own part. Without `-F` status 0 means that the chip has the signature of the
-/// plan's part.
+/// The chip has the sizes and pages of the plan's part, and EESAVE at the same bit of the high fuse. Its id and
+/// signature may be others: the plan that was kept is the one for the chip's own part. Without `-F` status 0 means that
+/// the chip has the signature of the plan's part.
 // Proof: `promised` (Outcomes/Kept), by `over_bytes` (AnyLink) and avr_tool's `ends_over_exchanges` (OverExchanges).
 // Another id and signature are by `session_alike` (Outcomes/OtherPart), none without `-F` by `own_signature`
 // (Outcomes/OwnSignature). The memories are `session_leaves` (OverFaultyLink/Outcomes), the images `run_written`
@@ -84,11 +84,12 @@ pub fn status_0_means_the_images<D: Desk, L: Link>(
     run(alloc, settings, desk, link)
 }
 
-/// States that a run that ended anywhere, and then one with status 0, leave what one run leaves, except for one case
-/// with a fuse. No frame is forged. The first sent any prefix of its bytes: it was killed, or its link failed. The
-/// programmer may then be in any state, as long as its chip holds what the first run left.
+/// States that a broken-off run and the same run with status 0 leave what one run leaves, if no frame is forged, except
+/// for one fuse case. The first sent any prefix of its bytes: it was killed, or its link failed. The programmer may
+/// then be in any state, as long as its chip holds what the first run left.
 ///
-/// The chip has the sizes, pages and EESAVE bit of the plan's part. Its id and signature may be others.
+/// The chip has the sizes and pages of the plan's part, and EESAVE at the same bit of the high fuse. Its id and
+/// signature may be others.
 ///
 /// If the plan erases and the chip keeps EEPROM at an erase, each byte that it writes to the high fuse must keep it
 /// too. If the second run was verified, each memory holds its images.
@@ -113,9 +114,9 @@ pub fn an_ended_run_and_one_with_status_0_are_as_one()
         (written_to p.chip.part mem (asked_items plan)) (memories_of (after_received_bytes device over more q).chip)) }
 {}
 
-/// States what can't be the outcome of a run over a wire. With status 0: memories that the plan's writes don't leave,
-/// or output other than over a perfect link. With any status: a chip that changed though no frame was sent, or more
-/// than four frames for each command, by any weight.
+/// States that no session over the emulated link has one of four wrong outcomes. With status 0: memories that the
+/// plan's writes don't leave, or output other than over a perfect link. With any status: a chip that changed though no
+/// frame was sent, or more than four frames for each command, by any weight.
 // Proof: `not_all_written`, `output_otherwise`, `touched_in_silence` and `too_much` (Outcomes/Refused).
 pub fn a_wrong_outcome_is_refused()
     ensures memories { (plan : Plan) (w v : WiredState) (d e : DeskState)
@@ -131,11 +132,12 @@ pub fn a_wrong_outcome_is_refused()
         → SessionOverWire plan w v d e status → ⊥ }
 {}
 
-/// States when a session over a wire is its expected run. At most three of any seven consecutive frames go wrong, and
-/// a reset counts as four. No device fails, and the messages report no failed allocation.
+/// States that a session over the emulated link does what it does over a perfect one, if few frames go wrong and no
+/// device or allocation fails. At most three of any seven consecutive frames go wrong, and a reset counts as four. Of
+/// allocations it is enough that the messages don't end with the out-of-memory line.
 ///
-/// If such a plan erases and verifies, and its comparisons agree on a chip of 00 and on one of FF, its status is 0.
-/// The chip then holds its images, whatever it held before.
+/// If such a plan erases and verifies, and its comparisons agree on a chip of 00 and on one of FF, its status is 0. The
+/// chip then holds its images, whatever it held before.
 // Proof: `sound_expected` (ChipFile/FewBadThenAgain), by `few_session_ends` (FewBad/Sessions).
 pub fn a_sound_run_is_its_expected_run()
     ensures expected_run { (plan : Plan) (w v : WiredState) (d e : Record) (a b : ℕ × ℕ) (status : ℕ)
@@ -154,10 +156,10 @@ pub fn a_sound_run_is_its_expected_run()
         → (status ≡ 0) × IsWritten plan.part (asked_items plan) (memories w) (memories v) }
 {}
 
-/// States when a further run repairs: the same run again, over the chip that a first one left, however that one ended.
-/// At most three of any seven consecutive frames go wrong, and a reset counts as four. The plan erases, and its
-/// comparisons agree on a chip of 00 and on one of FF. Then its status is 0 unless it stops, and the chip is as one run
-/// would have left it.
+/// States that the same run again repairs the chip, however the first ended, if few frames go wrong, under conditions
+/// on plan and chip, unless it stops. At most three of any seven consecutive frames go wrong, and a reset counts as
+/// four. The plan erases, and its comparisons agree on a chip of 00 and on one of FF. Then its status is 0 unless it
+/// stops, and the chip is as one run would have left it.
 ///
 /// If the chip keeps EEPROM at an erase, each byte that the plan writes to the high fuse must keep it too. `wire`
 /// states this over a wire, `link` over the exchanges of any link that forges no frame, for a run that doesn't stop.
@@ -182,8 +184,8 @@ pub fn a_further_run_repairs()
         → (further ≡ 0) × IsDone plan (memories_of p.chip) (memories_of y.chip) }
 {}
 
-/// States that a worked run, `-p m328p` with all its replies, has one outcome. With status 1, other frames or other
-/// lines it is no run.
+/// States that the example run `-p m328p` with all its replies, unless it stops, doesn't end with status 1, send other
+/// frames or print other lines.
 // Proof: `another_status`, `another_frame` and `another_line` (Outcomes/Refused).
 pub fn a_worked_run_has_one_outcome()
     ensures status { (transcript : Transcript) (a b : ℕ) (d e : DeskState)
@@ -198,10 +200,10 @@ pub fn a_worked_run_has_one_outcome()
         → IsRun worked_settings (devices (link_state [] a) d) (devices (link_state transcript b) e) status → ⊥ }
 {}
 
-/// States what a run leaves over known files and a known tape, unless it stops: a function of these and the settings.
-/// It may stop because devices in memory fail if allocation fails. Over a reader it leaves what some tape with the
-/// reader's bytes leaves. The premises are what avr_tool's `run` states of a call over a new desk in memory and a new
-/// link.
+/// States that what a run leaves depends only on settings, files and replies, if files and link are in memory and it
+/// doesn't stop. It may stop because devices in memory fail if allocation fails. Over a reader it leaves what some tape
+/// with the reader's bytes leaves. The premises are what avr_tool's `run` states of a call over a new desk in memory
+/// and a new link.
 // Proof: `run_is_over_tape` and `run_is_over_streams` (KnownFiles/RunsInMemory).
 pub fn a_run_in_memory_is_a_function_of_its_files<R: Read, W: Write>()
     ensures tape { (s : Settings) (old new : MemDeskState) (before after : TapeState) (status : ℕ)
@@ -221,8 +223,9 @@ pub fn a_run_in_memory_is_a_function_of_its_files<R: Read, W: Write>()
         (devices (stream_state after) (memory_state new)) status }
 {}
 
-/// States that what a run leaves over some files and a tape is one outcome. For `-p m328p` with all its replies it is
-/// `worked_outcome`. If the part file doesn't exist, the run reports this, and sends nothing.
+/// States that with given files and replies a run can leave only one outcome: status, bytes sent, messages, output and
+/// files. For `-p m328p` with all its replies it is `worked_outcome`. If the part file doesn't exist, the run reports
+/// this, and sends nothing.
 // Proof: `one_outcome`, `worked_leaves` and `absent_leaves` (KnownFiles/OneOutcome).
 pub fn a_run_in_memory_has_one_outcome()
     ensures one { (s : Settings) (stock : Stock) (tape : Tape) (a b : RunOutcome)
@@ -231,9 +234,9 @@ pub fn a_run_in_memory_has_one_outcome()
     ensures absent { (tape : Tape) → LeavesOutcome absent_settings no_stock tape absent_outcome }
 {}
 
-/// States that the promise needs a link without forged frames. Over a tape with one, comparing the low fuse with E2
-/// ends with status 0 whatever the chip has. For a chip with another fuse the promise fails. A link that forges no
-/// frame can't give this tape.
+/// States that one forged frame can end a comparison of a fuse with status 0 although the chip's fuse differs. Over a
+/// tape with one, comparing the low fuse with E2 ends with status 0 whatever the chip has. For a chip with another fuse
+/// the promise fails. A link that forges no frame can't give this tape.
 // Proof: `forged_run_succeeds`, `promise_void` and `frame_is_forged` (Lines/MadeFrame).
 pub fn a_forged_frame_voids_the_promise()
     ensures ends { (played (session fuse_plan) 1 forged_replies).outcome ≡ Some (0, 8, []) }

@@ -31,8 +31,8 @@ ghost use Rattle.stk_host.specs.Play.{Progress, Plays, IsBytePrefixOf, InTurn};
 ghost use Rattle.stk_host.specs.declared.link.Item.TheVariants.{Byte, Silence};
 ghost use Rattle.stk_host.specs.Tape.{Tape, bytes_on_tape};
 
-/// States that a server executes all frames that it takes, and sends a prefix of their replies. It takes a prefix of
-/// the bytes received. `all`: if it replied to all it received, it took and sent all.
+/// States that a server executes every frame that it takes from its input, and sends a prefix of their replies. It
+/// takes a prefix of the bytes received. `all`: if it replied to all it received, it took and sent all.
 pub fn a_server_sends_the_replies_to_what_it_received()
     ensures all { (p : Programmer) (transcript : Transcript) (left : EmulatorState)
         → RepliesToAll p [] (bytes_on_tape (heard transcript)) (sent transcript) left
@@ -42,9 +42,9 @@ pub fn a_server_sends_the_replies_to_what_it_received()
         → ServingLeaves served p [] transcript left → HasServed p transcript left.programmer }
 {}
 
-/// States that all a host reads from a server is authentic, over a link that keeps bytes in order and has timeouts
-/// only between replies. The frames that the server took were executed, and the others never arrived; the server's
-/// programmer is as they left it. This holds at any moment of a session, however it ends.
+/// States that a host takes from a server only its command's reply or a refusal, if all bytes arrive in order and
+/// timeouts come only between replies. The frames that the server took were executed, and the others never arrived; the
+/// server's programmer is as they left it. This holds at any moment of a session, however it ends.
 pub fn what_a_host_receives_of_a_server_is_authentic()
     ensures is_authentic { (plan : Plan) (s : Chip) (left : Programmer) (host server : Transcript)
         → IsSoundChip s → s.part ≡ plan.part → All (IsFitted plan.part) plan.tasks
@@ -62,7 +62,7 @@ pub fn what_a_host_receives_of_a_server_is_authentic()
         (all_executed (length (frames serves.used))) (fresh_programmer s) ≡ left }
 {}
 
-/// States that a session and a server never both listen when everything sent was received, if the host has timeouts
+/// States that a session and a server never both wait when all that was sent was received, if the host has timeouts
 /// only between replies. So there is no deadlock.
 pub fn two_processes_never_both_wait()
     ensures { (plan : Plan) (s : Chip) (first : List EndCall) (host_items server_items : Tape)
@@ -74,10 +74,10 @@ pub fn two_processes_never_both_wait()
         → bytes_on_tape (heard (host_transcript first)) ≡ sent (server_transcript first) → ⊥ }
 {}
 
-/// States that a session that ran to its end and a server that ended in any way did one run. The link keeps bytes in
-/// order, and times out only between replies. The status means for the server's chip what it means for one behind a
-/// wire. `anywhere`: timeouts may occur within replies too, if no frame is forged. `saved`: with status 0 the server
-/// saved that chip.
+/// States that status and reports of a whole session are true of the server's chip, if all bytes arrive in order and
+/// timeouts come only between replies. The server may end in any way. The status means for its chip what it means for
+/// one behind the emulated link. `anywhere`: timeouts may occur within replies too, if no frame is forged. `saved`:
+/// with status 0 the server saved that chip.
 pub fn a_session_and_a_server_are_one_run()
     ensures between { (plan : Plan) (s : Chip) (calls : List EndCall) (old new : Devices)
         (server_old server_new : Devices)
@@ -110,16 +110,16 @@ pub fn a_session_and_a_server_are_one_run()
         → SavesChip serves.reported_desk new.desk file (chip_file serves.left.programmer.chip) (Ok tt) }
 {}
 
-/// States that for every plan a session and a server have a run over a link without timeouts. So the laws of two
-/// processes apply.
+/// States that for every plan there is a run of a session with a server over a link without timeouts. So the laws of
+/// two processes apply.
 pub fn two_processes_have_a_run()
     ensures { (plan : Plan) (s : Chip) (file : Bytes)
         → IsSoundChip s → s.part ≡ plan.part → All (IsFitted plan.part) plan.tasks → HasPromptRun plan s file }
 {}
 
-/// States that a session that ran whole and a server make the expected run, if the link keeps bytes in order and the
-/// host never has a timeout. The link may cut anywhere. Status, output and the memories of the server's chip are those
-/// of the expected run.
+/// States that a whole session with a server is as over a perfect link, if all bytes arrive in order and the host never
+/// times out. The link may cut anywhere. Status, output and the memories of the server's chip are those of the expected
+/// run.
 pub fn a_prompt_link_brings_the_expected_run()
     ensures { (plan : Plan) (s : Chip) (calls : List EndCall) (old new : Devices) (server_old server_new : Devices)
         (file : Bytes) (most status served_status : ℕ) (after : Progress)
@@ -134,8 +134,8 @@ pub fn a_prompt_link_brings_the_expected_run()
         × (memories_of serves.left.programmer.chip ≡ (expected_run plan (memories_of s)).memories) }
 {}
 
-/// States what the server's chip holds, whether the session ran whole or broke off, and however serving ended. It has
-/// the plan's first write operations: those completed by what was received, and at most one more.
+/// States that the server's chip got the plan's first write operations, however both end, if all bytes arrive in order
+/// and timeouts come only between replies. They are the ones completed by what was received, and at most one more.
 pub fn whatever_becomes_of_both_some_write_operations_were_done()
     ensures { (plan : Plan) (s : Chip) (calls : List EndCall) (old new : Devices) (server_old server_new : Devices)
         (file : Bytes) (most status served_status : ℕ)
@@ -152,8 +152,8 @@ pub fn whatever_becomes_of_both_some_write_operations_were_done()
         (sent (host_transcript calls)) (played (session plan) 1 (heard (host_transcript calls))).events }
 {}
 
-/// States what the conditions on the link of two processes rule out: a timeout within a reply, a lost byte, and a byte
-/// received before it was sent.
+/// States that the laws of host and server exclude a timeout within a reply, a lost byte, and a byte received before it
+/// was sent. Each clause has an example.
 pub fn an_unordered_link_is_refused()
     ensures within { TimesOutBetweenReplies (Byte 27 ∷ Silence ∷ []) → ⊥ }
     ensures lost { IsOrdered (HostSends (1 ∷ 2 ∷ []) ∷ ServerReceives (Byte 2 ∷ []) ∷ []) → ⊥ }

@@ -18,14 +18,14 @@ ghost use Rattle.avr_tool.specs.Outcome.{write_operations, HasFirstOperations, I
 ghost use Rattle.avr_tool.specs.Written.{IsWritten, byte_in, written_to};
 ghost use Rattle.avr_laws.specs.WrittenBytes.{IsMadeByImages, WriteTakesEffect};
 
-/// States what a plan does to a chip, in terms of its switches and tasks. A dry run does nothing. Any other run
-/// erases if an erase is due, and then makes the writes of its tasks in order.
+/// States that a plan erases if an erase is due, and then writes the images of its tasks in order; a dry run does
+/// neither.
 pub fn a_plan_writes_what_its_tasks_write()
     ensures { (plan : Plan) → items plan ≡ asked_items plan }
 {}
 
-/// States that an expected run has status 0 if and only if its comparisons agree. Then it has done all that its plan
-/// writes.
+/// States that a run over a perfect link has status 0 exactly if its comparisons find no difference. Then it has done
+/// all that its plan writes.
 pub fn an_expected_run_succeeds_if_it_agrees()
     ensures status { (plan : Plan) (m : Memories) → (expected_run plan m).status ≡ 0 ↔ ComparisonsAgree plan m }
     ensures memories { (plan : Plan) (m : Memories) → ComparisonsAgree plan m
@@ -52,9 +52,9 @@ pub fn a_verified_run_leaves_its_images()
         }) after).status ≡ 0 }
 {}
 
-/// States how a byte of flash is made, whatever was done. It is the byte before, or the FF of an erase, AND the bytes
-/// at this address of none, one or more images written to flash. After a run that did its whole plan these are the
-/// plan's images; after any other run they are those of its write operations.
+/// States that a byte of flash is the byte before, or an erase's FF, AND the bytes of none or more images written
+/// there. This holds whatever was done. After a run that did its whole plan these are the plan's images; after any
+/// other run they are those of its write operations.
 pub fn a_byte_of_flash_is_made_by_images()
     ensures items { (part : Part) (items : List Item) (m : Memories) (addr : ℕ) → addr < length m.flash
         → IsMadeByImages items addr (byte_in part Flash addr m) (byte_in part Flash addr (effects part items m)) }
@@ -67,9 +67,10 @@ pub fn a_byte_of_flash_is_made_by_images()
         (byte_in plan.part Flash addr after) }
 {}
 
-/// States when a memory holds an image after the line that it was written. EEPROM and fuses: the chip was not locked.
-/// Flash: moreover, the same plan erased it before, and wrote no other image at the same addresses. The lock: the
-/// plan did the same for it. Otherwise `written` means only that each command got the status OK.
+/// States that an image reported as written is in its memory, under conditions on the chip's lock and the plan's erase.
+/// EEPROM and fuses: the chip was not locked. Flash: moreover, the same plan erased it before, and wrote no other image
+/// at the same addresses. The lock: the plan did the same for it. Otherwise `written` means only that each command got
+/// the status OK.
 // Proof: `written_there` (Memories/WrittenThere).
 pub fn what_is_written_is_there()
     ensures { (part : Part) (before now : Memories) (mem : Mem) (image : Image) (first : List Item)

@@ -17,27 +17,27 @@ pub fn a_memory_is_found_by_its_name()
     ensures only { (text : List ℕ) (m : Mem) → memory_named text ≡ Some m → text ≡ name_of m }
 {}
 
-/// A second erase changes nothing more.
+/// A second chip erase in a row changes nothing more.
 #[tactic(auto, using(crate::proofs::Twice::erased_twice))]
 pub fn erased_twice_is_erased_once()
     ensures { (s : ChipState) → with_erased (with_erased s) ≡ with_erased s }
 {}
 
-/// Writing a flash page again from the same buffer changes nothing more, also under the lock.
+/// Writing a flash page again from the same buffer changes nothing more, also if the chip is locked.
 #[tactic(auto, using(crate::proofs::Twice::flash_page_twice))]
 pub fn flash_page_twice_is_once()
     ensures { (word : ℕ) (s : ChipState)
         → with_flash_page word (flash_loaded_as s (with_flash_page word s)) ≡ with_flash_page word s }
 {}
 
-/// Writing an EEPROM page again from the same buffer changes nothing more, also under the lock.
+/// Writing an EEPROM page again from the same buffer changes nothing more, also if the chip is locked.
 #[tactic(auto, using(crate::proofs::Twice::eeprom_page_twice))]
 pub fn eeprom_page_twice_is_once()
     ensures { (address : ℕ) (s : ChipState)
         → with_eeprom_page address (eeprom_loaded_as s (with_eeprom_page address s)) ≡ with_eeprom_page address s }
 {}
 
-/// Writing a fuse again with the same byte changes nothing more, also under the lock.
+/// Writing a fuse again with the same byte changes nothing more, also if the chip is locked.
 #[tactic(auto, using(crate::proofs::Twice::fuse_twice))]
 pub fn fuse_twice_is_once()
     ensures { (f : Fuse) (byte : ℕ) (s : ChipState) → with_fuse f byte (with_fuse f byte s) ≡ with_fuse f byte s }
@@ -49,7 +49,7 @@ pub fn lock_twice_is_once()
     ensures { (byte : ℕ) (s : ChipState) → with_lock byte (with_lock byte s) ≡ with_lock byte s }
 {}
 
-/// After programming enable both buffers are empty and the extended address is 0.
+/// The instruction Programming Enable empties both page buffers and sets the extended address to 0.
 pub fn enabling_empties_the_buffers()
     ensures { (c d : ℕ) (s : ChipState) → (spi_of (0xAC ∷ 0x53 ∷ c ∷ d ∷ []) s).1 ≡ with_empty_buffers s }
 {}

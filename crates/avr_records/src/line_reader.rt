@@ -15,7 +15,8 @@ use crate::progress::Progress;
 use arrayvec::ArrayVec;
 use avr_image::Image;
 
-/// How many bytes of an unfinished line are kept. One more than the longest line has shows that it is too long.
+/// How many bytes of an unfinished line are kept. One byte more than the longest line may have, which shows that a line
+/// is too long.
 const KEPT: usize = LONGEST + 1;
 
 fn extend(part: &mut ArrayVec<u8, KEPT>, more: &[u8])
@@ -56,7 +57,7 @@ impl LineReader {
         taken
     }
 
-    /// Splits the next ended line from `rest`. After an end record it returns `None`, because no line counts.
+    /// Splits the next line that ends with LF from `rest`. After an end record it returns `None`, because no line counts.
     fn next_line<'a>(&self, rest: &'a [u8]) -> Option<(&'a [u8], &'a [u8])>
         ensures { MatchOption result (self.now.progress.extent.ended ≡ false → lines rest.now ≡ rest.now ∷ [])
             (λ parts. (lines parts.0.now ≡ parts.0.now ∷ []) × (rest.now ≡ parts.0.now ++ 10 ∷ parts.1.now)) }

@@ -9,8 +9,8 @@ ghost use Rattle.avr_session.specs.Run.{RunsSession};
 ghost use Rattle.avr_session.specs.Session.{session};
 ghost use Rattle.avr_session.specs.Stopping.{IsSound, EndsOutOfMemory, RanToStatus, keeping};
 
-/// States when a session without a failed device ran whole: if its messages do not end with the out-of-memory line, or
-/// if its plan never allocates.
+/// States that a session in which no device failed ran whole, if no out-of-memory line ends its messages or its plan
+/// never allocates.
 pub fn a_sound_run_is_played()
     ensures played { (plan : Plan) (o p : LinkState) (before after : Record) (a b : ℕ × ℕ)
         (status : ℕ)

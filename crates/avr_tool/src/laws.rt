@@ -17,8 +17,8 @@ ghost use Rattle.ghosts.specs.Preserves.{Preserves};
 ghost use Rattle.stk_emu.specs.Wired.{WiredState, ComesOf, IsFresh};
 ghost use Rattle.stk_host.specs.Transcript.{heard};
 
-/// States that a run of settings is the one function `run`, or that it stopped. So is the session of a plan that was
-/// made, over the same openings; the counts of the desk's failures never fall.
+/// States that what a run does is one function, `run`, of its settings, files and replies, unless it stopped. The same
+/// holds of the session of a plan that was made, over the same openings. The counts of the desk's failures never fall.
 // Proof: `is_run` and `session_is_run` (Runs/Joined).
 pub fn a_run_is_one_function()
     ensures run { (s : AnySettings) (x : Devices) (between : DeskState) (y : Devices) (status : ℕ)
@@ -30,8 +30,8 @@ pub fn a_run_is_one_function()
         ⊎ (StopsSession plan (devices x.link between) y × (status ≡ 1))) }
 {}
 
-/// States that a run which stopped, in planning or in its session, did a prefix of the whole run, and that a run has
-/// one status.
+/// States that a run that stopped, in planning or in its session, did a prefix of the whole run. `one`: whole runs over
+/// the same openings and replies have the same status.
 // Proof: `stop_prefix` and `one_status` (Runs/Joined).
 pub fn a_stop_is_a_prefix()
     ensures prefix { (s : AnySettings) (x y : Devices) (status : ℕ) → IsStopped s x y status → IsPrefixOfRun s x y }
@@ -39,8 +39,8 @@ pub fn a_stop_is_a_prefix()
         → x.openings ≡ y.openings → heard x.during ≡ heard y.during → m ≡ n }
 {}
 
-/// States what becomes of a chip behind a wire. Any session of a plan runs over a new wire to a chip of its part, with
-/// any fates of its frames, and ends in any way.
+/// States that over a wire (the emulated link) a session makes the plan's first write operations, and with status 0 all
+/// of them. The chip is of the plan's part, the wire is new with any lawful fates, and the session ends in any way.
 // Proof: `over_any_line` (WirePlays), by `over_exchanges` and `ends_over_exchanges` (OverExchanges).
 pub fn a_session_over_a_wire()
     ensures { (plan : Plan) (before now : WiredState) (desk desk_now : DeskState) (status : ℕ)

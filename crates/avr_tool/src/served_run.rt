@@ -118,8 +118,8 @@ pub fn serve_part<D: ChipDesk, L: Link>(
     }
 }
 
-/// Serves the emulated programmer of the settings' part over a link, as [`serve_part`] does with the chip file of their
-/// port, in at most `turns` reads. The port must have a chip file.
+/// Serves the emulated programmer of the settings' part over a link, in at most `turns` reads. It does what
+/// [`serve_part`] does, with the chip file of the settings' port. The port must have one.
 ///
 /// If the part is refused, the status is 1. Nothing is received or sent, and no file is written.
 ///

@@ -98,7 +98,7 @@ fn pass_with(
 }
 
 impl Wire {
-    /// Creates a wire to a programmer with this chip. Frames after those with these fates pass unharmed.
+    /// Creates a wire to a programmer with this chip. Frames beyond these fates pass unharmed.
     pub fn new(chip: Chip, fates: Vec<Fate>) -> Wire
         requires { AreLawful fates.items }
         ensures { result ≡ fresh_wire (fresh_programmer chip) fates.items }

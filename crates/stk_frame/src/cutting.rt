@@ -3,8 +3,8 @@ ghost use Rattle.stk_frame.specs.Frame.{frame};
 ghost use Rattle.stk_frame.specs.Cut.{Cuts, IsPiece, cut, rest, is_good, seq_of, body_of};
 ghost use Rattle.stk_frame.specs.declared.protocol.TheConstants.{LARGEST_BODY};
 
-/// States that bytes are cut into pieces in one way only. A frame is one good piece, and a good piece is the frame of
-/// its number and body.
+/// States that bytes are cut into frames and other pieces in one way only. A frame is one good piece, and a good piece
+/// is the frame of its number and body.
 #[tactic(auto, using(crate::proofs::Laws::frame_is_piece, crate::proofs::Laws::frame_is_good))]
 pub fn cutting_is_the_only_one()
     ensures one { (bytes : List ℕ) → Cuts bytes (cut bytes) (rest bytes) }

@@ -28,7 +28,7 @@ pub enum Event {
 
 /// Cuts bytes into frames, whatever pieces they come in.
 ///
-/// Bytes before a start byte `1B` are skipped. The five bytes from it on are a header. It is skipped whole if its
+/// Bytes before a start byte `1B` are skipped. It and the next four bytes are the header, which is skipped whole if its
 /// size is 0 or above 275, or its token isn't `0E`. Else header, body and XOR byte are a frame.
 ///
 /// The reader holds the part of a frame that has come, or the frame that has just ended. Contracts see it as these

@@ -15,8 +15,8 @@ use crate::stream_link::StreamLink;
 use crate::tape_link::TapeLink;
 use std::io::{Read, Write};
 
-/// States that a call of a [`crate::Host`] sends at most four frames for each command of its steps. This holds for
-/// every programmer, however its replies arrive, and also if the link fails.
+/// States that a call of a [`crate::Host`] sends at most four times as many frames as its steps have commands. This
+/// holds for every programmer, however its replies arrive, and also if the link fails.
 pub fn a_call_sends_at_most_four_times_its_commands()
     ensures plays { (steps : List (List Command)) (before : List ℕ) → IsBoundedBy steps (play steps before) }
     ensures opens { (signature : List ℕ) (force : Bool) → IsBoundedBy opening_steps (opening signature force) }
@@ -29,8 +29,9 @@ pub fn a_call_sends_at_most_four_times_its_commands()
     ensures closes { IsBoundedBy closing_steps closing }
 {}
 
-/// States that the record of a stream link is true, whatever was done with the link. The bytes received since
-/// `before` are those that the reader gave. The bytes sent are those that the writer took, also in a send that failed.
+/// States that the transcript of a stream link is true: it has what the reader gave and the writer took. This holds
+/// whatever was done with the link. The bytes received since `before` are those that the reader gave. The bytes sent
+/// are those that the writer took, also in a send that failed.
 ///
 /// Each call over a [`crate::Link`] ensures the required fact, and so does all code made of such calls.
 pub fn a_record_of_streams_is_true<R: Read, W: Write>(
@@ -41,8 +42,8 @@ pub fn a_record_of_streams_is_true<R: Read, W: Write>(
     ensures { TranscriptIsTrueSince R.remaining W.contents before.now after.now }
 {}
 
-/// States that a tape link gives its own items, whatever was done with it. The items received, followed by those left,
-/// are the items it had. After the last item come only ends.
+/// States that a tape link gives its own items in order, and after the last one only ends, whatever was done with it.
+/// The items received, followed by those left, are the items it had.
 ///
 /// Each call over a [`crate::Link`] ensures the required fact, and so does all code made of such calls.
 pub fn a_tape_gives_its_own_items(before: &TapeLink, after: &TapeLink)
