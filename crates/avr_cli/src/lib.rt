@@ -1,6 +1,6 @@
 //! The command line: its arguments, and what they ask for.
 //!
-//! Options and their meaning are those of the AVRDUDE manual, as far as this profile has them. `clap` splits the
+//! Options and their meaning are those of the AVRDUDE manual, as far as `avrstk` has them. `clap` splits the
 //! arguments into options. What the options ask for is a function of their texts, which names the first fault.
 //!
 //! `let matches = read_words(alloc, &words)?;` and then `read_settings(alloc, &matches)` makes settings.

@@ -141,7 +141,7 @@ pub fn runs_begin_at_the_next_byte()
 {}
 
 /// At the next address that holds a byte, the run up to the next gap has at least one byte. `run_end` and a filled page
-/// have these same bytes. The image has at least as many addresses.
+/// agree with this run. A run at the start of an image isn't longer than the image.
 pub fn a_run_is_the_bytes_before_a_gap()
     ensures some { (image : List (Option ℕ)) (addr place : ℕ) → first_from image addr ≡ Some place
         → 0 < length (leading_run (drop place image)) }

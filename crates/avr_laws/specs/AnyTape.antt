@@ -1,4 +1,5 @@
--- A dialog run over any tape, given what happened to the programmer at each command, as avr_tool's Authentic.
+-- What a dialog does over any tape, by the exchanges of its commands: what was read, and what happened to the
+-- programmer.
 use Rattle.std.specs.Prelude.{ℕ, suc, Bool, true, false, List, [], ◌∷◌, ◌≡◌, ◌≤◌, Option, Some, None, length, filter, map, take, if◌then◌else◌}
 use Rattle.std.specs.Str.{bytes_eq}
 use Rattle.stk_frame.specs.Cut.{frames, is_good}

@@ -1,4 +1,4 @@
--- The plan that settings and files ask for, as a relation: in which order files are read is left open.
+-- The plan that settings and files ask for. It is a relation, which leaves open in which order files are read.
 use Rattle.std.specs.Prelude.{◌≡◌, ◌≤◌, ℕ, List, [], ◌∷◌, Contains, drop, length, Option, Some, None, Ok, true}
 use Rattle.avr_cli.specs.declared.settings.Settings.{Settings}
 use Rattle.avr_cli.specs.declared.update.Format.{Format}

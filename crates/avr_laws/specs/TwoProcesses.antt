@@ -1,5 +1,5 @@
 -- TWO PROCESSES: a session's host and a server, at the two ends of a link. The link keeps the order of bytes, loses
--- none and adds none, and cuts and has timeouts anywhere.
+-- none and adds none. It may cut pieces and have timeouts anywhere.
 use Rattle.std.specs.Prelude.{ℕ, zero, suc, List, [], ◌∷◌, ◌++◌, ◌≡◌}
 use Rattle.avr_desk.specs.Record.{Bytes, DeskState}
 use Rattle.avr_part.specs.State.{ChipState as Chip}

@@ -1,4 +1,4 @@
--- How the bytes of images come to be in the memories: those of flash, whatever was done, and an image that was written.
+-- How images make the bytes of flash, whatever was done, and when a memory takes an image that is written.
 use Rattle.std.specs.Prelude.{ℕ, true, false, ◌≡◌, ◌⊎◌, bit_and, List, [], ◌∷◌, Some, None, ⊤}
 use Rattle.avr_image.specs.Image.{byte_at}
 use Rattle.avr_part.specs.declared.part.Mem.{Mem}

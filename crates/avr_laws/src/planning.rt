@@ -40,8 +40,7 @@ pub fn a_plan_is_of_whole_files()
         × (lines_in (all_events_of (planned_from_files s stock)) ≡ lines_in (all_events_of (planned s openings))) }
 {}
 
-/// States that each image of a plan has the size of its memory, and that each memory that the plan writes can be
-/// written.
+/// States that each image of a plan has the size of its memory, and each memory that the plan writes can be written.
 pub fn a_plan_fits_its_part()
     ensures { (s : Settings) (openings : List Opening) (plan : Plan)
         → (planned s openings).stage_outcome ≡ Produced plan → All (IsFitted plan.part) plan.tasks }

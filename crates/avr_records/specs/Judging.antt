@@ -1,4 +1,4 @@
--- What private functions return for a line, as the records and meanings of the definitions.
+-- What private functions return for a line, in terms of the definitions of records and their meanings.
 use Rattle.std.specs.Prelude.{◌≡◌, ℕ, ◌+◌, ◌%◌, ◌<◌, ◌≤◌, List, length, fold, Result, Ok, Err, MatchResult}
 use Rattle.avr_records.specs.Record.{RecordFields}
 use Rattle.avr_records.specs.Meaning.{Meaning}

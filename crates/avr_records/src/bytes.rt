@@ -23,7 +23,8 @@ pub(crate) fn are_digits(text: &[u8]) -> bool
     text.iter().all(|c| c.is_ascii_hexdigit())
 }
 
-/// Decodes digits into `room`, two digits a byte. A bad digit is returned before an odd number of digits.
+/// Decodes digits into `room`, two digits a byte. If a digit is bad and their number is odd, the fault is the bad
+/// digit.
 pub(crate) fn decode_digits<'b>(
     digits: &[u8],
     room: &'b mut [u8; ROOM],

@@ -54,7 +54,7 @@ fn shown_unless_blank(line: &[u8]) -> Option<Found>
     }
 }
 
-/// Returns the format that the first line shows that isn't blank.
+/// Returns the format that the first line that isn't blank shows.
 fn first_shown(prefix: &[u8]) -> Found
     ensures { result ≡ format_of_line (find (λ line. not (list_all is_blank line)) (lines prefix.now)) }
 {

@@ -36,7 +36,7 @@ pub struct LineReader {
 }
 
 impl LineReader {
-    /// Reads a line, of which `rest` are the last bytes. If nothing is kept of it, it is read where it is.
+    /// Reads a line, of which `rest` are the last bytes. If no earlier bytes are kept, the line isn't copied.
     #[inline(always)]
     fn end_line(&mut self, rest: &[u8]) -> Result<(), RecordFault>
         requires range { InRange self.old.kind self.old.progress.extent }
@@ -57,7 +57,8 @@ impl LineReader {
         taken
     }
 
-    /// Splits the next line that ends with LF from `rest`. After an end record it returns `None`, because no line counts.
+    /// Splits the next line that ends with LF from `rest`. After an end record it returns `None`, because no line
+    /// counts.
     fn next_line<'a>(&self, rest: &'a [u8]) -> Option<(&'a [u8], &'a [u8])>
         ensures { MatchOption result (self.now.progress.extent.ended ≡ false → lines rest.now ≡ rest.now ∷ [])
             (λ parts. (lines parts.0.now ≡ parts.0.now ∷ []) × (rest.now ≡ parts.0.now ++ 10 ∷ parts.1.now)) }

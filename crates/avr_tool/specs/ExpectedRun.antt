@@ -1,4 +1,4 @@
--- The expected run: a run over a link on which few frames go wrong, as output and memories alone.
+-- The expected run: what a run over a perfect link outputs, returns and leaves in the memories.
 use Rattle.std.specs.Prelude.{ℕ, List, [], ◌∷◌, ◌++◌, Result, Ok}
 use Rattle.avr_cli.specs.declared.settings.Switches.{Switches}
 use Rattle.avr_desk.specs.OutputEvents.{OutputEvent}

@@ -39,7 +39,7 @@ impl Write for Window {
 /// Each value with `Display` has one. Which bytes it gives is only tested: `Display` states no text for an error of
 /// `clap` or of the system.
 pub(crate) trait Parted {
-    /// After so many bytes, the text goes on with these; with none at its end.
+    /// After this many bytes, the text goes on with these; at its end these are none.
     ghost has_part: { Self → ℕ → List ℕ → Type 0 };
 
     /// Returns some bytes of the text after the first `skip`, or none at its end.

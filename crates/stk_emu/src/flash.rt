@@ -8,7 +8,8 @@ use crate::programmer::Body;
 use crate::spi::{at_address, extend, for_half, word_at};
 use avr_part::Chip;
 
-/// The instructions of which the chip runs a block at once: load a byte of the page buffer, and read a byte of flash.
+/// The instructions that the chip runs for a whole block at once: load a byte of the page buffer, and read a byte of
+/// flash.
 const LOAD: u8 = 0x40;
 
 const READ: u8 = 0x20;

@@ -72,7 +72,7 @@ pub struct EnterProgmode {
     /// How often the instruction is tried.
     pub synch_loops: u8,
     pub byte_delay: u8,
-    /// The byte that a part in step returns; `53` for an AVR.
+    /// The byte that a part in sync returns; `53` for an AVR.
     pub poll_value: u8,
     /// Which of the four bytes out is compared with `poll_value`, from 1; 0 for no test.
     pub poll_index: u8,
@@ -91,7 +91,7 @@ pub struct EnterProgmode {
 /// ```
 #[derive(Debug, Drop)]
 pub struct ProgramBlock<'a> {
-    /// The block's size in bytes. It is a field of its own, whatever bytes follow.
+    /// The block's size in bytes, as the field says, however many bytes follow.
     pub count: u16,
     /// Bit 0: page mode. Bit 6: polling of RDY/BSY for a page. Bit 7: the page is written.
     pub mode: u8,

@@ -1,4 +1,4 @@
-//! Reads commands from their bodies. Fields of a single command are read as this command, shared fields as fields.
+//! Reads commands from their bodies. Fields that several commands share have a function of their own.
 ghost use Rattle.std.specs.Prelude.{◌≡◌, ◌↔◌, Some, IfSome};
 ghost use Rattle.stk_frame.specs.Commands.{body};
 ghost use Rattle.stk_frame.specs.Decoding.{FieldsFit, command_of, with_fields, set_parameter_of, load_address_of, enter_progmode_of, leave_progmode_of, chip_erase_of, program_block_of, read_block_of, instruction, read_byte_of, spi_multi_of};

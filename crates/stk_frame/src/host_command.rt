@@ -37,7 +37,7 @@ fn page_mode_block<'a>(cmd1: u8, cmd2: u8, cmd3: u8, bytes: &'a [u8]) -> Program
 }
 
 impl<'a> Command<'a> {
-    /// Enters programming mode, and tests that the part is in step.
+    /// Enters programming mode, and tests that the part is in sync.
     ///
     /// ```text
     /// let mut body = ArrayVec::new();

@@ -9,7 +9,7 @@ use byteorder::{BigEndian, ByteOrder};
 use memchr::memchr;
 use std::marker::Model;
 
-/// What a piece that was fed brought.
+/// What came of bytes that were fed to a reader.
 ///
 /// ```text
 /// let mut reader = FrameReader::new();

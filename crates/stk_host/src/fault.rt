@@ -80,7 +80,7 @@ pub enum HostFault {
     /// Allocation failed.
     #[error("out of memory")]
     Memory,
-    /// The link failed while receiving, after a frame was sent to its end.
+    /// The link failed while receiving, after a whole frame was sent.
     #[error("link cannot be read")]
     RecvFailed,
 }

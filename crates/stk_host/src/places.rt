@@ -8,7 +8,7 @@ use stk_frame::protocol::EXTENDED_ADDRESS;
 /// The bytes of flash that 16-bit word addresses reach.
 const NARROW_FLASH: u32 = 131_072;
 
-/// Returns the command that loads the address of a byte of flash, which counts words.
+/// Returns the command that loads the word address of a byte of flash.
 pub(crate) fn load_flash<'a>(part: &Part, start: u32) -> Command<'a>
     requires { start < 2 ^ 20 }
     ensures { result ≡ load_flash part.now start }

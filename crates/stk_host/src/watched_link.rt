@@ -17,7 +17,7 @@ pub enum LinkCall<'a> {
 
 /// Watches the calls of a link. It can't change the link or what a call returns.
 ///
-/// Use `after` to prove what a watcher does with a call. Any other watcher sets it to `λ call old new. Unit {0}`.
+/// Use `after` to prove what a watcher does with a call. Without such a proof set it to `λ call old new. Unit {0}`.
 pub trait WatchLink {
     /// What a call does to the watcher.
     ghost after: { LinkCallReport → Self → Self → Type 0 };
