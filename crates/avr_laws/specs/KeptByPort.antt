@@ -20,7 +20,7 @@ use Rattle.stk_host.specs.Transcript.{LinkState}
 
 -- The last file that was opened is the chip file. It held a chip of the plan's part; without a file the chip is a fresh
 -- one. The plan was kept for this chip. The last use in the record is this file, put there whole with the chip that was
--- left. The record doesn't tell whether the file was created or replaced.
+-- left. The record doesn't show whether the file was created or replaced.
 pub record IsKeptInFile (file : Bytes) (plan : Plan) (old new : DeskState) : Type 0 where
   pub before : List Opening
   pub found : Option Bytes

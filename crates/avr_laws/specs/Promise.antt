@@ -16,7 +16,7 @@ use Rattle.avr_laws.specs.Kept.{named_files, saved_files}
 use Rattle.stk_emu.specs.Effect.{effects, memories_of}
 
 -- `files` and `after` are what each file holds before and after a run over the chip file `file`. The settings and
--- files ask for a plan. The chip file held a chip of the plan's part, or is absent, for a fresh chip. All that the
+-- files ask for a plan. The chip file held a chip of the plan's part; without a file the chip is fresh. All that the
 -- plan compares agreed. The file then holds the chip that the plan's erase and writes make of that. Unless verifying
 -- was off, the images are in its memories, and elsewhere what they held before, or an erase's FF. Each other file that
 -- a memory was read into has the text of what the chip held then, of the last such read. No other file has changed.

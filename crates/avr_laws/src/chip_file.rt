@@ -44,10 +44,11 @@ pub fn the_chip_file_holds_the_images()
         → Promised settings file (content_of_name stock []) (contents_held stock new.kept) }
 {}
 
-/// States that a second run over the emulator repairs the chip in its file, however the first ended, under conditions
-/// on plan and chip, unless it stops. The saving of the first run's chip may have ended in any way, too. The plan and
-/// the chip are as in [`a_further_run_repairs`], and no update of the first run is read into the chip file. If no
-/// device and no allocation fails, the status is 0, and the chip is as one run would have left it.
+/// States that a second run over the emulator repairs the chip it loads, however the first ended, under conditions on
+/// plan and chip, unless it stops. Both runs are over one chip file, and the saving of the first run's chip may have
+/// ended in any way, too. The plan and the chip are as in [`a_further_run_repairs`], and no update of the first run is
+/// read into the chip file. If no device and no allocation fails, the status is 0, and the chip is as one run would
+/// have left it.
 // Proof: `repairs_file` (ChipFile/SecondRun), by `done_again` (SecondRun/Status).
 pub fn a_further_run_over_its_chip_file_repairs()
     ensures { (settings : Settings) (file : Bytes) (stock : Stock) (old mid new : MemDeskState) (status further : ℕ)

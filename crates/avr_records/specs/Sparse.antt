@@ -54,7 +54,8 @@ abbrev pub image_text : Kind → List (Option ℕ) → List ℕ
 image_text kind image =
     file_rows kind 0 (address_size (last_held 0 0 image)) (rows_of (row_size kind) (runs 0 image))
 
--- The file of a memory reads back, into one at least as large, as the same bytes and gaps with the end record.
+-- The file written of a memory reads back, into one at least as large, as the same bytes and gaps, with the end
+-- record.
 abbrev pub ReadsBack : Kind → Type 0
 ReadsBack kind =
     (image : List (Option ℕ)) (more : ℕ) → length image ≤ 2 ^ 32 → HoldsBytes image

@@ -30,7 +30,7 @@ abbrev pub emits : {R : Type 0} → List OutputEvent → Dialog OutputEvent R �
 emits [] dialog = dialog
 emits (event ∷ events) dialog = Emit event (emits events dialog)
 
--- The state of a session after an operation of the host.
+-- How a session goes on after an operation of the host.
 abbrev pub standing : {A : Type 0} → Result A HostFault → Standing
 standing (Ok a) = NoFault
 standing (Err LinkEnded) = Over

@@ -19,8 +19,9 @@ abbrev pub on_reading : (Reading → Tape → Type 0) → Option (Reading × Tap
 on_reading Claim None = Unit {0}
 on_reading Claim (Some (reading, tape)) = Claim reading tape
 
--- WHATEVER THE LINK DOES, as long as it forges no frame: each reading of this dialog is authentic, given what happened
--- to the programmer at its command. The dialog is run over this tape, with frames numbered from `n`.
+-- WHATEVER THE LINK DOES, as long as it forges no frame: each reply that this dialog reads is authentic. It is the
+-- programmer's own to that command, given what happened to the programmer then, or the refusal. The dialog is run over
+-- this tape, with frames numbered from `n`.
 abbrev pub RepliesAreAuthentic : {E R P : Type 0} → Device P → Dialog E R → ℕ → Tape → P → List Execution → Type 0
 RepliesAreAuthentic m (Done r) n tape p executions = Unit {0}
 RepliesAreAuthentic m (Emit e dialog) n tape p executions = RepliesAreAuthentic m dialog n tape p executions

@@ -65,7 +65,7 @@ pub record IsRun (settings : Settings) (before now : Devices) (status : ℕ) : T
   pub few : length left ≤ 281
   pub sound : NoDeviceFailed before now
 
--- ---- 3. Or it stopped: a device failed, as the first since the run began, or allocation failed, in a session only
+-- ---- 3. Or it stopped: a device failed, the first one since the run began, or allocation failed, in a session only
 -- at an action that allocates. The line of the reason is cut short only if a write to the messages failed; a failure
 -- at a file excuses no missing line. After a fault's line there is none.
 

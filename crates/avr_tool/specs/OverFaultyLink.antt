@@ -82,7 +82,7 @@ events_over plan w = (played (session plan) 1 (heard w.transcript)).events
 abbrev pub wire_and_desk : WiredState → DeskState → Devices
 wire_and_desk w desk = devices (wired_link w) desk
 
--- The session stopped: a device failed, as the first, or allocation failed at an action that allocates.
+-- The session stopped: a device failed, before any other failed, or allocation failed at an action that allocates.
 abbrev pub SessionStopped : Plan → WiredState → WiredState → DeskState → DeskState → Type 0
 SessionStopped plan before after old now = StopsSession plan (wire_and_desk before old) (wire_and_desk after now)
 

@@ -68,7 +68,8 @@ ActsOnCommandLine peers words old new (Ok status) =
 ActsOnCommandLine peers words old new (Err error) =
     ReturnsClapError words error × (new.desk ≡ old.desk) × (new.link ≡ old.link) × peers.unused
 
--- Help and the version are no mistake if some bytes were printed, and no write failed.
+-- The status after a text of `clap`: 0 for help and the version, if some bytes were printed and no write failed;
+-- otherwise 1.
 abbrev pub usage_status : ErrorKind → Result ℕ DeskFault → ℕ
 usage_status DisplayHelp (Ok (suc more)) = 0
 usage_status DisplayVersion (Ok (suc more)) = 0

@@ -20,8 +20,8 @@ then_count m d first more k p exchanges =
     let s = state_after m k d p exchanges in
     with_next s.dialog (first k p exchanges) (λ a. more a s.left s.programmer s.exchanges)
 
--- At each moment of a dialog `count` write operations are made: those completed, and perhaps one more. That one is
--- counted by the commands before the last, whose reply may not have come.
+-- After `k` commands of a dialog `count k` write operations were made: at least those completed by then. At most one
+-- more was made than was completed before the last command, whose reply may not have come.
 pub record Tallies {E R P : Type 0} (m : Device P) (d : Dialog E R) (done : Count P) (At : ℕ → P → Type 0)
     (p : P) (exchanges : List Exchange) : Type 0 where
   pub count : ℕ → ℕ
