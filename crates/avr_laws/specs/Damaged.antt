@@ -82,7 +82,7 @@ abbrev pub IfRead : (Reading → List Arrival → Type 0) → Option (Reading ×
 IfRead Claim None = Unit {0}
 IfRead Claim (Some (reading, more)) = Claim reading more
 
--- AT EACH QUESTION of this dialog the link brings refusals and replies to the last 256 frames, in any order and number.
+-- AT EACH COMMAND of this dialog the link brings refusals and replies to the last 256 frames, in any order and number.
 -- Each is whole or has one byte changed. Up to the awaited reply they have fewer than 4,096 bytes.
 abbrev pub BringsReplies : {E R P : Type 0} → Device P → Dialog E R → ℕ → List Arrival → P → List Execution
     → List (List ℕ) → Type 0

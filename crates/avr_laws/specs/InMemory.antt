@@ -54,7 +54,7 @@ pub record LeavesOutcome (settings : Settings) (stock : Stock) (tape : Tape) (ou
   pub is : RunLeaves settings stock (tape ++ replicate ends End) outcome
 
 -- A run over a reader and a writer leaves this outcome. It leaves it over some tape with the bytes that the reader
--- gave, if these are known. They don't show timeouts and the end. The writer took what was sent.
+-- gave, if these are known. These bytes show neither timeouts nor the end. The writer took what was sent.
 pub record LeavesOverStreams {R W : Type 0} (remaining : R → Option Bytes) (contents : W → Option Bytes)
     (settings : Settings) (stock : Stock) (old new : StreamState R W) (outcome : RunOutcome) : Type 0 where
   pub tape : Tape

@@ -40,8 +40,8 @@ KeepsPlan settings old new IsSo = (plan : Plan) × (IsAsked settings (FileGave o
 abbrev pub ConnectionState : Type 1
 ConnectionState = Bytes → Option LinkState → Type 0
 
--- Over standard streams and over a connection to the address, by what passed over the link; over the emulator, by its
--- chip file. A service has no plan.
+-- The plan was kept: over standard streams and over a connection to the address, by what passed over the link; over the
+-- emulator, by its chip file. A service has no plan.
 abbrev pub KeepsPlanAt : ConnectionState → Port → Settings → Devices → Devices → Type 0
 KeepsPlanAt At Stdio settings old new =
     KeepsPlan settings old.desk new.desk (λ plan. IsKept plan new.link.transcript old.desk new.desk)

@@ -83,8 +83,8 @@ fn put_enter_progmode<const CAP: usize>(out: &mut ArrayVec<u8, CAP>, enter: &Ent
 }
 
 impl Command<'_> {
-    /// Puts the frame that carries the command with the sequence number `seq` into `out`. Bytes that the command borrows
-    /// are copied only there. The command's body must have at most 275 bytes.
+    /// Puts the frame that carries the command with the sequence number `seq` into `out`. Bytes that the command
+    /// borrows are copied only there. The command's body must have at most 275 bytes.
     ///
     /// ```text
     /// let mut out = ArrayVec::new();
