@@ -1,5 +1,4 @@
 -- The records of the desks, call after call.
-pub mod Writers
 pub mod InMemory
 pub mod TwoWriters
 pub mod Held

@@ -77,9 +77,6 @@ end = 2 ∷ []
 abbrev whole : List ℕ
 whole = 1 ∷ 2 ∷ []
 
-abbrev output_of : Record → Bytes
-output_of r = r.output
-
 pub no_end_before_a_fault : SendsTaken Output whole (showing nothing_kept 0 0)
     (showing (after_out end nothing_kept) 1 0) (Err Failed) → ⊥
 no_end_before_a_fault sent = search rules
@@ -94,7 +91,7 @@ byte = 1 ∷ []
 
 pub no_message_in_the_output : SendsTaken Messages byte (showing nothing_kept 0 0)
     (showing (after_out byte nothing_kept) 0 0) (Ok 1) → ⊥
-no_message_in_the_output sent = let e : byte ≡ [] = ap output_of sent in absurd (cc)
+no_message_in_the_output sent = let e : byte ≡ [] = ap (λ (r : Record). r.output) sent in absurd (cc)
 
 pub no_other_bytes : (n : ℕ) → RecordsTaken Messages whole (Some []) (Some end) nothing_kept nothing_kept n → ⊥
 no_other_bytes zero taken = search (rules, nat_tests)

@@ -1,7 +1,7 @@
 -- A desk of which one call fails by plan.
 use Rattle.std.specs.Prelude.{◌≡◌, ◌≢◌, ◌==◌, ◌+◌, ◌-◌, ℕ, Result, Err, if◌then◌else◌}
 use Rattle.ghosts.specs.Failures.{counted}
-use Rattle.avr_desk.specs.Record.{DeskState}
+use Rattle.avr_desk.specs.Record.{DeskState, showing}
 use Rattle.avr_desk.specs.declared.desk.DeskFault.{DeskFault}
 use Rattle.avr_desk.specs.declared.desk.DeskFault.TheVariants.{Failed}
 use Rattle.avr_desk.specs.declared.stream.Stream.{Stream}
@@ -17,14 +17,12 @@ pub record Failing (D : Type 0) : Type 0 where
 
 -- the state: the inner desk's record, and the sum of its counts and the planned ones, at most 2^64 - 1
 abbrev pub failing : {D : Type 0} → (D → DeskState) → Failing D → DeskState
-failing view d = record {
-  kept = (view d.inner).kept;
-  failures = counted ((view d.inner).failures + d.planned);
-  message_failures = counted ((view d.inner).message_failures + d.message_failures);
-}
+failing view d = showing (view d.inner).kept (counted ((view d.inner).failures + d.planned))
+    (counted ((view d.inner).message_failures + d.message_failures))
 
-abbrev pub inner_comes_of : {D Start : Type 0} → (Start → D → Type 0) → Start → Failing D → Type 0
-inner_comes_of started_as start d = started_as start d.inner
+-- the inner desk began with this value
+abbrev pub of_inner : {D Start : Type 0} → (Start → D → Type 0) → Start → Failing D → Type 0
+of_inner started_as start d = started_as start d.inner
 
 abbrev pub count_after : {D : Type 0} → Failing D → ℕ → ℕ
 count_after d count = if d.due == 1 then counted (count + 1) else count

@@ -52,8 +52,8 @@ CrashMayAlsoLeave left name More old new = (other : Bytes) (found : Option Bytes
     → left old other found ⊎ ((other ≡ name) × More found)
 
 -- The call adds nothing to what the system has done, nor to what a crash may leave.
-pub record IsUncounted {S : Type 0} (has_done : SystemCalls → S → Type 0) (left : S → Bytes → Option Bytes
-    → Type 0) (old new : S) : Type 0 where
+pub record IsUncounted {S : Type 0} (has_done : SystemCalls → S → Type 0) (left : S → Bytes → Option Bytes → Type 0)
+    (old new : S) : Type 0 where
   pub done : Preserves has_done old new
   pub kept : CrashLeavesNoMore left old new
 

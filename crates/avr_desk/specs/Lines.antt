@@ -6,7 +6,7 @@ use Rattle.byteorder.specs.Endian.{big_bytes}
 use Rattle.hex.specs.Hex.{encode_lower}
 use Rattle.avr_desk.specs.Record.{Bytes}
 use Rattle.avr_desk.specs.declared.files.FileFault.{FileFault}
-use Rattle.avr_desk.specs.declared.files.FileFault.TheVariants.{Absent, NotOpened, NotRead, Memory}
+use Rattle.avr_desk.specs.declared.files.FileFault.TheVariants.{NotOpened, NotRead, Memory}
 use Rattle.avr_desk.specs.declared.line.Piece.{Piece}
 use Rattle.avr_desk.specs.declared.line.Piece.TheVariants.{Text, Byte, Signature, Address, Number}
 
@@ -45,10 +45,9 @@ abbrev pub memory_pieces : List Bytes
 memory_pieces = codes "out of memory" ∷ []
 
 abbrev pub file_pieces : Bytes → FileFault → List Bytes
-file_pieces file Absent = file ∷ codes ": cannot be opened" ∷ []
-file_pieces file NotOpened = file ∷ codes ": cannot be opened" ∷ []
 file_pieces file NotRead = file ∷ codes ": cannot be read" ∷ []
 file_pieces file Memory = memory_pieces
+file_pieces file fault = file ∷ codes ": cannot be opened" ∷ []
 
 abbrev pub too_long_pieces : Bytes → ℕ → List Bytes
 too_long_pieces file limit = file ∷ codes ": longer than " ∷ decimal limit ∷ codes " bytes" ∷ []

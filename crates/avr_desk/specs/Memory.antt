@@ -17,13 +17,13 @@ abbrev pub fresh_desk : Bytes → MemDeskState
 fresh_desk input =
     record { kept = nothing_kept; failures = 0; message_failures = 0; input = input; stored = []; opened = [] }
 
--- the state as of any desk
+-- the state that contracts see of any desk
 abbrev pub memory_state : MemDeskState → DeskState
 memory_state m = showing m.kept m.failures m.message_failures
 
 -- `old` with this record and the failures of `new`
-abbrev pub with_record_and_failures : Record → MemDeskState → MemDeskState → MemDeskState
-with_record_and_failures kept old new = record old { kept = kept; failures = new.failures }
+abbrev pub updated : Record → MemDeskState → MemDeskState → MemDeskState
+updated kept old new = record old { kept = kept; failures = new.failures }
 
 -- what the desk began with
 pub record Stock : Type 0 where

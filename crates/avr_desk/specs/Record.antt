@@ -32,11 +32,8 @@ pub record DeskState : Type 0 where
   pub message_failures : ℕ
 
 abbrev pub showing : Record → ℕ → ℕ → DeskState
-showing kept failures message_failures = record {
-  kept = kept;
-  failures = failures;
-  message_failures = message_failures;
-}
+showing kept failures message_failures =
+    record { kept = kept; failures = failures; message_failures = message_failures }
 
 -- The record of the desk changed like this. Most contracts over a desk cite it.
 abbrev pub ChangesRecord : (Record → Record) → DeskState → DeskState → Type 0
@@ -114,11 +111,8 @@ with_tried name bytes r = record r { tried = r.tried ++ record { name = name; by
 
 -- the file was replaced; the open file is closed and nothing is held
 abbrev pub with_replaced : Bytes → Bytes → Record → Record
-with_replaced name bytes r = record (with_tried name bytes r) {
-  uses = all_uses r ++ Created (record { name = name; bytes = bytes }) ∷ [];
-  current = Closed;
-  held = None;
-}
+with_replaced name bytes r = record (with_tried name bytes r)
+    { uses = all_uses r ++ Created (record { name = name; bytes = bytes }) ∷ []; current = Closed; held = None }
 
 -- The file was replaced. A failed call may be in the record as tried.
 abbrev pub Replaces : Bytes → Bytes → Result ⊤ DeskFault → DeskState → DeskState → Type 0
@@ -130,11 +124,9 @@ abbrev pub noted : Bytes → Bool → Open → Open
 noted bytes ends (ToRead x) = ToRead (record x { bytes = x.bytes ++ bytes; ended = x.ended || ends })
 noted bytes ends o = o
 
-abbrev pub read_on : Bytes → ℕ → Open → Open
-read_on buf n o = noted (take n buf) (n == 0 && not (length buf == 0)) o
-
+-- the end was seen if nothing was read into a buffer that isn't empty
 abbrev pub after_read : Bytes → Result ℕ DeskFault → Record → Record
-after_read buf (Ok n) r = record r { current = read_on buf n r.current }
+after_read buf (Ok n) r = record r { current = noted (take n buf) (n == 0 && not (length buf == 0)) r.current }
 after_read buf (Err fault) r = r
 
 abbrev pub written_on : Bytes → Open → Open
@@ -167,14 +159,5 @@ abbrev pub HasOpen : {T : Type 0} → (Open → Bool) → DeskState → Result T
 HasOpen test old r = OnOk r (test old.kept.current ≡ true)
 
 abbrev pub nothing_kept : Record
-nothing_kept =
-    record {
-      uses = [];
-      current = Closed;
-      held = None;
-      denied = [];
-      tried = [];
-      releases = 0;
-      output = [];
-      messages = [];
-    }
+nothing_kept = record
+    { uses = []; current = Closed; held = None; denied = []; tried = []; releases = 0; output = []; messages = [] }

@@ -15,7 +15,7 @@ use Rattle.avr_desk.specs.declared.file_system.FileSystem.{Ghosts}
 use Rattle.avr_desk.specs.declared.record.Writing.{Writing}
 use Rattle.avr_desk.specs.declared.stream.Stream.{Stream}
 use Rattle.avr_desk.specs.declared.desk.DeskFault.{DeskFault}
-use Rattle.avr_desk.specs.declared.desk.DeskFault.TheVariants.{Failed, NotFound}
+use Rattle.avr_desk.specs.declared.desk.DeskFault.TheVariants.{Failed}
 use Rattle.avr_desk.specs.declared.system.OpenFile.{OpenFile}
 use Rattle.avr_desk.specs.declared.system.OpenFile.TheVariants.{Nothing}
 
@@ -48,8 +48,7 @@ writes_to_output d = is_output d.opened
 -- A failure sets the last error. Any other result keeps it.
 abbrev pub KeepsLastError : {A : Type 0} → Option ErrorKind → Option ErrorKind → Result A DeskFault → Type 0
 KeepsLastError old new (Err Failed) = IsSome new
-KeepsLastError old new (Err NotFound) = new ≡ old
-KeepsLastError old new (Ok done) = new ≡ old
+KeepsLastError old new result = new ≡ old
 
 -- A writer with known bytes took n bytes, and the record has the same n.
 abbrev pub RecordsTaken : Stream → Bytes → Option Bytes → Option Bytes → Record → Record → ℕ → Type 0
@@ -63,7 +62,7 @@ RecordsTruly stream bytes old new before now (Ok n) = RecordsTaken stream bytes 
 RecordsTruly stream bytes old new before now (Err fault) =
     (n : ℕ) × (n ≤ length bytes) × RecordsTaken stream bytes old new before now n
 
--- the same after opening a file; a failed call changes nothing
+-- whether the created file is the output, after a file was opened to read; a failed call changes nothing
 abbrev pub writes_to_output_after_open : Result (Unit {0}) DeskFault → Bool → Bool
 writes_to_output_after_open (Err Failed) before = before
 writes_to_output_after_open result before = false
@@ -82,8 +81,7 @@ pub record IsTrueSince {S F I H O E : Type 0} (system : Ghosts S F I H) (reads :
   pub output_bytes : Bytes
   pub output : new.kept.output ≡ old.kept.output ++ output_bytes
   pub dashes : has_dash (all_files new.kept) ≡ false → has_dash (all_files old.kept) ≡ false
-  pub out : has_dash (all_files new.kept) ≡ false → writes_to_output old ≡ false
-      → (writes_to_output new ≡ false)
+  pub out : has_dash (all_files new.kept) ≡ false → writes_to_output old ≡ false → (writes_to_output new ≡ false)
       × Appends (output_of.contents old.output) (output_of.contents new.output) output_bytes
   pub files : IsTrueRecord system reads writes input old.system old.opened old.hold old.kept
       → IsTrueRecord system reads writes input new.system new.opened new.hold new.kept

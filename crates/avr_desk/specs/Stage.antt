@@ -32,26 +32,16 @@ abbrev pub Stage : Type 0 → Type 0
 Stage A = List Opening → StageResult A
 
 abbrev pub with_events_before : {A : Type 0} → List OutputEvent → StageResult A → StageResult A
-with_events_before output_events p = record {
-  output_events = output_events ++ p.output_events;
-  stage_outcome = p.stage_outcome;
-  openings_left = p.openings_left;
-}
+with_events_before output_events p = record p { output_events = output_events ++ p.output_events }
 
 abbrev pub continued_stage : {A B : Type 0} → List OutputEvent → List Opening → (A → Stage B) → StageOutcome A
     → StageResult B
 continued_stage output_events openings_left go_on (Produced a) =
     with_events_before output_events (go_on a openings_left)
-continued_stage output_events openings_left go_on (Refused line) = record {
-  output_events = output_events;
-  stage_outcome = Refused line;
-  openings_left = openings_left;
-}
-continued_stage output_events openings_left go_on NotReadToEnd = record {
-  output_events = output_events;
-  stage_outcome = NotReadToEnd;
-  openings_left = openings_left;
-}
+continued_stage output_events openings_left go_on (Refused line) =
+    record { output_events = output_events; stage_outcome = Refused line; openings_left = openings_left }
+continued_stage output_events openings_left go_on NotReadToEnd =
+    record { output_events = output_events; stage_outcome = NotReadToEnd; openings_left = openings_left }
 
 -- one stage, then the one that its result chooses
 infixl 10 ◌>>=◌
@@ -80,11 +70,9 @@ next_opening name [] = Absent name
 next_opening name (opening ∷ openings) = renamed_opening name opening
 
 abbrev pub open_stage : Bytes → Stage Opening
-open_stage name openings = record {
-  output_events = Opens (next_opening name openings) ∷ [];
-  stage_outcome = Produced (next_opening name openings);
-  openings_left = drop 1 openings;
-}
+open_stage name openings =
+    let opening = next_opening name openings in
+    record { output_events = Opens opening ∷ []; stage_outcome = Produced opening; openings_left = drop 1 openings }
 
 abbrev pub content_stage : {A : Type 0} → Bytes → ℕ → (Bytes → Result A Bytes) → Opening → Stage A
 content_stage name limit judge (Absent other) = result_stage (Err (not_opened_line name))

@@ -15,11 +15,8 @@ pub record StageCompleted {A : Type 0} (stage : Stage A) (old new : DeskState)
     (stage_outcome : StageOutcome A) : Type 0 where
   pub passed : List Opening
   pub output_events : List OutputEvent
-  pub comes : (more : List Opening) → stage (passed ++ more) ≡ record {
-    output_events = output_events;
-    stage_outcome = stage_outcome;
-    openings_left = more;
-  }
+  pub comes : (more : List Opening) → stage (passed ++ more)
+      ≡ record { output_events = output_events; stage_outcome = stage_outcome; openings_left = more }
   pub kept : ChangesRecord (after_events (events_with_refusal output_events stage_outcome)) old new
   pub sound : HasSameCounts old new
 

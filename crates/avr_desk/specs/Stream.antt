@@ -21,8 +21,8 @@ SendsTaken stream bytes old new (Ok n) = ChangesRecord (after_sent stream (take 
 SendsTaken stream bytes old new (Err fault) = SendsPart stream old new bytes
 
 -- What every write of a desk promises: the count is at most the length, and that many bytes were sent.
-pub record IsWrite {Desk Start : Type 0} (view : Desk → DeskState) (started_as : Start → Desk
-    → Type 0) (stream : Stream) (bytes : Bytes) (old new : Desk) (r : Result ℕ DeskFault) : Type 0 where
+pub record IsWrite {Desk Start : Type 0} (view : Desk → DeskState) (started_as : Start → Desk → Type 0)
+    (stream : Stream) (bytes : Bytes) (old new : Desk) (r : Result ℕ DeskFault) : Type 0 where
   pub bound : IfOk r (λ n. n ≤ length bytes)
   pub kept : SendsTaken stream bytes (view old) (view new) r
   pub call : IsCall view started_as (WriteCounts stream bytes) old new r

@@ -1,5 +1,5 @@
 ghost use Rattle.std.specs.Prelude.{◌≡◌, ◌≤◌, ◌-◌, ◌==◌, length, IfOk};
-ghost use Rattle.avr_desk.specs.Failing.{FailsWhenDue, count_after, failing, inner_comes_of};
+ghost use Rattle.avr_desk.specs.Failing.{FailsWhenDue, count_after, failing, of_inner};
 ghost use Rattle.avr_desk.specs.Record.{ChangesRecord, after_open, after_create, after_hold, after_read, Replaces, released, HasOpen, is_to_read, is_to_write};
 ghost use Rattle.avr_desk.specs.Fault.{CountsFailure, WriteCounts, IsCall};
 ghost use Rattle.avr_desk.specs.Stream.{IsWrite};
@@ -9,7 +9,8 @@ ghost use Rattle.ghosts.specs.Preserves.{Preserves};
 use crate::desk::{ChipDesk, Desk, DeskFault};
 use std::marker::Model;
 
-/// For tests: a desk whose nth call fails and is counted. All other calls go to the inner desk.
+/// For tests: a desk whose nth call fails and is counted. All other calls go to the inner desk. A release isn't counted
+/// as a call, because it can't fail.
 #[derive(Debug, Drop)]
 pub struct FailingDesk<D> {
     inner: D,
@@ -23,13 +24,8 @@ impl<D> Model for FailingDesk<D> {
 
     ghost Value = { Failing D };
 
-    ghost view = { λ d. record {
-      inner = d.inner;
-      due = d.due;
-      planned = d.planned;
-      message_failures =
-          d.message_failures;
-    } };
+    ghost view = { λ d. record
+        { inner = d.inner; due = d.due; planned = d.planned; message_failures = d.message_failures } };
 }
 
 impl<D> FailingDesk<D> {
@@ -45,7 +41,7 @@ impl<D> FailingDesk<D> {
         }
     }
 
-    /// Borrows the desk that gets all other calls.
+    /// Borrows the inner desk, which gets all calls but the failing one.
     pub fn inner(&self) -> &D
         ensures { result.now ≡ self.now.inner }
     {
@@ -73,7 +69,7 @@ impl<D: Desk> Desk for FailingDesk<D> {
 
     ghost Start = { D.Start };
 
-    ghost started_as = { inner_comes_of D.started_as };
+    ghost started_as = { of_inner D.started_as };
 
     fn open(&mut self, name: &str) -> Result<(), DeskFault>
         ensures kept { ChangesRecord (after_open name.now result) (D.view self.old.inner) (D.view self.new.inner) }
@@ -89,8 +85,7 @@ impl<D: Desk> Desk for FailingDesk<D> {
 
     fn create(&mut self, name: &str) -> Result<(), DeskFault>
         ensures kept { ChangesRecord (after_create name.now result) (D.view self.old.inner) (D.view self.new.inner) }
-        ensures call { IsCall (failing D.view) (inner_comes_of D.started_as) (CountsFailure File) self.old self.new
-            result }
+        ensures call { IsCall (failing D.view) (of_inner D.started_as) (CountsFailure File) self.old self.new result }
         ensures when_due { FailsWhenDue File D.view self.old self.new (CountsFailure File) result }
     {
         if self.is_due() {
@@ -103,8 +98,7 @@ impl<D: Desk> Desk for FailingDesk<D> {
         ensures bound { IfOk result (λ n. n ≤ length buf.new) }
         ensures kept { ChangesRecord (after_read buf.new result) (D.view self.old.inner) (D.view self.new.inner) }
         ensures has_file { HasOpen is_to_read (D.view self.old.inner) result }
-        ensures call { IsCall (failing D.view) (inner_comes_of D.started_as) (CountsFailure File) self.old self.new
-            result }
+        ensures call { IsCall (failing D.view) (of_inner D.started_as) (CountsFailure File) self.old self.new result }
         ensures when_due { FailsWhenDue File D.view self.old self.new (CountsFailure File) result }
     {
         if self.is_due() {
@@ -114,7 +108,7 @@ impl<D: Desk> Desk for FailingDesk<D> {
     }
 
     fn write(&mut self, bytes: &[u8]) -> Result<usize, DeskFault>
-        ensures write { IsWrite (failing D.view) (inner_comes_of D.started_as) File bytes.now self.old self.new result }
+        ensures write { IsWrite (failing D.view) (of_inner D.started_as) File bytes.now self.old self.new result }
         ensures has_file { HasOpen is_to_write (D.view self.old.inner) result }
         ensures when_due { FailsWhenDue File D.view self.old self.new (WriteCounts File bytes.now) result }
     {
@@ -125,8 +119,7 @@ impl<D: Desk> Desk for FailingDesk<D> {
     }
 
     fn out(&mut self, bytes: &[u8]) -> Result<usize, DeskFault>
-        ensures write { IsWrite (failing D.view) (inner_comes_of D.started_as) Output bytes.now
-            self.old self.new result }
+        ensures write { IsWrite (failing D.view) (of_inner D.started_as) Output bytes.now self.old self.new result }
         ensures when_due { FailsWhenDue Output D.view self.old self.new (WriteCounts Output bytes.now) result }
     {
         if self.is_due() {
@@ -136,8 +129,7 @@ impl<D: Desk> Desk for FailingDesk<D> {
     }
 
     fn err(&mut self, bytes: &[u8]) -> Result<usize, DeskFault>
-        ensures write { IsWrite (failing D.view) (inner_comes_of D.started_as) Messages bytes.now self.old self.new
-            result }
+        ensures write { IsWrite (failing D.view) (of_inner D.started_as) Messages bytes.now self.old self.new result }
         ensures when_due { FailsWhenDue Messages D.view self.old self.new (WriteCounts Messages bytes.now) result }
     {
         if self.is_due() {
@@ -151,8 +143,7 @@ impl<D: Desk> Desk for FailingDesk<D> {
 impl<D: ChipDesk> ChipDesk for FailingDesk<D> {
     fn hold(&mut self, name: &str) -> Result<bool, DeskFault>
         ensures kept { ChangesRecord (after_hold name.now result) (D.view self.old.inner) (D.view self.new.inner) }
-        ensures call { IsCall (failing D.view) (inner_comes_of D.started_as) (CountsFailure File) self.old self.new
-            result }
+        ensures call { IsCall (failing D.view) (of_inner D.started_as) (CountsFailure File) self.old self.new result }
         ensures when_due { FailsWhenDue File D.view self.old self.new (CountsFailure File) result }
     {
         if self.is_due() {
@@ -171,8 +162,7 @@ impl<D: ChipDesk> ChipDesk for FailingDesk<D> {
 
     fn replace(&mut self, name: &str, bytes: &[u8]) -> Result<(), DeskFault>
         ensures kept { Replaces name.now bytes.now result (D.view self.old.inner) (D.view self.new.inner) }
-        ensures call { IsCall (failing D.view) (inner_comes_of D.started_as) (CountsFailure File) self.old self.new
-            result }
+        ensures call { IsCall (failing D.view) (of_inner D.started_as) (CountsFailure File) self.old self.new result }
         ensures when_due { FailsWhenDue File D.view self.old self.new (CountsFailure File) result }
     {
         if self.is_due() {

@@ -102,8 +102,8 @@ pub trait FileSystem {
     ///
     /// The system's error.
     fn hold_named(&mut self, name: &str) -> io::Result<Option<Self::Hold>>
-        ensures held { IfOk result (λ answer. MatchOption answer (denies name.now) (λ hold. holds hold name.now)) }
-        ensures locks { IfOk result (λ answer. MatchOption answer (Preserves has_done self.old self.new)
+        ensures held { IfOk result (λ lock. MatchOption lock (denies name.now) (λ hold. holds hold name.now)) }
+        ensures locks { IfOk result (λ lock. MatchOption lock (Preserves has_done self.old self.new)
             (λ hold. ChangesCalls has_done with_one_more_held self.old self.new)) }
         ensures fails { OnErr result (Preserves has_done self.old self.new) }
         ensures leaves { CrashMayAlsoLeave left name.now (began name.now) self.old self.new };

@@ -105,8 +105,7 @@ pub trait Folder {
 
     /// Opens a file for reading.
     fn open(&mut self, name: &str) -> io::Result<Self::File>
-        ensures named { Counts has_done 0 self.old ⊎ is_free self.old name.now
-            → IfOk result (λ file. is_of file name.now) }
+        ensures named { Counts has_done 0 self.old ⊎ is_free self.old name.now → IfOk result (λ it. is_of it name.now) }
         ensures absent { Counts has_done 0 self.old ⊎ is_free self.old name.now
             → IfErr result (λ error. error_kind error ≡ ErrorKind.NotFound → lacks name.now) }
         ensures opens { OnOk result (ChangesCalls has_done (with_calls (Opens name.now ∷ [])) self.old self.new) }
@@ -224,8 +223,7 @@ pub trait Folder {
         ensures whole { (bytes : Bytes) → keeps file bytes
             → CrashMayAlsoLeave left (held_name held.now) (λ found. found ≡ Some bytes) self.old self.new }
         ensures placed { OnOk result ((bytes : Bytes) → keeps file bytes → finds self.new (held_name held.now) bytes) }
-        ensures busy { IfErr result (λ error. error_kind error ≡ ErrorKind.ResourceBusy
-            → is_mounted (held_name held.now)) }
+        ensures busy { IfErr result (λ e. error_kind e ≡ ErrorKind.ResourceBusy → is_mounted (held_name held.now)) }
         ensures stays { Preserves has_done self.old self.new };
 
     /// Waits until the names in the folder are on the disk. A folder that can't be read or synced counts as synced.

@@ -34,13 +34,8 @@ pub(crate) fn unless<T>(kind: ErrorKind, given: io::Result<T>) -> io::Result<Opt
 {
     match given {
         Ok(it) => Ok(Some(it)),
-        Err(error) => {
-            if error.kind() == kind {
-                Ok(None)
-            } else {
-                Err(error)
-            }
-        }
+        Err(error) if error.kind() == kind => Ok(None),
+        Err(error) => Err(error),
     }
 }
 

@@ -58,14 +58,8 @@ impl Model for MemDesk {
 fn next_bytes(bytes: &[u8], at: usize, room: usize) -> &[u8]
     ensures { result.now ≡ take room (drop at bytes.now) }
 {
-    let Some(rest) = bytes.get(at..) else {
-        return &[];
-    };
-    if rest.len() <= room {
-        rest
-    } else {
-        &rest[..room]
-    }
+    let rest = bytes.get(at..).unwrap_or(&[]);
+    &rest[..rest.len().min(room)]
 }
 
 fn is_end(count: usize, room: usize) -> bool
@@ -176,10 +170,9 @@ impl MemDesk {
 
     /// Moves the open file and `last` to the uses, and opens `next`.
     fn close_current(&mut self, last: Option<FileUse>, next: Open) -> Result<(), AllocError>
-        ensures { self.new ≡ (if is_ok result then record self.old {
-          kept = record self.old.kept
-              { uses = all_uses self.old.kept ++ option_to_list last; current = next };
-        } else self.old) }
+        ensures { self.new ≡ (if is_ok result then record self.old
+            { kept = record self.old.kept { uses = all_uses self.old.kept ++ option_to_list last; current = next } }
+            else self.old) }
     {
         self.uses.reserve(2)?;
         match mem::replace(&mut self.current, next) {
@@ -199,10 +192,7 @@ impl MemDesk {
     fn holds(&self, name: &str) -> bool
         ensures { result ≡ holds name.now self.now.kept }
     {
-        match &self.held {
-            Some(held) => held.as_slice() == name.as_bytes(),
-            None => false,
-        }
+        matches!(&self.held, Some(held) if held.as_slice() == name.as_bytes())
     }
 
     fn fail(&mut self) -> DeskFault
@@ -219,7 +209,7 @@ impl MemDesk {
 impl Desk for MemDesk {
     ghost use Rattle.avr_desk.specs.Record.{after_open, after_create, after_read, after_write, after_out, after_err, bytes_taken, is_to_read, is_to_write};
     ghost use Rattle.avr_desk.specs.Fault.{CountsFailure, WriteCounts, IsCall};
-    ghost use Rattle.avr_desk.specs.Memory.{contents, with_record_and_failures, memory_state, Stock, unread_bytes};
+    ghost use Rattle.avr_desk.specs.Memory.{contents, updated, memory_state, Stock, unread_bytes};
     ghost use Rattle.avr_desk.specs.Truth.{HoldsTrue};
     ghost use Rattle.ghosts.specs.Preserves.{Preserves};
     ghost use Rattle.avr_desk.specs.declared.stream.Stream.TheVariants.{File, Output, Messages};
@@ -232,8 +222,7 @@ impl Desk for MemDesk {
 
     #[tactic(auto, using(crate::proofs::Desks::InMemory::same_true))]
     fn open(&mut self, name: &str) -> Result<(), DeskFault>
-        ensures kept { self.new ≡ record (with_record_and_failures (after_open name.now result self.old.kept) self.old
-            self.new)
+        ensures kept { self.new ≡ record (updated (after_open name.now result self.old.kept) self.old self.new)
             { opened = self.new.opened } }
         ensures found { OnOk result (contents name.now self.old ≡ Some self.new.opened) }
         ensures absent { result ≡ Err DeskFault.NotFound → contents name.now self.old ≡ None }
@@ -268,8 +257,7 @@ impl Desk for MemDesk {
 
     #[tactic(auto, using(crate::proofs::Desks::InMemory::same_true))]
     fn create(&mut self, name: &str) -> Result<(), DeskFault>
-        ensures kept { self.new ≡ with_record_and_failures (after_create name.now result self.old.kept) self.old
-            self.new }
+        ensures kept { self.new ≡ updated (after_create name.now result self.old.kept) self.old self.new }
         ensures call { IsCall memory_state HoldsTrue (CountsFailure File) self.old self.new result }
     {
         let Ok(name) = Bytes::copied(self.alloc, name.as_bytes()) else {
@@ -287,7 +275,7 @@ impl Desk for MemDesk {
     fn read(&mut self, buf: &mut [u8]) -> Result<usize, DeskFault>
         ensures count { IfOk result (λ n. n ≡ min (length buf.old) (length (unread_bytes self.old))) }
         ensures gives { IfOk result (λ n. take n buf.new ≡ take n (unread_bytes self.old)) }
-        ensures kept { self.new ≡ with_record_and_failures (after_read buf.new result self.old.kept) self.old self.new }
+        ensures kept { self.new ≡ updated (after_read buf.new result self.old.kept) self.old self.new }
         ensures has_file { OnOk result (is_to_read self.old.kept.current ≡ true) }
         ensures call { IsCall memory_state HoldsTrue (CountsFailure File) self.old self.new result }
     {
@@ -308,8 +296,7 @@ impl Desk for MemDesk {
     #[tactic(auto, using(crate::proofs::Desks::InMemory::same_true, crate::proofs::Desks::InMemory::written_true))]
     fn write(&mut self, bytes: &[u8]) -> Result<usize, DeskFault>
         ensures all { IfOk result (λ n. n ≡ length bytes.now) }
-        ensures kept { self.new ≡ with_record_and_failures (after_write (bytes_taken bytes.now result) self.old.kept)
-            self.old self.new }
+        ensures kept { self.new ≡ updated (after_write (bytes_taken bytes.now result) self.old.kept) self.old self.new }
         ensures has_file { OnOk result (is_to_write self.old.kept.current ≡ true) }
         ensures call { IsCall memory_state HoldsTrue (WriteCounts File bytes.now) self.old self.new result }
     {
@@ -325,8 +312,7 @@ impl Desk for MemDesk {
     #[tactic(auto, using(crate::proofs::Desks::InMemory::same_true))]
     fn out(&mut self, bytes: &[u8]) -> Result<usize, DeskFault>
         ensures all { IfOk result (λ n. n ≡ length bytes.now) }
-        ensures kept { self.new ≡ with_record_and_failures (after_out (bytes_taken bytes.now result) self.old.kept)
-            self.old self.new }
+        ensures kept { self.new ≡ updated (after_out (bytes_taken bytes.now result) self.old.kept) self.old self.new }
         ensures call { IsCall memory_state HoldsTrue (WriteCounts Output bytes.now) self.old self.new result }
     {
         if self.output.extend(bytes).is_err() {
@@ -338,8 +324,7 @@ impl Desk for MemDesk {
     #[tactic(auto, using(crate::proofs::Desks::InMemory::same_true))]
     fn err(&mut self, bytes: &[u8]) -> Result<usize, DeskFault>
         ensures all { IfOk result (λ n. n ≡ length bytes.now) }
-        ensures kept { self.new ≡ record (with_record_and_failures (after_err (bytes_taken bytes.now result)
-            self.old.kept) self.old
+        ensures kept { self.new ≡ record (updated (after_err (bytes_taken bytes.now result) self.old.kept) self.old
             self.new) { message_failures = self.new.message_failures } }
         ensures call { IsCall memory_state HoldsTrue (WriteCounts Messages bytes.now) self.old self.new result }
     {
@@ -354,7 +339,7 @@ impl Desk for MemDesk {
 impl ChipDesk for MemDesk {
     ghost use Rattle.avr_desk.specs.Record.{Replaces, after_hold, with_none_held, with_replaced};
     ghost use Rattle.avr_desk.specs.Fault.{CountsFailure, IsCall};
-    ghost use Rattle.avr_desk.specs.Memory.{with_record_and_failures, memory_state};
+    ghost use Rattle.avr_desk.specs.Memory.{updated, memory_state};
     ghost use Rattle.avr_desk.specs.Named.{holds};
     ghost use Rattle.avr_desk.specs.Truth.{HoldsTrue};
     ghost use Rattle.ghosts.specs.Preserves.{Preserves};
@@ -363,8 +348,7 @@ impl ChipDesk for MemDesk {
     #[tactic(auto, using(crate::proofs::Desks::InMemory::same_true))]
     fn hold(&mut self, name: &str) -> Result<bool, DeskFault>
         ensures free { IfOk result (λ b. b ≡ not (holds name.now self.old.kept)) }
-        ensures kept { self.new
-            ≡ with_record_and_failures (after_hold name.now result self.old.kept) self.old self.new }
+        ensures kept { self.new ≡ updated (after_hold name.now result self.old.kept) self.old self.new }
         ensures call { IsCall memory_state HoldsTrue (CountsFailure File) self.old self.new result }
     {
         let Ok(own_name) = Bytes::copied(self.alloc, name.as_bytes()) else {
@@ -391,9 +375,8 @@ impl ChipDesk for MemDesk {
 
     #[tactic(auto, using(crate::proofs::Desks::InMemory::same_true))]
     fn replace(&mut self, name: &str, bytes: &[u8]) -> Result<(), DeskFault>
-        ensures kept { self.new ≡ with_record_and_failures (if is_ok result then with_replaced name.now bytes.now
-            self.old.kept
-            else self.old.kept) self.old self.new }
+        ensures kept { self.new ≡ updated
+            (if is_ok result then with_replaced name.now bytes.now self.old.kept else self.old.kept) self.old self.new }
         ensures replaces { Replaces name.now bytes.now result (memory_state self.old) (memory_state self.new) }
         ensures call { IsCall memory_state HoldsTrue (CountsFailure File) self.old self.new result }
     {

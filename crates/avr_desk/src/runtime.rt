@@ -56,7 +56,7 @@ fn with_ending(alloc: Global, path: &str, ending: &str) -> io::Result<String> {
     Ok(text)
 }
 
-/// Returns the path that a name leads to. A link stays; one that leads nowhere has none.
+/// Returns the path of the file that a name leads to, so that a link stays. Fails if a link leads nowhere.
 fn target<R: Files<File = File> + Alloc<A = Global>>(rt: &R, name: &str) -> io::Result<String> {
     if is_link(rt, name)? {
         Ok(fs::canonicalize(rt, name)?.into_string())
@@ -72,7 +72,7 @@ fn folder_of(path: &str) -> &str {
     }
 }
 
-/// Returns whether two paths are one name in one folder.
+/// Returns whether two paths have the same file name in the same folder.
 fn is_one_place<R: Files<File = File>>(rt: &R, one: &str, other: &str) -> io::Result<bool> {
     if Path::new(one).file_name() != Path::new(other).file_name() {
         return Ok(false);
@@ -224,11 +224,8 @@ impl<'a, R: Files<File = File> + Input + Alloc<A = Global>> Folder for &'a R {
     }
 
     fn confirm(&mut self, place: Place, lock: File) -> io::Result<Option<Held>> {
-        if is_at(*self, &lock, place.lock.as_str())? {
-            Ok(Some(Held { place, lock }))
-        } else {
-            Ok(None)
-        }
+        let is_own = is_at(*self, &lock, place.lock.as_str())?;
+        Ok(is_own.then_some(Held { place, lock }))
     }
 
     fn is_named(&self, held: &Held, name: &str) -> bool {
@@ -305,7 +302,7 @@ impl<'a, R: Files<File = File> + Input + Alloc<A = Global>> Folder for &'a R {
         Err(io::Error::from(ErrorKind::AlreadyExists))
     }
 
-    // Without hard links only the look before guards against another file.
+    // If the file system has no hard links, only the look before keeps another file from being replaced.
     fn place_new(&mut self, held: &Held, _file: File) -> io::Result<()> {
         let (new, path) = (held.place.new.as_str(), held.place.path.as_str());
         match fs::hard_link(*self, new, path) {

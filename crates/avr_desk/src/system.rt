@@ -5,7 +5,7 @@ ghost use Rattle.ghosts.specs.Preserves.{Preserves};
 ghost use Rattle.avr_desk.specs.Fault.{CountsFailure, IsCall};
 ghost use Rattle.avr_desk.specs.Named.{is_dash};
 ghost use Rattle.avr_desk.specs.Journal.{ReleasesHeld, CrashLeavesNoMore, IsUncounted};
-ghost use Rattle.avr_desk.specs.Record.{HasOpen, ChangesRecord, after_open, after_create, after_hold, after_read, Replaces, released, is_to_read, is_to_write, nothing_kept, with_tried};
+ghost use Rattle.avr_desk.specs.Record.{HasOpen, after_open, after_create, after_hold, after_read, Replaces, released, is_to_read, is_to_write, nothing_kept, with_tried};
 ghost use Rattle.avr_desk.specs.Shown.{IsTrueSince, KeepsLastError, Shown, RecordsTruly, with_log_of, with_open_of, system_desk_view, writes_to_output, writes_to_output_after_open};
 ghost use Rattle.avr_desk.specs.OpenFile.{OpenFileGives, OpenFileGivesNothing, IsClosed};
 ghost use Rattle.avr_desk.specs.Stream.{IsWrite};
@@ -189,13 +189,12 @@ impl<R: FileSystem + Drop, O: Outlet + Drop, E: Outlet + Drop> Desk for SystemDe
     ghost started_as = { IsTrueSince R.FileSystem R.File.Read R.File.Write R.Input.Read O.Write E.Write };
 
     fn open(&mut self, name: &str) -> Result<(), DeskFault>
-        ensures kept { ChangesRecord (after_open name.now result) (system_desk_view self.old)
-            (system_desk_view self.new) }
+        ensures kept { self.new.kept ≡ after_open name.now result self.old.kept }
         ensures counts { CountsFailure File (system_desk_view self.old) (system_desk_view self.new) result }
         ensures quiet { self.new ≡ record (with_open_of self.old self.new) { system = self.new.system } }
         ensures goes { writes_to_output self.new ≡ writes_to_output_after_open result (writes_to_output self.old) }
         ensures error { KeepsLastError self.old.last_error self.new.last_error result }
-        ensures stays { Preserves ⟦<SystemDesk<R, O, E> as Desk>⟧.started_as self.old self.new }
+        ensures stays { Preserves ⟦<Self as Desk>⟧.started_as self.old self.new }
     {
         if name == "-" {
             let input = self.system.input();
@@ -219,9 +218,8 @@ impl<R: FileSystem + Drop, O: Outlet + Drop, E: Outlet + Drop> Desk for SystemDe
     }
 
     fn create(&mut self, name: &str) -> Result<(), DeskFault>
-        ensures kept { ChangesRecord (after_create name.now result) (system_desk_view self.old)
-            (system_desk_view self.new) }
-        ensures call { IsCall system_desk_view ⟦<SystemDesk<R, O, E> as Desk>⟧.started_as
+        ensures kept { self.new.kept ≡ after_create name.now result self.old.kept }
+        ensures call { IsCall system_desk_view ⟦<Self as Desk>⟧.started_as
             (CountsFailure File) self.old self.new result }
         ensures quiet { self.new ≡ record (with_open_of self.old self.new) { system = self.new.system } }
         ensures goes { writes_to_output self.new
@@ -245,10 +243,9 @@ impl<R: FileSystem + Drop, O: Outlet + Drop, E: Outlet + Drop> Desk for SystemDe
 
     fn read(&mut self, buf: &mut [u8]) -> Result<usize, DeskFault>
         ensures bound { IfOk result (λ n. n ≤ length buf.new) }
-        ensures kept { ChangesRecord (after_read buf.new result) (system_desk_view self.old)
-            (system_desk_view self.new) }
+        ensures kept { self.new.kept ≡ after_read buf.new result self.old.kept }
         ensures has_file { HasOpen is_to_read (system_desk_view self.old) result }
-        ensures call { IsCall system_desk_view ⟦<SystemDesk<R, O, E> as Desk>⟧.started_as
+        ensures call { IsCall system_desk_view ⟦<Self as Desk>⟧.started_as
             (CountsFailure File) self.old self.new result }
         ensures quiet { self.new ≡ with_open_of self.old self.new }
         ensures goes { writes_to_output self.new ≡ writes_to_output self.old }
@@ -264,8 +261,7 @@ impl<R: FileSystem + Drop, O: Outlet + Drop, E: Outlet + Drop> Desk for SystemDe
     }
 
     fn write(&mut self, bytes: &[u8]) -> Result<usize, DeskFault>
-        ensures write { IsWrite system_desk_view ⟦<SystemDesk<R, O, E> as Desk>⟧.started_as File bytes.now
-            self.old self.new result }
+        ensures write { IsWrite system_desk_view ⟦<Self as Desk>⟧.started_as File bytes.now self.old self.new result }
         ensures has_file { HasOpen is_to_write (system_desk_view self.old) result }
         ensures truly { writes_to_output self.old ≡ true → RecordsTruly File bytes.now (O.contents self.old.output)
             (O.contents self.new.output) self.old.kept self.new.kept result }
@@ -300,8 +296,7 @@ impl<R: FileSystem + Drop, O: Outlet + Drop, E: Outlet + Drop> Desk for SystemDe
     }
 
     fn out(&mut self, bytes: &[u8]) -> Result<usize, DeskFault>
-        ensures write { IsWrite system_desk_view ⟦<SystemDesk<R, O, E> as Desk>⟧.started_as Output bytes.now
-            self.old self.new result }
+        ensures write { IsWrite system_desk_view ⟦<Self as Desk>⟧.started_as Output bytes.now self.old self.new result }
         ensures truly { RecordsTruly Output bytes.now (O.contents self.old.output) (O.contents self.new.output)
             self.old.kept self.new.kept result }
         ensures flushed { OnOk result (O.is_flushed self.new.output) }
@@ -315,7 +310,7 @@ impl<R: FileSystem + Drop, O: Outlet + Drop, E: Outlet + Drop> Desk for SystemDe
     }
 
     fn err(&mut self, bytes: &[u8]) -> Result<usize, DeskFault>
-        ensures write { IsWrite system_desk_view ⟦<SystemDesk<R, O, E> as Desk>⟧.started_as Messages bytes.now
+        ensures write { IsWrite system_desk_view ⟦<Self as Desk>⟧.started_as Messages bytes.now
             self.old self.new result }
         ensures truly { RecordsTruly Messages bytes.now (E.contents self.old.messages) (E.contents self.new.messages)
             self.old.kept self.new.kept result }
@@ -341,9 +336,8 @@ impl<R: FileSystem + Drop, O: Outlet + Drop, E: Outlet + Drop> Desk for SystemDe
 
 impl<R: FileSystem + Drop, O: Outlet + Drop, E: Outlet + Drop> ChipDesk for SystemDesk<R, O, E> {
     fn hold(&mut self, name: &str) -> Result<bool, DeskFault>
-        ensures kept { ChangesRecord (after_hold name.now result) (system_desk_view self.old)
-            (system_desk_view self.new) }
-        ensures call { IsCall system_desk_view ⟦<SystemDesk<R, O, E> as Desk>⟧.started_as
+        ensures kept { self.new.kept ≡ after_hold name.now result self.old.kept }
+        ensures call { IsCall system_desk_view ⟦<Self as Desk>⟧.started_as
             (CountsFailure File) self.old self.new result }
         ensures quiet { self.new ≡ record (with_log_of self.old self.new)
             { system = self.new.system; hold = self.new.hold } }
@@ -367,7 +361,7 @@ impl<R: FileSystem + Drop, O: Outlet + Drop, E: Outlet + Drop> ChipDesk for Syst
     fn release(&mut self)
         ensures released { system_desk_view self.new ≡ released (system_desk_view self.old) }
         ensures quiet { self.new ≡ record self.old { system = self.new.system; hold = None; kept = self.new.kept } }
-        ensures stays { Preserves ⟦<SystemDesk<R, O, E> as Desk>⟧.started_as self.old self.new }
+        ensures stays { Preserves ⟦<Self as Desk>⟧.started_as self.old self.new }
     {
         self.leave_replacement();
         self.journal = self.journal.then(&Call::Released);
@@ -375,15 +369,11 @@ impl<R: FileSystem + Drop, O: Outlet + Drop, E: Outlet + Drop> ChipDesk for Syst
 
     fn replace(&mut self, name: &str, bytes: &[u8]) -> Result<(), DeskFault>
         ensures kept { Replaces name.now bytes.now result (system_desk_view self.old) (system_desk_view self.new) }
-        ensures tried { OnErr result (ChangesRecord (with_tried name.now bytes.now) (system_desk_view self.old)
-            (system_desk_view self.new)) }
-        ensures call { IsCall system_desk_view ⟦<SystemDesk<R, O, E> as Desk>⟧.started_as
+        ensures tried { OnErr result (self.new.kept ≡ with_tried name.now bytes.now self.old.kept) }
+        ensures call { IsCall system_desk_view ⟦<Self as Desk>⟧.started_as
             (CountsFailure File) self.old self.new result }
-        ensures quiet { self.new ≡ record (with_open_of self.old self.new) {
-          system = self.new.system;
-          hold =
-              self.new.hold;
-        } }
+        ensures quiet { self.new ≡ record (with_open_of self.old self.new)
+            { system = self.new.system; hold = self.new.hold } }
         ensures goes { writes_to_output self.new ≡ (if is_ok result then false else writes_to_output self.old) }
         ensures error { KeepsLastError self.old.last_error self.new.last_error result }
     {

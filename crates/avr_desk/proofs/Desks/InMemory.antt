@@ -29,8 +29,8 @@ true_append stock made (Created file ∷ first) last are behind =
     (subst (λ fs. OpeningsAreTrue stock fs last) (sym (append_assoc made (file ∷ []) (files_among first))) behind)
 
 -- the later uses were true, by the files of both
-pub true_behind : (stock : Stock) (made : List Writing) (first last : List FileUse) → OpeningsAreTrue stock made (first
-    ++ last) → OpeningsAreTrue stock (made ++ files_among first) last
+pub true_behind : (stock : Stock) (made : List Writing) (first last : List FileUse)
+    → OpeningsAreTrue stock made (first ++ last) → OpeningsAreTrue stock (made ++ files_among first) last
 true_behind stock made [] last are = subst (λ fs. OpeningsAreTrue stock fs last) (sym (append-nil made)) are
 true_behind stock made (Opened opening ∷ first) last are = true_behind stock made first last are.1
 true_behind stock made (Created file ∷ first) last are =
@@ -80,12 +80,8 @@ created_true ok file old new is = changed_true ok _ old new is (λ stock holds. 
 -- the open file is closed, and there is one more use, which is true
 pub used_true : (ok : Bool) (last : FileUse) (old new : MemDeskState)
     → ((stock : Stock) → HoldsTrue stock old → OpeningsAreTrue stock (files_among (all_uses old.kept)) (last ∷ []))
-    → new ≡ (if ok then record old {
-      kept = record old.kept {
-        uses = all_uses old.kept ++ last ∷ [];
-        current = Closed;
-      };
-    } else old)
+    → new ≡ (if ok then record old
+    { kept = record old.kept { uses = all_uses old.kept ++ last ∷ []; current = Closed } } else old)
     → Preserves HoldsTrue old new
 used_true ok last old new true_then is = changed_true ok _ old new is (λ stock holds. record {
   began = holds.began;
@@ -94,10 +90,9 @@ used_true ok last old new true_then is = changed_true ok _ old new is (λ stock 
 })
 
 pub absent_true : (ok : Bool) (name own : Bytes) (old new : MemDeskState) → own ≡ name → None ≡ contents name old
-    → new ≡ (if ok then record old {
-      kept = record old.kept
-          { uses = all_uses old.kept ++ Opened (Absent own) ∷ []; current = Closed };
-    } else old) → Preserves HoldsTrue old new
+    → new ≡ (if ok then record old
+    { kept = record old.kept { uses = all_uses old.kept ++ Opened (Absent own) ∷ []; current = Closed } } else old)
+    → Preserves HoldsTrue old new
 absent_true ok name own old new same none is = used_true ok (Opened (Absent own)) old new (λ stock holds. (
   ap (λ fs. content_of_name stock fs own) (files_used old.kept)
       ∙ ap (content_of_name stock (all_files old.kept)) same ∙ sym (stands stock old name holds) ∙ sym none,
@@ -135,28 +130,19 @@ from_inside inside now new is stays = λ stock holds. stays stock (subst (HoldsT
 
 -- bytes of the open file are read, or its end is seen, which needs room in the buffer
 module _ (old new : MemDeskState) (ends : Bool) (n room : ℕ) (whole gave next piece : Bytes)
-    (whole_is : whole ≡ old.opened)
-    (gave_is : gave ≡ bytes_given old.kept.current)
-    (next_is : next ≡ take room (drop (length gave) whole)) (count : n ≡ length next)
-    (took : piece ≡ next) (ended : ends ≡ (n == 0 && not (room == 0))) (input : new.input ≡ old.input)
-    (stored : new.stored ≡ old.stored)
+    (whole_is : whole ≡ old.opened) (gave_is : gave ≡ bytes_given old.kept.current)
+    (next_is : next ≡ take room (drop (length gave) whole)) (count : n ≡ length next) (took : piece ≡ next)
+    (ended : ends ≡ (n == 0 && not (room == 0))) (input : new.input ≡ old.input) (stored : new.stored ≡ old.stored)
     (opened : new.opened ≡ old.opened) where
   given : next ≡ take room (unread_bytes old)
   given = grind (arith, nat_tests)
 
-  at_end : (behind : Bytes) → unread_bytes old ≡ behind → (n == 0 && not (room == 0)) ≡ true → behind ≡ []
-  at_end behind rest end = grind (arith, nat_tests)
-
   prefix_on : (x : Reading) → bytes_given old.kept.current ≡ x.bytes → IsReadPrefix (Some old.opened) x.bytes x.ended
       → IsReadPrefix (Some old.opened) (x.bytes ++ piece) (x.ended || ends)
   prefix_on x given_is is =
-      let rest : unread_bytes old ≡ is.unread =
-      search (rules, drop-append_seam) in
-      record {
-        unread = drop room is.unread;
-        whole = search (rules, take-append-drop, append_assoc);
-        ends = search rules;
-      }
+      let rest : unread_bytes old ≡ is.unread = search (rules, drop-append_seam) in
+      record
+      { unread = drop room is.unread; whole = search (rules, take-append-drop, append_assoc); ends = search rules }
 
   pub read_true : (ok : Bool) → new.kept.uses ≡ old.kept.uses
       → new.kept.current ≡ (if ok then noted piece ends old.kept.current else old.kept.current) → new.opened

@@ -1,8 +1,8 @@
 -- A desk over two writers and the files of a system: its record stays true, call after call.
 use Rattle.std.proofs.Common.{◌≡◌, ◌⊎◌, ◌∙◌, inl, inr, sym, ap, subst, refl, arith, ℕ, ◌==◌, ◌&&◌, ◌||◌, not, true, false, List, [], ◌∷◌, ◌++◌, append_assoc, append-nil, length, take, Option, None, Some, rules}
-use Rattle.std.specs.Prelude.{IfErr, Result}
+use Rattle.std.specs.Prelude.{◌≤◌, IfErr, IfOk, Ok, Result}
 use Rattle.std.proofs.KnownBytes.{Appends-nil, Consumes-nil}
-use Rattle.avr_desk.specs.Record.{Bytes, DeskState, Record, all_files, all_uses, nothing_kept, read_on, use_of, with_absent, with_none_held, with_open, with_replaced, with_tried, after_write}
+use Rattle.avr_desk.specs.Record.{Bytes, DeskState, Record, after_read, all_files, all_uses, nothing_kept, use_of, with_absent, with_none_held, with_open, with_replaced, with_tried, after_write}
 use Rattle.avr_desk.specs.declared.record.Open.TheVariants.{ToRead, ToWrite}
 use Rattle.std.proofs.lemmas.Bool.{or_parts}
 use Rattle.std.proofs.lemmas.Bool.Decides.{nat_tests}
@@ -18,7 +18,9 @@ use Rattle.avr_desk.specs.Named.{is_dash}
 use Rattle.avr_desk.proofs.FileUses.Calls.{opened, calls_opened, calls_replaced, made_dash, opened_dash, opened_named, calls_append}
 use Rattle.avr_desk.proofs.FileUses.Uses.{files_absent, files_opened, files_replaced}
 use Rattle.avr_desk.specs.Journal.{Counts, ChangesCalls, FileCall, Gives, ReleasesHeld, CrashMayAlsoLeave, CrashLeavesNoMore, Opens, with_calls, count_of, calls_of_record, with_one_more_held, made, no_calls}
-use Rattle.avr_desk.specs.Fault.{IsCall}
+use Rattle.avr_desk.specs.Fault.{IsCall, WriteCounts}
+use Rattle.avr_desk.specs.Stream.{IsWrite, SendsTaken}
+use Rattle.avr_desk.specs.declared.stream.Stream.{Stream}
 use Rattle.avr_desk.specs.declared.desk.DeskFault.{DeskFault}
 use Rattle.avr_desk.specs.declared.desk.DeskFault.TheVariants.{Failed}
 use Rattle.avr_desk.specs.Handles.{CrashLeaves, IsTrueRecord, HandleGave, IsHeldBy, IsTrueOpen, IsTrueUse}
@@ -75,6 +77,12 @@ pub is_call : {D S T : Type 0} {view : D → DeskState} {started_as : S → D �
     → Counted (view old) (view new) r → IfErr r (λ e. e ≡ Failed) → Preserves started_as old new
     → IsCall view started_as Counted old new r
 is_call counts fault stays = record { counts = counts; fault = fault; stays = stays }
+
+pub is_write : {D S : Type 0} {view : D → DeskState} {started_as : S → D → Type 0} {stream : Stream} {bytes : Bytes}
+    {old new : D} {r : Result ℕ DeskFault} → IfOk r (λ n. n ≤ length bytes)
+    → SendsTaken stream bytes (view old) (view new) r → WriteCounts stream bytes (view old) (view new) r
+    → IfErr r (λ e. e ≡ Failed) → Preserves started_as old new → IsWrite view started_as stream bytes old new r
+is_write bound kept counts fault stays = record { bound = bound; kept = kept; call = is_call counts fault stays }
 
 -- ---- one call
 
@@ -284,8 +292,7 @@ module _ {S F I H O E : Type 0} (system : Ghosts S F I H) (reads : Reads F) (wri
   absent_true {b = b} {t = t} {o = o} {k = k} {own = own} held is_hold is_open same lacks kept closed fails stays keeps
       keeps_on =
       let now : Files b.system b.opened b.hold b.kept → Files t o b.hold k =
-      λ are. let is : system.lacks own =
-      subst system.lacks (sym same) (lacks (holds_as b is_hold (holds b are))) in
+      λ are. let is : system.lacks own = subst system.lacks (sym same) (lacks (holds_as b is_hold (holds b are))) in
       search (rules, more_true, did_as, append-nil, calls_append, left_on) in
       search (rules, quiet, files_absent, append-nil)
 
@@ -313,11 +320,10 @@ module _ {S F I H O E : Type 0} (system : Ghosts S F I H) (reads : Reads F) (wri
 
   pub created_true : {b : Desk} {s t : S} {f u : ℕ} {e : Option ErrorKind} {o : OpenFile F I} {k : Record}
       {name own : Bytes} {h : F} → o ≡ open_file.ToWrite h → own ≡ name → false ≡ is_dash name → system.is_of h name
-      → k ≡ with_open (ToWrite (record { name = own; bytes = [] })) b.kept
-      → Closed b.opened → ChangesCalls system.has_done (with_calls (made name)) b.system s
-      → Preserves system.has_done s t → (held : Option H) → held ≡ b.hold
-      → (Counts system.has_done (count_of held) b.system → NoMore b.system s) → NoMore s t
-      → Since b (Next b t f u e o b.hold k)
+      → k ≡ with_open (ToWrite (record { name = own; bytes = [] })) b.kept → Closed b.opened
+      → ChangesCalls system.has_done (with_calls (made name)) b.system s → Preserves system.has_done s t
+      → (held : Option H) → held ≡ b.hold → (Counts system.has_done (count_of held) b.system → NoMore b.system s)
+      → NoMore s t → Since b (Next b t f u e o b.hold k)
   created_true {b = b} {own = own} {h = h} is_open same no_dash named kept closed does stays held is_hold keeps
       keeps_on =
       let x : Writing = record { name = own; bytes = [] } in
@@ -327,11 +333,10 @@ module _ {S F I H O E : Type 0} (system : Ghosts S F I H) (reads : Reads F) (wri
       (λ only. left_on (keeps (holds_as b is_hold only)) keeps_on))
 
   -- a file was replaced, and the held file released
-  pub replace_true : {b c : Desk} {s t u : S} {name own bytes : Bytes} (h : Option H) → own ≡ name
-      → c.output ≡ b.output → c.messages ≡ b.messages → c.hold ≡ None → c.opened ≡ open_file.Nothing
-      → c.kept ≡ with_replaced own bytes b.kept → system.replaced name bytes
-      → ((name : Option Bytes) → IsHeldBy system b.hold name → IsHeldBy system h name) → (o : OpenFile F I)
-      → o ≡ b.opened → Closed o → ChangesCalls system.has_done (with_calls (made name)) b.system s
+  pub replace_true : {b c : Desk} {s t u : S} {name own bytes : Bytes} (h : Option H) → own ≡ name → c.output ≡ b.output
+      → c.messages ≡ b.messages → c.hold ≡ None → c.opened ≡ open_file.Nothing → c.kept ≡ with_replaced own bytes b.kept
+      → system.replaced name bytes → ((name : Option Bytes) → IsHeldBy system b.hold name → IsHeldBy system h name)
+      → (o : OpenFile F I) → o ≡ b.opened → Closed o → ChangesCalls system.has_done (with_calls (made name)) b.system s
       → ReleasesHeld system.has_done h s t → u ≡ t → Preserves system.has_done u c.system
       → CrashMayAlsoLeave system.left name (λ found. system.began name found ⊎ (found ≡ Some bytes)) b.system s
       → NoMore s t → NoMore u c.system → Since b c
@@ -415,7 +420,7 @@ module _ {S F I H O E : Type 0} (system : Ghosts S F I H) (reads : Reads F) (wri
       search (rules, quiet, left_none)
 
   pub read_true : {b : Desk} {f u : ℕ} {e : Option ErrorKind} {o : OpenFile F I} {k : Record} (buf : Bytes) (n : ℕ)
-      → k ≡ record b.kept { current = read_on buf n b.kept.current } → is_output o ≡ is_output b.opened
+      → k ≡ after_read buf (Ok n) b.kept → is_output o ≡ is_output b.opened
       → OpenFileGives reads input b.opened o buf n → Since b (Next b b.system f u e o b.hold k)
   read_true {b = b} {o = o} buf n kept same gives =
       search (rules, quiet, files_now, given_more, did_as, calls_append, same_left)

@@ -64,8 +64,7 @@ line_breaks old now new mark ps i d within sent part =
 
 -- the end of a line after its mark and its pieces, without the counts
 pub line_ends : (old then new : Record) (mark : List ℕ) (ps : List Piece) (i : ℕ) (result : Result (Unit {0}) DeskFault)
-    → length ps ≤ i → then ≡ after_err (mark ++ all_text (take i ps)) old
-    → OnOk result (new ≡ after_err (10 ∷ []) then)
+    → length ps ≤ i → then ≡ after_err (mark ++ all_text (take i ps)) old → OnOk result (new ≡ after_err (10 ∷ []) then)
     → OnErr result (SendsPart Messages (showing then 0 0) (showing new 0 0) (10 ∷ []))
     → IsPrinted (showing old 0 0) (showing new 0 0) (line mark (map text_of ps)) result
 line_ends old then new mark ps i (Ok done) past sent all part =

@@ -48,6 +48,5 @@ reports_printed_line old new line (Err Failed) is counts only = grind (arith, na
 
 -- The desk failed, and the line about it was reported after that.
 pub failure_reported : (old mid new : DeskState) (line : List ℕ) → CountsNeverFall old mid → HasFailedAt File old mid
-    → (notice : ReportsLine mid new line)
-    → ReportsFailureAs line notice.notice old new
+    → (notice : ReportsLine mid new line) → ReportsFailureAs line notice.notice old new
 failure_reported old mid new line rose failed notice = grind (arith, nat_tests)

@@ -20,8 +20,7 @@ use Rattle.avr_desk.proofs.Stages.Played.{output_more}
 
 -- So a status other than that of a plan is the refusal that the stage returns.
 pub sound_refusal : {A : Type 0} (taking : AllocationPoints) (stage : Stage A) (before after : Record)
-    (k l m n status : ℕ) → NoFailureCounted k l
-    → ((prefix : Bytes) → after.messages ≡ prefix ++ memory_line → ⊥)
+    (k l m n status : ℕ) → NoFailureCounted k l → ((prefix : Bytes) → after.messages ≡ prefix ++ memory_line → ⊥)
     → RunsStage taking stage (showing before k m) (showing after l n) (Err status)
     → StageRefused stage (showing before k m) (showing after l n)
 sound_refusal taking stage before after k l m n status sound other l' = search (rules, nat_tests, after_append)
@@ -36,8 +35,7 @@ abbrev pub openings_in : List OutputEvent → List Opening
 openings_in [] = []
 openings_in (event ∷ events) = opening_in event ++ openings_in events
 
-one_shown : (event : OutputEvent) (r : Record)
-    → all_openings (after event r) ≡ all_openings r ++ opening_in event
+one_shown : (event : OutputEvent) (r : Record) → all_openings (after event r) ≡ all_openings r ++ opening_in event
 one_shown event r = search (rules, nat_tests, openings_append, append-nil)
 
 -- each opening is shown

@@ -22,10 +22,8 @@ never_allocates passed emitted never = let clash : false ≡ true = never.0 in c
 module _ {A : Type 0} (taking : AllocationPoints) (name : Bytes) (limit : ℕ) (judge : Bytes → Result A Bytes) where
   -- the check of the file's bytes
   pub goes_whole : (bytes : Bytes) (ended : Bool) (old mid new : DeskState) (result : Result A ℕ)
-      → ChangesRecord (with_read name bytes ended) old mid → EndsOrExceedsLimit limit (record {
-        bytes = bytes;
-        ended = ended;
-      }) → HasSameCounts old mid
+      → ChangesRecord (with_read name bytes ended) old mid
+      → EndsOrExceedsLimit limit (record { bytes = bytes; ended = ended }) → HasSameCounts old mid
       → RunsStage (OnlyAtStart false) (result_stage (judge bytes)) mid new result
       → RunsStage taking (file_stage name limit judge) old new result
   goes_whole bytes ended old mid new result kept whole same goes =
@@ -35,12 +33,10 @@ module _ {A : Type 0} (taking : AllocationPoints) (name : Bytes) (limit : ℕ) (
       (runs_content (OnlyAtStart false) name limit judge reading mid new result whole goes)
 
   pub went_whole : (bytes : Bytes) (ended : Bool) (old mid : DeskState) (a : A)
-      → ChangesRecord (with_read name bytes ended) old mid → EndsOrExceedsLimit limit (record {
-        bytes = bytes;
-        ended = ended;
-      }) → HasSameCounts old mid
-      → StageCompleted (result_stage (judge bytes)) mid mid (Produced a) → StageCompleted (file_stage name limit judge)
-      old mid (Produced a)
+      → ChangesRecord (with_read name bytes ended) old mid
+      → EndsOrExceedsLimit limit (record { bytes = bytes; ended = ended }) → HasSameCounts old mid
+      → StageCompleted (result_stage (judge bytes)) mid mid (Produced a)
+      → StageCompleted (file_stage name limit judge) old mid (Produced a)
   went_whole bytes ended old mid a kept whole same went =
       goes_whole bytes ended old mid mid (Ok a) kept whole same went
 

@@ -21,11 +21,8 @@ use Rattle.avr_desk.specs.Stage.{Stage, Produced, StageResult, ◌>>=◌, result
 -- ---- the opening passed
 
 abbrev after_opening : List Opening → Opening → StageResult Opening
-after_opening more opening = record {
-  output_events = Opens opening ∷ [];
-  stage_outcome = Produced opening;
-  openings_left = more;
-}
+after_opening more opening =
+    record { output_events = Opens opening ∷ []; stage_outcome = Produced opening; openings_left = more }
 
 -- the file of this name gave this, so the stage goes on
 pub runs_open : {A : Type 0} (inner taking : AllocationPoints) (name : Bytes) (next : Opening
@@ -46,8 +43,7 @@ runs_open inner taking name next opening old mid new result is kept same behind 
 
 -- the file was read to its end or past the limit, and checked
 pub runs_content : {A : Type 0} (taking : AllocationPoints) (name : Bytes) (limit : ℕ) (judge : Bytes → Result A Bytes)
-    (reading : Reading)
-    (old new : DeskState) (result : Result A ℕ)
+    (reading : Reading) (old new : DeskState) (result : Result A ℕ)
     → EndsOrExceedsLimit limit (record { bytes = reading.bytes; ended = reading.ended })
     → RunsStage taking (result_stage (judge reading.bytes)) old new result
     → RunsStage taking (content_stage name limit judge (Found reading)) old new result
@@ -56,20 +52,17 @@ runs_content taking name limit judge reading old new result whole goes = grind (
 -- ---- the opening broke off
 
 broke_opening : {A : Type 0} (taking : AllocationPoints) (name : Bytes) (next : Opening → Stage A) (break : BreakCause)
-    (notice : Bytes) (old new : DeskState) (status : ℕ)
-    → AllocatesThere taking break [] [] → status ≡ 1
+    (notice : Bytes) (old new : DeskState) (status : ℕ) → AllocatesThere taking break [] [] → status ≡ 1
     → ((more : List Opening) → BreakFitsNext break more (Opens (next_opening name more) ∷ []))
-    → ReportsBreakAs break notice old new
-    → ChangesRecord (after_events (events_of_break break notice)) old new → CountsNeverFall old new
-    → RunsStage taking (open_stage name >>= next) old new (Err status)
+    → ReportsBreakAs break notice old new → ChangesRecord (after_events (events_of_break break notice)) old new
+    → CountsNeverFall old new → RunsStage taking (open_stage name >>= next) old new (Err status)
 broke_opening taking name next break notice old new status taken one is is_reported kept follows =
     grind (arith, nat_tests)
 
 -- the file could not be opened
-goes_unopened : {A : Type 0} (taking : AllocationPoints) (name : Bytes) (next : Opening
-    → Stage A) (old mid new : DeskState) (status : ℕ)
-    → mid.kept ≡ old.kept → CountsNeverFall old mid → HasFailedAt File old mid → status ≡ 1
-    → ReportsLine mid new (not_opened_line name)
+goes_unopened : {A : Type 0} (taking : AllocationPoints) (name : Bytes) (next : Opening → Stage A)
+    (old mid new : DeskState) (status : ℕ) → mid.kept ≡ old.kept → CountsNeverFall old mid → HasFailedAt File old mid
+    → status ≡ 1 → ReportsLine mid new (not_opened_line name)
     → RunsStage taking (open_stage name >>= next) old new (Err status)
 goes_unopened taking name next old mid new status same rose failed one notice =
     broke_opening taking name next (NotOpened name) notice.notice old new status tt one (λ more. ([], refl))
@@ -78,10 +71,10 @@ goes_unopened taking name next old mid new status same rose failed one notice =
     (follows_on old mid new rose notice.follows)
 
 -- or could not be read to its end
-goes_unread : {A : Type 0} (taking : AllocationPoints) (name bytes : Bytes) (next : Opening
-    → Stage A) (old mid new : DeskState) (status : ℕ)
-    → ChangesRecord (with_read name bytes false) old mid → CountsNeverFall old mid → HasFailedAt File old mid → status
-    ≡ 1 → ReportsLine mid new (not_read_line name) → RunsStage taking (open_stage name >>= next) old new (Err status)
+goes_unread : {A : Type 0} (taking : AllocationPoints) (name bytes : Bytes) (next : Opening → Stage A)
+    (old mid new : DeskState) (status : ℕ) → ChangesRecord (with_read name bytes false) old mid
+    → CountsNeverFall old mid → HasFailedAt File old mid → status ≡ 1 → ReportsLine mid new (not_read_line name)
+    → RunsStage taking (open_stage name >>= next) old new (Err status)
 goes_unread taking name bytes next old mid new status kept rose failed one notice =
     broke_opening taking name next (NotRead name bytes) notice.notice old new status tt one (λ more. ([], refl))
     (failure_reported old mid new (not_read_line name) rose failed notice)
@@ -90,10 +83,8 @@ goes_unread taking name bytes next old mid new status kept rose failed one notic
 
 -- or allocation failed for it
 goes_unheld : {A : Type 0} (taking : AllocationPoints) (name bytes : Bytes) (ended : Bool) (next : Opening → Stage A)
-    (old mid new : DeskState)
-    (status : ℕ)
-    → ChangesRecord (with_read name bytes ended) old mid → HasSameCounts old mid → status ≡ 1
-    → ReportsLine mid new memory_line → RunsStage taking (open_stage name >>= next) old new (Err status)
+    (old mid new : DeskState) (status : ℕ) → ChangesRecord (with_read name bytes ended) old mid → HasSameCounts old mid
+    → status ≡ 1 → ReportsLine mid new memory_line → RunsStage taking (open_stage name >>= next) old new (Err status)
 goes_unheld taking name bytes ended next old mid new status kept same one notice =
     let reading : Reading = record { name = name; bytes = bytes; ended = ended } in
     broke_opening taking name next (NoMemoryForFile reading) notice.notice old new status tt one (λ more. ([], refl))
@@ -102,11 +93,10 @@ goes_unheld taking name bytes ended next old mid new status kept same one notice
     notice.kept) (follows_on old mid new (follows_same old mid same) notice.follows)
 
 -- any fault of the file except that it doesn't exist
-pub runs_until_break : {A : Type 0} (taking : AllocationPoints) (name : Bytes) (next : Opening
-    → Stage A) (fault : FileFault) (old mid new : DeskState)
-    (status : ℕ)
-    → (fault ≡ file_fault.Absent → ⊥) → FileBreaks name old mid fault → CountsNeverFall old mid
-    → CountsFileFault old mid fault → status ≡ 1 → ReportsLine mid new (file_fault_line name fault)
+pub runs_until_break : {A : Type 0} (taking : AllocationPoints) (name : Bytes) (next : Opening → Stage A)
+    (fault : FileFault) (old mid new : DeskState) (status : ℕ) → (fault ≡ file_fault.Absent → ⊥)
+    → FileBreaks name old mid fault → CountsNeverFall old mid → CountsFileFault old mid fault → status ≡ 1
+    → ReportsLine mid new (file_fault_line name fault)
     → RunsStage taking (open_stage name >>= next) old new (Err status)
 runs_until_break taking name next file_fault.Absent old mid new status there breaks rose counted one notice =
     search rules

@@ -25,9 +25,8 @@ break_since break notice first old new same is_reported = search (rules, nat_tes
 -- ---- a stage after another one
 
 -- the output of the next stage comes after this one's
-pub output_more : {A B : Type 0} (output_events : List OutputEvent) (openings_left : List Opening) (go_on : A
-    → Stage B) (stage_outcome : StageOutcome A)
-    → (extra : List OutputEvent)
+pub output_more : {A B : Type 0} (output_events : List OutputEvent) (openings_left : List Opening) (go_on : A → Stage B)
+    (stage_outcome : StageOutcome A) → (extra : List OutputEvent)
     × ((continued_stage output_events openings_left go_on stage_outcome).output_events ≡ output_events ++ extra)
 output_more output_events openings_left go_on (Produced a) = ((go_on a openings_left).output_events, refl)
 output_more output_events openings_left go_on x = ([], sym (append-nil output_events))
@@ -38,14 +37,12 @@ pub reported_append : {A : Type 0} (first second : List OutputEvent) (stage_outc
 reported_append first second stage_outcome = search (rules, append_assoc)
 
 rest_more : {A B : Type 0} (p : StageResult A) (go_on : A → Stage B) (whole : List OutputEvent) (break : BreakCause)
-    (more : List Opening)
-    → RestOfStage p whole break more
+    (more : List Opening) → RestOfStage p whole break more
     → RestOfStage (continued_stage p.output_events p.openings_left go_on p.stage_outcome) whole break more
 rest_more p go_on whole break more rest = search (rules, nat_tests, append_assoc)
 
 pub completed_then : {A B : Type 0} (stage : Stage A) (go_on : A → Stage B) (old mid new : DeskState) (a : A)
-    (stage_outcome : StageOutcome B)
-    → StageCompleted stage old mid (Produced a)
+    (stage_outcome : StageOutcome B) → StageCompleted stage old mid (Produced a)
     → StageCompleted (go_on a) mid new stage_outcome → StageCompleted (stage >>= go_on) old new stage_outcome
 completed_then stage go_on old mid new a stage_outcome first then = record {
   passed = first.passed ++ then.passed;
@@ -61,10 +58,10 @@ abbrev pub TakesBehind : {A : Type 0} (inner taking : AllocationPoints) (stage :
 TakesBehind inner taking stage old mid a first = (passed : List Opening) (emitted : List OutputEvent)
     → inner passed emitted → taking (first.passed ++ passed) (first.output_events ++ emitted)
 
-went_broke : {A B : Type 0} (inner taking : AllocationPoints) (stage : Stage A) (go_on : A
-    → Stage B) (old mid new : DeskState) (a : A) (first : StageCompleted stage old mid (Produced a))
-    → TakesBehind inner taking stage old mid a first
-    → StageBrokeOff inner (go_on a) mid new → StageBrokeOff taking (stage >>= go_on) old new
+went_broke : {A B : Type 0} (inner taking : AllocationPoints) (stage : Stage A) (go_on : A → Stage B)
+    (old mid new : DeskState) (a : A) (first : StageCompleted stage old mid (Produced a))
+    → TakesBehind inner taking stage old mid a first → StageBrokeOff inner (go_on a) mid new
+    → StageBrokeOff taking (stage >>= go_on) old new
 went_broke inner taking stage go_on old mid new a first behind then = record {
   passed = first.passed ++ then.passed;
   whole = first.output_events ++ then.whole;
@@ -78,10 +75,10 @@ went_broke inner taking stage go_on old mid new a first behind then = record {
 }
 
 -- a stage that succeeded, and the run of the next one
-pub runs_then : {A B : Type 0} (inner taking : AllocationPoints) (stage : Stage A) (go_on : A
-    → Stage B) (old mid new : DeskState) (a : A) (result : Result B ℕ) (went : StageCompleted stage old mid
-    (Produced a)) → TakesBehind inner taking stage old mid a went
-    → RunsStage inner (go_on a) mid new result → RunsStage taking (stage >>= go_on) old new result
+pub runs_then : {A B : Type 0} (inner taking : AllocationPoints) (stage : Stage A) (go_on : A → Stage B)
+    (old mid new : DeskState) (a : A) (result : Result B ℕ) (went : StageCompleted stage old mid (Produced a))
+    → TakesBehind inner taking stage old mid a went → RunsStage inner (go_on a) mid new result
+    → RunsStage taking (stage >>= go_on) old new result
 runs_then inner taking stage go_on old mid new a (Ok b) went behind then = search (rules, completed_then)
 runs_then inner taking stage go_on old mid new a (Err status) went behind (one, inl then) =
     search (rules, completed_then)
@@ -89,8 +86,8 @@ runs_then inner taking stage go_on old mid new a (Err status) went behind (one, 
     (one, inr (went_broke inner taking stage go_on old mid new a went behind then))
 
 -- a stage that was refused or broke off
-pub runs_first_only : {A B : Type 0} (taking : AllocationPoints) (stage : Stage A) (go_on : A
-    → Stage B) (old new : DeskState) (status : ℕ) → RunsStage taking stage old new (Err status)
+pub runs_first_only : {A B : Type 0} (taking : AllocationPoints) (stage : Stage A) (go_on : A → Stage B)
+    (old new : DeskState) (status : ℕ) → RunsStage taking stage old new (Err status)
     → RunsStage taking (stage >>= go_on) old new (Err status)
 runs_first_only taking stage go_on old new status (one, inl went) = grind (arith, nat_tests)
 runs_first_only taking stage go_on old new status (one, inr broke) = grind (arith, nat_tests, rest_more)
@@ -106,13 +103,8 @@ goes_within inner taking stage old new result within went = search (rules, nat_t
 -- nothing is printed or read
 pub completed_without_events : {A : Type 0} (d : DeskState) (a : A) → StageCompleted (result_stage (Ok a)) d d
     (Produced a)
-completed_without_events d a = record {
-  passed = [];
-  output_events = [];
-  comes = λ more. refl;
-  kept = kept_none d.kept;
-  sound = same_here d;
-}
+completed_without_events d a =
+    record { passed = []; output_events = []; comes = λ more. refl; kept = kept_none d.kept; sound = same_here d }
 
 -- a line was printed whole
 reported_whole : {A : Type 0} (old new : DeskState) (line : List ℕ)
@@ -124,10 +116,10 @@ reported_whole old new line kept same =
 -- or it broke off there
 broke_here : {A : Type 0} (taking : AllocationPoints) (stage : Stage A) (old new : DeskState) (break : BreakCause)
     (notice : List ℕ) → AllocatesThere taking break [] []
-    → ((more : List Opening) → BreakFitsNext break more (events_with_refusal (stage more).output_events
-    (stage more).stage_outcome)) → ReportsBreakAs break notice old new
-    → ChangesRecord (after_events (events_of_break break notice)) old new → CountsNeverFall old new
-    → StageBrokeOff taking stage old new
+    → ((more : List Opening)
+    → BreakFitsNext break more (events_with_refusal (stage more).output_events (stage more).stage_outcome))
+    → ReportsBreakAs break notice old new → ChangesRecord (after_events (events_of_break break notice)) old new
+    → CountsNeverFall old new → StageBrokeOff taking stage old new
 broke_here taking stage old new break notice taken is is_reported kept follows = grind (arith, nat_tests)
 
 -- a refusal that was reported, or a prefix of its line
@@ -178,13 +170,8 @@ goes_unsettled taking r line old new status is one notice =
     (runs_to_refusal taking old new line status one notice)
 
 pub completed_silently : (d : DeskState) → StageCompleted (output_stage []) d d (Produced tt)
-completed_silently d = record {
-  passed = [];
-  output_events = [];
-  comes = λ more. refl;
-  kept = kept_none d.kept;
-  sound = same_here d;
-}
+completed_silently d =
+    record { passed = []; output_events = []; comes = λ more. refl; kept = kept_none d.kept; sound = same_here d }
 
 pub completed_output : (old new : DeskState) (line : List ℕ) → ChangesRecord (after_events (PrintsLine line ∷ [])) old
     new → HasSameCounts old new → StageCompleted (output_stage (PrintsLine line ∷ [])) old new (Produced tt)
@@ -200,8 +187,3 @@ goes_output_part taking old new line fault part is counts = (
       (λ more. ([], refl))
       ((drop part.0 line, take-append-drop part.0 line), search rules) part.2 counts.0),
 )
-
--- the counts of failures never fall, whatever the outcome
-pub goes_follows : {A : Type 0} (taking : AllocationPoints) (stage : Stage A) (old new : DeskState)
-    (result : Result A ℕ) → RunsStage taking stage old new result → CountsNeverFall old new
-goes_follows taking stage old new result went = search rules

@@ -1,21 +1,15 @@
 use Rattle.std.proofs.Common.{rules}
-use Rattle.avr_desk.proofs.Desks.TwoWriters.{from_inside, err_true}
+use Rattle.avr_desk.proofs.Desks.TwoWriters.{from_inside, is_write, err_true}
 use Rattle.avr_desk.proofs.system.SystemDeskDesk.err.Goals as goal
 
 pub returns-in-Err-clause-write : goal.returns-in-Err-clause-write
 returns-in-Err-clause-write g c =
     let took = c.in-Err.ensures.taken in
-    let stays = from_inside _ _ _ _ _ _ c.self.view_is (err_true _ _ _ _ _ _ _ took.2.0 took.2.1) in record {
-      bound = search rules;
-      kept = rw (← c.self.view_is) (took.0, took.1, took.2.0);
-      call = record { counts = search rules; fault = search rules; stays = stays };
-    }
+    is_write (search rules) (rw (← c.self.view_is) (took.0, took.1, took.2.0)) (search rules) (search rules)
+    (from_inside _ _ _ _ _ _ c.self.view_is (err_true _ _ _ _ _ _ _ took.2.0 took.2.1))
 
 pub returns-in-Ok-clause-write : goal.returns-in-Ok-clause-write
 returns-in-Ok-clause-write g c =
     let took = c.in-Ok.ensures.taken in
-    let stays = from_inside _ _ _ _ _ _ c.self.view_is (err_true _ _ _ _ _ _ _ took.0 took.1) in record {
-      bound = search rules;
-      kept = rw (← c.self.view_is) took.0;
-      call = record { counts = search rules; fault = search rules; stays = stays };
-    }
+    is_write (search rules) (rw (← c.self.view_is) took.0) (search rules) (search rules)
+    (from_inside _ _ _ _ _ _ c.self.view_is (err_true _ _ _ _ _ _ _ took.0 took.1))
