@@ -48,8 +48,7 @@ fault_of_long_file file.Srec prefix size = or_too_long (ended_lines_fault record
 fault_of_long_file found prefix size = TooLong
 
 abbrev pub image_of_file_within : ℕ → Found → Bytes → ℕ → ImageOrBadFile
-image_of_file_within limit found bytes size =
-    if nat_le (length bytes) limit then image_of_file found bytes size
+image_of_file_within limit found bytes size = if nat_le (length bytes) limit then image_of_file found bytes size
     else Err (fault_of_long_file found (take limit bytes) size)
 
 abbrev pub kind_of : Format → Bytes → Found

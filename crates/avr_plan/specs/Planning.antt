@@ -36,8 +36,7 @@ parts_or_line file (Ok parts) = Ok parts
 parts_or_line file (Err refused) = Err (part_file_line file refused.fault)
 
 abbrev pub checked_parts : Bytes → Bytes → Result (List Part) Bytes
-checked_parts file bytes =
-    if nat_le (length bytes) LARGEST_PART_FILE then parts_or_line file (parts_of bytes)
+checked_parts file bytes = if nat_le (length bytes) LARGEST_PART_FILE then parts_or_line file (parts_of bytes)
     else Err (too_long_line file LARGEST_PART_FILE)
 
 abbrev pub parts_stage : Option Bytes → Stage (List Part)
@@ -99,8 +98,7 @@ write_stage switches part u =
 
 abbrev pub op_stage : Switches → Part → Update → Op → Stage Task
 op_stage switches part u op.Write = write_stage switches part u
-op_stage switches part u op.Verify = update_image switches part u
-    >>= λ image. result_stage (Ok (Verify u.memory image))
+op_stage switches part u op.Verify = update_image switches part u >>= λ image. result_stage (Ok (Verify u.memory image))
 op_stage switches part u op.Read = result_stage (Ok (Read u.memory u.format u.file))
 
 abbrev pub task_stage : Switches → Part → Update → Stage Task

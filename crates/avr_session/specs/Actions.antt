@@ -32,10 +32,8 @@ is_erase_due s tasks = s.erase || (list_any writes_flash tasks && not s.keep_fla
 
 -- A dry run erases and writes nothing.
 abbrev pub erase_actions : Switches → List Task → List Action
-erase_actions s tasks =
-    if s.dry then (if s.erase then SkipAction SkippedErase ∷ [] else [])
-    else if is_erase_due s tasks then EraseChip ∷ []
-    else []
+erase_actions s tasks = if s.dry then (if s.erase then SkipAction SkippedErase ∷ [] else [])
+    else if is_erase_due s tasks then EraseChip ∷ [] else []
 
 -- What was written is read back, unless verifying is off.
 abbrev pub read_back_actions : Switches → Mem → List (Option ℕ) → List Action

@@ -17,8 +17,7 @@ use Rattle.stk_host.specs.Transcript.{LinkState}
 -- The contract of `drive`: the session of a plan ran whole to its status, or it broke off. Allocation can fail only at
 -- an action that allocates.
 abbrev pub RunsSession : Plan → Devices → Devices → ℕ → Type 0
-RunsSession plan old new status =
-    RunsWholeOrStops (session plan) old new (plan_allocates plan)
+RunsSession plan old new status = RunsWholeOrStops (session plan) old new (plan_allocates plan)
     (AtAllocation plan.part plan.switches (actions plan)) status
 
 -- The session of a plan broke off.
@@ -50,8 +49,7 @@ pub record RunsPlan (settings : Settings) (old : Devices) (between : DeskState) 
 
 -- A plan was made and its session run; or there is no plan, and nothing was sent or received.
 abbrev pub RunsSettings : Settings → Devices → DeskState → Devices → ℕ → Type 0
-RunsSettings settings old between new status =
-    RunsPlan settings old between new status
+RunsSettings settings old between new status = RunsPlan settings old between new status
     ⊎ (LacksPlan settings old.desk new.desk status × (new.link ≡ old.link))
 
 -- The same for a desk of any type. `between` is the desk when the plan was made.

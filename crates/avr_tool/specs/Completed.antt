@@ -28,8 +28,7 @@ step_count (Ask bytes go_on) more = 0
 -- received.
 abbrev pub steps_completed : {P : Type 0} → Device P → List (List Command) → ℕ → P → List Exchange → ℕ
 steps_completed m [] k p exchanges = 0
-steps_completed m (commands ∷ steps) k p exchanges =
-    let s = state_after m k (step commands) p exchanges in
+steps_completed m (commands ∷ steps) k p exchanges = let s = state_after m k (step commands) p exchanges in
     step_count s.dialog (steps_completed m steps s.left s.programmer s.exchanges)
 
 abbrev pub none_made : Count Programmer
@@ -45,8 +44,7 @@ made_unless_fault next _ = none_made
 
 abbrev pub actions_made : Part → Switches → List Action → Count Programmer
 actions_made part s [] = none_made
-actions_made part s (action ∷ actions) =
-    then_count device (action_dialog part s action) (action_made part action)
+actions_made part s (action ∷ actions) = then_count device (action_dialog part s action) (action_made part action)
     (made_unless_fault (actions_made part s actions))
 
 -- The end of a session makes none.

@@ -35,8 +35,7 @@ run_after_planning NotReadToEnd tape = record { events = []; outcome = None }
 
 -- THE RUN: all that is sent and output, and the status
 abbrev pub run : Settings → List Opening → Tape → Played OutputEvent ℕ
-run settings openings tape =
-    let p = planned settings openings in
+run settings openings tape = let p = planned settings openings in
     prepend_events (map Emitted p.output_events) (run_after_planning p.stage_outcome tape)
 
 -- ---- 2. What a call does is the run
@@ -133,8 +132,7 @@ pub record IsPrefixOfRun (settings : Settings) (before now : Devices) : Type 0 w
 -- `a_run_is_one_function`). If the chip is of the plan's part, `SessionOverWire` states what happened to it. Or there
 -- is no plan, and the wire is untouched.
 abbrev pub RunsWired : Settings → WiredState → WiredState → DeskState → DeskState → ℕ → Type 0
-RunsWired settings before after old now status =
-    WithPlan settings old (λ plan between.
+RunsWired settings before after old now status = WithPlan settings old (λ plan between.
     RunsSession plan (wire_and_desk before between) (wire_and_desk after now) status
     × (before.wire.programmer.chip.part ≡ plan.part → SessionOverWire plan before after between now status))
     ⊎ (LacksPlan settings old now status × (after ≡ before))

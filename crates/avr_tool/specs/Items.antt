@@ -35,6 +35,5 @@ task_item (task.Read mem format file) = None
 -- is due, and writes the image of each write in order. Law `a_plan_writes_what_its_tasks_write` states that both are
 -- equal.
 abbrev pub asked_items : Plan → List Item
-asked_items plan =
-    if plan.switches.dry then []
+asked_items plan = if plan.switches.dry then []
     else (if is_erase_due plan.switches plan.tasks then Erase ∷ [] else []) ++ filter_map task_item plan.tasks

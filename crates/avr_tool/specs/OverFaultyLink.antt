@@ -61,8 +61,7 @@ pub record EndsOverExchanges (plan : Plan) (before after : Memories) (exchanges 
   -- all that the plan writes was written, and all that it compares agreed
   pub done : status ≡ 0 → IsDone plan before after
   -- each memory holds its images, later over earlier; the rest is as it was, or as an erase leaves it
-  pub images : status ≡ 0 → plan.switches.no_verify ≡ false
-      → IsWritten plan.part (asked_items plan) before after
+  pub images : status ≡ 0 → plan.switches.no_verify ≡ false → IsWritten plan.part (asked_items plan) before after
   -- so a further run that compares memories with their images has status 0, if none of its frames goes wrong
   pub further : status ≡ 0 → plan.switches.no_verify ≡ false → (s : Switches) (mems : List Mem) → s.erase ≡ false
       → (expected_run (comparing plan s mems) after).status ≡ 0

@@ -53,8 +53,7 @@ pub record FindsNoPart (settings : Settings) (old new : DeskState) (status : ℕ
 abbrev pub ChecksPart : Settings → Bytes → DeskState → DeskState → Result Part ℕ → Type 0
 ChecksPart settings file old new (Ok checked_part) =
     WithPart settings old (λ part desk. ChecksChip part file desk new (Ok checked_part))
-ChecksPart settings file old new (Err status) =
-    FindsNoPart settings old new status
+ChecksPart settings file old new (Err status) = FindsNoPart settings old new status
     ⊎ WithPart settings old (λ part desk. ChecksChip part file desk new (Err status))
 
 abbrev pub fresh_machine : chips.ChipState → EmulatorState
@@ -108,8 +107,7 @@ pub record ServesLoaded (part : Part) (file : Bytes) (most_reads : ℕ) (old new
 -- The contract of `serve_part`: the chip was loaded and served. Or there is no chip: this was reported, and nothing was
 -- received or sent.
 abbrev pub ServesPart : Part → Bytes → ℕ → Devices → Devices → ℕ → Type 0
-ServesPart part file most_reads old new status =
-    ServesLoaded part file most_reads old new status
+ServesPart part file most_reads old new status = ServesLoaded part file most_reads old new status
     ⊎ (LocksAndLoads part file old.desk new.desk (Err status) × (new.link ≡ old.link))
 
 -- The part of the settings was served in at most `most_reads` reads. Or there is no part: this was reported, and

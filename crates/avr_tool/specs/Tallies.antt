@@ -16,8 +16,7 @@ with_next (Emit e dialog) so_far more = so_far
 with_next (Ask bytes go_on) so_far more = so_far
 
 abbrev pub then_count : {E A P : Type 0} → Device P → Dialog E A → Count P → (A → Count P) → Count P
-then_count m d first more k p exchanges =
-    let s = state_after m k d p exchanges in
+then_count m d first more k p exchanges = let s = state_after m k d p exchanges in
     with_next s.dialog (first k p exchanges) (λ a. more a s.left s.programmer s.exchanges)
 
 -- At each moment of a dialog `count` write operations are made: those completed, and perhaps one more. That one is

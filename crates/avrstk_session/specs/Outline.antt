@@ -23,10 +23,8 @@ number_line number end = decimal number ++ end ∷ []
 
 -- The line of a page in which the image holds a byte: `flash ADDRESS SIZE`.
 abbrev pub page_text : Part → List (Option ℕ) → ℕ → Bytes
-page_text part image page =
-    if holds_any image (page * part.flash_page) part.flash_page
-    then codes "flash " ++ (number_line (page * part.flash_page) 32 ++ number_line part.flash_page 10)
-    else []
+page_text part image page = if holds_any image (page * part.flash_page) part.flash_page
+    then codes "flash " ++ (number_line (page * part.flash_page) 32 ++ number_line part.flash_page 10) else []
 
 abbrev pub pages_text : Part → List (Option ℕ) → ℕ → ℕ → Bytes
 pages_text part image page zero = []
@@ -42,8 +40,7 @@ tasks_text part (task ∷ tasks) = task_text part task ++ tasks_text part tasks
 
 -- The number of frames, at most 2^64 - 1, and the pages of flash that each task writes.
 abbrev pub outline_text : Plan → Bytes
-outline_text plan =
-    codes "frames " ++ number_line (min (2 ^ 64 - 1) (commands_in (run_steps plan))) 10
+outline_text plan = codes "frames " ++ number_line (min (2 ^ 64 - 1) (commands_in (run_steps plan))) 10
     ++ tasks_text plan.part plan.tasks
 
 -- The text was printed with status 0, or a prefix of it with status 1; or allocation failed, and this was reported.
