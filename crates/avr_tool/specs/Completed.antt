@@ -1,5 +1,5 @@
 -- How many write operations of a plan were completed along a link, each by all of its commands.
-use Rattle.std.specs.Prelude.{ℕ, suc, List, [], ◌∷◌, Ok, Err}
+use Rattle.std.specs.Prelude.{ℕ, suc, List, [], ◌∷◌, Ok}
 use Rattle.avr_cli.specs.declared.settings.Switches.{Switches}
 use Rattle.avr_part.specs.Part.{Part}
 use Rattle.avr_plan.specs.Plan.{Plan}
@@ -10,7 +10,7 @@ use Rattle.stk_emu.specs.DialogOverExchanges.{state_after}
 use Rattle.stk_emu.specs.Device.{Device, device}
 use Rattle.stk_emu.specs.Exchange.{Exchange}
 use Rattle.stk_frame.specs.declared.command.Command.{Command}
-use Rattle.stk_host.specs.Dialog.{Dialog, Done, Emit, Ask}
+use Rattle.stk_host.specs.Dialog.{Dialog, Done}
 use Rattle.stk_host.specs.Steps.{StepOutcome, step}
 use Rattle.stk_emu.specs.Programmer.{Programmer}
 use Rattle.stk_emu.specs.WriteOperations.{steps_of_items}
@@ -20,9 +20,7 @@ use Rattle.avr_tool.specs.Items.{action_items}
 -- Counts a step if it was completed.
 abbrev pub step_count : Dialog ⊥ StepOutcome → ℕ → ℕ
 step_count (Done (Ok bytes)) more = suc more
-step_count (Done (Err fault)) more = 0
-step_count (Emit e dialog) more = 0
-step_count (Ask bytes go_on) more = 0
+step_count dialog more = 0
 
 -- The number of steps completed after `k` commands along the link, by what its exchanges bring, not by what was
 -- received.

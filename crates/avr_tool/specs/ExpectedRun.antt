@@ -23,11 +23,8 @@ fine output_events m = record { output_events = output_events; standing = NoFaul
 -- An operation with this outcome, which leaves these memories.
 abbrev pub reported_expected : {A : Type 0} → (Result A HostFault → List OutputEvent) → Result A HostFault → Memories
     → Expected
-reported_expected outcome_output outcome m = record {
-  output_events = outcome_output outcome;
-  standing = standing outcome;
-  memories = m;
-}
+reported_expected outcome_output outcome m =
+    record { output_events = outcome_output outcome; standing = standing outcome; memories = m }
 
 -- The next action, which a fault skips.
 abbrev pub then_from : Expected → Standing → (Memories → Expected) → Expected

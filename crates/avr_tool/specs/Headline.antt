@@ -8,7 +8,7 @@ use Rattle.avr_desk.specs.Record.{DeskState, ChangesRecord, Bytes, after_err}
 use Rattle.avr_desk.specs.declared.record.Opening.{Opening}
 use Rattle.avr_desk.specs.declared.record.Opening.TheVariants.{Found}
 use Rattle.avr_desk.specs.Lines.{memory_line, not_opened_line, not_read_line}
-use Rattle.avr_desk.specs.StageRuns.{BreakCause, LineNotPrinted, NotOpened, NotRead, NoMemory, NoMemoryForFile, opened_and_read_in_part}
+use Rattle.avr_desk.specs.StageRuns.{BreakCause, LineNotPrinted, NotOpened, NotRead, NoMemoryForFile, opened_and_read_in_part}
 use Rattle.avr_desk.specs.OutputEvents.{OutputEvent, Opens, PrintsLine, IsPartOfEvent, IsPrefixOfBytes, after_events}
 use Rattle.avr_plan.specs.Plan.{Plan}
 use Rattle.avr_plan.specs.Planning.{LacksPart, planned}
@@ -96,17 +96,13 @@ stop_line (InSession cause) = cause_line cause
 stop_line (InPlanning (LineNotPrinted line)) = line
 stop_line (InPlanning (NotOpened name)) = not_opened_line name
 stop_line (InPlanning (NotRead name bytes)) = not_read_line name
-stop_line (InPlanning NoMemory) = memory_line
-stop_line (InPlanning (NoMemoryForFile reading)) = memory_line
+stop_line (InPlanning break) = memory_line
 
 -- The reading of a file that had begun when planning broke off.
 abbrev pub opened_at : Reason → List OutputEvent
-opened_at (InSession cause) = []
-opened_at (InPlanning (LineNotPrinted line)) = []
-opened_at (InPlanning (NotOpened name)) = []
 opened_at (InPlanning (NotRead name bytes)) = opened_and_read_in_part name bytes ∷ []
-opened_at (InPlanning NoMemory) = []
 opened_at (InPlanning (NoMemoryForFile reading)) = Opens (Found reading) ∷ []
+opened_at reason = []
 
 -- What a stopped run did is a prefix of the run over what was received; only the last event may be incomplete. At the
 -- desk this was done, then perhaps a part of the next file was read, then the line of the reason was reported, or a
