@@ -28,11 +28,8 @@ reported_expected outcome_output outcome m =
 
 -- The next action, which a fault skips.
 abbrev pub then_from : Expected → Standing → (Memories → Expected) → Expected
-then_from first NoFault next = record {
-  output_events = first.output_events ++ (next first.memories).output_events;
-  standing = (next first.memories).standing;
-  memories = (next first.memories).memories;
-}
+then_from first NoFault next =
+    record (next first.memories) { output_events = first.output_events ++ (next first.memories).output_events }
 then_from first _ next = first
 
 infixl 10 ◌then◌
