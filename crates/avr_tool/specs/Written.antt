@@ -52,4 +52,4 @@ pub record IsWritten (part : Part) (items : List Item) (before after : Memories)
 -- A plan that compares these memories with the images that another plan writes to them.
 abbrev pub comparing : Plan → Switches → List Mem → Plan
 comparing plan s mems =
-    record plan { tasks = map (λ mem. task.Verify mem (written_to plan.part mem (asked_items plan))) mems; switches = s }
+    record plan { tasks = map (λ m. task.Verify m (written_to plan.part m (asked_items plan))) mems; switches = s }
