@@ -23,9 +23,9 @@ ghost use Rattle.avr_part.specs.Sound.{IsSoundChip};
 ghost use Rattle.avr_part.specs.State.{ChipState as Chip};
 ghost use Rattle.avr_plan.specs.Plan.{Plan, IsFitted};
 ghost use Rattle.avr_plan.specs.Planning.{planned};
-ghost use Rattle.avr_session.specs.Runs.{Devices, devices};
+ghost use Rattle.avr_session.specs.Runs.{AllocationFailed, Devices, devices, cause_line};
 ghost use Rattle.avr_session.specs.Session.{session};
-ghost use Rattle.avr_session.specs.Stopping.{IsSound, EndsOutOfMemory, keeping, link_state};
+ghost use Rattle.avr_session.specs.Stopping.{IsSound, EndWithLine, keeping, link_state};
 ghost use Rattle.avr_tool.specs.Headline.{IsRun, IsStopped};
 ghost use Rattle.avr_laws.specs.InMemory.{AreUnused, LeavesOutcome, LeavesOverStreams, RunOutcome, outcome_shown};
 ghost use Rattle.avr_laws.specs.Worked.{absent_outcome, absent_settings, worked_frames, fuse_plan, worked_lines, forged_replies, no_stock, worked_replies, worked_outcome, worked_settings};
@@ -143,14 +143,14 @@ pub fn a_sound_run_is_its_expected_run()
     ensures expected_run { (plan : Plan) (w v : WiredState) (d e : Record) (a b : ℕ × ℕ) (status : ℕ)
         → AtMostThreeBadOfSeven (exchanges_of_fates w.wire.fates) → IsSound (wire_and_desk w (keeping d a))
         (wire_and_desk v (keeping e b))
-        → (EndsOutOfMemory e.messages → ⊥)
+        → (EndWithLine (cause_line AllocationFailed) e.messages → ⊥)
         → OverAnyWire plan w v (keeping d a) (keeping e b) status
         → IsExpectedRun plan (memories w) (memories v) (outputs (events_over plan v)) status
         × ChangesRecord (after_events (outputs (events_over plan v))) (keeping d a) (keeping e b) }
     ensures images { (plan : Plan) (w v : WiredState) (d e : Record) (a b : ℕ × ℕ) (status : ℕ)
         → AtMostThreeBadOfSeven (exchanges_of_fates w.wire.fates) → IsSound (wire_and_desk w (keeping d a))
         (wire_and_desk v (keeping e b))
-        → (EndsOutOfMemory e.messages → ⊥)
+        → (EndWithLine (cause_line AllocationFailed) e.messages → ⊥)
         → plan.switches.no_verify ≡ false → has_erase (items plan) ≡ true → AgreesOnTwoChips plan
         → OverAnyWire plan w v (keeping d a) (keeping e b) status
         → (status ≡ 0) × IsWritten plan.part (asked_items plan) (memories w) (memories v) }

@@ -8,11 +8,11 @@ use Rattle.avr_cli.specs.declared.update.Op.{Op}
 use Rattle.avr_cli.specs.declared.update.Op.TheVariants as op
 use Rattle.avr_cli.specs.declared.update.Update.{Update}
 use Rattle.avr_desk.specs.OutputEvents.{OutputEvent}
-use Rattle.avr_desk.specs.Stage.{Produced}
+use Rattle.avr_desk.specs.Stage.{Stage, Produced}
+use Rattle.avr_desk.specs.StageRuns.{AllocationPoints}
 use Rattle.avr_desk.specs.declared.record.Opening.{Opening}
 use Rattle.avr_part.specs.Mem.{is_writable}
 use Rattle.avr_part.specs.Part.{Part}
-use Rattle.avr_plan.specs.Plan.{Plan}
 use Rattle.avr_plan.specs.Planning.{planned, tasks_stage}
 use Rattle.avr_plan.specs.declared.planned.Task.{Task}
 
@@ -26,29 +26,23 @@ op_allocates u op.Write = if is_writable u.memory then has_immediate_values u.fo
 op_allocates u op.Verify = has_immediate_values u.format
 op_allocates u op.Read = true
 
--- The next update, `due`, allocates without a file. The openings and events so far are those of the plan of the
--- updates before it. Contracts of `plan` give it as the only point of a failed allocation without a file.
-pub record AtAllocatingUpdate (s : Settings) (passed : List Opening) (emitted : List OutputEvent) : Type 0 where
-  pub done : List Update
-  pub due : Update
-  pub more : List Update
-  pub updates_are : s.updates ≡ done ++ due ∷ more
-  pub allocates : op_allocates due due.op ≡ true
-  pub plan : Plan
-  pub is_planned : planned (record s { updates = done }) passed
-      ≡ record { output_events = emitted; stage_outcome = Produced plan; openings_left = [] }
-
--- inside: the same for some updates whose tasks follow others
-pub record AtAllocatingTask (switches : Switches) (part : Part) (tasks : List Task) (updates : List Update)
-    (passed : List Opening) (emitted : List OutputEvent) : Type 0 where
+-- The next update, `due`, allocates without a file. The openings and events so far are those of the stage of the
+-- updates before it.
+pub record AtAllocating {A : Type 0} (stage_of : List Update → Stage A) (updates : List Update) (passed : List Opening)
+    (emitted : List OutputEvent) : Type 0 where
   pub done : List Update
   pub due : Update
   pub more : List Update
   pub updates_are : updates ≡ done ++ due ∷ more
   pub allocates : op_allocates due due.op ≡ true
-  pub made : List Task
-  pub are_made : tasks_stage switches part tasks done passed ≡ record {
-    output_events = emitted;
-    stage_outcome = Produced made;
-    openings_left = [];
-  }
+  pub made : A
+  pub is_made : stage_of done passed
+      ≡ record { output_events = emitted; stage_outcome = Produced made; openings_left = [] }
+
+-- The stage is the plan. Contracts of `plan` give this as the only point of a failed allocation without a file.
+abbrev pub AtAllocatingUpdate : Settings → AllocationPoints
+AtAllocatingUpdate s = AtAllocating (λ done. planned (record s { updates = done })) s.updates
+
+-- inside: the stage is that of some updates whose tasks follow others
+abbrev pub AtAllocatingTask : Switches → Part → List Task → List Update → AllocationPoints
+AtAllocatingTask switches part tasks updates = AtAllocating (tasks_stage switches part tasks) updates

@@ -1,9 +1,9 @@
 -- The image that the bytes of a file are.
-use Rattle.std.specs.Prelude.{ℕ, List, length, take, nat_le, Option, Some, None, Result, Ok, Err, if◌then◌else◌}
+use Rattle.std.specs.Prelude.{ℕ, List, length, take, nat_le, Option, option_map, unwrap_or, Result, Err, if◌then◌else◌}
+use Rattle.std.specs.Result.{result_map_both}
 use Rattle.avr_cli.specs.declared.update.Format.{Format}
 use Rattle.avr_cli.specs.declared.update.Format.TheVariants as letter
 use Rattle.avr_image.specs.Raw as raw_file
-use Rattle.avr_image.specs.declared.fault.ImageFault.{ImageFault}
 use Rattle.avr_desk.specs.Record.{Bytes}
 use Rattle.avr_records.specs.Closed.{ended_lines_fault}
 use Rattle.avr_records.specs.Detect.{format_of_file}
@@ -21,25 +21,15 @@ use Rattle.avr_plan.specs.declared.intake.BadFile.TheVariants.{Record, Raw, Elf,
 abbrev pub ImageOrBadFile : Type 0
 ImageOrBadFile = Result (List (Option ℕ) × Ending) BadFile
 
-abbrev pub of_records : Result (List (Option ℕ) × Ending) RecordFault → ImageOrBadFile
-of_records (Ok good) = Ok good
-of_records (Err fault) = Err (Record fault)
-
--- Raw bytes have no end record and need none.
-abbrev pub of_raw : Result (List (Option ℕ)) ImageFault → ImageOrBadFile
-of_raw (Ok image) = Ok (image, Ended)
-of_raw (Err fault) = Err (Raw fault)
-
--- The image of a whole file of this kind, for a memory of `size` bytes.
+-- The image of a whole file of this kind, for a memory of `size` bytes. Raw bytes have no end record and need none.
 abbrev pub image_of_file : Found → Bytes → ℕ → ImageOrBadFile
-image_of_file file.Ihex bytes size = of_records (image_in_text records.Ihex bytes size)
-image_of_file file.Srec bytes size = of_records (image_in_text records.Srec bytes size)
+image_of_file file.Ihex bytes size = result_map_both (λ good. good) Record (image_in_text records.Ihex bytes size)
+image_of_file file.Srec bytes size = result_map_both (λ good. good) Record (image_in_text records.Srec bytes size)
 image_of_file file.Elf bytes size = Err Elf
-image_of_file file.Raw bytes size = of_raw (raw_file.raw bytes size)
+image_of_file file.Raw bytes size = result_map_both (λ image. (image, Ended)) Raw (raw_file.raw bytes size)
 
 abbrev pub or_too_long : Option RecordFault → BadFile
-or_too_long (Some fault) = Record fault
-or_too_long None = TooLong
+or_too_long fault = unwrap_or (option_map Record fault) TooLong
 
 -- The fault of a longer file that begins with `prefix`: the first fault of a line that ends in it, or `TooLong`.
 abbrev pub fault_of_long_file : Found → Bytes → ℕ → BadFile
@@ -48,8 +38,7 @@ fault_of_long_file file.Srec prefix size = or_too_long (ended_lines_fault record
 fault_of_long_file found prefix size = TooLong
 
 abbrev pub image_of_file_within : ℕ → Found → Bytes → ℕ → ImageOrBadFile
-image_of_file_within limit found bytes size =
-    if nat_le (length bytes) limit then image_of_file found bytes size
+image_of_file_within limit found bytes size = if nat_le (length bytes) limit then image_of_file found bytes size
     else Err (fault_of_long_file found (take limit bytes) size)
 
 abbrev pub kind_of : Format → Bytes → Found

@@ -1,5 +1,5 @@
 -- What a desk records while an image file is read.
-use Rattle.std.specs.Prelude.{◌≡◌, ◌≤◌, ◌+◌, ℕ, List, ◌++◌, length, Option, Bool, false, Result, Ok, Err, MatchBool}
+use Rattle.std.specs.Prelude.{◌≡◌, ◌≤◌, ℕ, List, ◌++◌, length, Option, Bool, false, Result, Ok, Err, MatchBool}
 use Rattle.avr_cli.specs.declared.update.Format.{Format}
 use Rattle.avr_desk.specs.Fault.{HasSameCounts}
 use Rattle.avr_desk.specs.Files.{after_reading, with_read, FileBreaks, CountsFileFault, EndsOrExceedsLimit}
@@ -9,8 +9,6 @@ use Rattle.avr_desk.specs.declared.files.FileFault.TheVariants.{NotRead}
 use Rattle.avr_records.specs.declared.kind.Ending.{Ending}
 use Rattle.avr_records.specs.declared.kind.Found.{Found}
 use Rattle.avr_plan.specs.ImageFile.{ImageOrBadFile, image_of_file_within, image_within}
-use Rattle.avr_plan.specs.Intake.{WasFed}
-use Rattle.avr_plan.specs.declared.intake.Intake.{Intake}
 use Rattle.avr_plan.specs.declared.image_file.FirstBytes.{FirstBytes}
 use Rattle.avr_plan.specs.declared.image_file.ReadFault.{ReadFault}
 use Rattle.avr_plan.specs.declared.image_file.ReadFault.TheVariants.{File, Image}
@@ -66,11 +64,3 @@ abbrev pub ImageIsRead : ℕ → Format → ℕ → Bytes → DeskState → Desk
 ImageIsRead limit format size name old new (Ok good) = ReadsImage limit format size name old new (Ok good)
 ImageIsRead limit format size name old new (Err (Image bad)) = ReadsImage limit format size name old new (Err bad)
 ImageIsRead limit format size name old new (Err (File fault)) = FileBreaks name old new fault
-
--- The open file gave some bytes, and all were fed. Their count and `left` add up to `room`.
-pub record FedSoFar (old now : DeskState) (first last : Intake) (room left : ℕ) : Type 0 where
-  pub bytes : Bytes
-  pub kept : ChangesRecord (after_reading bytes false) old now
-  pub feeds : (found : Found) (size : ℕ) (text : Bytes) → WasFed found size first text
-      → WasFed found size last (text ++ bytes)
-  pub count : length bytes + left ≡ room

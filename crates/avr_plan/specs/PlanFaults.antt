@@ -23,14 +23,11 @@ with_status result = result_map_both (λ a. a) (λ fault. 1) result
 abbrev pub ReportsLast : Bytes → DeskState → DeskState → Type 0
 ReportsLast line old new = (between : DeskState) × (CountsNeverFall old between × ReportsLine between new line)
 
-abbrev pub part_file_fault_line : Bytes → PartsFault → Bytes
-part_file_fault_line file (of_parts.File fault) = file_fault_line file fault
-part_file_fault_line file of_parts.TooLong = too_long_line file LARGEST_PART_FILE
-part_file_fault_line file (of_parts.Parts fault) = part_file_line file fault
-
 -- Without a part file there is no such fault.
 abbrev pub ReportsPartsFault : Option Bytes → DeskState → DeskState → PartsFault → Type 0
-ReportsPartsFault (Some file) old new fault = ReportsLast (part_file_fault_line file fault) old new
+ReportsPartsFault (Some file) old new (of_parts.File fault) = ReportsLast (file_fault_line file fault) old new
+ReportsPartsFault (Some file) old new of_parts.TooLong = ReportsLast (too_long_line file LARGEST_PART_FILE) old new
+ReportsPartsFault (Some file) old new (of_parts.Parts fault) = ReportsLast (part_file_line file fault) old new
 ReportsPartsFault None old new fault = ⊥
 
 -- For `Unwarned` no line follows: the warning could not be printed.

@@ -1,5 +1,6 @@
 -- The stages of a plan in order: the part file, the part, and each update with its file.
 use Rattle.std.specs.Prelude.{ℕ, Bool, false, nat_le, nat_lt, List, [], ◌∷◌, ◌++◌, length, Option, Some, None, Result, Ok, Err, IsErr, if◌then◌else◌}
+use Rattle.std.specs.Result.{result_map_both}
 use Rattle.avr_desk.specs.Record.{DeskState, Bytes}
 use Rattle.avr_cli.specs.declared.settings.Settings.{Settings}
 use Rattle.avr_cli.specs.declared.settings.Switches.{Switches}
@@ -9,20 +10,18 @@ use Rattle.avr_cli.specs.declared.update.Op.{Op}
 use Rattle.avr_cli.specs.declared.update.Op.TheVariants as op
 use Rattle.avr_cli.specs.declared.update.Update.{Update}
 use Rattle.avr_image.specs.Values.{image_of_values}
-use Rattle.avr_image.specs.declared.fault.ImageFault.{ImageFault}
 use Rattle.avr_desk.specs.Lines.{too_long_line}
 use Rattle.avr_desk.specs.OutputEvents.{OutputEvent, PrintsLine, ReportsLine}
 use Rattle.avr_part.specs.BuiltIn.{part_of_id}
 use Rattle.avr_part.specs.Mem.{is_writable}
 use Rattle.avr_part.specs.Part.{Part, size_of}
-use Rattle.avr_part.specs.PartFile.{NamedFault, parts_of}
-use Rattle.avr_part.specs.declared.fault.PartFault.{PartFault}
+use Rattle.avr_part.specs.PartFile.{parts_of}
 use Rattle.avr_part.specs.declared.part.Mem.{Mem}
 use Rattle.avr_records.specs.declared.kind.Ending.{Ending}
 use Rattle.avr_records.specs.declared.kind.Ending.TheVariants.{Ended, NoEnd}
 use Rattle.avr_plan.specs.declared.image_file.TheConstants.{LARGEST_IMAGE_FILE}
 use Rattle.avr_plan.specs.declared.part_choice.TheConstants.{LARGEST_PART_FILE}
-use Rattle.avr_plan.specs.ImageFile.{ImageOrBadFile, image_within}
+use Rattle.avr_plan.specs.ImageFile.{image_within}
 use Rattle.avr_plan.specs.Lines.{bad_file_line, no_end_line, no_part_line, part_file_line, read_only_line, values_line}
 use Rattle.avr_plan.specs.Plan.{Plan}
 use Rattle.avr_desk.specs.Stage.{Stage, ◌>>=◌, result_stage, output_stage, file_stage}
@@ -31,26 +30,22 @@ use Rattle.avr_plan.specs.declared.planned.Task.TheVariants.{Write, Verify, Read
 
 -- ---- the part
 
-abbrev pub parts_or_line : Bytes → Result (List Part) NamedFault → Result (List Part) Bytes
-parts_or_line file (Ok parts) = Ok parts
-parts_or_line file (Err refused) = Err (part_file_line file refused.fault)
+-- The result, with a fault's line in place of the fault.
+abbrev pub or_line : {A E : Type 0} → (E → Bytes) → Result A E → Result A Bytes
+or_line line result = result_map_both (λ good. good) line result
 
 abbrev pub checked_parts : Bytes → Bytes → Result (List Part) Bytes
 checked_parts file bytes =
-    if nat_le (length bytes) LARGEST_PART_FILE then parts_or_line file (parts_of bytes)
+    if nat_le (length bytes) LARGEST_PART_FILE then or_line (λ bad. part_file_line file bad.fault) (parts_of bytes)
     else Err (too_long_line file LARGEST_PART_FILE)
 
 abbrev pub parts_stage : Option Bytes → Stage (List Part)
 parts_stage None = result_stage (Ok [])
 parts_stage (Some file) = file_stage file LARGEST_PART_FILE (checked_parts file)
 
-abbrev pub part_or_line : Bytes → Result Part PartFault → Result Part Bytes
-part_or_line id (Ok part) = Ok part
-part_or_line id (Err fault) = Err (no_part_line id)
-
 -- The part with this id. Parts of the file come before the built-in ones.
 abbrev pub part_stage : Bytes → List Part → Stage Part
-part_stage id parts = result_stage (part_or_line id (part_of_id id parts))
+part_stage id parts = result_stage (or_line (λ fault. no_part_line id) (part_of_id id parts))
 
 abbrev pub LacksPart : Bytes → List Part → DeskState → DeskState → Type 0
 LacksPart id parts old new = IsErr (part_of_id id parts) × ReportsLine old new (no_part_line id)
@@ -65,12 +60,8 @@ is_warned switches NoEnd = nat_lt switches.quiet 2
 abbrev pub warning_events : Switches → Bytes → Ending → List OutputEvent
 warning_events switches file ending = if is_warned switches ending then PrintsLine (no_end_line file) ∷ [] else []
 
-abbrev pub image_or_line : Bytes → ImageOrBadFile → Result (List (Option ℕ) × Ending) Bytes
-image_or_line file (Ok good) = Ok good
-image_or_line file (Err bad) = Err (bad_file_line file bad)
-
 abbrev pub checked_image : Bytes → Format → ℕ → Bytes → Result (List (Option ℕ) × Ending) Bytes
-checked_image file format size bytes = image_or_line file (image_within LARGEST_IMAGE_FILE format bytes size)
+checked_image file format size bytes = or_line (bad_file_line file) (image_within LARGEST_IMAGE_FILE format bytes size)
 
 abbrev pub file_image_stage : Switches → Bytes → Format → ℕ → Stage (List (Option ℕ))
 file_image_stage switches file format size = do
@@ -78,13 +69,10 @@ file_image_stage switches file format size = do
   ok ← output_stage (warning_events switches file given.1)
   result_stage (Ok given.0)
 
-abbrev pub values_or_line : Mem → Result (List (Option ℕ)) ImageFault → Result (List (Option ℕ)) Bytes
-values_or_line memory (Ok image) = Ok image
-values_or_line memory (Err fault) = Err (values_line memory fault)
-
 -- Immediate values are on the command line. Any other image is in a file.
 abbrev pub image_stage : Switches → Mem → ℕ → Bytes → Format → Stage (List (Option ℕ))
-image_stage switches memory size file Immediate = result_stage (values_or_line memory (image_of_values file size))
+image_stage switches memory size file Immediate =
+    result_stage (or_line (values_line memory) (image_of_values file size))
 image_stage switches memory size file format = file_image_stage switches file format size
 
 -- ---- the tasks
@@ -99,8 +87,7 @@ write_stage switches part u =
 
 abbrev pub op_stage : Switches → Part → Update → Op → Stage Task
 op_stage switches part u op.Write = write_stage switches part u
-op_stage switches part u op.Verify = update_image switches part u
-    >>= λ image. result_stage (Ok (Verify u.memory image))
+op_stage switches part u op.Verify = update_image switches part u >>= λ image. result_stage (Ok (Verify u.memory image))
 op_stage switches part u op.Read = result_stage (Ok (Read u.memory u.format u.file))
 
 abbrev pub task_stage : Switches → Part → Update → Stage Task

@@ -1,5 +1,5 @@
 -- The actions of a plan, in order: the only place that decides what switches and tasks lead to.
-use Rattle.std.specs.Prelude.{ℕ, Bool, true, false, ◌&&◌, ◌||◌, not, List, [], ◌∷◌, ◌++◌, Option, if◌then◌else◌}
+use Rattle.std.specs.Prelude.{ℕ, Bool, true, false, ◌&&◌, ◌||◌, not, List, [], ◌∷◌, ◌++◌, Option, flat_map, if◌then◌else◌}
 use Rattle.std.specs.List.{list_any}
 use Rattle.avr_cli.specs.declared.settings.Switches.{Switches}
 use Rattle.avr_cli.specs.declared.update.Format.{Format}
@@ -32,10 +32,8 @@ is_erase_due s tasks = s.erase || (list_any writes_flash tasks && not s.keep_fla
 
 -- A dry run erases and writes nothing.
 abbrev pub erase_actions : Switches → List Task → List Action
-erase_actions s tasks =
-    if s.dry then (if s.erase then SkipAction SkippedErase ∷ [] else [])
-    else if is_erase_due s tasks then EraseChip ∷ []
-    else []
+erase_actions s tasks = if s.dry then (if s.erase then SkipAction SkippedErase ∷ [] else [])
+    else if is_erase_due s tasks then EraseChip ∷ [] else []
 
 -- What was written is read back, unless verifying is off.
 abbrev pub read_back_actions : Switches → Mem → List (Option ℕ) → List Action
@@ -51,8 +49,7 @@ task_actions s (Verify mem image) = CompareImage mem image ∷ []
 task_actions s (Read mem format file) = SaveMemory mem format file ∷ []
 
 abbrev pub tasks_actions : Switches → List Task → List Action
-tasks_actions s [] = []
-tasks_actions s (task ∷ tasks) = task_actions s task ++ tasks_actions s tasks
+tasks_actions s tasks = flat_map (task_actions s) tasks
 
 -- What a plan does, in order. Its dialog, its commands and its items follow from this list.
 abbrev pub actions : Plan → List Action

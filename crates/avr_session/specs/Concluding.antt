@@ -8,16 +8,13 @@ use Rattle.avr_session.specs.declared.ending.End.TheVariants as ends
 use Rattle.avr_session.specs.Standing.{Standing, NoFault, Faulty, Over}
 
 -- A failed link and a failed allocation stop the run; no other fault does.
-abbrev pub end_for_fault : HostFault → End
-end_for_fault LinkEnded = ends.Over LinkEnded
-end_for_fault SendFailed = ends.Stopped
-end_for_fault RecvFailed = ends.Stopped
-end_for_fault Memory = ends.Stopped
-end_for_fault fault = ends.Faulty fault
-
 abbrev pub after_outcome : {A : Type 0} → Result A HostFault → Result ⊤ End
 after_outcome (Ok a) = Ok tt
-after_outcome (Err fault) = Err (end_for_fault fault)
+after_outcome (Err LinkEnded) = Err (ends.Over LinkEnded)
+after_outcome (Err SendFailed) = Err ends.Stopped
+after_outcome (Err RecvFailed) = Err ends.Stopped
+after_outcome (Err Memory) = Err ends.Stopped
+after_outcome (Err fault) = Err (ends.Faulty fault)
 
 -- A desk that fails while it reports the outcome stops the run too.
 abbrev pub conclusion : {A : Type 0} → Result A HostFault → Result ⊤ DeskFault → Result ⊤ End

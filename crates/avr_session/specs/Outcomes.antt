@@ -1,6 +1,6 @@
 -- The outcome of a session, and the fault whose line was reported.
-use Rattle.std.specs.Prelude.{ℕ, ◌≡◌, ◌++◌, Result, Ok, Err, ⊤}
-use Rattle.avr_desk.specs.Record.{Bytes, DeskState}
+use Rattle.std.specs.Prelude.{ℕ, Result, Ok, Err, ⊤}
+use Rattle.avr_desk.specs.Record.{DeskState}
 use Rattle.avr_part.specs.Part.{Part}
 use Rattle.avr_plan.specs.Plan.{Plan}
 use Rattle.avr_session.specs.declared.ending.End.{End}
@@ -11,14 +11,11 @@ use Rattle.avr_session.specs.Lines.{fault_line}
 use Rattle.avr_session.specs.Run.{StopsSession}
 use Rattle.avr_session.specs.Runs.{Devices}
 use Rattle.avr_session.specs.Session.{session}
-use Rattle.avr_session.specs.Stopping.{RanToStatus}
+use Rattle.avr_session.specs.Stopping.{EndWithLine, RanToStatus}
 
 abbrev pub outcome_status : Outcome → ℕ
 outcome_status outcome.Done = 0
 outcome_status _ = 1
-
-abbrev pub EndWithLine : Bytes → Bytes → Type 0
-EndWithLine line messages = (before : Bytes) × (messages ≡ before ++ line)
 
 -- The contract of `drive_outcome`. Done: the session ran whole, without a fault. Faulty: it ran whole, and this fault's
 -- line is the last one. Stopped: it stopped at once.

@@ -37,10 +37,6 @@ pub record PerformsOnTerms (terms : Terms) (points : RunAllocationPoints) (dialo
 abbrev pub Performing : Type 1
 Performing = HostState → HostState → Devices → Devices → Result Standing ⊤ → Type 0
 
--- An action before which no fault was reported, and which allocates at its start or never.
-abbrev pub Performs : Bool → Dialog OutputEvent Standing → Performing
-Performs allocates dialog = PerformsOnTerms (before_fault allocates) (AtStartOnly allocates) dialog
-
 -- These actions of a plan, in order, up to the first fault. Allocation can fail only at an action that allocates.
 abbrev pub DoesPlanActions : Plan → List Action → Performing
 DoesPlanActions plan actions =

@@ -8,24 +8,23 @@ use Rattle.avr_plan.specs.AllocationPoints.{AtAllocatingUpdate}
 use Rattle.avr_desk.specs.StageRuns.{RunsStage, StageCompleted}
 use Rattle.avr_desk.specs.Stage.{Produced}
 use Rattle.avr_session.specs.Actions.{actions, plan_allocates}
-use Rattle.avr_session.specs.Runs.{Devices, devices, start, before_fault, BrokeOff, RunsWholeOrStops}
+use Rattle.avr_session.specs.Runs.{Devices, devices, start, before_fault, BrokeOff}
 use Rattle.avr_session.specs.Session.{session}
 use Rattle.avr_session.specs.AllocationPoints.{AtAllocation}
+use Rattle.avr_session.specs.Stopping.{RanToStatus}
 use Rattle.ghosts.specs.Preserves.{Preserves}
 use Rattle.stk_host.specs.Transcript.{LinkState}
 
--- The contract of `drive`: the session of a plan ran whole to its status, or it broke off. Allocation can fail only at
--- an action that allocates.
-abbrev pub RunsSession : Plan → Devices → Devices → ℕ → Type 0
-RunsSession plan old new status =
-    RunsWholeOrStops (session plan) old new (plan_allocates plan)
-    (AtAllocation plan.part plan.switches (actions plan)) status
-
--- The session of a plan broke off.
+-- The session of a plan broke off. Allocation can fail only at an action that allocates.
 abbrev pub StopsSession : Plan → Devices → Devices → Type 0
 StopsSession plan old new =
     BrokeOff (session plan) start old new (before_fault (plan_allocates plan)) (AtAllocation plan.part plan.switches
     (actions plan))
+
+-- The contract of `drive`: the session of a plan ran whole to its status, or it broke off with status 1.
+abbrev pub RunsSession : Plan → Devices → Devices → ℕ → Type 0
+RunsSession plan old new status =
+    RanToStatus (session plan) old new status ⊎ (StopsSession plan old new × (status ≡ 1))
 
 -- A plan was made from what the files gave, up to `between`, and then this holds.
 pub record WithPlan (settings : Settings) (old : DeskState) (Then : Plan → DeskState → Type 0) : Type 0 where
@@ -50,8 +49,7 @@ pub record RunsPlan (settings : Settings) (old : Devices) (between : DeskState) 
 
 -- A plan was made and its session run; or there is no plan, and nothing was sent or received.
 abbrev pub RunsSettings : Settings → Devices → DeskState → Devices → ℕ → Type 0
-RunsSettings settings old between new status =
-    RunsPlan settings old between new status
+RunsSettings settings old between new status = RunsPlan settings old between new status
     ⊎ (LacksPlan settings old.desk new.desk status × (new.link ≡ old.link))
 
 -- The same for a desk of any type. `between` is the desk when the plan was made.

@@ -1,5 +1,5 @@
 -- The result of a call over a link and a desk: its dialog ran whole, or it broke off.
-use Rattle.std.specs.Prelude.{ℕ, Bool, true, false, ◌||◌, List, [], ◌∷◌, ◌++◌, ◌≡◌, ◌<◌, ◌≤◌, ◌⊎◌, length, nat_eq, Option, None, codes}
+use Rattle.std.specs.Prelude.{Bool, true, false, ◌||◌, List, [], ◌∷◌, ◌++◌, ◌≡◌, ◌<◌, ◌≤◌, ◌⊎◌, length, nat_eq, Option, None, codes}
 use Rattle.std.specs.List.{list_any, starts_with}
 use Rattle.avr_desk.specs.Record.{DeskState, ChangesRecord, after_err, Bytes}
 use Rattle.avr_desk.specs.Fault as desk
@@ -77,22 +77,17 @@ pub record StopsInOutput (event : Bytes → OutputEvent) (begun later : List (Ev
   pub part : begun ≡ Emitted (event done) ∷ []
   pub prefix : IsPrefixOfBytes done bytes
 
--- Nothing was done of the next event, the creation of this file.
-pub record StopsAtCreation (file : Bytes) (begun later : List (Event OutputEvent)) : Type 0 where
-  pub more : List (Event OutputEvent)
-  pub due : later ≡ Emitted (CreatesFile file) ∷ more
-  pub none : begun ≡ []
-
 abbrev pub EndsWithCreation : Bytes → List (Event OutputEvent) → Type 0
 EndsWithCreation file whole = (before : List (Event OutputEvent)) × (whole ≡ before ++ Emitted (CreatesFile file) ∷ [])
 
--- A cause stops a run after the whole events, within the next one. Bytes are written to a file that was created just
--- before, or to standard output, whose name is `-`.
+-- A cause stops a run after the whole events, within the next one. Nothing was done of a creation that failed. Bytes
+-- are written to a file that was created just before, or to standard output, whose name is `-`.
 abbrev pub StopsAt : Cause → Transcript → List (Event OutputEvent) → List (Event OutputEvent)
     → List (Event OutputEvent) → Type 0
 StopsAt SendingFailed during whole begun later = StopsInFrame during begun later
 StopsAt ReceivingFailed during whole begun later = NoneTaken during × (begun ≡ []) × (later ≡ [])
-StopsAt (FileFailed file NotCreated) during whole begun later = StopsAtCreation file begun later
+StopsAt (FileFailed file NotCreated) during whole begun later =
+    (begun ≡ []) × ((more : List (Event OutputEvent)) × (later ≡ Emitted (CreatesFile file) ∷ more))
 StopsAt (FileFailed file NotWritten) during whole begun later =
     (EndsWithCreation file whole × StopsInOutput WritesFile begun later)
     ⊎ ((file ≡ codes "-") × StopsInOutput WritesOutput begun later)
@@ -173,9 +168,3 @@ pub record BrokeOff {R : Type 0} (dialog : Dialog OutputEvent R) (before : Progr
   pub stops : StopsAfterOutput terms old new (outputs shown) cause notice
   pub at_point : cause ≡ AllocationFailed → points before during shown
   pub kept : ChangesRecord (λ r. after_err notice (after_events (outputs shown) r)) old.desk new.desk
-
--- The dialog ran whole to its status, or it broke off with status 1.
-abbrev pub RunsWholeOrStops : Dialog OutputEvent ℕ → Devices → Devices → Bool → RunAllocationPoints → ℕ → Type 0
-RunsWholeOrStops dialog old new allocates points status =
-    ((after : Progress) × RanWhole dialog start old new status after)
-    ⊎ (BrokeOff dialog start old new (before_fault allocates) points × (status ≡ 1))

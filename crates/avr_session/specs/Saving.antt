@@ -4,7 +4,7 @@ use Rattle.avr_desk.specs.Fault.{CountsFailure, HasSameCounts}
 use Rattle.avr_desk.specs.Record.{DeskState, ChangesRecord, after_err, Bytes}
 use Rattle.avr_desk.specs.Stream.{SendsPart, after_sent}
 use Rattle.avr_desk.specs.declared.stream.Stream.{Stream}
-use Rattle.avr_session.specs.Runs.{Cause, FileFailed, NotCreated, NotWritten}
+use Rattle.avr_session.specs.Runs.{Cause, FileFailed, NotWritten}
 use Rattle.avr_session.specs.Reporting.{FileStops}
 use Rattle.avr_desk.specs.declared.desk.Desk.{Ghosts}
 use Rattle.avr_desk.specs.declared.desk.DeskFault.{DeskFault}
@@ -22,8 +22,7 @@ pub record SendsText {D : Type 0} (desk : Ghosts D) (stream : Stream) (text : By
 
 -- The desk failed at creating or writing this file, and this was reported.
 abbrev pub SaveStops : Bytes → DeskState → DeskState → Cause → Bytes → Type 0
-SaveStops file old new (FileFailed named NotCreated) notice = (named ≡ file) × FileStops old new named NotCreated notice
-SaveStops file old new (FileFailed named NotWritten) notice = (named ≡ file) × FileStops old new named NotWritten notice
+SaveStops file old new (FileFailed named trouble) notice = (named ≡ file) × FileStops old new named trouble notice
 SaveStops file old new cause notice = ⊥
 
 -- A prefix of the bytes was written. Then the desk failed, and this was reported for this file.

@@ -101,8 +101,7 @@ abbrev pub closing_output : ℕ → Part → Result ⊤ HostFault → List Outpu
 closing_output quiet part = fault_line_or part (λ _. informs quiet (codes "done" ∷ []))
 
 abbrev pub read_output : Switches → Mem → Format → Bytes → Bytes → List OutputEvent
-read_output s mem format file bytes =
-    let kept = bytes_to_save mem s.all bytes in
+read_output s mem format file bytes = let kept = bytes_to_save mem s.all bytes in
     saving_output file (file_text format kept) ++ bytes_output s.quiet mem (length kept) (done_text Read)
 
 -- The output in place of an erase, and of a write.

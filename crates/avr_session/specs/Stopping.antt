@@ -6,7 +6,7 @@ use Rattle.stk_host.specs.Transcript.{Transcript, LinkState}
 use Rattle.stk_host.specs.Dialog.{Dialog}
 use Rattle.stk_host.specs.Play.{Progress}
 use Rattle.avr_desk.specs.OutputEvents.{OutputEvent}
-use Rattle.avr_session.specs.Runs.{Devices, AllocationFailed, cause_line, start, RanWhole}
+use Rattle.avr_session.specs.Runs.{Devices, start, RanWhole}
 
 abbrev pub keeping : Record → ℕ × ℕ → DeskState
 keeping kept counts = showing kept counts.0 counts.1
@@ -19,9 +19,9 @@ pub record IsSound (old new : Devices) : Type 0 where
   pub link : NoFailureCounted old.link.failures new.link.failures
   pub desk : NoFailureCounted old.desk.failures new.desk.failures
 
--- The messages end with the out-of-memory line.
-abbrev pub EndsOutOfMemory : Bytes → Type 0
-EndsOutOfMemory messages = (before : Bytes) × (messages ≡ before ++ cause_line AllocationFailed)
+-- The messages end with this line.
+abbrev pub EndWithLine : Bytes → Bytes → Type 0
+EndWithLine line messages = (before : Bytes) × (messages ≡ before ++ line)
 
 -- The dialog ran whole to this status.
 abbrev pub RanToStatus : Dialog OutputEvent ℕ → Devices → Devices → ℕ → Type 0

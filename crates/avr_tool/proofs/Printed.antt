@@ -1,6 +1,6 @@
 -- Texts that no clause knows, printed part by part.
 use Rattle.std.proofs.lemmas.Grind.{common_steps}
-use Rattle.std.proofs.Common.{◌≡◌, ◌∙◌, ◌<◌, ◌≤◌, ◌+◌, ap, arith, ℕ, List, [], ◌∷◌, ◌++◌, take, drop, length, length-append, Result, Ok, Err, OnOk, OnErr, IfErr, codes, rules}
+use Rattle.std.proofs.Common.{◌≡◌, ◌∙◌, ◌<◌, ◌≤◌, ◌+◌, ◌*◌, ap, arith, ℕ, List, [], ◌∷◌, ◌++◌, take, drop, length, length-append, Result, Ok, Err, OnOk, OnErr, IfErr, codes, rules}
 use Rattle.std.specs.List.{concat}
 use Rattle.std.proofs.lemmas.List.{append_assoc, append-nil, take-append-drop}
 use Rattle.std.proofs.lemmas.List.Folds.{concat-append}
@@ -12,7 +12,17 @@ use Rattle.avr_desk.specs.declared.desk.DeskFault.TheVariants.{Failed}
 use Rattle.avr_desk.specs.declared.stream.Stream.{Stream}
 use Rattle.avr_desk.specs.declared.stream.Stream.TheVariants.{Messages}
 use Rattle.avr_desk.proofs.Lines.SentBytes.{sent_next}
-use Rattle.avr_tool.specs.Texts.{HasParts, HasPrinted, Parts, PrintsText, ReportsText}
+use Rattle.avr_tool.specs.Texts.{HasParts, Parts, PrintsText, ReportsText}
+
+-- After some rounds of the loop `count` bytes of the text were printed
+pub record HasPrinted (has : Parts) (stream : Stream) (old new : DeskState) (count rounds : ℕ) : Type 0 where
+  pub parts : List Bytes
+  pub are : HasParts has 0 parts
+  pub counted : count ≡ length (concat parts)
+  pub least : rounds ≤ count
+  pub most : count ≤ 512 * rounds
+  pub kept : ChangesRecord (after_sent stream (concat parts)) old new
+  pub same : HasSameCounts old new
 
 pub printed_none : (has : Parts) (s : Stream) (v : DeskState) → HasPrinted has s v v 0 0
 printed_none has s v = search rules

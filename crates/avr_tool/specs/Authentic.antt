@@ -25,9 +25,7 @@ on_reading Claim (Some (reading, tape)) = Claim reading tape
 abbrev pub RepliesAreAuthentic : {E R P : Type 0} → Device P → Dialog E R → ℕ → Tape → P → List Execution → Type 0
 RepliesAreAuthentic m (Done r) n tape p executions = Unit {0}
 RepliesAreAuthentic m (Emit e dialog) n tape p executions = RepliesAreAuthentic m dialog n tape p executions
-RepliesAreAuthentic m (Ask bytes go_on) n tape p executions =
-    on_reading (λ reading left.
-    IsAuthentic m bytes p (first_execution executions) reading
-    × RepliesAreAuthentic m (go_on reading) (next n) left
+RepliesAreAuthentic m (Ask bytes go_on) n tape p executions = on_reading (λ reading left.
+    IsAuthentic m bytes p (first_execution executions) reading × RepliesAreAuthentic m (go_on reading) (next n) left
     (after_execution (first_execution executions) (m.after bytes p) p m.reset) (later_executions executions))
     (answer n tape)

@@ -1,5 +1,5 @@
 -- How many write operations of a plan were completed along a link, each by all of its commands.
-use Rattle.std.specs.Prelude.{ℕ, suc, List, [], ◌∷◌, Ok, Err}
+use Rattle.std.specs.Prelude.{ℕ, suc, List, [], ◌∷◌, Ok}
 use Rattle.avr_cli.specs.declared.settings.Switches.{Switches}
 use Rattle.avr_part.specs.Part.{Part}
 use Rattle.avr_plan.specs.Plan.{Plan}
@@ -10,7 +10,7 @@ use Rattle.stk_emu.specs.DialogOverExchanges.{state_after}
 use Rattle.stk_emu.specs.Device.{Device, device}
 use Rattle.stk_emu.specs.Exchange.{Exchange}
 use Rattle.stk_frame.specs.declared.command.Command.{Command}
-use Rattle.stk_host.specs.Dialog.{Dialog, Done, Emit, Ask}
+use Rattle.stk_host.specs.Dialog.{Dialog, Done}
 use Rattle.stk_host.specs.Steps.{StepOutcome, step}
 use Rattle.stk_emu.specs.Programmer.{Programmer}
 use Rattle.stk_emu.specs.WriteOperations.{steps_of_items}
@@ -20,16 +20,13 @@ use Rattle.avr_tool.specs.Items.{action_items}
 -- Counts a step if it was completed.
 abbrev pub step_count : Dialog ⊥ StepOutcome → ℕ → ℕ
 step_count (Done (Ok bytes)) more = suc more
-step_count (Done (Err fault)) more = 0
-step_count (Emit e dialog) more = 0
-step_count (Ask bytes go_on) more = 0
+step_count dialog more = 0
 
 -- The number of steps completed after `k` commands along the link, by what its exchanges bring, not by what was
 -- received.
 abbrev pub steps_completed : {P : Type 0} → Device P → List (List Command) → ℕ → P → List Exchange → ℕ
 steps_completed m [] k p exchanges = 0
-steps_completed m (commands ∷ steps) k p exchanges =
-    let s = state_after m k (step commands) p exchanges in
+steps_completed m (commands ∷ steps) k p exchanges = let s = state_after m k (step commands) p exchanges in
     step_count s.dialog (steps_completed m steps s.left s.programmer s.exchanges)
 
 abbrev pub none_made : Count Programmer
@@ -45,8 +42,7 @@ made_unless_fault next _ = none_made
 
 abbrev pub actions_made : Part → Switches → List Action → Count Programmer
 actions_made part s [] = none_made
-actions_made part s (action ∷ actions) =
-    then_count device (action_dialog part s action) (action_made part action)
+actions_made part s (action ∷ actions) = then_count device (action_dialog part s action) (action_made part action)
     (made_unless_fault (actions_made part s actions))
 
 -- The end of a session makes none.

@@ -60,7 +60,6 @@ pub record RunsOverEmulator (settings : Settings) (file : Bytes) (old now : Desk
 -- The contract of `run_emu`: that run; or there is a plan but no chip; or there is no plan. Without a chip nothing was
 -- sent.
 abbrev pub RunsEmulator : Settings → Bytes → DeskState → DeskState → ℕ → Type 0
-RunsEmulator settings file old now status =
-    RunsOverEmulator settings file old now status
+RunsEmulator settings file old now status = RunsOverEmulator settings file old now status
     ⊎ (WithPlan settings old (λ plan desk. LocksAndLoads plan.part file desk now (Err status))
     ⊎ LacksPlan settings old now status)

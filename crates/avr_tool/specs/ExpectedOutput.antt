@@ -32,8 +32,7 @@ pub record OutputToFault (part : Part) (s : Switches) (actions : List Action) (m
 
 -- The output at any moment of a session.
 abbrev pub IsExpectedOutput : Plan → Memories → List OutputEvent → Type 0
-IsExpectedOutput plan m output_events =
-    (output_events ≡ (expected_run plan m).output_events)
+IsExpectedOutput plan m output_events = (output_events ≡ (expected_run plan m).output_events)
     ⊎ (FirstActionsOutput plan.part plan.switches (actions plan) m output_events
     ⊎ OutputToFault plan.part plan.switches (actions plan) m output_events)
 

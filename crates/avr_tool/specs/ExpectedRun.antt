@@ -23,19 +23,13 @@ fine output_events m = record { output_events = output_events; standing = NoFaul
 -- An operation with this outcome, which leaves these memories.
 abbrev pub reported_expected : {A : Type 0} → (Result A HostFault → List OutputEvent) → Result A HostFault → Memories
     → Expected
-reported_expected outcome_output outcome m = record {
-  output_events = outcome_output outcome;
-  standing = standing outcome;
-  memories = m;
-}
+reported_expected outcome_output outcome m =
+    record { output_events = outcome_output outcome; standing = standing outcome; memories = m }
 
 -- The next action, which a fault skips.
 abbrev pub then_from : Expected → Standing → (Memories → Expected) → Expected
-then_from first NoFault next = record {
-  output_events = first.output_events ++ (next first.memories).output_events;
-  standing = (next first.memories).standing;
-  memories = (next first.memories).memories;
-}
+then_from first NoFault next =
+    record (next first.memories) { output_events = first.output_events ++ (next first.memories).output_events }
 then_from first _ next = first
 
 infixl 10 ◌then◌

@@ -8,7 +8,7 @@ use Rattle.avr_desk.specs.Record.{DeskState, ChangesRecord, Bytes, after_err}
 use Rattle.avr_desk.specs.declared.record.Opening.{Opening}
 use Rattle.avr_desk.specs.declared.record.Opening.TheVariants.{Found}
 use Rattle.avr_desk.specs.Lines.{memory_line, not_opened_line, not_read_line}
-use Rattle.avr_desk.specs.StageRuns.{BreakCause, LineNotPrinted, NotOpened, NotRead, NoMemory, NoMemoryForFile, opened_and_read_in_part}
+use Rattle.avr_desk.specs.StageRuns.{BreakCause, LineNotPrinted, NotOpened, NotRead, NoMemoryForFile, opened_and_read_in_part}
 use Rattle.avr_desk.specs.OutputEvents.{OutputEvent, Opens, PrintsLine, IsPartOfEvent, IsPrefixOfBytes, after_events}
 use Rattle.avr_plan.specs.Plan.{Plan}
 use Rattle.avr_plan.specs.Planning.{LacksPart, planned}
@@ -35,8 +35,7 @@ run_after_planning NotReadToEnd tape = record { events = []; outcome = None }
 
 -- THE RUN: all that is sent and output, and the status
 abbrev pub run : Settings → List Opening → Tape → Played OutputEvent ℕ
-run settings openings tape =
-    let p = planned settings openings in
+run settings openings tape = let p = planned settings openings in
     prepend_events (map Emitted p.output_events) (run_after_planning p.stage_outcome tape)
 
 -- ---- 2. What a call does is the run
@@ -97,17 +96,13 @@ stop_line (InSession cause) = cause_line cause
 stop_line (InPlanning (LineNotPrinted line)) = line
 stop_line (InPlanning (NotOpened name)) = not_opened_line name
 stop_line (InPlanning (NotRead name bytes)) = not_read_line name
-stop_line (InPlanning NoMemory) = memory_line
-stop_line (InPlanning (NoMemoryForFile reading)) = memory_line
+stop_line (InPlanning break) = memory_line
 
 -- The reading of a file that had begun when planning broke off.
 abbrev pub opened_at : Reason → List OutputEvent
-opened_at (InSession cause) = []
-opened_at (InPlanning (LineNotPrinted line)) = []
-opened_at (InPlanning (NotOpened name)) = []
 opened_at (InPlanning (NotRead name bytes)) = opened_and_read_in_part name bytes ∷ []
-opened_at (InPlanning NoMemory) = []
 opened_at (InPlanning (NoMemoryForFile reading)) = Opens (Found reading) ∷ []
+opened_at reason = []
 
 -- What a stopped run did is a prefix of the run over what was received; only the last event may be incomplete. At the
 -- desk this was done, then perhaps a part of the next file was read, then the line of the reason was reported, or a
@@ -133,8 +128,7 @@ pub record IsPrefixOfRun (settings : Settings) (before now : Devices) : Type 0 w
 -- `a_run_is_one_function`). If the chip is of the plan's part, `SessionOverWire` states what happened to it. Or there
 -- is no plan, and the wire is untouched.
 abbrev pub RunsWired : Settings → WiredState → WiredState → DeskState → DeskState → ℕ → Type 0
-RunsWired settings before after old now status =
-    WithPlan settings old (λ plan between.
+RunsWired settings before after old now status = WithPlan settings old (λ plan between.
     RunsSession plan (wire_and_desk before between) (wire_and_desk after now) status
     × (before.wire.programmer.chip.part ≡ plan.part → SessionOverWire plan before after between now status))
     ⊎ (LacksPlan settings old now status × (after ≡ before))

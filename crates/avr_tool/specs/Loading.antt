@@ -15,14 +15,12 @@ use Rattle.avr_tool.specs.Lines.{length_line}
 
 -- The chip with these bytes; any length but the part's is refused.
 abbrev pub chip_or_line : Part → Bytes → Bytes → Result ChipState Bytes
-chip_or_line part file bytes =
-    if length bytes == chip_file_size part then Ok (state_from_file part bytes)
+chip_or_line part file bytes = if length bytes == chip_file_size part then Ok (state_from_file part bytes)
     else Err (length_line file (length bytes) (chip_file_size part))
 
 -- A file past the limit is refused, whatever the part.
 abbrev pub checked_chip : Part → Bytes → Bytes → Result ChipState Bytes
-checked_chip part file bytes =
-    if nat_le (length bytes) LARGEST_CHIP_FILE then chip_or_line part file bytes
+checked_chip part file bytes = if nat_le (length bytes) LARGEST_CHIP_FILE then chip_or_line part file bytes
     else Err (too_long_line file LARGEST_CHIP_FILE)
 
 -- If the file doesn't exist, the chip is fresh.

@@ -1,6 +1,6 @@
 -- What the session of a plan did over a link, whatever the link loses, delays and corrupts: first by the exchanges of
 -- its frames, then over a wire to the emulated programmer, by their fates.
-use Rattle.std.specs.Prelude.{ℕ, ◌+◌, ◌*◌, ◌≡◌, ◌≤◌, ◌⊎◌, false, List, [], ◌∷◌, ◌++◌, map, length}
+use Rattle.std.specs.Prelude.{ℕ, ◌+◌, ◌*◌, ◌≡◌, ◌≤◌, ◌⊎◌, false, List, [], ◌∷◌, flat_map, map, length}
 use Rattle.avr_cli.specs.declared.settings.Switches.{Switches}
 use Rattle.avr_desk.specs.Record.{DeskState, ChangesRecord}
 use Rattle.avr_desk.specs.OutputEvents.{OutputEvent, after_events}
@@ -34,8 +34,7 @@ total_weight weight [] = 0
 total_weight weight (first ∷ bodies) = weight first + total_weight weight bodies
 
 abbrev pub bodies_in : List (List Command) → List (List ℕ)
-bodies_in [] = []
-bodies_in (commands ∷ steps) = map body commands ++ bodies_in steps
+bodies_in steps = flat_map (map body) steps
 
 -- No frame goes wrong.
 abbrev pub AllArriveRight : List Exchange → Type 0
@@ -61,8 +60,7 @@ pub record EndsOverExchanges (plan : Plan) (before after : Memories) (exchanges 
   -- all that the plan writes was written, and all that it compares agreed
   pub done : status ≡ 0 → IsDone plan before after
   -- each memory holds its images, later over earlier; the rest is as it was, or as an erase leaves it
-  pub images : status ≡ 0 → plan.switches.no_verify ≡ false
-      → IsWritten plan.part (asked_items plan) before after
+  pub images : status ≡ 0 → plan.switches.no_verify ≡ false → IsWritten plan.part (asked_items plan) before after
   -- so a further run that compares memories with their images has status 0, if none of its frames goes wrong
   pub further : status ≡ 0 → plan.switches.no_verify ≡ false → (s : Switches) (mems : List Mem) → s.erase ≡ false
       → (expected_run (comparing plan s mems) after).status ≡ 0

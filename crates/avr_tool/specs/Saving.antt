@@ -35,6 +35,5 @@ SavesChip old new file bytes (Err status) = (status ≡ 1) × SavingFailed old n
 
 -- The chip was saved, and the status is `ran`; or it could not be saved, and the status is 1.
 abbrev pub SavesAfterRun : ℕ → DeskState → DeskState → Bytes → Bytes → ℕ → Type 0
-SavesAfterRun ran old new file bytes status =
-    (SavesChip old new file bytes (Ok tt) × (status ≡ ran))
+SavesAfterRun ran old new file bytes status = (SavesChip old new file bytes (Ok tt) × (status ≡ ran))
     ⊎ ((fault : ℕ) × SavesChip old new file bytes (Err fault) × (status ≡ 1))

@@ -14,8 +14,7 @@ use Rattle.stk_host.specs.Transcript.{LinkState}
 -- refused. Or no connection could be accepted: this was reported, nothing else was done at the desk, and the status is
 -- 1. `over` states what happened to the socket, as `IsOverClient` and `IsOverPort` do.
 abbrev pub ServesOn : (Option LinkState → Type 0) → Part → Bytes → Bytes → DeskState → DeskState → ℕ → Type 0
-ServesOn over part port file old new status =
-    ((link : LinkState) × over (Some link)
+ServesOn over part port file old new status = ((link : LinkState) × over (Some link)
     × ServesPart part file 16777216 (devices new_link old) (devices link new) status)
     ⊎ (over None × ReportsLine old new (unopened_line [] port) × (status ≡ 1))
 
@@ -25,5 +24,4 @@ abbrev pub ServesNet : Type 0 → (Option LinkState → Type 0) → Settings →
     → ℕ → Type 0
 ServesNet unused over settings port file old new status =
     ((part : Part) × (checked_desk : DeskState) × ChecksPart settings file old checked_desk (Ok part)
-    × ServesOn over part port file checked_desk new status)
-    ⊎ (ChecksPart settings file old new (Err status) × unused)
+    × ServesOn over part port file checked_desk new status) ⊎ (ChecksPart settings file old new (Err status) × unused)

@@ -32,10 +32,6 @@ pub record CheckedChip (part : Part) (file : Bytes) (old new : DeskState) : Type
   pub loaded : LockedAndLoaded part file old loaded_desk chip
   pub released_is : new ≡ released loaded_desk
 
-abbrev pub ChecksChip : Part → Bytes → DeskState → DeskState → Result Part ℕ → Type 0
-ChecksChip part file old new (Ok checked_part) = (checked_part ≡ part) × CheckedChip part file old new
-ChecksChip part file old new (Err status) = LocksAndLoads part file old new (Err status)
-
 -- The part of the settings was found, and then this holds.
 pub record WithPart (settings : Settings) (old : DeskState) (Then : Part → DeskState → Type 0) : Type 0 where
   pub part : Part
@@ -52,10 +48,9 @@ pub record FindsNoPart (settings : Settings) (old new : DeskState) (status : ℕ
 -- these is refused.
 abbrev pub ChecksPart : Settings → Bytes → DeskState → DeskState → Result Part ℕ → Type 0
 ChecksPart settings file old new (Ok checked_part) =
-    WithPart settings old (λ part desk. ChecksChip part file desk new (Ok checked_part))
-ChecksPart settings file old new (Err status) =
-    FindsNoPart settings old new status
-    ⊎ WithPart settings old (λ part desk. ChecksChip part file desk new (Err status))
+    WithPart settings old (λ part desk. (checked_part ≡ part) × CheckedChip part file desk new)
+ChecksPart settings file old new (Err status) = FindsNoPart settings old new status
+    ⊎ WithPart settings old (λ part desk. LocksAndLoads part file desk new (Err status))
 
 abbrev pub fresh_machine : chips.ChipState → EmulatorState
 fresh_machine chip = record { held = []; programmer = fresh_programmer chip }
@@ -72,14 +67,9 @@ abbrev pub ReportsIfAny : Option (List Bytes) → DeskState → DeskState → Ty
 ReportsIfAny None old new = new ≡ old
 ReportsIfAny (Some pieces) old new = ReportsLine old new (error pieces)
 
-abbrev pub ReportsEnd : Served → DeskState → DeskState → Type 0
-ReportsEnd served = ReportsIfAny (end_pieces served)
-
 abbrev pub status_of_end : Served → ℕ
 status_of_end Ended = 0
-status_of_end RecvFailed = 1
-status_of_end SendFailed = 1
-status_of_end TooManyReads = 1
+status_of_end served = 1
 
 -- A fresh emulator with this chip served a link in at most `most_reads` reads. It sent its replies to what was
 -- received, all of them before the next read, unless a send failed. How serving ended was reported. In each case the
@@ -93,7 +83,7 @@ pub record ServesChip (chip : chips.ChipState) (file : Bytes) (most_reads : ℕ)
   pub in_turn : RepliesInTurn (fresh_programmer chip) [] [] serves.during
   pub leaves : ServingLeaves served (fresh_programmer chip) [] serves.during left
   pub fails : FailsBy served old.link new.link
-  pub notice : ReportsEnd served old.desk reported_desk
+  pub notice : ReportsIfAny (end_pieces served) old.desk reported_desk
   pub rises : CountsNeverFall old.desk reported_desk
   pub saved : SavesAfterRun (status_of_end served) reported_desk new.desk file (chip_file left.programmer.chip) status
   pub follows : CountsNeverFall reported_desk new.desk
@@ -108,8 +98,7 @@ pub record ServesLoaded (part : Part) (file : Bytes) (most_reads : ℕ) (old new
 -- The contract of `serve_part`: the chip was loaded and served. Or there is no chip: this was reported, and nothing was
 -- received or sent.
 abbrev pub ServesPart : Part → Bytes → ℕ → Devices → Devices → ℕ → Type 0
-ServesPart part file most_reads old new status =
-    ServesLoaded part file most_reads old new status
+ServesPart part file most_reads old new status = ServesLoaded part file most_reads old new status
     ⊎ (LocksAndLoads part file old.desk new.desk (Err status) × (new.link ≡ old.link))
 
 -- The part of the settings was served in at most `most_reads` reads. Or there is no part: this was reported, and

@@ -1,7 +1,7 @@
 -- An emulated programmer that replies to what it receives on a link.
 use Rattle.std.specs.Prelude.{ℕ, List, [], ◌∷◌, ◌++◌, ◌+◌, ◌≡◌, ◌<◌, ◌≤◌, length}
 use Rattle.stk_frame.specs.Cut.{frames}
-use Rattle.stk_host.specs.declared.link.Item.TheVariants.{Byte, Silence, End}
+use Rattle.stk_host.specs.declared.link.Item.TheVariants.{End}
 use Rattle.stk_host.specs.Tape.{Tape, bytes_on_tape}
 use Rattle.stk_host.specs.Transcript.{Transcript, LinkState, Sent, Taken, Got, NoneTaken, sent, heard, Grows, HasFailed}
 use Rattle.stk_host.specs.Play.{IsBytePrefixOf}
@@ -13,9 +13,8 @@ use Rattle.avr_tool.specs.declared.answering.Served.TheVariants.{Ended, RecvFail
 
 abbrev pub HasNoEnd : Tape → Type 0
 HasNoEnd [] = Unit {0}
-HasNoEnd (Byte byte ∷ tape) = HasNoEnd tape
-HasNoEnd (Silence ∷ tape) = HasNoEnd tape
 HasNoEnd (End ∷ tape) = ⊥
+HasNoEnd (item ∷ tape) = HasNoEnd tape
 
 abbrev pub reads : Transcript → ℕ
 reads [] = 0
@@ -88,6 +87,5 @@ pub record Serves (old : EmulatorState) (most_reads : ℕ) (served : Served) (be
 -- If the link failed, its count of failures rose or is at its end. Otherwise the count is what it was.
 abbrev pub FailsBy : Served → LinkState → LinkState → Type 0
 FailsBy Ended before after = after.failures ≡ before.failures
-FailsBy RecvFailed before after = HasFailed before after
-FailsBy SendFailed before after = HasFailed before after
 FailsBy TooManyReads before after = after.failures ≡ before.failures
+FailsBy served before after = HasFailed before after

@@ -66,9 +66,8 @@ pub record Peers : Type 1 where
   pub unused : Type 0
 
 abbrev pub peers_of : {N S L : Type 0} → Networks N S L → Called L S → Reads S → Writes S → (S → Type 0) → Peers
-peers_of network called reads writes closed =
-    record {
-      at_address = IsOverAddress network reads writes closed;
-      at_port = IsOverPort network called reads writes closed;
-      unused = network.unused;
-    }
+peers_of network called reads writes closed = record {
+  at_address = IsOverAddress network reads writes closed;
+  at_port = IsOverPort network called reads writes closed;
+  unused = network.unused;
+}

@@ -1,6 +1,6 @@
 -- The number of write operations made along a dialog of several calls.
 use Rattle.std.specs.Prelude.{ℕ, suc, ◌+◌, ◌-◌, ◌≤◌, ◌≡◌, List}
-use Rattle.stk_host.specs.Dialog.{Dialog, Done, Emit, Ask}
+use Rattle.stk_host.specs.Dialog.{Dialog, Done}
 use Rattle.stk_emu.specs.Exchange.{Exchange}
 use Rattle.stk_emu.specs.Device.{Device}
 use Rattle.stk_emu.specs.DialogOverExchanges.{state_after}
@@ -12,12 +12,10 @@ Count P = ℕ → P → List Exchange → ℕ
 -- The count of a dialog, and that of the next one if the first is done.
 abbrev pub with_next : {E A : Type 0} → Dialog E A → ℕ → (A → ℕ) → ℕ
 with_next (Done a) so_far more = so_far + more a
-with_next (Emit e dialog) so_far more = so_far
-with_next (Ask bytes go_on) so_far more = so_far
+with_next dialog so_far more = so_far
 
 abbrev pub then_count : {E A P : Type 0} → Device P → Dialog E A → Count P → (A → Count P) → Count P
-then_count m d first more k p exchanges =
-    let s = state_after m k d p exchanges in
+then_count m d first more k p exchanges = let s = state_after m k d p exchanges in
     with_next s.dialog (first k p exchanges) (λ a. more a s.left s.programmer s.exchanges)
 
 -- After `k` commands of a dialog `count k` write operations were made: at least those completed by then. At most one

@@ -1,5 +1,5 @@
 -- Texts of `clap` and of the system, printed at a desk part by part. No clause says which text a value has.
-use Rattle.std.specs.Prelude.{◌≡◌, ◌⊎◌, ◌<◌, ◌≤◌, ◌+◌, ◌*◌, ◌^◌, ℕ, ⊤, List, Result, Ok, Err, [], ◌∷◌, ◌++◌, codes, length}
+use Rattle.std.specs.Prelude.{◌≡◌, ◌⊎◌, ◌<◌, ◌+◌, ◌^◌, ℕ, ⊤, List, Result, Ok, Err, [], ◌∷◌, ◌++◌, codes, length}
 use Rattle.std.specs.List.{concat}
 use Rattle.avr_desk.specs.Fault.{CountsNeverFall, HasFailedAt, HasFailedToReport, HasSameCounts}
 use Rattle.avr_desk.specs.Record.{DeskState, Bytes, ChangesRecord, after_err}
@@ -54,13 +54,3 @@ pub record ReportsText (has : Parts) (old new : DeskState) : Type 0 where
   pub is_reported : ((text : Bytes) × IsText has text × (notice ≡ codes "avrstk: error: " ++ (text ++ 10 ∷ [])))
       ⊎ HasFailedToReport old new
   pub follows : CountsNeverFall old new
-
--- inside: after some rounds of the loop `count` bytes of the text were printed
-pub record HasPrinted (has : Parts) (stream : Stream) (old new : DeskState) (count rounds : ℕ) : Type 0 where
-  pub parts : List Bytes
-  pub are : HasParts has 0 parts
-  pub counted : count ≡ length (concat parts)
-  pub least : rounds ≤ count
-  pub most : count ≤ 512 * rounds
-  pub kept : ChangesRecord (after_sent stream (concat parts)) old new
-  pub same : HasSameCounts old new

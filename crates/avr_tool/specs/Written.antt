@@ -39,25 +39,17 @@ pub record IsWritten (part : Part) (items : List Item) (before after : Memories)
   pub flash_size : length after.flash ≡ part.flash_size
   pub eeprom_size : length after.eeprom ≡ part.eeprom_size
   pub images : (mem : Mem) → MemoryHoldsImage part mem (written_to part mem items) after
-  pub rest_of_flash : (addr : ℕ) → addr < part.flash_size
-      → byte_at (written_to part Flash items) addr ≡ None
-      → byte_in part Flash addr after ≡ (if has_erase items then 255
-      else byte_in part Flash addr before)
-  pub rest_of_eeprom : (addr : ℕ) → addr < part.eeprom_size
-      → byte_at (written_to part Eeprom items) addr ≡ None
-      → byte_in part Eeprom addr after
-      ≡ (if has_erase items && not (erase_keeps_eeprom part before) then 255
+  pub rest_of_flash : (addr : ℕ) → addr < part.flash_size → byte_at (written_to part Flash items) addr ≡ None
+      → byte_in part Flash addr after ≡ (if has_erase items then 255 else byte_in part Flash addr before)
+  pub rest_of_eeprom : (addr : ℕ) → addr < part.eeprom_size → byte_at (written_to part Eeprom items) addr ≡ None
+      → byte_in part Eeprom addr after ≡ (if has_erase items && not (erase_keeps_eeprom part before) then 255
       else byte_in part Eeprom addr before)
   pub lfuse : byte_at (written_to part Lfuse items) 0 ≡ None → after.lfuse ≡ before.lfuse
   pub hfuse : byte_at (written_to part Hfuse items) 0 ≡ None → after.hfuse ≡ before.hfuse
   pub efuse : byte_at (written_to part Efuse items) 0 ≡ None → after.efuse ≡ before.efuse
-  pub lock : byte_at (written_to part Lock items) 0 ≡ None
-      → after.lock ≡ (if has_erase items then 255 else before.lock)
+  pub lock : byte_at (written_to part Lock items) 0 ≡ None → after.lock ≡ (if has_erase items then 255 else before.lock)
 
 -- A plan that compares these memories with the images that another plan writes to them.
 abbrev pub comparing : Plan → Switches → List Mem → Plan
-comparing plan s mems = record {
-  part = plan.part;
-  tasks = map (λ mem. task.Verify mem (written_to plan.part mem (asked_items plan))) mems;
-  switches = s;
-}
+comparing plan s mems =
+    record plan { tasks = map (λ m. task.Verify m (written_to plan.part m (asked_items plan))) mems; switches = s }

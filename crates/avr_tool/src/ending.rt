@@ -1,6 +1,6 @@
 ghost use Rattle.std.specs.Prelude.{◌≡◌};
 ghost use Rattle.avr_desk.specs.Fault.{CountsNeverFall};
-ghost use Rattle.avr_tool.specs.ServedRun.{ReportsEnd, end_pieces, status_of_end};
+ghost use Rattle.avr_tool.specs.ServedRun.{ReportsIfAny, end_pieces, status_of_end};
 ghost use Rattle.ghosts.specs.Preserves.{Preserves};
 
 use crate::answering::Served;
@@ -20,7 +20,7 @@ fn end_message(served: Served) -> Option<Message<'static>>
 
 /// Reports how serving ended, unless the link ended.
 pub(crate) fn report_end<D: Desk>(desk: &mut D, served: Served)
-    ensures notice { ReportsEnd served (D.view desk.old) (D.view desk.new) }
+    ensures notice { ReportsIfAny (end_pieces served) (D.view desk.old) (D.view desk.new) }
     ensures follows { CountsNeverFall (D.view desk.old) (D.view desk.new) }
     ensures stays { Preserves D.started_as desk.old desk.new }
 {

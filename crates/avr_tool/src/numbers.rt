@@ -10,7 +10,8 @@ ghost use Rattle.avr_tool.specs.declared.served_run.TheConstants.{READS};
 ghost use Rattle.avr_part.specs.Part.{Part as PartData};
 ghost use Rattle.avr_part.specs.PartFile.{parts_of};
 ghost use Rattle.avr_plan.specs.ImageFile.{image_within};
-ghost use Rattle.avr_plan.specs.Planning.{image_or_line, checked_image, checked_parts, parts_or_line};
+ghost use Rattle.avr_plan.specs.Lines.{bad_file_line, part_file_line};
+ghost use Rattle.avr_plan.specs.Planning.{checked_image, checked_parts, or_line};
 ghost use Rattle.avr_records.specs.Record.{longest};
 ghost use Rattle.stk_frame.specs.declared.protocol.TheConstants.{MESSAGE_START, TOKEN, LARGEST_BODY, LARGEST_FRAME, EXTENDED_ADDRESS};
 ghost use Rattle.stk_frame.specs.declared.protocol.TheConstants.{CMD_SIGN_ON, CMD_SET_PARAMETER, CMD_GET_PARAMETER, CMD_LOAD_ADDRESS, CMD_ENTER_PROGMODE_ISP, CMD_LEAVE_PROGMODE_ISP, CMD_CHIP_ERASE_ISP, CMD_PROGRAM_FLASH_ISP, CMD_READ_FLASH_ISP, CMD_PROGRAM_EEPROM_ISP, CMD_READ_EEPROM_ISP, CMD_PROGRAM_FUSE_ISP, CMD_READ_FUSE_ISP, CMD_PROGRAM_LOCK_ISP, CMD_READ_LOCK_ISP, CMD_READ_SIGNATURE_ISP, CMD_READ_OSCCAL_ISP, CMD_SPI_MULTI};
@@ -22,9 +23,10 @@ ghost use Rattle.stk_host.specs.Tape.{reply_byte_limit};
 pub fn the_numbers_are()
     ensures line { longest ≡ 600 }
     ensures image_file { (file : List ℕ) (format : AnyFormat) (size : ℕ) (bytes : List ℕ)
-        → checked_image file format size bytes ≡ image_or_line file (image_within 4194304 format bytes size) }
+        → checked_image file format size bytes ≡ or_line (bad_file_line file) (image_within 4194304 format bytes size) }
     ensures part_file { (file bytes : List ℕ) → checked_parts file bytes ≡
-        (if nat_le (length bytes) 65536 then parts_or_line file (parts_of bytes) else Err (too_long_line file 65536)) }
+        (if nat_le (length bytes) 65536 then or_line (λ bad. part_file_line file bad.fault) (parts_of bytes)
+        else Err (too_long_line file 65536)) }
     ensures chip_file { (part : PartData) (file bytes : List ℕ) → checked_chip part file bytes ≡
         (if nat_le (length bytes) 4194304 then chip_or_line part file bytes else Err (too_long_line file 4194304)) }
     ensures updates { (texts : List (List ℕ)) → updates_of texts ≡

@@ -67,13 +67,11 @@ pub record ServesTakenCommandLine (words : List Bytes) (old new : Devices) (stat
 
 -- From a command line to a status. Without settings nothing was received or sent.
 abbrev pub ServesWords : List Bytes → Devices → Devices → ℕ → Type 0
-ServesWords words old new status =
-    ServesTakenCommandLine words old new status
+ServesWords words old new status = ServesTakenCommandLine words old new status
     ⊎ ((IsRefused words old.desk new.desk status ⊎ IsCommandLineRefused words old.desk new.desk status)
     × (new.link ≡ old.link))
 
 -- From the start of a process: its command line was read and served. Or it could not be read.
 abbrev pub StartsSession : {C : Type 0} → CommandLine C → Devices → Devices → ℕ → Type 0
-StartsSession line old new status =
-    ((words : List Bytes) × line.is_words words × ServesWords words old new status)
+StartsSession line old new status = ((words : List Bytes) × line.is_words words × ServesWords words old new status)
     ⊎ (line.unread × RefusesUse old new status)

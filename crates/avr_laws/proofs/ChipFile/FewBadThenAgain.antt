@@ -4,7 +4,8 @@ use Rattle.avr_desk.specs.Record.{DeskState, Record, ChangesRecord}
 use Rattle.avr_desk.specs.OutputEvents.{OutputEvent, after_events}
 use Rattle.avr_part.specs.Part.{IsPart}
 use Rattle.avr_plan.specs.Plan.{Plan, IsFitted}
-use Rattle.avr_session.specs.Stopping.{IsSound, EndsOutOfMemory, keeping}
+use Rattle.avr_session.specs.Runs.{AllocationFailed, cause_line}
+use Rattle.avr_session.specs.Stopping.{IsSound, EndWithLine, keeping}
 use Rattle.stk_host.specs.Dialog.{Event, outputs}
 use Rattle.stk_emu.specs.Wire.{exchanges_of_fates}
 use Rattle.stk_emu.specs.Effect.{Memories, erase_keeps_eeprom, memories_of}
@@ -24,7 +25,7 @@ use Rattle.avr_laws.proofs.SecondRun.Status.{done_again}
 
 module _ (plan : Plan) (w v : WiredState) (d e : Record) (a b : ℕ × ℕ) (status : ℕ)
     (few : AtMostThreeBadOfSeven (exchanges_of_fates w.wire.fates)) (sound : IsSound (wire_and_desk w (keeping d a))
-    (wire_and_desk v (keeping e b))) (has_memory : EndsOutOfMemory e.messages → ⊥) where
+    (wire_and_desk v (keeping e b))) (has_memory : EndWithLine (cause_line AllocationFailed) e.messages → ⊥) where
   abbrev old : DeskState
   old = keeping d a
 

@@ -11,7 +11,8 @@ use Rattle.avr_desk.specs.declared.record.Open.TheVariants.{ToRead}
 use Rattle.avr_desk.specs.declared.record.Reading.{Reading}
 use Rattle.avr_tool.specs.Emulated.{IsSavedIfSent}
 use Rattle.avr_laws.specs.OnlyReading.{OnlyReadsAndPrints}
-use Rattle.avr_session.specs.Runs.{RunsWholeOrStops, Devices, RunAllocationPoints}
+use Rattle.avr_session.specs.Runs.{BrokeOff, Devices, RunAllocationPoints, before_fault, start}
+use Rattle.avr_session.specs.Stopping.{RanToStatus}
 use Rattle.stk_host.specs.Dialog.{Dialog, outputs}
 
 -- These are the first uses at a desk. The file that it is reading may be the last of them; the file that it is writing
@@ -76,7 +77,9 @@ opened_past (Found x) r = inr (x, refl, refl)
 pub run_past : (uses : List FileUse) (dialog : Dialog OutputEvent ℕ) (old new : Devices) (allocates : Bool)
     (points : RunAllocationPoints)
     (status : ℕ)
-    → RunsWholeOrStops dialog old new allocates points status → ArePast uses old.desk.kept → ArePast uses new.desk.kept
+    → (RanToStatus dialog old new status
+    ⊎ (BrokeOff dialog start old new (before_fault allocates) points × (status ≡ 1)))
+    → ArePast uses old.desk.kept → ArePast uses new.desk.kept
 run_past uses dialog old new allocates points status (inl (place, ran)) past =
     subst (ArePast uses) (sym ran.kept) (past_all uses (outputs ran.events) old.desk.kept past)
 run_past uses dialog old new allocates points status (inr (broke, one)) past =

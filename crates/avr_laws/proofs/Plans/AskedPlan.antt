@@ -25,7 +25,8 @@ use Rattle.avr_laws.proofs.Plans.Fitted.{Image, given, settled}
 use Rattle.avr_laws.specs.AskedPlan.{GivesText, HasImage, IsTaskOf, AreTasksOf, ArePartsOf, IsAsked}
 use Rattle.avr_plan.specs.ImageFile.{image_within, kind_of, image_of_file}
 use Rattle.avr_plan.specs.Plan.{Plan}
-use Rattle.avr_plan.specs.Planning.{planned, checked_parts, part_or_line, parts_stage, part_stage, tasks_stage, task_stage, op_stage, update_image, image_stage, file_image_stage, checked_image, warning_events}
+use Rattle.avr_plan.specs.Lines.{no_part_line}
+use Rattle.avr_plan.specs.Planning.{planned, checked_parts, or_line, parts_stage, part_stage, tasks_stage, task_stage, op_stage, update_image, image_stage, file_image_stage, checked_image, warning_events}
 use Rattle.avr_laws.proofs.Limits.{LARGEST_IMAGE_FILE, LARGEST_PART_FILE}
 use Rattle.avr_plan.specs.declared.planned.Task.{Task}
 use Rattle.avr_plan.specs.declared.planned.Task.TheVariants.{Write, Verify}
@@ -159,7 +160,8 @@ module _ (Gives : GivesText) where
     all_tasks updates openings made saw =
         let all = tasks [] updates openings made saw in search rules
 
-  part_given : (id : Bytes) (r : Result Part PartFault) (part : Part) → part_or_line id r ≡ Ok part → r ≡ Ok part
+  part_given : (id : Bytes) (r : Result Part PartFault) (part : Part) → or_line (λ fault. no_part_line id) r ≡ Ok part
+      → r ≡ Ok part
   part_given id r part is = search rules
 
   parts_given : (name : Bytes) (text : Bytes) (parts : List Part) → checked_parts name text ≡ Ok parts

@@ -15,9 +15,9 @@ use Rattle.avr_part.specs.Part.{Part}
 use Rattle.avr_part.specs.declared.part.Mem.{Mem}
 use Rattle.avr_laws.proofs.Limits.{LARGEST_IMAGE_FILE, LARGEST_PART_FILE}
 use Rattle.avr_laws.specs.FilesRead.{part_file, image_file, file_of_op, files_of, files_read}
-use Rattle.avr_plan.specs.Lines.{read_only_line}
+use Rattle.avr_plan.specs.Lines.{read_only_line, no_part_line}
 use Rattle.avr_plan.specs.Plan.{Plan}
-use Rattle.avr_plan.specs.Planning.{checked_parts, parts_stage, part_or_line, part_stage, warning_events, checked_image, file_image_stage, image_stage, update_image, write_stage, op_stage, task_stage, tasks_stage, planned}
+use Rattle.avr_plan.specs.Planning.{checked_parts, parts_stage, or_line, part_stage, warning_events, checked_image, file_image_stage, image_stage, update_image, write_stage, op_stage, task_stage, tasks_stage, planned}
 use Rattle.avr_plan.specs.declared.planned.Task.{Task}
 use Rattle.avr_plan.specs.declared.planned.Task.TheVariants.{Write}
 use Rattle.avr_records.specs.declared.kind.Ending.{Ending}
@@ -88,5 +88,5 @@ module _ (Holds : (A : Type 0) → Stage A → List Bytes → Type 0)
       onward (List Part) Plan (parts_stage s.parts) (λ all. part_stage s.part all >>= behind) (part_file s.parts)
       (files_of s.updates) (parts s.parts)
       (λ all. onward Part Plan (part_stage s.part all) behind [] (files_of s.updates)
-      (settled Part (part_or_line s.part (part_of_id s.part all)))
+      (settled Part (or_line (λ fault. no_part_line s.part) (part_of_id s.part all)))
       (λ part. search (rules, last, tasks)))

@@ -23,7 +23,8 @@ use Rattle.avr_plan.proofs.Files.Sizes.{image-size}
 use Rattle.avr_plan.proofs.Stages.Tasks.{all_one}
 use Rattle.avr_plan.specs.ImageFile.{ImageOrBadFile, image_within}
 use Rattle.avr_plan.specs.Plan.{Plan, IsFitted}
-use Rattle.avr_plan.specs.Planning.{planned, parts_stage, part_stage, tasks_stage, task_stage, op_stage, write_stage, update_image, file_image_stage, checked_image, image_or_line, warning_events}
+use Rattle.avr_plan.specs.Lines.{bad_file_line}
+use Rattle.avr_plan.specs.Planning.{planned, parts_stage, part_stage, tasks_stage, task_stage, op_stage, write_stage, update_image, file_image_stage, checked_image, or_line, warning_events}
 use Rattle.avr_laws.proofs.Limits.{LARGEST_IMAGE_FILE}
 use Rattle.avr_plan.specs.declared.planned.Task.{Task}
 use Rattle.avr_plan.specs.declared.planned.Task.TheVariants.{Write, Verify, Read}
@@ -53,7 +54,8 @@ content : {A : Type 0} (name : Bytes) (limit : ℕ) (judge : Bytes → Result A 
     → (bytes : Bytes) × (judge bytes ≡ Ok a)
 content name limit judge opening openings a is = search rules
 
-pub given : (file : Bytes) (r : ImageOrBadFile) (p : Image × Ending) → image_or_line file r ≡ Ok p → r ≡ Ok p
+pub given : (file : Bytes) (r : ImageOrBadFile) (p : Image × Ending) → or_line (bad_file_line file) r ≡ Ok p
+    → r ≡ Ok p
 given file r p is = search rules
 
 file_size : (switches : Switches) (file : Bytes) (kind : Format) (size : ℕ) (openings : List Opening) (image : Image)

@@ -11,13 +11,21 @@ use Rattle.avr_desk.specs.declared.files.FileFault.TheVariants.{NotRead}
 use Rattle.avr_records.specs.Detect.{format_of_file}
 use Rattle.avr_records.specs.declared.kind.Found.{Found}
 use Rattle.avr_plan.specs.ImageFile.{ImageOrBadFile, image_of_file, fault_of_long_file, kind_of}
-use Rattle.avr_plan.specs.ImageReading.{FedSoFar, ImageOrFault, ReadsRest, RestIsRead, ReadsImage, ImageIsRead, IsImageResult}
+use Rattle.avr_plan.specs.ImageReading.{ImageOrFault, ReadsRest, RestIsRead, ReadsImage, ImageIsRead, IsImageResult}
 use Rattle.avr_plan.specs.Intake.{WasFed}
 use Rattle.avr_plan.specs.declared.intake.BadFile.{BadFile}
 use Rattle.avr_plan.specs.declared.image_file.ReadFault.TheVariants.{File, Image}
 use Rattle.avr_plan.specs.declared.intake.Intake.{Intake}
 
 -- ---- the rest of a file
+
+-- The open file gave some bytes, and all were fed. Their count and `left` add up to `room`.
+pub record FedSoFar (old now : DeskState) (first last : Intake) (room left : ℕ) : Type 0 where
+  pub bytes : Bytes
+  pub kept : ChangesRecord (after_reading bytes false) old now
+  pub feeds : (found : Found) (size : ℕ) (text : Bytes) → WasFed found size first text
+      → WasFed found size last (text ++ bytes)
+  pub count : length bytes + left ≡ room
 
 -- one pass of the loop of `read_rest`: a read gave n more bytes
 module _ (old now new : DeskState) (first last : Intake) (room left n : ℕ) (buf : Bytes)

@@ -14,7 +14,7 @@ use Rattle.avr_desk.proofs.Stages.Played.{runs_then, runs_first_only, goes_unset
 use Rattle.avr_plan.specs.declared.image_file.TheConstants.{LARGEST_IMAGE_FILE}
 use Rattle.avr_plan.specs.ImageReading.{ReadsImage, ImageIsRead, CountsReadFault}
 use Rattle.avr_plan.specs.Lines.{bad_file_line, image_line}
-use Rattle.avr_plan.specs.Planning.{file_image_stage, checked_image, image_or_line, warning_events}
+use Rattle.avr_plan.specs.Planning.{file_image_stage, checked_image, or_line, warning_events}
 use Rattle.avr_desk.specs.StageRuns.{OnlyAtStart, RunsStage, StageCompleted}
 use Rattle.avr_desk.specs.Stage.{Stage, Produced, ◌>>=◌, result_stage, output_stage, file_stage}
 use Rattle.avr_plan.specs.declared.intake.BadFile.{BadFile}
@@ -35,7 +35,7 @@ went_file : (file : Bytes) (format : Format) (size : ℕ) (old mid : DeskState) 
     (Produced (image, ending))
 went_file file format size old mid image ending reads same =
     let judge = checked_image file format size in
-    let given : judge reads.bytes ≡ Ok (image, ending) = ap (image_or_line file) (sym reads.gives) in
+    let given : judge reads.bytes ≡ Ok (image, ending) = ap (or_line (bad_file_line file)) (sym reads.gives) in
     went_whole (OnlyAtStart false) file LARGEST_IMAGE_FILE judge reads.bytes reads.ended old mid (image, ending)
     reads.kept reads.whole same (went_settled (judge reads.bytes) (image, ending) mid given)
 
@@ -70,7 +70,8 @@ module _ (switches : Switches) (file : Bytes) (format : Format) (size : ℕ) whe
       → RunsStage (OnlyAtStart false) (file_image_stage switches file format size) old new (Err status)
   goes_bad old mid new bad status reads same one notice =
       let judge = checked_image file format size in
-      let given : judge reads.bytes ≡ Err (bad_file_line file bad) = ap (image_or_line file) (sym reads.gives) in
+      let given : judge reads.bytes ≡ Err (bad_file_line file bad) =
+      ap (or_line (bad_file_line file)) (sym reads.gives) in
       search (rules, runs_first_only, goes_whole, goes_unsettled)
 
   -- a file that was not read

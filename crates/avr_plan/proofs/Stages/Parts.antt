@@ -15,7 +15,7 @@ use Rattle.avr_desk.proofs.Lines.ReportedAs.{follows_same}
 use Rattle.avr_desk.proofs.Stages.Played.{went_settled, goes_unsettled}
 use Rattle.avr_plan.specs.declared.part_choice.TheConstants.{LARGEST_PART_FILE}
 use Rattle.avr_plan.specs.Lines.{part_file_line}
-use Rattle.avr_plan.specs.Planning.{checked_parts, parts_or_line}
+use Rattle.avr_plan.specs.Planning.{checked_parts, or_line}
 use Rattle.avr_desk.specs.StageRuns.{OnlyAtStart, RunsStage, StageCompleted}
 use Rattle.avr_desk.specs.Stage.{Produced, file_stage}
 
@@ -39,7 +39,7 @@ pub went_parts : (file bytes : Bytes) (ended : Bool) (old mid : DeskState) (part
 went_parts file bytes false old mid parts kept whole is same gives = cc
 went_parts file bytes true old mid parts kept whole is same (inl gives) =
     let given : checked_parts file bytes ≡ Ok parts =
-    (search rules) ∙ ap (parts_or_line file) (sym gives) in
+    (search rules) ∙ ap (or_line (λ (bad : NamedFault). part_file_line file bad.fault)) (sym gives) in
     went_whole (OnlyAtStart false) file LARGEST_PART_FILE (checked_parts file) bytes true old mid parts kept whole same
     (went_settled (checked_parts file bytes) parts mid given)
 went_parts file bytes true old mid parts kept whole is same (inr memory) = cc
@@ -55,7 +55,8 @@ pub goes_bad_parts : (file bytes : Bytes) (ended : Bool) (old mid new : DeskStat
 goes_bad_parts file bytes false old mid new status refused kept whole is same gives one notice = cc
 goes_bad_parts file bytes true old mid new status refused kept whole is same (inl gives) one notice =
     let given : checked_parts file bytes ≡ Err (part_file_line file refused.fault) =
-    (search rules) ∙ ap (parts_or_line file) (sym gives) in search (rules, goes_whole, goes_unsettled)
+    (search rules) ∙ ap (or_line (λ (bad : NamedFault). part_file_line file bad.fault)) (sym gives) in
+    search (rules, goes_whole, goes_unsettled)
 goes_bad_parts file bytes true old mid new status refused kept whole is same (inr memory) one notice =
     let memory_is : refused ≡ of_file Memory = cc in
     let reported_so = subst (λ r. ReportsLine mid new (part_file_line file r.fault)) memory_is notice in

@@ -60,7 +60,7 @@ at_due s old first mid parts part went found passed emitted due = search (rules,
       openings_left = [];
     }
     made_so = ap (λ p. continued_stage p.output_events p.openings_left (λ ts. result_stage (Ok (plan_of s part ts)))
-        p.stage_outcome) due.are_made
+        p.stage_outcome) due.is_made
 
     planned_so : planned before (went.passed ++ (found.passed ++ passed))
         ≡ record {

@@ -71,7 +71,7 @@ module _ (switches : Switches) (part : Part) (tasks : List Task) (u : Update) (u
     updates_are = refl;
     allocates = allocates.0;
     made = tasks;
-    are_made = rw (allocates.1, allocates.2) refl;
+    is_made = rw (allocates.1, allocates.2) refl;
   }
 
   -- or a later update, whose task it is
@@ -86,7 +86,7 @@ module _ (switches : Switches) (part : Part) (tasks : List Task) (u : Update) (u
     updates_are = ap (λ (us : List Update). u ∷ us) later.updates_are;
     allocates = later.allocates;
     made = later.made;
-    are_made = search rules;
+    is_made = search rules;
   }
 
 module _ (switches : Switches) (part : Part) (tasks : List Task) (updates : List Update) (i : ℕ) (u : Update) where

@@ -11,7 +11,7 @@ use Rattle.avr_desk.specs.OutputEvents.{ReportsLine}
 use Rattle.avr_part.specs.declared.part.Mem.{Mem}
 use Rattle.avr_desk.proofs.Stages.Played.{went_settled, goes_unsettled, runs_without_memory}
 use Rattle.avr_plan.specs.Lines.{values_line}
-use Rattle.avr_plan.specs.Planning.{image_stage, values_or_line}
+use Rattle.avr_plan.specs.Planning.{image_stage, or_line}
 use Rattle.avr_desk.specs.StageRuns.{OnlyAtStart, RunsStage, StageCompleted}
 use Rattle.avr_desk.specs.Stage.{Produced}
 
@@ -26,8 +26,8 @@ pub went_values : (switches : Switches) (memory : Mem) (size : ℕ) (text : Byte
     → OrOutOfMemory (Ok image) (image_of_values text size)
     → StageCompleted (image_stage switches memory size text Immediate) d d (Produced image)
 went_values switches memory size text d image gives =
-    went_settled (values_or_line memory (image_of_values text size)) image d
-    (ap (values_or_line memory) (sym (given_values text size image gives)))
+    went_settled (or_line (values_line memory) (image_of_values text size)) image d
+    (ap (or_line (values_line memory)) (sym (given_values text size image gives)))
 
 pub goes_bad_values : (switches : Switches) (memory : Mem) (size : ℕ) (text : Bytes) (old new : DeskState) (status : ℕ)
     (fault : ImageFault)
@@ -35,8 +35,8 @@ pub goes_bad_values : (switches : Switches) (memory : Mem) (size : ℕ) (text : 
     → ReportsLine old new (values_line memory fault)
     → RunsStage (OnlyAtStart true) (image_stage switches memory size text Immediate) old new (Err status)
 goes_bad_values switches memory size text old new status fault (inl is) one notice =
-    goes_unsettled (OnlyAtStart true) (values_or_line memory (image_of_values text size)) (values_line memory fault) old
-    new status (ap (values_or_line memory) (sym is)) one notice
+    goes_unsettled (OnlyAtStart true) (or_line (values_line memory) (image_of_values text size))
+    (values_line memory fault) old new status (ap (or_line (values_line memory)) (sym is)) one notice
 goes_bad_values switches memory size text old new status fault (inr refused) one notice =
     search (rules, runs_without_memory)
 

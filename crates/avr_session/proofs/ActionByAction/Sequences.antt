@@ -35,13 +35,17 @@ use Rattle.avr_session.specs.Reporting.{DeskStops, PrintStops, ReadStops, Report
 use Rattle.avr_session.specs.Run.{StopsSession}
 use Rattle.avr_session.specs.Stopping.{RanToStatus}
 use Rattle.avr_session.specs.AllocationPoints.{AtStartOnly, AtAllocation}
-use Rattle.avr_session.specs.Performing.{has_fault, PerformsOnTerms, Performs, DoesPlanActions, EndsSession, PlaysSession, Runs}
+use Rattle.avr_session.specs.Performing.{has_fault, PerformsOnTerms, Performing, DoesPlanActions, EndsSession, PlaysSession, Runs}
 use Rattle.avr_desk.proofs.Stages.Outputs.{kept_none}
 use Rattle.avr_desk.proofs.Lines.ReportedAs.{follows_here, same_here}
 use Rattle.avr_session.proofs.Runs.Calls.{none_failed_here, came_here, came_emitted, came_part, ran_from, ran_on, stops_in, broke_on, broke_part, broke_output, LacksLater, StopsReport, ReportedBy}
 use Rattle.avr_session.proofs.ActionByAction.FaultsReported.{Foretells, foretold, prefix_reports_none, actions_foretells}
 use Rattle.avr_session.proofs.ActionByAction.Actions.{actions_dialog-one, actions_dialog-append}
 use Rattle.avr_session.proofs.ActionByAction.Operations.{Stop, fault_at, cause_at, StopsAs, StopsOver, operation_runs, stop_come, cause_is_reported}
+
+-- An action before which no fault was reported, and which allocates at its start or never.
+abbrev Performs : Bool → Dialog OutputEvent Standing → Performing
+Performs allocates dialog = PerformsOnTerms (before_fault allocates) (AtStartOnly allocates) dialog
 
 -- a desk that failed in printing stops the run, whatever was reported
 printing_reports : (flag : Bool) (notice : List ℕ) (d : DeskState) → notice ≡ []

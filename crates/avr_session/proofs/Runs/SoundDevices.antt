@@ -7,10 +7,10 @@ use Rattle.stk_host.specs.Transcript.{LinkState}
 use Rattle.stk_host.specs.Dialog.{Dialog}
 use Rattle.avr_desk.specs.OutputEvents.{OutputEvent}
 use Rattle.avr_session.specs.Actions.{plan_allocates}
-use Rattle.avr_session.specs.Runs.{Devices, devices, before_fault, RunAllocationPoints, BrokeOff}
+use Rattle.avr_session.specs.Runs.{AllocationFailed, Devices, devices, cause_line, before_fault, RunAllocationPoints, BrokeOff}
 use Rattle.avr_session.specs.Run.{RunsSession}
 use Rattle.avr_session.specs.Session.{session}
-use Rattle.avr_session.specs.Stopping.{keeping, IsSound, EndsOutOfMemory, RanToStatus}
+use Rattle.avr_session.specs.Stopping.{keeping, IsSound, EndWithLine, RanToStatus}
 
 -- sound devices leave only allocation as a cause
 
@@ -19,12 +19,13 @@ pub broke_lacks : {R : Type 0} {L : RunAllocationPoints} (dialog : Dialog Output
     (o p : LinkState) (before after : Record) (a b : ℕ × ℕ) (allocates : Bool)
     → IsSound (devices o (keeping before a)) (devices p (keeping after b))
     → BrokeOff dialog m (devices o (keeping before a)) (devices p (keeping after b)) (before_fault allocates) L
-    → EndsOutOfMemory after.messages
+    → EndWithLine (cause_line AllocationFailed) after.messages
 broke_lacks dialog m o p before after a b allocates sound f = search rules
 
 -- a run is complete if no device failed and, by its messages, no allocation did
 pub sound_run : (plan : Plan) (o p : LinkState) (before after : Record) (a b : ℕ × ℕ) (status : ℕ)
-    → IsSound (devices o (keeping before a)) (devices p (keeping after b)) → (EndsOutOfMemory after.messages → ⊥)
+    → IsSound (devices o (keeping before a)) (devices p (keeping after b))
+    → (EndWithLine (cause_line AllocationFailed) after.messages → ⊥)
     → RunsSession plan (devices o (keeping before a)) (devices p (keeping after b)) status
     → RanToStatus (session plan) (devices o (keeping before a)) (devices p (keeping after b)) status
 sound_run plan o p before after a b status sound has_memory k' = search (rules, broke_lacks)

@@ -1,8 +1,8 @@
 use Rattle.std.proofs.Common.{◌≤◌, ◌+◌}
 use Rattle.avr_desk.specs.Fault.{HasSameCounts}
-use Rattle.avr_plan.specs.ImageReading.{FedSoFar}
 use Rattle.avr_plan.specs.Intake.{record_bytes_fed}
 use Rattle.ghosts.specs.Preserves.{Preserves}
+use Rattle.avr_plan.proofs.Files.Images.{FedSoFar}
 use Rattle.avr_plan.proofs.image_file.read_rest.Given as goal
 
 abbrev pub invariant-pieces : goal.invariant-pieces

@@ -1,5 +1,5 @@
 use Rattle.ghosts.specs.Preserves.{Preserves}
-use Rattle.avr_tool.specs.Texts.{HasPrinted}
+use Rattle.avr_tool.proofs.Printed.{HasPrinted}
 use Rattle.avr_tool.proofs.texts.print_text.Given as goal
 
 abbrev pub invariant-loop-round : goal.invariant-loop-round
