@@ -1,5 +1,5 @@
 -- The write operation of each step: an erase, or a write of a page, of a run of EEPROM, of a fuse or of the lock.
-use Rattle.std.specs.Prelude.{ℕ, zero, suc, ◌+◌, ◌*◌, ◌%◌, ◌^◌, ◌<◌, ◌≤◌, ◌≡◌, List, [], ◌∷◌, ◌++◌, length, map, replicate, Some, None}
+use Rattle.std.specs.Prelude.{ℕ, ◌+◌, ◌*◌, ◌%◌, ◌^◌, ◌<◌, ◌≤◌, ◌≡◌, List, [], ◌∷◌, ◌++◌, length, map, replicate, Some, None}
 use Rattle.avr_part.specs.declared.part.Mem.{Mem}
 use Rattle.avr_part.specs.declared.part.Mem.TheVariants.{Flash, Eeprom, Lfuse, Hfuse, Efuse, Lock}
 use Rattle.avr_part.specs.declared.instruction.Fuse as instruction_fuse
@@ -53,12 +53,6 @@ write_operations_of (commands ∷ steps) = write_operation_of commands ++ write_
 abbrev pub memories_after_step : Part → List Command → Memories → Memories
 memories_after_step part commands m = effects part (write_operation_of commands) m
 
-abbrev pub memories_after_steps : Part → ℕ → List (List Command) → Memories → Memories
-memories_after_steps part zero steps m = m
-memories_after_steps part (suc count) [] m = m
-memories_after_steps part (suc count) (commands ∷ steps) m =
-    memories_after_steps part count steps (memories_after_step part commands m)
-
 abbrev pub steps_of_item : Part → Item → List (List Command)
 steps_of_item part Erase = (erase ∷ []) ∷ []
 steps_of_item part (Write mem image) = write_steps part mem image
@@ -66,14 +60,6 @@ steps_of_item part (Write mem image) = write_steps part mem image
 abbrev pub steps_of_items : Part → List Item → List (List Command)
 steps_of_items part [] = []
 steps_of_items part (item ∷ items) = steps_of_item part item ++ steps_of_items part items
-
-abbrev pub ItemFits : Part → Item → Type 0
-ItemFits part Erase = Unit {0}
-ItemFits part (Write mem image) = length image ≤ size_of mem part
-
-abbrev pub ItemsFit : Part → List Item → Type 0
-ItemsFit part [] = Unit {0}
-ItemsFit part (item ∷ items) = ItemFits part item × ItemsFit part items
 
 -- What steps may carry.
 

@@ -18,14 +18,14 @@ use Rattle.stk_emu.specs.Programmer.{Programmer}
 use Rattle.stk_emu.specs.Device.{Device, device}
 use Rattle.stk_emu.specs.DialogOverExchanges.{StateAfter, state_after}
 use Rattle.stk_emu.specs.Effect.{Memories}
-use Rattle.stk_emu.specs.Repeatable.{IsRepeatable}
-use Rattle.stk_emu.specs.StepData.{data_of_step, data_of_steps, IsDataOfAttempt}
-use Rattle.stk_emu.specs.Settled.{HasMemories, Settled, FitsPart}
+use Rattle.stk_emu.proofs.Repeatable.{IsRepeatable, Settled}
+use Rattle.stk_emu.specs.StepData.{data_of_step, data_of_steps}
+use Rattle.stk_emu.specs.Settled.{HasMemories, FitsPart}
 use Rattle.avr_part.specs.declared.part.Mem.TheVariants.{Signature}
-use Rattle.stk_emu.specs.WriteOperations.{memories_after_step, memories_after_steps, AreSteps}
+use Rattle.stk_emu.specs.WriteOperations.{memories_after_step, AreSteps}
 use Rattle.avr_tool.proofs.WriteOperations.Items.{read_are_steps}
 use Rattle.avr_tool.proofs.OverFaultyLink.FirstSteps.{quiet_stays, read_quiet}
-use Rattle.avr_tool.proofs.Leads.{Reached, AfterSteps, AfterBeginning}
+use Rattle.avr_tool.proofs.Leads.{Reached, AfterSteps, AfterBeginning, memories_after_steps, IsDataOfAttempt}
 use Rattle.avr_tool.proofs.Hosts.Attempts.{along_bind, along_next_dialog}
 use Rattle.avr_tool.proofs.WriteOperations.Steps.{sign_on_fits, enter_fits}
 use Rattle.stk_emu.proofs.Answers.Commands.{settled_idle}

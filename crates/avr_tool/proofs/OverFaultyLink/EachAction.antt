@@ -18,9 +18,11 @@ use Rattle.stk_host.specs.Steps.{StepOutcome}
 use Rattle.stk_emu.proofs.Answers.Commands.{settled_idle}
 use Rattle.stk_emu.specs.Device.{device}
 use Rattle.stk_emu.specs.Effect.{Memories, Item, effects, memories_of}
-use Rattle.stk_emu.specs.WriteOperations.{steps_of_items, ItemsFit}
+use Rattle.stk_emu.specs.WriteOperations.{steps_of_items}
+use Rattle.avr_tool.proofs.WriteOperations.Items.{ItemsFit}
 use Rattle.stk_emu.specs.Programmer.{Programmer}
-use Rattle.stk_emu.specs.Settled.{HasMemories, Settled, FitsPart}
+use Rattle.stk_emu.specs.Settled.{HasMemories, FitsPart}
+use Rattle.stk_emu.proofs.Repeatable.{Settled}
 use Rattle.avr_tool.proofs.OverFaultyLink.FirstSteps.{Rests, rests_here, rests_before, rests_all, rests_behind, effects_sizes}
 use Rattle.avr_tool.proofs.Given.Comparisons.{signature_taken}
 use Rattle.avr_tool.proofs.Hosts.AnyExchange.{Keeps}

@@ -17,7 +17,7 @@ use Rattle.stk_emu.proofs.Answers.Commands.{ready_idle, ready_settled}
 use Rattle.stk_emu.specs.Device.{device}
 use Rattle.stk_emu.specs.Effect.{Memories, effects}
 use Rattle.stk_emu.specs.StepData.{data_of_steps}
-use Rattle.stk_emu.specs.WriteOperations.{memories_after_steps}
+use Rattle.avr_tool.proofs.Leads.{memories_after_steps}
 use Rattle.stk_emu.specs.Settled.{HasMemories, Ready, FitsPart}
 use Rattle.stk_emu.specs.Exchange.{Exchange}
 use Rattle.avr_tool.proofs.OverFaultyLink.EachAction.{Comes, Passes, operation_comes, opening_comes}
