@@ -1,6 +1,5 @@
 -- The data that each step of a host reads.
 use Rattle.std.specs.Prelude.{ℕ, ◌*◌, ◌%◌, ◌^◌, ◌≡◌, List, [], ◌∷◌, ◌++◌, take, drop, ◌<◌, length, slice_index, Some}
-use Rattle.avr_part.specs.declared.instruction.Fuse.TheVariants as fuse
 use Rattle.avr_part.specs.declared.instruction.Instruction.{Instruction}
 use Rattle.avr_part.specs.declared.instruction.Instruction.TheVariants as instruction
 use Rattle.avr_part.specs.Instruction.{instruction_of}
@@ -8,28 +7,22 @@ use Rattle.avr_part.specs.Part.{Part}
 use Rattle.stk_frame.specs.declared.command.Command.{Command}
 use Rattle.stk_frame.specs.declared.command.Command.TheVariants.{LoadAddress, ReadFlash, ReadEeprom, ReadFuse, ReadLock, ReadSignature, ReadOsccal}
 use Rattle.avr_image.specs.Image.{byte_at}
-use Rattle.stk_emu.specs.Effect.{Memories, Image}
-use Rattle.stk_emu.specs.WriteOperations.{memories_after_step}
+use Rattle.stk_emu.specs.Effect.{Memories, Image, memory_in}
+use Rattle.stk_emu.specs.WriteOperations.{memory_of_fuse, memories_after_step}
 
 -- The byte that an instruction reads without an address.
 abbrev pub read_by : Part → Instruction → Memories → List ℕ
-read_by part (instruction.ReadFuse fuse.Low) m = m.lfuse ∷ []
-read_by part (instruction.ReadFuse fuse.High) m = m.hfuse ∷ []
-read_by part (instruction.ReadFuse fuse.Extended) m = m.efuse ∷ []
+read_by part (instruction.ReadFuse f) m = memory_in part (memory_of_fuse f) m
 read_by part instruction.ReadLock m = m.lock ∷ []
 read_by part (instruction.ReadSignature place) m = take 1 (drop place part.signature)
 read_by part instruction.ReadCalibration m = 255 ∷ []
 read_by part i m = []
 
--- A block read at an address, which counts words of flash and bytes of EEPROM.
-abbrev pub block_at : ℕ → List Command → Memories → List ℕ
-block_at address (ReadFlash f ∷ []) m = take f.count (drop (address % 2 ^ 31 * 2) m.flash)
-block_at address (ReadEeprom f ∷ []) m = take f.count (drop address m.eeprom)
-block_at address commands m = []
-
--- The data of a step over these memories; a step that writes has none.
+-- The data of a step over these memories; a step that writes has none. An address counts words of flash and bytes of
+-- EEPROM.
 abbrev pub data_of_step : Part → List Command → Memories → List ℕ
-data_of_step part (LoadAddress address ∷ commands) m = block_at address commands m
+data_of_step part (LoadAddress address ∷ ReadFlash f ∷ []) m = take f.count (drop (address % 2 ^ 31 * 2) m.flash)
+data_of_step part (LoadAddress address ∷ ReadEeprom f ∷ []) m = take f.count (drop address m.eeprom)
 data_of_step part (ReadFuse f ∷ []) m = read_by part (instruction_of f.instruction) m
 data_of_step part (ReadLock f ∷ []) m = read_by part (instruction_of f.instruction) m
 data_of_step part (ReadSignature f ∷ []) m = read_by part (instruction_of f.instruction) m

@@ -32,15 +32,12 @@ written_by (instruction.WriteFuse f byte) = Write (memory_of_fuse f) (Some byte 
 written_by (instruction.WriteLock byte) = Write Lock (Some byte ∷ []) ∷ []
 written_by i = []
 
--- The write operation at a loaded address. For flash it counts words, and bit 31 asks for the extended address.
-abbrev pub written_at : ℕ → List Command → List Item
-written_at address (ProgramFlash f ∷ []) = Write Flash (image_at (address % 2 ^ 31 * 2) f.bytes) ∷ []
-written_at address (ProgramEeprom f ∷ []) = Write Eeprom (image_at address f.bytes) ∷ []
-written_at address commands = []
-
--- The write operation of a step, one part of an item; a step that reads has none.
+-- The write operation of a step, one part of an item; a step that reads has none. The address of flash counts words,
+-- and its bit 31 asks for the extended address.
 abbrev pub write_operation_of : List Command → List Item
-write_operation_of (LoadAddress address ∷ commands) = written_at address commands
+write_operation_of (LoadAddress address ∷ ProgramFlash f ∷ []) =
+    Write Flash (image_at (address % 2 ^ 31 * 2) f.bytes) ∷ []
+write_operation_of (LoadAddress address ∷ ProgramEeprom f ∷ []) = Write Eeprom (image_at address f.bytes) ∷ []
 write_operation_of (ChipErase erase_delay poll_method bytes ∷ []) = written_by (instruction_of bytes)
 write_operation_of (ProgramFuse bytes ∷ []) = written_by (instruction_of bytes)
 write_operation_of (ProgramLock bytes ∷ []) = written_by (instruction_of bytes)

@@ -11,7 +11,7 @@ use Rattle.stk_host.specs.declared.fault.StepFault.{StepFault}
 use Rattle.stk_host.specs.Dialog.{Dialog, Done, ◌>>=◌}
 use Rattle.stk_host.specs.Steps.{StepOutcome, step, unless_step_fault, play}
 use Rattle.stk_host.specs.ReadSteps.{signature_steps}
-use Rattle.stk_host.specs.Operations.{host_fault, handshake, without_bytes, closing, checked_by, operation}
+use Rattle.stk_host.specs.Operations.{host_fault, handshake, no_result, closing, checked_by, operation}
 use Rattle.stk_host.proofs.Dialogs.Logic.{OnOutcome, done, bind, outcome_mapped, wider, on_data}
 use Rattle.stk_emu.specs.Exchange.{Exchange}
 use Rattle.stk_emu.specs.Programmer.{Programmer}
@@ -123,12 +123,12 @@ pub closing_goes : (Stands : Programmer → Type 0) → IsRepeatable device (lea
     → Stands p → Keeps device Stands (λ r q. Stands q × IsClosed r) closing p
 unfolding closing
 closing_goes Stands fits p stands =
-    outcome_mapped without_bytes (step_leads device (leave ∷ []) Stands Stands fits Stands (λ o q. Stands q) p
+    outcome_mapped (checked_by no_result) (step_leads device (leave ∷ []) Stands Stands fits Stands (λ o q. Stands q) p
     (λ q i. i) (λ q i. i) (λ fault q i. i) stands) left
   where
     left : (o : StepOutcome) (q : Programmer)
         → OnOutcome (λ got q. Stands q × IsDataOfAttempt device (leave ∷ []) Stands Stands got)
-        (λ o q. Stands q) o q → Stands q × IsClosed (without_bytes o)
+        (λ o q. Stands q) o q → Stands q × IsClosed (checked_by no_result o)
     left (Ok bytes) q i = (i.0, inl refl)
     left (Err fault) q i = (i, inr (fault, refl))
 
