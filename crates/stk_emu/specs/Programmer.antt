@@ -88,10 +88,10 @@ get_parameter number p = (0x03 ∷ 0 ∷ slice_index p.parameters number ∷ [],
 abbrev pub load_address : ℕ → Programmer → Response
 load_address address p = (0x06 ∷ 0 ∷ [], record p { address = address % bit_31; wide = nat_le bit_31 address })
 
--- It is entered if the polled output byte has the wanted value. Poll index 0 polls nothing.
 abbrev pub enter_response : Bool → Programmer → Response
 enter_response ok p = (0x10 ∷ (if ok then 0 else 0xC0) ∷ [], record p { mode = ok })
 
+-- Programming mode is entered if the polled output byte has the wanted value. Poll index 0 polls nothing.
 abbrev pub enter_progmode : EnterFields → Programmer → Response
 enter_progmode f p =
     if nat_lt 4 f.poll_index then enter_response false p

@@ -30,6 +30,7 @@ handshake =
     step (SignOn ∷ []) >>= unless_step_fault (λ name. step (enter ∷ []) >>=
     unless_step_fault (λ nothing. play signature_steps []))
 
+-- What `judge` makes of the data of steps, or their fault.
 abbrev pub checked_by : {A : Type 0} → (List ℕ → Result A HostFault) → StepOutcome → Result A HostFault
 checked_by judge (Ok bytes) = judge bytes
 checked_by judge (Err fault) = Err (host_fault fault)
