@@ -70,7 +70,6 @@ pub use Rattle.stk_emu.specs.DialogOverExchanges
 pub use Rattle.stk_emu.specs.Device
 pub use Rattle.stk_emu.specs.Effect
 pub use Rattle.stk_emu.specs.Emulator
-pub use Rattle.stk_emu.specs.Repeatable
 pub use Rattle.stk_emu.specs.StepData
 pub use Rattle.stk_emu.specs.Lawful
 pub use Rattle.stk_emu.specs.WriteOperations

@@ -1,10 +1,10 @@
-ghost use Rattle.std.specs.Prelude.{◌≡◌, ◌≤◌, ◌<◌, ◌^◌, length};
+ghost use Rattle.std.specs.Prelude.{◌≡◌, ◌≤◌, ◌<◌, ◌^◌, length, Ok};
 ghost use Rattle.avr_desk.specs.Fault.{CountsNeverFall};
 ghost use Rattle.avr_session.specs.FileText.{file_text};
 ghost use Rattle.avr_session.specs.Reporting.{Outputs, ReadStops};
 ghost use Rattle.avr_session.specs.Saving.{SaveStops, SendsText, WritesAll};
 ghost use Rattle.avr_session.specs.Session.{saving_output, bytes_to_save, read_output, fault_line_or};
-ghost use Rattle.stk_host.specs.Calls.{value_or_fault};
+ghost use Rattle.std.specs.Result.{result_and};
 ghost use Rattle.ghosts.specs.Preserves.{Preserves};
 
 use crate::file_text::{trimmed, write_text};
@@ -101,7 +101,7 @@ pub(crate) fn report_read<D: Desk>(
 ) -> Result<(), DeskFault>
     requires { length bytes.now < 2 ^ 32 }
     ensures { Outputs D.Desk (ReadStops outcome.now) (fault_line_or plan.now.part (read_output plan.now.switches mem
-        target.entry.format target.entry.file.now) (value_or_fault bytes.now outcome.now)) desk.old desk.new result }
+        target.entry.format target.entry.file.now) (result_and outcome.now (Ok bytes.now))) desk.old desk.new result }
 {
     match outcome {
         Ok(()) => {

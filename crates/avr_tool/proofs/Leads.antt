@@ -1,18 +1,18 @@
 -- What holds while a dialog goes along a link, and when it is done; and how far a run of steps has come there.
-use Rattle.std.specs.Prelude.{ℕ, ◌≡◌, ◌++◌, List, [], ◌∷◌, length, Ok, Err, suc, ◌-◌, ◌≤◌, ◌+◌, ◌⊎◌}
+use Rattle.std.specs.Prelude.{ℕ, ◌≡◌, ◌++◌, List, [], ◌∷◌, length, Ok, Err, zero, suc, ◌-◌, ◌≤◌, ◌+◌, ◌⊎◌}
 use Rattle.avr_part.specs.Part.{Part}
 use Rattle.stk_frame.specs.declared.command.Command.{Command}
 use Rattle.stk_host.specs.Dialog.{Dialog, Done}
-use Rattle.stk_host.specs.Steps.{StepOutcome}
+use Rattle.stk_host.specs.Steps.{Data, StepOutcome}
 use Rattle.stk_emu.specs.Exchange.{Exchange}
 use Rattle.stk_emu.specs.Programmer.{Programmer}
 use Rattle.stk_emu.specs.Device.{Device}
 use Rattle.stk_emu.specs.DialogOverExchanges.{state_after, StateAfter}
 use Rattle.stk_emu.specs.Effect.{Memories}
-use Rattle.stk_emu.specs.Settled.{HasMemories, Settled}
-use Rattle.stk_emu.specs.WriteOperations.{memories_after_steps}
+use Rattle.stk_emu.specs.Settled.{HasMemories}
+use Rattle.stk_emu.specs.WriteOperations.{memories_after_step}
 use Rattle.stk_emu.specs.StepData.{data_of_steps}
-use Rattle.stk_emu.specs.Repeatable.{IsRepeatable}
+use Rattle.stk_emu.proofs.Repeatable.{joined_reply, IsRepeatable, Settled}
 use Rattle.avr_tool.specs.Completed.{steps_completed}
 use Rattle.avr_tool.specs.Tallies.{Count, Tallies}
 
@@ -22,6 +22,19 @@ pub record Leads {E R P : Type 0} (m : Device P) (dialog : Dialog E R) (p : P) (
   pub during : (k : ℕ) → During (state_after m k dialog p exchanges).programmer
   pub after : (k : ℕ) (r : R) → (state_after m k dialog p exchanges).dialog ≡ Done r
       → After r (state_after m k dialog p exchanges).programmer
+
+-- the data of one attempt, which began in either condition, and whose commands were all executed in order
+pub record IsDataOfAttempt {P : Type 0} (m : Device P) (commands : List Command) (Before After : P → Type 0)
+    (bytes : List ℕ) : Type 0 where
+  pub from : P
+  pub stood : Before from ⊎ After from
+  pub is : joined_reply m commands [] from ≡ Data bytes
+
+abbrev pub memories_after_steps : Part → ℕ → List (List Command) → Memories → Memories
+memories_after_steps part zero steps m = m
+memories_after_steps part (suc count) [] m = m
+memories_after_steps part (suc count) (commands ∷ steps) m =
+    memories_after_steps part count steps (memories_after_step part commands m)
 
 -- the memories after some number of first steps
 pub record Reached (part : Part) (steps : List (List Command)) (m : Memories) (q : Programmer) : Type 0 where

@@ -17,12 +17,8 @@ pub record StateAfter (E R P : Type 0) : Type 0 where
 abbrev pub state_after : {E R P : Type 0} → Device P → ℕ → Dialog E R → P → List Exchange → StateAfter E R P
 state_after m k (Done r) p exchanges = record { dialog = Done r; programmer = p; exchanges = exchanges; left = k }
 state_after m k (Emit e dialog) p exchanges = state_after m k dialog p exchanges
-state_after m zero (Ask bytes go_on) p exchanges = record {
-  dialog = Ask bytes go_on;
-  programmer = p;
-  exchanges = exchanges;
-  left = 0;
-}
+state_after m zero (Ask bytes go_on) p exchanges =
+    record { dialog = Ask bytes go_on; programmer = p; exchanges = exchanges; left = 0 }
 state_after m (suc k) (Ask bytes go_on) p exchanges =
     state_after m k (go_on (reading_of_exchange (first_exchange exchanges) (m.answer bytes p)))
     (after_exchange (first_exchange exchanges) (m.after bytes p) p m.reset) (later_exchanges exchanges)

@@ -58,8 +58,7 @@ write_effect Lfuse image m = record m { lfuse = if are_locked m then m.lfuse els
 write_effect Hfuse image m = record m { hfuse = if are_locked m then m.hfuse else unwrap_or (byte_at image 0) m.hfuse }
 write_effect Efuse image m = record m { efuse = if are_locked m then m.efuse else unwrap_or (byte_at image 0) m.efuse }
 write_effect Lock image m = record m { lock = and_with (byte_at image 0) m.lock }
-write_effect Signature image m = m
-write_effect Calibration image m = m
+write_effect mem image m = m
 
 abbrev pub effect : Part → Item → Memories → Memories
 effect part Erase m = record m {

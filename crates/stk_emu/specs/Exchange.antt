@@ -37,17 +37,13 @@ abbrev pub execution_in : Exchange → Execution
 execution_in AsIntended = Executed
 execution_in (Disturbed execution instead) = execution
 
--- How listening ends if something else came in place of the programmer's own reply.
-abbrev pub reading_of_other : OtherReading → Reading
-reading_of_other Refusal = Answered refusal
-reading_of_other NoReply = Silent
-reading_of_other Babble = Babbled
-reading_of_other Ending = Ended
-
 -- How listening ends in an exchange, given the body of the programmer's own reply.
 abbrev pub reading_of_exchange : Exchange → List ℕ → Reading
 reading_of_exchange AsIntended answered = Answered answered
-reading_of_exchange (Disturbed execution instead) answered = reading_of_other instead
+reading_of_exchange (Disturbed execution Refusal) answered = Answered refusal
+reading_of_exchange (Disturbed execution NoReply) answered = Silent
+reading_of_exchange (Disturbed execution Babble) answered = Babbled
+reading_of_exchange (Disturbed execution Ending) answered = Ended
 
 -- After the list all exchanges go as intended.
 abbrev pub first_exchange : List Exchange → Exchange

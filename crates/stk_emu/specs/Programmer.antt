@@ -1,5 +1,5 @@
 -- The programmer, and what each command does.
-use Rattle.std.specs.Prelude.{ℕ, Bool, true, false, zero, suc, List, [], ◌∷◌, ◌++◌, ◌+◌, ◌-◌, ◌/◌, ◌%◌, length, ◌==◌, ◌&&◌, ◌||◌, not, nat_le, nat_lt, if◌then◌else◌, slice_index, slice_set, bit_or, take, drop, replicate, Option, Some, None}
+use Rattle.std.specs.Prelude.{ℕ, Bool, false, zero, suc, List, [], ◌∷◌, ◌++◌, ◌+◌, ◌-◌, ◌/◌, ◌%◌, length, ◌==◌, ◌&&◌, ◌||◌, not, nat_le, nat_lt, if◌then◌else◌, slice_index, slice_set, bit_or, take, drop, replicate, Option, Some, None}
 use Rattle.std.specs.Int.{bit_at}
 use Rattle.avr_part.specs.State.{ChipState, spi_of, with_empty_buffers}
 use Rattle.stk_frame.specs.declared.command.Command.{Command}
@@ -22,13 +22,7 @@ pub record Programmer : Type 0 where
   pub chip : ChipState
 
 abbrev pub fresh_programmer : ChipState → Programmer
-fresh_programmer chip = record {
-  mode = false;
-  address = 0;
-  wide = false;
-  parameters = replicate 256 0;
-  chip = chip;
-}
+fresh_programmer chip = record { mode = false; address = 0; wide = false; parameters = replicate 256 0; chip = chip }
 
 -- A restart keeps the memories of the part and loses all else, the page buffers too.
 abbrev pub restarted_programmer : Programmer → Programmer
@@ -72,8 +66,7 @@ at_address cmd address byte = cmd ∷ high address ∷ low address ∷ byte ∷ 
 
 -- The instruction sent before one for flash, if the extended address is used.
 abbrev pub extension : Bool → ℕ → List (List ℕ)
-extension true address = (0x4D ∷ 0 ∷ (address / 65536 % 256) ∷ 0 ∷ []) ∷ []
-extension false address = []
+extension wide address = if wide then (0x4D ∷ 0 ∷ (address / 65536 % 256) ∷ 0 ∷ []) ∷ [] else []
 
 -- The instruction for the low or the high byte of a word.
 abbrev pub for_half : ℕ → ℕ → ℕ
@@ -86,9 +79,6 @@ word_at address i = (address + i / 2) % bit_31
 abbrev pub byte_address : ℕ → ℕ → ℕ
 byte_address address i = (address + i) % bit_31
 
-abbrev pub sign_on : Programmer → Response
-sign_on p = (0x01 ∷ 0 ∷ 8 ∷ 0x53 ∷ 0x54 ∷ 0x4B ∷ 0x35 ∷ 0x30 ∷ 0x30 ∷ 0x5F ∷ 0x32 ∷ [], p)
-
 abbrev pub set_parameter : ℕ → ℕ → Programmer → Response
 set_parameter number value p = (0x02 ∷ 0 ∷ [], record p { parameters = slice_set p.parameters number value })
 
@@ -98,18 +88,15 @@ get_parameter number p = (0x03 ∷ 0 ∷ slice_index p.parameters number ∷ [],
 abbrev pub load_address : ℕ → Programmer → Response
 load_address address p = (0x06 ∷ 0 ∷ [], record p { address = address % bit_31; wide = nat_le bit_31 address })
 
--- The polled output byte has the wanted value; poll index 0 polls nothing.
-abbrev pub is_polled : ℕ → ℕ → List ℕ → Bool
-is_polled value index out = index == 0 || slice_index out (index - 1) == value
-
 abbrev pub enter_response : Bool → Programmer → Response
 enter_response ok p = (0x10 ∷ (if ok then 0 else 0xC0) ∷ [], record p { mode = ok })
 
+-- Programming mode is entered if the polled output byte has the wanted value. Poll index 0 polls nothing.
 abbrev pub enter_progmode : EnterFields → Programmer → Response
 enter_progmode f p =
-    if nat_lt 4 f.poll_index
-    then enter_response false p
-    else enter_response (is_polled f.poll_value f.poll_index (spi_of f.instruction p.chip).0)
+    if nat_lt 4 f.poll_index then enter_response false p
+    else enter_response
+    (f.poll_index == 0 || slice_index (spi_of f.instruction p.chip).0 (f.poll_index - 1) == f.poll_value)
     (with_instructions (f.instruction ∷ []) p)
 
 abbrev pub leave_progmode : Programmer → Response
@@ -140,8 +127,8 @@ flash_loads wide cmd address i (b ∷ bytes) =
     ++ (at_address (for_half cmd i) (word_at address i) b ∷ flash_loads wide cmd address (suc i) bytes)
 
 abbrev pub flash_writes : Bool → ℕ → ℕ → Bool → List (List ℕ)
-flash_writes wide cmd address true = extension wide address ++ (at_address cmd address 0 ∷ [])
-flash_writes wide cmd address false = []
+flash_writes wide cmd address written =
+    if written then extension wide address ++ (at_address cmd address 0 ∷ []) else []
 
 -- Bit 0 asks for page mode, bit 7 for writing the page.
 abbrev pub is_paged : ProgramBlock → Bool
@@ -150,16 +137,10 @@ is_paged f = bit_at f.mode 0 == 1
 abbrev pub is_written : ProgramBlock → Bool
 is_written f = bit_at f.mode 7 == 1
 
-abbrev pub writes_page : ProgramBlock → Bool
-writes_page f = is_paged f && is_written f
-
-abbrev pub flash_fits : ProgramBlock → Bool
-flash_fits f = not (f.count == 0) && f.count % 2 == 0 && f.count == length f.bytes && is_paged f
-
 abbrev pub program_flash : ProgramBlock → Programmer → Response
 program_flash f p =
     if_programming 0x13 p
-    (if flash_fits f
+    (if not (f.count == 0) && f.count % 2 == 0 && f.count == length f.bytes && is_paged f
     then (
       0x13 ∷ 0 ∷ [],
       with_address_moved (f.count / 2) (with_instructions
@@ -173,32 +154,25 @@ eeprom_loads cmd address i (b ∷ bytes) = at_address cmd (byte_address address 
     ∷ eeprom_loads cmd address (suc i) bytes
 
 abbrev pub eeprom_writes : ℕ → ℕ → Bool → List (List ℕ)
-eeprom_writes cmd address true = at_address cmd address 0 ∷ []
-eeprom_writes cmd address false = []
-
-abbrev pub eeprom_fits : ProgramBlock → Bool
-eeprom_fits f = not (f.count == 0) && f.count == length f.bytes
+eeprom_writes cmd address written = if written then at_address cmd address 0 ∷ [] else []
 
 abbrev pub program_eeprom : ProgramBlock → Programmer → Response
 program_eeprom f p =
     if_programming 0x15 p
-    (if eeprom_fits f
+    (if not (f.count == 0) && f.count == length f.bytes
     then (
       0x15 ∷ 0 ∷ [],
       with_address_moved f.count (with_instructions
-          (eeprom_loads f.cmd1 p.address 0 f.bytes ++ eeprom_writes f.cmd2 p.address (writes_page f)) p),
+          (eeprom_loads f.cmd1 p.address 0 f.bytes ++ eeprom_writes f.cmd2 p.address (is_paged f && is_written f)) p),
     )
     else fail 0x15 p)
 
 abbrev pub BytesAndChip : Type 0
 BytesAndChip = List ℕ × ChipState
 
-abbrev pub with_first_byte : ℕ → BytesAndChip → BytesAndChip
-with_first_byte b bytes_and_chip = (b ∷ bytes_and_chip.0, bytes_and_chip.1)
-
 -- The fourth output byte of an instruction, and then what is read from the chip after it.
 abbrev pub read_then : List ℕ → ChipState → (ChipState → BytesAndChip) → BytesAndChip
-read_then x chip more = with_first_byte (slice_index (spi_of x chip).0 3) (more (spi_of x chip).1)
+read_then x chip more = (slice_index (spi_of x chip).0 3 ∷ (more (spi_of x chip).1).0, (more (spi_of x chip).1).1)
 
 abbrev pub flash_reads : Bool → ℕ → ℕ → ℕ → ℕ → ChipState → BytesAndChip
 flash_reads wide cmd address i zero chip = ([], chip)
@@ -246,7 +220,7 @@ spi_multi send_count receive_count receive_start bytes p =
     else fail 0x1D p)
 
 abbrev pub execute_command : Command → Programmer → Response
-execute_command SignOn p = sign_on p
+execute_command SignOn p = (0x01 ∷ 0 ∷ 8 ∷ 0x53 ∷ 0x54 ∷ 0x4B ∷ 0x35 ∷ 0x30 ∷ 0x30 ∷ 0x5F ∷ 0x32 ∷ [], p)
 execute_command (SetParameter number value) p = set_parameter number value p
 execute_command (GetParameter number) p = get_parameter number p
 execute_command (LoadAddress address) p = load_address address p
@@ -270,12 +244,9 @@ abbrev pub is_known : ℕ → Bool
 is_known code = nat_le 0x01 code && nat_le code 0x03 || code == 0x06 || nat_le 0x10 code && nat_le code 0x1D
 
 -- A body that is no command fails if its first byte is a command's, and is unknown otherwise.
-abbrev pub undecoded_response : ℕ → Programmer → Response
-undecoded_response code p = (code ∷ (if is_known code then 0xC0 else 0xC9) ∷ [], p)
-
 abbrev pub execute_decoded : Option Command → List ℕ → Programmer → Response
 execute_decoded (Some command) bytes p = execute_command command p
-execute_decoded None bytes p = undecoded_response (slice_index bytes 0) p
+execute_decoded None bytes p = (slice_index bytes 0 ∷ (if is_known (slice_index bytes 0) then 0xC0 else 0xC9) ∷ [], p)
 
 -- The programmer's reply to the body of a frame, and the programmer after it.
 abbrev pub execute : List ℕ → Programmer → Response

@@ -16,16 +16,6 @@ pub record HasMemories (part : Part) (m : Memories) (p : Programmer) : Type 0 wh
   pub flash_buffer : length p.chip.flash_buffer ≡ part.flash_page
   pub eeprom_buffer : length p.chip.eeprom_buffer ≡ part.eeprom_page
 
--- A programmer with empty buffers, in programming mode or restarted. No extended address is set that a step would not
--- set again. Address and parameters don't matter, because each attempt of a step loads its address. Outside
--- programming mode, which no step enters, every attempt fails.
-pub record Settled (part : Part) (m : Memories) (p : Programmer) : Type 0 where
-  pub memories : memories_of p.chip ≡ m
-  pub part_is : p.chip.part ≡ part
-  pub flash_buffer : p.chip.flash_buffer ≡ replicate part.flash_page 255
-  pub eeprom_buffer : p.chip.eeprom_buffer ≡ replicate part.eeprom_page None
-  pub extended : NeedsNoExtendedAddress part → p.chip.extended ≡ 0
-
 -- A settled programmer in programming mode.
 pub record Ready (part : Part) (m : Memories) (p : Programmer) : Type 0 where
   pub memories : memories_of p.chip ≡ m

@@ -19,8 +19,7 @@ pub record HasRoom (waiting : Waiting) : Type 0 where
 -- The bytes from the place `at` on, and a timeout before the byte at each of these places.
 abbrev pub tape_in : ℕ → List ℕ → List ℕ → Tape
 tape_in at bytes [] = on_tape (drop at bytes)
-tape_in at bytes (place ∷ places) =
-    on_tape (take (place - at) (drop at bytes)) ++ Silence ∷ tape_in place bytes places
+tape_in at bytes (place ∷ places) = on_tape (take (place - at) (drop at bytes)) ++ Silence ∷ tape_in place bytes places
 
 -- The places never fall, and lie between `at` and `count`.
 abbrev pub AreWithin : ℕ → List ℕ → ℕ → Type 0

@@ -1,5 +1,5 @@
 -- A faulty wire to a programmer.
-use Rattle.std.specs.Prelude.{ℕ, zero, suc, Bool, true, false, List, [], ◌∷◌, ◌++◌, if◌then◌else◌, All}
+use Rattle.std.specs.Prelude.{ℕ, zero, suc, Bool, true, false, List, [], ◌∷◌, ◌++◌, if◌then◌else◌, All, map}
 use Rattle.stk_frame.specs.Frame.{frame}
 use Rattle.stk_frame.specs.Cut.{seq_of}
 use Rattle.stk_host.specs.declared.link.Item.TheVariants.{Silence}
@@ -34,8 +34,7 @@ exchange_of_fate CommandRefused = Disturbed NotExecuted Refusal
 exchange_of_fate _ = Disturbed Executed NoReply
 
 abbrev pub exchanges_of_fates : List Fate → List Exchange
-exchanges_of_fates [] = []
-exchanges_of_fates (fate ∷ fates) = exchange_of_fate fate ∷ exchanges_of_fates fates
+exchanges_of_fates = map exchange_of_fate
 
 -- What becomes of the command in each of the next `k` frames.
 abbrev pub executions_of_fates : ℕ → List Fate → List Execution

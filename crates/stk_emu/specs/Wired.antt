@@ -27,8 +27,7 @@ brought p fates bytes = tape_of device (frames bytes) (fresh_wire p fates)
 
 -- The host received only when something waited.
 abbrev pub NeverIdle : Programmer → List Fate → Transcript → Type 0
-NeverIdle p fates transcript =
-    (before after : Transcript) (items : Tape) → transcript ≡ before ++ Got items ∷ after
+NeverIdle p fates transcript = (before after : Transcript) (items : Tape) → transcript ≡ before ++ Got items ∷ after
     → brought p fates (sent before) ≢ heard before
 
 -- A wire that began with this programmer and these fates, as the frames sent have left it. If the host received only

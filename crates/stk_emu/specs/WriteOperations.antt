@@ -1,5 +1,5 @@
 -- The write operation of each step: an erase, or a write of a page, of a run of EEPROM, of a fuse or of the lock.
-use Rattle.std.specs.Prelude.{ℕ, zero, suc, ◌+◌, ◌*◌, ◌%◌, ◌^◌, ◌<◌, ◌≤◌, ◌≡◌, List, [], ◌∷◌, ◌++◌, length, map, replicate, Some, None}
+use Rattle.std.specs.Prelude.{ℕ, ◌+◌, ◌*◌, ◌%◌, ◌^◌, ◌<◌, ◌≤◌, ◌≡◌, List, [], ◌∷◌, ◌++◌, length, map, replicate, Some, None}
 use Rattle.avr_part.specs.declared.part.Mem.{Mem}
 use Rattle.avr_part.specs.declared.part.Mem.TheVariants.{Flash, Eeprom, Lfuse, Hfuse, Efuse, Lock}
 use Rattle.avr_part.specs.declared.instruction.Fuse as instruction_fuse
@@ -32,15 +32,12 @@ written_by (instruction.WriteFuse f byte) = Write (memory_of_fuse f) (Some byte 
 written_by (instruction.WriteLock byte) = Write Lock (Some byte ∷ []) ∷ []
 written_by i = []
 
--- The write operation at a loaded address. For flash it counts words, and bit 31 asks for the extended address.
-abbrev pub written_at : ℕ → List Command → List Item
-written_at address (ProgramFlash f ∷ []) = Write Flash (image_at (address % 2 ^ 31 * 2) f.bytes) ∷ []
-written_at address (ProgramEeprom f ∷ []) = Write Eeprom (image_at address f.bytes) ∷ []
-written_at address commands = []
-
--- The write operation of a step, one part of an item; a step that reads has none.
+-- The write operation of a step, one part of an item; a step that reads has none. The address of flash counts words,
+-- and its bit 31 asks for the extended address.
 abbrev pub write_operation_of : List Command → List Item
-write_operation_of (LoadAddress address ∷ commands) = written_at address commands
+write_operation_of (LoadAddress address ∷ ProgramFlash f ∷ []) =
+    Write Flash (image_at (address % 2 ^ 31 * 2) f.bytes) ∷ []
+write_operation_of (LoadAddress address ∷ ProgramEeprom f ∷ []) = Write Eeprom (image_at address f.bytes) ∷ []
 write_operation_of (ChipErase erase_delay poll_method bytes ∷ []) = written_by (instruction_of bytes)
 write_operation_of (ProgramFuse bytes ∷ []) = written_by (instruction_of bytes)
 write_operation_of (ProgramLock bytes ∷ []) = written_by (instruction_of bytes)
@@ -53,12 +50,6 @@ write_operations_of (commands ∷ steps) = write_operation_of commands ++ write_
 abbrev pub memories_after_step : Part → List Command → Memories → Memories
 memories_after_step part commands m = effects part (write_operation_of commands) m
 
-abbrev pub memories_after_steps : Part → ℕ → List (List Command) → Memories → Memories
-memories_after_steps part zero steps m = m
-memories_after_steps part (suc count) [] m = m
-memories_after_steps part (suc count) (commands ∷ steps) m =
-    memories_after_steps part count steps (memories_after_step part commands m)
-
 abbrev pub steps_of_item : Part → Item → List (List Command)
 steps_of_item part Erase = (erase ∷ []) ∷ []
 steps_of_item part (Write mem image) = write_steps part mem image
@@ -66,14 +57,6 @@ steps_of_item part (Write mem image) = write_steps part mem image
 abbrev pub steps_of_items : Part → List Item → List (List Command)
 steps_of_items part [] = []
 steps_of_items part (item ∷ items) = steps_of_item part item ++ steps_of_items part items
-
-abbrev pub ItemFits : Part → Item → Type 0
-ItemFits part Erase = Unit {0}
-ItemFits part (Write mem image) = length image ≤ size_of mem part
-
-abbrev pub ItemsFit : Part → List Item → Type 0
-ItemsFit part [] = Unit {0}
-ItemsFit part (item ∷ items) = ItemFits part item × ItemsFit part items
 
 -- What steps may carry.
 

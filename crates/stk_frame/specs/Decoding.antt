@@ -101,8 +101,7 @@ with_fields code bytes =
     else if code == CMD_READ_LOCK_ISP then option_map ReadLock (read_byte_of bytes)
     else if code == CMD_READ_SIGNATURE_ISP then option_map ReadSignature (read_byte_of bytes)
     else if code == CMD_READ_OSCCAL_ISP then option_map ReadOsccal (read_byte_of bytes)
-    else if code == CMD_SPI_MULTI then spi_multi_of bytes
-    else None
+    else if code == CMD_SPI_MULTI then spi_multi_of bytes else None
 
 -- What `Command::read` returns.
 abbrev pub command_of : List ℕ → Option Command

@@ -1,6 +1,5 @@
 -- What calls over a link ensure: listening, conversations, and the calls of `Host`.
 use Rattle.std.specs.Prelude.{ℕ, Bool, true, List, [], ◌∷◌, ◌++◌, ◌≡◌, ◌<◌, ◌≤◌, length, Option, None, Some, Result, Ok, Err, IfOk, IfErr, IfSome, IsOkAnd, OnErr, ◌⊎◌}
-use Rattle.avr_part.specs.declared.part.Mem.{Mem}
 use Rattle.stk_frame.specs.declared.protocol.TheConstants.{LARGEST_BODY, LARGEST_FRAME}
 use Rattle.stk_frame.specs.declared.command.Command.{Command}
 use Rattle.stk_frame.specs.declared.answer.Shape.{Shape}
@@ -26,7 +25,7 @@ use Rattle.stk_host.specs.Tape as tape
 use Rattle.stk_host.specs.Tape.{on_tape}
 use Rattle.stk_host.specs.Steps as steps
 use Rattle.stk_host.specs.Steps.{play}
-use Rattle.stk_host.specs.Operations.{host_fault, signature_checked, comparison}
+use Rattle.stk_host.specs.Operations.{host_fault, signature_checked}
 use Rattle.stk_host.specs.Transcript.{LinkState, Got, Grows, LinkCounts}
 use Rattle.stk_host.specs.Dialog.{Dialog}
 use Rattle.stk_host.specs.Play.{Progress, RunsOverLink, BreaksOverLink}
@@ -122,8 +121,7 @@ data_count (Closed n) = n
 
 abbrev pub IsSizedShape : Shape → Type 0
 IsSizedShape Name = ⊥
-IsSizedShape (Bytes n) = Unit {0}
-IsSizedShape (Closed n) = Unit {0}
+IsSizedShape _ = Unit {0}
 
 -- What each call of a conversation ensures: it ends as `Ends` states, and at most one piece stays unread.
 pub record Converses {A L : Type 0} (link : Ghosts L)
@@ -156,11 +154,6 @@ EndsCall allocates dialog before old new (Err RecvFailed) after = BreaksOverLink
 EndsCall allocates dialog before old new (Err Memory) after = (allocates ≡ true) × (new ≡ old) × (after ≡ before)
 EndsCall allocates dialog before old new result after = RunsOverLink dialog before old new result after
 
--- This value if the call succeeded, else its fault. `Host::read` has its bytes in a vector, not in its result.
-abbrev pub value_or_fault : {A : Type 0} → A → Result (Unit {0}) HostFault → Result A HostFault
-value_or_fault a (Ok done) = Ok a
-value_or_fault a (Err fault) = Err fault
-
 abbrev pub FitsFrame : Command → Type 0
 FitsFrame command = length (body command) ≤ LARGEST_BODY
 
@@ -168,9 +161,6 @@ FitsFrame command = length (body command) ≤ LARGEST_BODY
 pub record BringsNoData (command : Command) : Type 0 where
   pub fits : FitsFrame command
   pub quiet : shape command ≡ Bytes 0
-
-abbrev pub step_data_count : Command → ℕ
-step_data_count last = data_count (shape last)
 
 -- A step whose first command brings no data, and whose last brings as many bytes as its shape fixes.
 pub record IsSizedStep (first : Option Command) (last : Command) : Type 0 where
@@ -213,14 +203,9 @@ status_named (Refused command status) = name_in status_names status
 status_named fault = None
 
 abbrev pub opening_result : List ℕ → Bool → Result (List ℕ) HostFault → Result (List ℕ) HostFault
-opening_result wanted force (Ok found) = signature_checked wanted force (Ok found)
+opening_result wanted force (Ok found) = signature_checked wanted force found
 opening_result wanted force (Err fault) = Err fault
 
 abbrev pub emptied_on_fault : Result (Unit {0}) HostFault → List ℕ → List ℕ
 emptied_on_fault (Ok done) bytes = bytes
 emptied_on_fault (Err fault) bytes = []
-
-abbrev pub verifying_result : Mem → List (Option ℕ) → List ℕ → Result (Unit {0}) HostFault
-    → Result (Unit {0}) HostFault
-verifying_result mem image bytes (Ok done) = comparison mem image bytes
-verifying_result mem image bytes (Err fault) = Err fault

@@ -1,5 +1,5 @@
 -- The states of this crate's links, and what one call does.
-use Rattle.std.specs.Prelude.{ℕ, Bool, List, [], ◌∷◌, ◌++◌, ◌≡◌, ◌≢◌, ◌==◌, ◌≤◌, ◌<◌, ◌+◌, ◌-◌, ◌^◌, replicate, take, min, Option, Some, None, Result, Err, OnErr}
+use Rattle.std.specs.Prelude.{ℕ, Bool, List, [], ◌∷◌, ◌++◌, ◌≡◌, ◌≢◌, ◌==◌, ◌≤◌, ◌<◌, ◌+◌, ◌-◌, replicate, take, Option, Some, None, Result, Err, OnErr}
 use Rattle.std.specs.Io.KnownBytes.{Keeps, Appends, Consumes, IsAtEnd}
 use Rattle.std.specs.declared.io.ErrorKind.{ErrorKind}
 use Rattle.std.specs.declared.io.ErrorKind.TheVariants.{WouldBlock, TimedOut, Interrupted}
@@ -10,7 +10,7 @@ use Rattle.stk_host.specs.declared.link.Item.TheVariants.{Byte, Silence, End}
 use Rattle.stk_host.specs.declared.link.LinkFault.{LinkFault}
 use Rattle.stk_host.specs.declared.link.LinkFault.TheVariants.{Failed}
 use Rattle.stk_host.specs.Tape.{Tape, on_tape, leading_bytes, bytes_on_tape}
-use Rattle.ghosts.specs.Failures.{OneFailureCounted}
+use Rattle.ghosts.specs.Failures.{counted, OneFailureCounted}
 use Rattle.stk_host.specs.Transcript.{Transcript, LinkState, TakesPart, HasFailed, heard, sent}
 
 -- A log: the transcript, and its room for pieces and for bytes sent.
@@ -40,10 +40,9 @@ tape_state link = record { transcript = link.transcript; failures = link.failure
 
 -- The next piece of a tape, of at most `most` bytes; an end if no item is left.
 abbrev pub next_piece : ℕ → Tape → Tape
-next_piece most [] = End ∷ []
-next_piece most (End ∷ tape) = End ∷ []
 next_piece most (Silence ∷ tape) = Silence ∷ []
 next_piece most (Byte byte ∷ tape) = on_tape (take most (byte ∷ leading_bytes tape))
+next_piece most _ = End ∷ []
 
 abbrev pub byte_of : Option Item → Option ℕ
 byte_of (Some (Byte byte)) = Some byte
@@ -111,11 +110,6 @@ pub record FailsAsPlanned {A L : Type 0} (view : L → LinkState) (old new : Fai
   pub chosen : old.due ≡ 1 → (result ≡ Err Failed) × (new.inner ≡ old.inner)
   pub others : old.due ≢ 1 → (new.failed ≡ old.failed) × OnErr result (HasFailed (view old.inner) (view new.inner))
 
-abbrev pub total_failures : ℕ → ℕ → ℕ
-total_failures inner own = min (inner + own) (2 ^ 64 - 1)
-
 abbrev pub failing_link_state : {L : Type 0} → (L → LinkState) → FailingState L → LinkState
-failing_link_state view link = record {
-  transcript = (view link.inner).transcript;
-  failures = total_failures (view link.inner).failures link.failed;
-}
+failing_link_state view link =
+    record { transcript = (view link.inner).transcript; failures = counted ((view link.inner).failures + link.failed) }

@@ -30,32 +30,28 @@ handshake =
     step (SignOn ∷ []) >>= unless_step_fault (λ name. step (enter ∷ []) >>=
     unless_step_fault (λ nothing. play signature_steps []))
 
-abbrev pub signature_checked : List ℕ → Bool → StepOutcome → Result (List ℕ) HostFault
-signature_checked wanted force (Ok found) =
-    if force then Ok found else if bytes_eq found wanted then Ok found else Err (WrongSignature found)
-signature_checked wanted force (Err fault) = Err (host_fault fault)
-
-unfoldable pub opening : List ℕ → Bool → Dialog ⊥ (Result (List ℕ) HostFault)
-opening wanted force = handshake >>= λ outcome. Done (signature_checked wanted force outcome)
-
-abbrev pub without_bytes : StepOutcome → Result ⊤ HostFault
-without_bytes (Ok bytes) = Ok tt
-without_bytes (Err fault) = Err (host_fault fault)
-
-unfoldable pub closing : Dialog ⊥ (Result ⊤ HostFault)
-closing = step (leave ∷ []) >>= λ outcome. Done (without_bytes outcome)
-
+-- What `judge` makes of the data of steps, or their fault.
 abbrev pub checked_by : {A : Type 0} → (List ℕ → Result A HostFault) → StepOutcome → Result A HostFault
 checked_by judge (Ok bytes) = judge bytes
 checked_by judge (Err fault) = Err (host_fault fault)
+
+abbrev pub signature_checked : List ℕ → Bool → List ℕ → Result (List ℕ) HostFault
+signature_checked wanted force found =
+    if force then Ok found else if bytes_eq found wanted then Ok found else Err (WrongSignature found)
+
+unfoldable pub opening : List ℕ → Bool → Dialog ⊥ (Result (List ℕ) HostFault)
+opening wanted force = handshake >>= λ outcome. Done (checked_by (signature_checked wanted force) outcome)
+
+abbrev pub no_result : List ℕ → Result ⊤ HostFault
+no_result bytes = Ok tt
+
+unfoldable pub closing : Dialog ⊥ (Result ⊤ HostFault)
+closing = step (leave ∷ []) >>= λ outcome. Done (checked_by no_result outcome)
 
 -- Runs the steps, and makes the result from their data.
 unfoldable pub operation : {A : Type 0} → List (List Command) → (List ℕ → Result A HostFault)
     → Dialog ⊥ (Result A HostFault)
 operation steps judge = play steps [] >>= λ outcome. Done (checked_by judge outcome)
-
-abbrev pub no_result : List ℕ → Result ⊤ HostFault
-no_result bytes = Ok tt
 
 abbrev pub erasing : Dialog ⊥ (Result ⊤ HostFault)
 erasing = operation ((erase ∷ []) ∷ []) no_result

@@ -39,8 +39,7 @@ played_over dialog before transcript = played dialog before.next (on_tape before
 -- The transcript is the dialog's run to its end, over the unread bytes and the items received. Exactly these events
 -- happened, with this result and this state after them, whatever follows on the tape.
 pub record Plays {E R : Type 0} (dialog : Dialog E R) (before : Progress) (transcript : Transcript)
-    (events : List (Event E))
-    (result : R) (after : Progress) : Type 0 where
+    (events : List (Event E)) (result : R) (after : Progress) : Type 0 where
   pub plays : (more : Tape) → played dialog before.next (on_tape before.unread ++ (heard transcript ++ more))
       ≡ record { events = events; outcome = Some (result, after.next, on_tape after.unread ++ more) }
   pub all_sent : bytes_sent events ≡ sent transcript
@@ -50,16 +49,11 @@ pub record Plays {E R : Type 0} (dialog : Dialog E R) (before : Progress) (trans
 abbrev pub IsBytePrefixOf : List ℕ → List ℕ → Type 0
 IsBytePrefixOf prefix bytes = (back : List ℕ) × (prefix ++ back ≡ bytes)
 
--- The first event is a part of the second: a prefix of its frame, or a part of its output.
-abbrev pub IsPartOf : {E : Type 0} → (E → E → Type 0) → Event E → Event E → Type 0
-IsPartOf IsPartOfEvent (Frame part) (Frame whole) = IsBytePrefixOf part whole
-IsPartOf IsPartOfEvent (Emitted part) (Emitted whole) = IsPartOfEvent part whole
-IsPartOf IsPartOfEvent _ _ = ⊥
-
--- Nothing, or a part of the first event.
+-- Nothing, or a part of the first event: a prefix of its frame, or a part of its output.
 abbrev pub IsPartOfFirst : {E : Type 0} → (E → E → Type 0) → List (Event E) → List (Event E) → Type 0
 IsPartOfFirst IsPartOfEvent [] events = Unit {0}
-IsPartOfFirst IsPartOfEvent (part ∷ []) (event ∷ events) = IsPartOf IsPartOfEvent part event
+IsPartOfFirst IsPartOfEvent (Frame part ∷ []) (Frame whole ∷ events) = IsBytePrefixOf part whole
+IsPartOfFirst IsPartOfEvent (Emitted part ∷ []) (Emitted whole ∷ events) = IsPartOfEvent part whole
 IsPartOfFirst IsPartOfEvent _ _ = ⊥
 
 -- A prefix of the events, and perhaps a part of the next one.
@@ -73,8 +67,7 @@ pub record IsPrefixOfEvents {E : Type 0} (IsPartOfEvent : E → E → Type 0) (s
 
 -- The run broke off: what happened is a prefix of its events over the items received.
 pub record Breaks {E R : Type 0} (IsPartOfEvent : E → E → Type 0) (dialog : Dialog E R) (before : Progress)
-    (transcript : Transcript)
-    (shown : List (Event E)) : Type 0 where
+    (transcript : Transcript) (shown : List (Event E)) : Type 0 where
   pub prefix : IsPrefixOfEvents IsPartOfEvent shown (played_over dialog before transcript).events
   pub all_sent : bytes_sent shown ≡ sent transcript
   pub in_turn : InTurn dialog before transcript

@@ -1,8 +1,8 @@
 -- What a host keeps from call to call.
 use Rattle.std.specs.Prelude.{ℕ, List, [], Option, None, Some, Result, Ok, Err}
+use Rattle.std.specs.Result.{result_unwrap_or}
 use Rattle.avr_part.specs.Part.{Part}
 use Rattle.stk_frame.specs.declared.command.Command.{Command}
-use Rattle.stk_frame.specs.declared.answer.FrameFault.{FrameFault}
 use Rattle.stk_frame.specs.Cut.{body_of}
 use Rattle.stk_frame.specs.Commands.{judge}
 use Rattle.stk_host.specs.declared.fault.HostFault.{HostFault}
@@ -20,13 +20,9 @@ pub record HostState : Type 0 where
   pub progress : Progress
   pub broken : Option HostFault
 
-abbrev pub data_in : Result (List ℕ) FrameFault → List ℕ
-data_in (Ok bytes) = bytes
-data_in (Err fault) = []
-
 -- The data of the reply that is held, if it is a good reply to this command.
 abbrev pub data_held : Command → List ℕ → List ℕ
-data_held command held = data_in (judge command (body_of held))
+data_held command held = result_unwrap_or (judge command (body_of held)) []
 
 -- The fault that every later call returns.
 abbrev pub lasting_fault : {A : Type 0} → Result A HostFault → Option HostFault

@@ -3,7 +3,7 @@ use Rattle.std.specs.Prelude.{ℕ, zero, suc, List, [], ◌∷◌, ◌++◌, Opt
 use Rattle.stk_frame.specs.declared.protocol.TheConstants.{STATUS_CKSUM_ERROR}
 use Rattle.stk_frame.specs.declared.command.Command.{Command}
 use Rattle.stk_frame.specs.declared.answer.FrameFault.{FrameFault}
-use Rattle.stk_frame.specs.declared.answer.FrameFault.TheVariants.{WrongLength, WrongCommand, CheckSum, Status}
+use Rattle.stk_frame.specs.declared.answer.FrameFault.TheVariants.{CheckSum, Status}
 use Rattle.stk_frame.specs.Commands.{code, body, judge}
 use Rattle.stk_host.specs.declared.fault.StepFault.{StepFault}
 use Rattle.stk_host.specs.declared.fault.StepFault.TheVariants.{NoAnswer, LinkEnded, Babble, Refused, BadAnswer}
@@ -21,8 +21,7 @@ abbrev pub reply_from_check : Command → Result (List ℕ) FrameFault → Reply
 reply_from_check command (Ok bytes) = Data bytes
 reply_from_check command (Err CheckSum) = Again (Refused (code command) STATUS_CKSUM_ERROR)
 reply_from_check command (Err (Status status)) = Stop (Refused (code command) status)
-reply_from_check command (Err WrongCommand) = Stop (BadAnswer (code command))
-reply_from_check command (Err WrongLength) = Stop (BadAnswer (code command))
+reply_from_check command (Err fault) = Stop (BadAnswer (code command))
 
 -- What follows from how listening for the reply to this command ended.
 abbrev pub reply_from_reading : Command → Reading → Reply

@@ -2,7 +2,7 @@
 use Rattle.std.specs.Prelude.{ℕ, Bool, ◌+◌, ◌-◌, ◌*◌, ◌/◌, ◌%◌, List, [], ◌∷◌, ◌==◌, ◌&&◌, ◌||◌, not, Option, Some, None, is_some, if◌then◌else◌}
 use Rattle.avr_image.specs.Image.{byte_at, filled_bytes, holds_any, run_end}
 use Rattle.avr_part.specs.declared.part.Mem.{Mem}
-use Rattle.avr_part.specs.declared.part.Mem.TheVariants.{Flash, Eeprom, Lfuse, Hfuse, Efuse, Lock, Signature, Calibration}
+use Rattle.avr_part.specs.declared.part.Mem.TheVariants.{Flash, Eeprom, Lfuse, Hfuse, Efuse, Lock}
 use Rattle.avr_part.specs.Part.{Part}
 use Rattle.stk_frame.specs.declared.command.Command.{Command}
 use Rattle.stk_frame.specs.declared.host_command.Fuse.TheVariants.{Low, High, Extended}
@@ -17,8 +17,7 @@ page_step part image start = load_flash part start ∷ program_page (filled_byte
 abbrev pub page_steps : Part → List (Option ℕ) → ℕ → List (List Command)
 page_steps part image number =
     if holds_any image (number * part.flash_page) part.flash_page
-    then page_step part image (number * part.flash_page) ∷ []
-    else []
+    then page_step part image (number * part.flash_page) ∷ [] else []
 
 abbrev pub page_end : ℕ → ℕ → ℕ
 page_end page addr = addr - addr % page + page
@@ -32,8 +31,7 @@ begins_run page image addr =
 abbrev pub run_step : Part → List (Option ℕ) → ℕ → List Command
 run_step part image addr =
     load_eeprom addr ∷ program_eeprom_block
-    (filled_bytes image addr (run_end image addr (page_end part.eeprom_page addr) - addr))
-    ∷ []
+    (filled_bytes image addr (run_end image addr (page_end part.eeprom_page addr) - addr)) ∷ []
 
 abbrev pub run_steps_at : Part → List (Option ℕ) → ℕ → List (List Command)
 run_steps_at part image addr = if begins_run part.eeprom_page image addr then run_step part image addr ∷ [] else []
@@ -59,5 +57,4 @@ write_steps part Lfuse image = byte_steps (program_fuse Low) (byte_at image 0)
 write_steps part Hfuse image = byte_steps (program_fuse High) (byte_at image 0)
 write_steps part Efuse image = byte_steps (program_fuse Extended) (byte_at image 0)
 write_steps part Lock image = byte_steps program_lock (byte_at image 0)
-write_steps part Signature image = []
-write_steps part Calibration image = []
+write_steps part mem image = []

@@ -3,7 +3,7 @@ ghost use Rattle.std.specs.Prelude.{◌≡◌, ◌<◌, ◌≤◌, ◌∷◌, []
 ghost use Rattle.stk_frame.specs.Commands.{shape, FitsShape};
 ghost use Rattle.stk_host.specs.Steps.{exchange, attempt, step, commands_by, reply_from_reading};
 ghost use Rattle.stk_host.specs.State.{data_held};
-ghost use Rattle.stk_host.specs.Calls.{reading_of, reply_of, EndsSteps, Converses, ReturnsReply, FitsFrame, BringsNoData, CompletesSteps, CompletesStepsWithData, IsSizedStep, step_data_count};
+ghost use Rattle.stk_host.specs.Calls.{reading_of, reply_of, EndsSteps, Converses, ReturnsReply, FitsFrame, BringsNoData, CompletesSteps, CompletesStepsWithData, IsSizedStep, data_count};
 
 use crate::fault::{HostFault, StepFault};
 use crate::link::{Link, send_all};
@@ -167,7 +167,7 @@ pub(crate) fn play_step<L: Link>(
     last: &Command<'_>,
 ) -> Result<(), HostFault>
     requires sized { IsSizedStep first.now last.now }
-    requires none { step_data_count last.now ≡ 0 }
+    requires none { data_count (shape last.now) ≡ 0 }
     ensures { Converses L.Link (CompletesSteps (commands_by first.now last.now ∷ [])) talk.old talk.new link.old
         link.new result }
 {
@@ -183,11 +183,11 @@ pub(crate) fn read_step<L: Link>(
     out: &mut Vec<u8>,
 ) -> Result<(), HostFault>
     requires sized { IsSizedStep first.now last.now }
-    requires room { length out.old.items + step_data_count last.now ≤ vec_capacity out.old }
+    requires room { length out.old.items + data_count (shape last.now) ≤ vec_capacity out.old }
     ensures asks { Converses L.Link (CompletesStepsWithData (commands_by first.now last.now ∷ []) out.old.items
         out.new.items)
         talk.old talk.new link.old link.new result }
-    ensures size { OnOk result (length out.new.items ≡ length out.old.items + step_data_count last.now) }
+    ensures size { OnOk result (length out.new.items ≡ length out.old.items + data_count (shape last.now)) }
     ensures room { vec_capacity out.old ≤ vec_capacity out.new }
 {
     talk.step(link, first, last)?;

@@ -1,13 +1,14 @@
 //! The host: operations over a link, and the fault after which nothing more is sent.
 ghost use Rattle.std.specs.Prelude.{◌≡◌, ◌<◌, ◌≤◌, ◌^◌, ℕ, List, [], length, Some, None, Ok, Err, IfOk, OnOk, OnErr, MatchOption, true, false};
+ghost use Rattle.std.specs.Result.{result_and};
 ghost use Rattle.avr_part.specs.Mem.{is_writable};
 ghost use Rattle.avr_part.specs.Part.{size_of};
 ghost use Rattle.stk_host.specs.declared.fault.HostFault.{HostFault};
 ghost use Rattle.stk_host.specs.declared.fault.HostFault.TheVariants as fault;
 ghost use Rattle.ghosts.specs.Preserves.{Preserves};
-ghost use Rattle.stk_host.specs.Operations.{opening, closing, erasing, writing, reading, verifying};
+ghost use Rattle.stk_host.specs.Operations.{opening, closing, erasing, writing, reading, comparison, verifying};
 ghost use Rattle.stk_host.specs.State.{lasting_fault};
-ghost use Rattle.stk_host.specs.Calls.{Calls, opening_result, value_or_fault, emptied_on_fault, verifying_result};
+ghost use Rattle.stk_host.specs.Calls.{Calls, opening_result, emptied_on_fault};
 
 use crate::comparing::compare;
 use crate::conversation::{Conversation, play_step};
@@ -99,7 +100,7 @@ fn compare_if_read(
     found: &[u8],
 ) -> Result<(), HostFault>
     requires { OnOk taken (length image.now ≤ length found.now) }
-    ensures { result ≡ verifying_result mem image.now found.now taken }
+    ensures { result ≡ result_and taken (comparison mem image.now found.now) }
 {
     taken?;
     compare(mem, image, found)
@@ -266,7 +267,7 @@ impl Host {
     ) -> Result<(), HostFault>
         // If allocation fails, nothing is sent or received.
         ensures calls { Calls true (reading self.old.part mem) self.old self.new (L.view link.old) (L.view link.new)
-            (value_or_fault out.new.items result) }
+            (result_and result (Ok out.new.items)) }
         ensures empty { OnErr result (out.new.items ≡ []) }
         ensures sized { OnOk result (length out.new.items ≡ size_of mem self.old.part) }
         ensures short { length out.new.items < 2 ^ 32 }

@@ -19,10 +19,10 @@ use Rattle.stk_emu.specs.DialogOverExchanges.{state_after}
 use Rattle.stk_emu.specs.Effect.{Memories}
 use Rattle.avr_laws.specs.FewBadFrames.{badness, badness_of_first, AtMostThreeBadOf, AtMostThreeBadOfSeven, lost_command, every_second_lost}
 use Rattle.avr_tool.specs.OverFaultyLink.{AllArriveRight}
-use Rattle.stk_emu.specs.Repeatable.{IsRepeatable}
 use Rattle.stk_emu.specs.Settled.{Ready, FitsPart}
 use Rattle.stk_emu.specs.WriteOperations.{IsStep, AreSteps}
-use Rattle.stk_emu.specs.StepData.{on_data, reply_to, joined_reply, data_of_step, data_of_steps}
+use Rattle.stk_emu.specs.StepData.{data_of_step, data_of_steps}
+use Rattle.stk_emu.proofs.Repeatable.{on_data, reply_to, joined_reply, IsRepeatable}
 use Rattle.avr_tool.proofs.Hosts.AnyExchange.{AfterStep, try_goes}
 use Rattle.avr_tool.proofs.Hosts.OneLink.{Spot, this_link, Runs, on_link, both}
 use Rattle.stk_emu.proofs.Answers.Commands.{steady}

@@ -21,7 +21,7 @@ use Rattle.stk_emu.specs.Effect.{Memories}
 use Rattle.stk_host.specs.declared.fault.HostFault.{HostFault}
 use Rattle.stk_host.specs.declared.fault.HostFault.TheVariants.{WrongSignature}
 use Rattle.stk_host.specs.Dialog.{Dialog, Done, lifted, Emitted}
-use Rattle.stk_host.specs.Operations.{handshake, signature_checked, opening, erasing, writing, reading, verifying, closing, operation, comparison}
+use Rattle.stk_host.specs.Operations.{handshake, checked_by, signature_checked, opening, erasing, writing, reading, verifying, closing, operation, comparison}
 use Rattle.stk_host.specs.ReadSteps.{read_steps}
 use Rattle.stk_host.specs.Steps.{StepOutcome}
 use Rattle.avr_laws.specs.Kept.{HasGeometryOf, Keeps, KeepsOnPart, on_part}
@@ -109,14 +109,16 @@ module _ (part : Part) (id signature : Bytes) where
 
   module _ (s : Switches) (accepted : (s.force ≡ true) ⊎ (part.signature ≡ signature)) where
     same_check : (outcome : StepOutcome)
-        → signature_checked part.signature s.force outcome ≡ signature_checked signature s.force outcome
+        → checked_by (signature_checked part.signature s.force) outcome
+        ≡ checked_by (signature_checked signature s.force) outcome
     same_check outcome = elim accepted [
       | inl forced ↦ rw forced (forcibly outcome)
-      | inr same ↦ ap (λ (wanted : Bytes). signature_checked wanted s.force outcome) same
+      | inr same ↦ ap (λ (wanted : Bytes). checked_by (signature_checked wanted s.force) outcome) same
     ]
       where
         forcibly : (outcome : StepOutcome)
-            → signature_checked part.signature true outcome ≡ signature_checked signature true outcome
+            → checked_by (signature_checked part.signature true) outcome
+            ≡ checked_by (signature_checked signature true) outcome
         forcibly (Ok found) = refl
         forcibly (Err fault) = refl
 
@@ -125,7 +127,8 @@ module _ (part : Part) (id signature : Bytes) where
     opening_alike =
         reported_alike (opening part.signature s.force) (opening signature s.force) (opening_output s.quiet part)
         (opening_output s.quiet other)
-        (alike_ends handshake (signature_checked part.signature s.force) (signature_checked signature s.force)
+        (alike_ends handshake (checked_by (signature_checked part.signature s.force))
+        (checked_by (signature_checked signature s.force))
         same_check)
         (λ outcome. same_printed _ _ (opening_printed s.quiet part outcome) (opening_printed s.quiet other outcome))
 

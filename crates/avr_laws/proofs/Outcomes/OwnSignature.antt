@@ -26,7 +26,7 @@ use Rattle.stk_host.proofs.Dialogs.Logic.{HoldsFrom, NoOutput}
 use Rattle.stk_host.specs.declared.fault.HostFault.{HostFault}
 use Rattle.stk_host.specs.declared.fault.StepFault.{StepFault}
 use Rattle.stk_host.specs.Dialog.{Dialog, Done, Emit, Ask, ◌>>=◌, Played, played, continue_with_reading, next, bytes_sent, frames_in}
-use Rattle.stk_host.specs.Operations.{handshake, host_fault, signature_checked, opening, closing}
+use Rattle.stk_host.specs.Operations.{handshake, host_fault, checked_by, signature_checked, opening, closing}
 use Rattle.stk_host.specs.Steps.{StepOutcome}
 use Rattle.stk_host.specs.Tape.{Tape, Reading, answer}
 use Rattle.avr_tool.proofs.Hosts.AnyExchange.{over_any_exchange}
@@ -85,7 +85,8 @@ module _ (plan : Plan) where
       >>= λ standing. Done (status_of standing)
 
   abbrev pub from_handshake : Dialog ⊥ StepOutcome → Dialog OutputEvent ℕ
-  from_handshake d = after (reported (d >>= λ outcome. Done (signature_checked plan.part.signature s.force outcome))
+  from_handshake d = after (reported (d
+      >>= λ outcome. Done (checked_by (signature_checked plan.part.signature s.force) outcome))
       (opening_output s.quiet plan.part))
 
   pub session_is : session plan ≡ from_handshake handshake
@@ -139,7 +140,7 @@ module _ (plan : Plan) where
   no_host_fault fault is = search rules
 
   accepted : (outcome : StepOutcome)
-      → standing (signature_checked plan.part.signature s.force outcome) ≡ NoFault → HasAccepted outcome
+      → standing (checked_by (signature_checked plan.part.signature s.force) outcome) ≡ NoFault → HasAccepted outcome
   accepted (Ok found) is = (
     found,
     refl,
@@ -163,8 +164,8 @@ module _ (plan : Plan) where
         → s.force ≡ false → part.signature ≡ plan.part.signature
     own_signature (Done outcome) n tape p executions seq left begins authentic is unforced =
         let a = accepted outcome (no_fault (opening_output s.quiet plan.part
-        (signature_checked plan.part.signature s.force outcome))
-        (standing (signature_checked plan.part.signature s.force outcome)) n tape seq left is) in
+        (checked_by (signature_checked plan.part.signature s.force) outcome))
+        (standing (checked_by (signature_checked plan.part.signature s.force) outcome)) n tape seq left is) in
         let found : a.0 ≡ part.signature =
         (subst (λ (o : StepOutcome). AfterBeginning part m o p) a.1 begins).1 in
         sym found ∙ a.2 unforced

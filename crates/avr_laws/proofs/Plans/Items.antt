@@ -6,7 +6,7 @@ use Rattle.avr_session.specs.Actions.{Action, erase_actions, tasks_actions}
 use Rattle.stk_emu.specs.Effect.{Memories, Item, Erase, Write, effects}
 use Rattle.avr_tool.specs.ComparisonsAgree.{EachComparisonAgrees, ComparisonsAgree}
 use Rattle.avr_tool.specs.Items.{actions_items, items, has_erase}
-use Rattle.stk_emu.specs.WriteOperations.{ItemsFit}
+use Rattle.avr_tool.proofs.WriteOperations.Items.{ItemsFit}
 use Rattle.avr_tool.proofs.Plans.Items.{erase_if, items_are, tasks_write, writes}
 use Rattle.avr_tool.proofs.Plans.Fits.{AllFitActions}
 

@@ -13,8 +13,8 @@ use Rattle.stk_host.specs.Places.{each_from}
 use Rattle.stk_host.specs.WriteSteps.{byte_steps, write_steps}
 use Rattle.stk_emu.specs.Effect.{Image, Memories, Item, Erase, Write, erase_keeps_eeprom, effect, effects}
 use Rattle.stk_emu.specs.Settled.{FitsPart}
-use Rattle.stk_emu.specs.WriteOperations.{write_operations_of, steps_of_items, ItemsFit}
-use Rattle.avr_tool.proofs.WriteOperations.Items.{items_do, effect_sizes}
+use Rattle.stk_emu.specs.WriteOperations.{write_operations_of, steps_of_items}
+use Rattle.avr_tool.proofs.WriteOperations.Items.{items_do, effect_sizes, ItemsFit}
 use Rattle.avr_tool.proofs.WriteOperations.Pages.{write_operations_append}
 use Rattle.avr_laws.specs.Again.{byte_keeps_eeprom, ItemsKeepEeprom}
 use Rattle.avr_tool.specs.Items.{items, has_erase}

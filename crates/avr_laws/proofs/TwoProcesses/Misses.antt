@@ -12,7 +12,7 @@ use Rattle.stk_host.specs.declared.fault.StepFault.TheVariants.{NoAnswer}
 use Rattle.stk_host.specs.Tape.{Answered, Silent}
 use Rattle.stk_host.specs.Dialog.{Dialog, Done, Emit, Ask, ◌>>=◌, lifted}
 use Rattle.stk_host.specs.Steps.{exchange, Reply, Data, Again, Stop, attempt, StepOutcome, retry_or_end, attempts_or_fault, step, unless_step_fault, play}
-use Rattle.stk_host.specs.Operations.{handshake, opening, without_bytes, closing, checked_by, operation}
+use Rattle.stk_host.specs.Operations.{handshake, opening, no_result, closing, checked_by, operation}
 use Rattle.avr_session.specs.Standing.{Standing, NoFault, Faulty, Over}
 use Rattle.avr_session.specs.Actions.{Action, actions}
 use Rattle.avr_session.specs.Session.{emits, standing, reported, unless_fault, action_dialog, actions_dialog, ending, session_dialog, status_of, session}
@@ -154,7 +154,7 @@ Any k r = Unit {0}
 closing_few : (k : ℕ) → Between 4 k → Misses Any k closing
 unfolding closing
 closing_few k b =
-    bind (AfterStep 0) Any k (step (leave ∷ [])) (λ outcome. Done (without_bytes outcome))
+    bind (AfterStep 0) Any k (step (leave ∷ [])) (λ outcome. Done (checked_by no_result outcome))
     (let first = b.0 in tries_few 4 leave [] NoAnswer 0 k (omega (arith, first)) b.1) (λ j o e. tt)
 
 -- ---- the actions of a session

@@ -17,7 +17,8 @@ use Rattle.stk_host.specs.Transcript.{LinkState, heard}
 use Rattle.stk_host.specs.Tape.{Tape, on_tape}
 use Rattle.stk_host.proofs.Transcripts.InDialogs.{followed, played_bind}
 use Rattle.stk_host.proofs.Transcripts.Laws.{heard_append}
-use Rattle.stk_host.specs.Calls.{Calls, value_or_fault}
+use Rattle.std.specs.Result.{result_and}
+use Rattle.stk_host.specs.Calls.{Calls}
 use Rattle.stk_host.specs.Dialog.{Dialog, Done, ◌>>=◌, played, outputs}
 use Rattle.avr_desk.specs.OutputEvents.{OutputEvent, PrintsLine, ReportsLine}
 use Rattle.avr_plan.specs.Plan.{Plan}
@@ -284,14 +285,14 @@ module _ (plan : Plan) (xs ys : List Action) where
 -- a read, whose data are in a vector
 
 pub given_concluded : {A : Type 0} (a : A) (outcome : Result (Unit {0}) HostFault)
-    (notice : Result (Unit {0}) DeskFault) → conclusion (value_or_fault a outcome) notice ≡ conclusion outcome notice
+    (notice : Result (Unit {0}) DeskFault) → conclusion (result_and outcome (Ok a)) notice ≡ conclusion outcome notice
 given_concluded a outcome notice = search rules
 
 -- why a run stops depends on the fault alone
 pub given_reported : {A : Type 0} (a : A) (good : A → List OutputEvent) {d e : DeskState} (part : Part)
     (outcome : Result (Unit {0}) HostFault) {notice : Result (Unit {0}) DeskFault}
-    → Reports (ReadStops outcome) d e (fault_line_or part good (value_or_fault a outcome)) notice
-    → (stop : Stop) → StopsAs (value_or_fault a outcome) stop → ReportsLine d e (cause_line (cause_at stop))
+    → Reports (ReadStops outcome) d e (fault_line_or part good (result_and outcome (Ok a))) notice
+    → (stop : Stop) → StopsAs (result_and outcome (Ok a)) stop → ReportsLine d e (cause_line (cause_at stop))
 given_reported a good part (Ok ok) reports stop is = absurd (cc)
 given_reported a good part (Err fault) reports stop is =
     cause_is_reported part (fault_line_or part good) (λ stop. refl) reports stop is
@@ -301,8 +302,8 @@ pub read_stops_report : (part : Part) (good : List ℕ → List OutputEvent) (it
     ≡ false
     → (outcome : Result (Unit {0}) HostFault) (allocates : Bool) (o : LinkState) {d e : DeskState}
     {notice : Result (Unit {0}) DeskFault}
-    → Reports (ReadStops outcome) d e (fault_line_or part good (value_or_fault items outcome)) notice
-    → StopsReport (before_fault allocates) o d e (fault_line_or part good (value_or_fault items outcome))
+    → Reports (ReadStops outcome) d e (fault_line_or part good (result_and outcome (Ok items))) notice
+    → StopsReport (before_fault allocates) o d e (fault_line_or part good (result_and outcome (Ok items)))
     (ReadStops outcome)
 read_stops_report part good items none (Ok done) allocates o {d = d} {e = e} reports =
     search (rules, desk_stops_run, prefix_reports_none)

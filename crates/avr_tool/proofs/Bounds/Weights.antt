@@ -16,7 +16,7 @@ use Rattle.stk_host.proofs.Dialogs.Logic.{World, HoldsFrom, Upholds, NoOutput, O
 use Rattle.stk_host.specs.Dialog.{Dialog, Done, ◌>>=◌}
 use Rattle.stk_host.specs.Steps.{exchange, Reply, Data, Again, Stop, reply_from_reading, with_data, attempt, StepOutcome, step, unless_step_fault, play}
 use Rattle.stk_host.specs.ReadSteps.{signature_steps}
-use Rattle.stk_host.specs.Operations.{handshake, signature_checked, opening, without_bytes, closing, checked_by, operation}
+use Rattle.stk_host.specs.Operations.{handshake, signature_checked, opening, no_result, closing, checked_by, operation}
 use Rattle.stk_host.specs.Bound.{opening_steps, closing_steps}
 use Rattle.avr_session.specs.Standing.{Standing, NoFault, Faulty, Over}
 use Rattle.avr_session.specs.Actions.{Action, OpenSession, actions}
@@ -127,7 +127,7 @@ module _ (w : Weight) where
   opening_spends : (signature : List ℕ) (force : Bool) → Spends (4 * total opening_steps) (opening signature force)
   unfolding opening handshake
   opening_spends signature force k left le =
-      outcome_mapped (signature_checked signature force)
+      outcome_mapped (checked_by (signature_checked signature force))
       (then_spends (SignOn ∷ []) ((enter ∷ []) ∷ signature_steps)
       (λ name. step (enter ∷ []) >>= unless_step_fault (λ nothing. play signature_steps []))
       (λ name. search (rules, then_spends, play_spends)) k left le)
@@ -137,7 +137,7 @@ module _ (w : Weight) where
   unfolding closing
   closing_spends k left le =
       let size = weighed_append (map body (leave ∷ [])) [] in
-      outcome_mapped without_bytes (step_spends (leave ∷ []) k left (omega (arith, le, size))) (λ o t e. e)
+      outcome_mapped (checked_by no_result) (step_spends (leave ∷ []) k left (omega (arith, le, size))) (λ o t e. e)
 
   -- ---- the actions of a session
 

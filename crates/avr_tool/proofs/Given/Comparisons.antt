@@ -2,7 +2,7 @@
 use Rattle.std.proofs.Common.{◌≡◌, ℕ, zero, suc, ◌+◌, List, [], ◌∷◌, refl, ◌∙◌, arith, Bool, Ok, Some, None, rules}
 use Rattle.std.proofs.lemmas.Bool.{eq-eqb, cond-true}
 use Rattle.std.specs.Prelude.{◌==◌}
-use Rattle.stk_host.specs.Operations.{difference_from, signature_checked}
+use Rattle.stk_host.specs.Operations.{checked_by, difference_from, signature_checked}
 use Rattle.stk_emu.specs.Effect.{Image}
 use Rattle.stk_emu.specs.StepData.{HoldsImage}
 
@@ -40,5 +40,5 @@ held_same addr (Some want ∷ image) (found ∷ bytes) holds =
 
 -- it is accepted, with or without `-F`
 pub signature_taken : (signature : List ℕ) (force : Bool)
-    → signature_checked signature force (Ok signature) ≡ Ok signature
+    → checked_by (signature_checked signature force) (Ok signature) ≡ Ok signature
 signature_taken signature force = search rules

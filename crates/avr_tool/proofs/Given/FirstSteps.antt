@@ -10,9 +10,10 @@ use Rattle.stk_emu.specs.Programmer.{Programmer}
 use Rattle.stk_emu.specs.Device.{device}
 use Rattle.stk_emu.specs.DialogOverExchanges.{state_after}
 use Rattle.stk_emu.specs.Effect.{Memories, memories_of}
-use Rattle.stk_emu.specs.Settled.{HasMemories, Settled, FitsPart}
-use Rattle.avr_tool.proofs.Leads.{AreSome, Climbs}
-use Rattle.stk_emu.specs.WriteOperations.{memories_after_steps, AreSteps}
+use Rattle.stk_emu.specs.Settled.{HasMemories, FitsPart}
+use Rattle.stk_emu.proofs.Repeatable.{Settled}
+use Rattle.avr_tool.proofs.Leads.{AreSome, Climbs, memories_after_steps}
+use Rattle.stk_emu.specs.WriteOperations.{AreSteps}
 use Rattle.avr_tool.proofs.WriteOperations.Conditions.{play_climbs}
 use Rattle.avr_tool.proofs.WriteOperations.OutsideMode.{all_fit}
 

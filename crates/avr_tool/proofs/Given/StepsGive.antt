@@ -16,9 +16,11 @@ use Rattle.stk_emu.specs.Programmer.{Programmer, execute_command, flash_reads, e
 use Rattle.stk_emu.specs.Programmer as programmer
 use Rattle.stk_emu.specs.Device.{Device, device}
 use Rattle.stk_emu.specs.Effect.{Memories, effect, effects, Item}
-use Rattle.stk_emu.specs.Settled.{Settled, Ready, FitsPart}
+use Rattle.stk_emu.specs.Settled.{Ready, FitsPart}
 use Rattle.stk_emu.specs.WriteOperations.{memories_after_step, write_operation_of, IsStep, Erases, ProgramsPage, ProgramsEepromRun, ProgramsFuse, ProgramsLock, ReadsFlash, ReadsEeprom, ReadsFuse, ReadsLock, ReadsSignature, ReadsCalibration, IsPage, FitsEepromPage, IsBlock, AreWords}
-use Rattle.stk_emu.specs.StepData.{data_of_step, on_data, reply_to, joined_reply, IsDataOfAttempt}
+use Rattle.stk_emu.specs.StepData.{data_of_step}
+use Rattle.avr_tool.proofs.Leads.{IsDataOfAttempt}
+use Rattle.stk_emu.proofs.Repeatable.{on_data, reply_to, joined_reply, Settled}
 use Rattle.stk_emu.proofs.Answers.Commands.{settled_ready}
 use Rattle.stk_emu.proofs.Memories.Pages.{is_wide, flash_loaded_at, flash_address_back}
 use Rattle.stk_emu.proofs.Memories.Runs.{narrow_loaded}

@@ -13,9 +13,8 @@ use Rattle.stk_emu.specs.Exchange.{Exchange, Execution, NotExecuted, Executed, T
 use Rattle.stk_emu.specs.Exchange.{after_execution, after_exchange, reading_of_exchange, first_exchange, later_exchanges}
 use Rattle.stk_emu.specs.Device.{Device}
 use Rattle.stk_emu.specs.DialogOverExchanges.{state_after}
-use Rattle.stk_emu.specs.Repeatable.{after_commands, IsRepeatable}
-use Rattle.stk_emu.specs.StepData.{on_data, joined_reply, reply_to, IsDataOfAttempt}
-use Rattle.avr_tool.proofs.Leads.{Leads}
+use Rattle.stk_emu.proofs.Repeatable.{on_data, joined_reply, reply_to, after_commands, IsRepeatable}
+use Rattle.avr_tool.proofs.Leads.{Leads, IsDataOfAttempt}
 
 -- What holds at each move holds along all links, so no list of exchanges and no count of commands is needed.
 abbrev pub over_any_exchange : {P : Type 0} → Device P → World P Exchange

@@ -7,7 +7,7 @@ use Rattle.stk_host.specs.Steps.{StepOutcome, step}
 use Rattle.stk_emu.specs.Exchange.{Exchange, later_exchanges}
 use Rattle.stk_emu.specs.Device.{Device}
 use Rattle.stk_emu.specs.DialogOverExchanges.{StateAfter, state_after}
-use Rattle.stk_emu.specs.Repeatable.{IsRepeatable}
+use Rattle.stk_emu.proofs.Repeatable.{IsRepeatable}
 use Rattle.avr_tool.proofs.Hosts.AnyExchange.{step_along}
 
 -- the next dialog, from where this one is

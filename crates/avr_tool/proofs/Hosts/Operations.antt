@@ -11,21 +11,21 @@ use Rattle.stk_host.specs.declared.fault.StepFault.{StepFault}
 use Rattle.stk_host.specs.Dialog.{Dialog, Done, ◌>>=◌}
 use Rattle.stk_host.specs.Steps.{StepOutcome, step, unless_step_fault, play}
 use Rattle.stk_host.specs.ReadSteps.{signature_steps}
-use Rattle.stk_host.specs.Operations.{host_fault, handshake, without_bytes, closing, checked_by, operation}
+use Rattle.stk_host.specs.Operations.{host_fault, handshake, no_result, closing, checked_by, operation}
 use Rattle.stk_host.proofs.Dialogs.Logic.{OnOutcome, done, bind, outcome_mapped, wider, on_data}
 use Rattle.stk_emu.specs.Exchange.{Exchange}
 use Rattle.stk_emu.specs.Programmer.{Programmer}
 use Rattle.stk_emu.specs.Device.{Device, device}
 use Rattle.stk_emu.specs.DialogOverExchanges.{StateAfter, state_after}
 use Rattle.stk_emu.specs.Effect.{Memories}
-use Rattle.stk_emu.specs.Repeatable.{IsRepeatable}
-use Rattle.stk_emu.specs.StepData.{data_of_step, data_of_steps, IsDataOfAttempt}
-use Rattle.stk_emu.specs.Settled.{HasMemories, Settled, FitsPart}
+use Rattle.stk_emu.proofs.Repeatable.{IsRepeatable, Settled}
+use Rattle.stk_emu.specs.StepData.{data_of_step, data_of_steps}
+use Rattle.stk_emu.specs.Settled.{HasMemories, FitsPart}
 use Rattle.avr_part.specs.declared.part.Mem.TheVariants.{Signature}
-use Rattle.stk_emu.specs.WriteOperations.{memories_after_step, memories_after_steps, AreSteps}
+use Rattle.stk_emu.specs.WriteOperations.{memories_after_step, AreSteps}
 use Rattle.avr_tool.proofs.WriteOperations.Items.{read_are_steps}
 use Rattle.avr_tool.proofs.OverFaultyLink.FirstSteps.{quiet_stays, read_quiet}
-use Rattle.avr_tool.proofs.Leads.{Reached, AfterSteps, AfterBeginning}
+use Rattle.avr_tool.proofs.Leads.{Reached, AfterSteps, AfterBeginning, memories_after_steps, IsDataOfAttempt}
 use Rattle.avr_tool.proofs.Hosts.Attempts.{along_bind, along_next_dialog}
 use Rattle.avr_tool.proofs.WriteOperations.Steps.{sign_on_fits, enter_fits}
 use Rattle.stk_emu.proofs.Answers.Commands.{settled_idle}
@@ -123,12 +123,12 @@ pub closing_goes : (Stands : Programmer → Type 0) → IsRepeatable device (lea
     → Stands p → Keeps device Stands (λ r q. Stands q × IsClosed r) closing p
 unfolding closing
 closing_goes Stands fits p stands =
-    outcome_mapped without_bytes (step_leads device (leave ∷ []) Stands Stands fits Stands (λ o q. Stands q) p
+    outcome_mapped (checked_by no_result) (step_leads device (leave ∷ []) Stands Stands fits Stands (λ o q. Stands q) p
     (λ q i. i) (λ q i. i) (λ fault q i. i) stands) left
   where
     left : (o : StepOutcome) (q : Programmer)
         → OnOutcome (λ got q. Stands q × IsDataOfAttempt device (leave ∷ []) Stands Stands got)
-        (λ o q. Stands q) o q → Stands q × IsClosed (without_bytes o)
+        (λ o q. Stands q) o q → Stands q × IsClosed (checked_by no_result o)
     left (Ok bytes) q i = (i.0, inl refl)
     left (Err fault) q i = (i, inr (fault, refl))
 

@@ -13,14 +13,16 @@ use Rattle.stk_host.proofs.Dialogs.Logic.{outcome_mapped, wider}
 use Rattle.stk_host.specs.declared.fault.HostFault.{HostFault}
 use Rattle.stk_host.specs.declared.fault.StepFault.{StepFault}
 use Rattle.stk_host.specs.declared.fault.StepFault.TheVariants as of_step
-use Rattle.stk_host.specs.Operations.{opening, closing, host_fault, signature_checked}
+use Rattle.stk_host.specs.Operations.{opening, closing, host_fault, checked_by, signature_checked}
 use Rattle.stk_host.specs.Steps.{StepOutcome}
 use Rattle.stk_emu.proofs.Answers.Commands.{settled_idle}
 use Rattle.stk_emu.specs.Device.{device}
 use Rattle.stk_emu.specs.Effect.{Memories, Item, effects, memories_of}
-use Rattle.stk_emu.specs.WriteOperations.{steps_of_items, ItemsFit}
+use Rattle.stk_emu.specs.WriteOperations.{steps_of_items}
+use Rattle.avr_tool.proofs.WriteOperations.Items.{ItemsFit}
 use Rattle.stk_emu.specs.Programmer.{Programmer}
-use Rattle.stk_emu.specs.Settled.{HasMemories, Settled, FitsPart}
+use Rattle.stk_emu.specs.Settled.{HasMemories, FitsPart}
+use Rattle.stk_emu.proofs.Repeatable.{Settled}
 use Rattle.avr_tool.proofs.OverFaultyLink.FirstSteps.{Rests, rests_here, rests_before, rests_all, rests_behind, effects_sizes}
 use Rattle.avr_tool.proofs.Given.Comparisons.{signature_taken}
 use Rattle.avr_tool.proofs.Hosts.AnyExchange.{Keeps}
@@ -124,14 +126,14 @@ module _ (part : Part) (sound : IsPart part) (s : Switches) where
       → ComesAnyhow OpenSession m p
   unfolding opening
   opening_comes m f p idle =
-      outcome_mapped (signature_checked part.signature s.force)
+      outcome_mapped (checked_by (signature_checked part.signature s.force))
       (wider (λ bytes q i. rests_here part [] m q i) (λ e q x. x) (λ o q x. x)
       (beginning_goes part sound m p f idle)) came
     where
       came : (o : StepOutcome) (q : Programmer) → AfterBeginning part m o q
-          → AnyOutcome OpenSession m (signature_checked part.signature s.force o) q
+          → AnyOutcome OpenSession m (checked_by (signature_checked part.signature s.force) o) q
       came (Ok found) q a = inl (
-        subst (λ x. signature_checked part.signature s.force (Ok x) ≡ Ok part.signature) (sym a.1)
+        subst (λ x. checked_by (signature_checked part.signature s.force) (Ok x) ≡ Ok part.signature) (sym a.1)
             (signature_taken part.signature s.force),
         a.0,
       )

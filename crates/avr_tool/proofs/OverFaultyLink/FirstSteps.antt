@@ -9,9 +9,10 @@ use Rattle.stk_host.specs.ReadSteps.{read_count, read_step, read_steps}
 use Rattle.stk_emu.specs.Programmer.{Programmer}
 use Rattle.stk_emu.specs.Effect.{Memories, Item, effect, effects}
 use Rattle.stk_emu.specs.Settled.{HasMemories, FitsPart}
-use Rattle.stk_emu.specs.WriteOperations.{memories_after_step, memories_after_steps, write_operation_of, steps_of_items, ItemsFit}
+use Rattle.stk_emu.specs.WriteOperations.{memories_after_step, write_operation_of, steps_of_items}
+use Rattle.avr_tool.proofs.Leads.{memories_after_steps}
 use Rattle.avr_tool.proofs.Each.{Each, each_of}
-use Rattle.avr_tool.proofs.WriteOperations.Items.{items_do, changed_all, effect_sizes}
+use Rattle.avr_tool.proofs.WriteOperations.Items.{items_do, changed_all, effect_sizes, ItemsFit}
 
 -- the memories after some number of first steps, in any mode
 pub record Rests (part : Part) (steps : List (List Command)) (m : Memories) (q : Programmer) : Type 0 where

@@ -11,7 +11,8 @@ use Rattle.stk_emu.specs.DialogOverExchanges.{state_after, outputs_after}
 use Rattle.stk_emu.specs.Device.{device}
 use Rattle.stk_emu.specs.Effect.{Memories, effects, memories_of}
 use Rattle.stk_emu.specs.Programmer.{Programmer}
-use Rattle.stk_emu.specs.Settled.{HasMemories, Settled, FitsPart}
+use Rattle.stk_emu.specs.Settled.{HasMemories, FitsPart}
+use Rattle.stk_emu.proofs.Repeatable.{Settled}
 use Rattle.avr_tool.proofs.OverFaultyLink.EachAction.{Comes, Passes, ActionsTrue, fault_output, opening_comes}
 use Rattle.avr_tool.proofs.OverFaultyLink.Sessions.{AtMoment, AtEnd, at_last, anyhow, session_prints}
 use Rattle.avr_tool.proofs.Hosts.OneLink.{Spot, on_link}

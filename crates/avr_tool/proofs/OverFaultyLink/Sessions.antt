@@ -16,9 +16,11 @@ use Rattle.stk_host.specs.Operations.{host_fault}
 use Rattle.stk_emu.proofs.Answers.Commands.{settled_idle}
 use Rattle.stk_emu.specs.Device.{device}
 use Rattle.stk_emu.specs.Effect.{Memories, memories_of}
-use Rattle.stk_emu.specs.WriteOperations.{memories_after_steps, steps_of_items}
+use Rattle.stk_emu.specs.WriteOperations.{steps_of_items}
+use Rattle.avr_tool.proofs.Leads.{memories_after_steps}
 use Rattle.stk_emu.specs.Programmer.{Programmer}
-use Rattle.stk_emu.specs.Settled.{HasMemories, Settled, FitsPart}
+use Rattle.stk_emu.specs.Settled.{HasMemories, FitsPart}
+use Rattle.stk_emu.proofs.Repeatable.{Settled}
 use Rattle.avr_tool.proofs.OverFaultyLink.EachAction.{RestsIn, Comes, Own, After, Passes, ActionTrue, ActionsTrue, fault_output, operation_comes, goes_cons, goes_actions}
 use Rattle.avr_tool.proofs.Hosts.Operations.{closing_goes}
 use Rattle.avr_tool.proofs.Hosts.OneLink.{Spot, on_link}

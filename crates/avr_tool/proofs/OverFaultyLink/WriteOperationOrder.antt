@@ -13,9 +13,11 @@ use Rattle.stk_emu.specs.Programmer.{Programmer}
 use Rattle.stk_emu.specs.Device.{device}
 use Rattle.stk_emu.specs.DialogOverExchanges.{state_after}
 use Rattle.stk_emu.specs.Effect.{Memories, Item, effects, memories_of}
-use Rattle.stk_emu.specs.Settled.{HasMemories, Settled, FitsPart}
-use Rattle.stk_emu.specs.WriteOperations.{memories_after_steps, steps_of_items, AreSteps, ItemsFit}
-use Rattle.avr_tool.proofs.Leads.{Leads, GoesOn}
+use Rattle.stk_emu.specs.Settled.{HasMemories, FitsPart}
+use Rattle.stk_emu.proofs.Repeatable.{Settled}
+use Rattle.stk_emu.specs.WriteOperations.{steps_of_items, AreSteps}
+use Rattle.avr_tool.proofs.WriteOperations.Items.{ItemsFit}
+use Rattle.avr_tool.proofs.Leads.{Leads, GoesOn, memories_after_steps}
 use Rattle.avr_tool.specs.Tallies.{Count, then_count, Tallies}
 use Rattle.avr_tool.proofs.WriteOperations.StepCounts.{items_counted}
 use Rattle.avr_tool.proofs.WriteOperations.Counts.{tallies_none, tallies_as, tallies_bind}

@@ -14,10 +14,12 @@ use Rattle.stk_emu.specs.Exchange.{Exchange}
 use Rattle.stk_emu.specs.Programmer.{Programmer}
 use Rattle.stk_emu.specs.Device.{device}
 use Rattle.stk_emu.specs.DialogOverExchanges.{state_after}
-use Rattle.avr_tool.proofs.Leads.{Leads, GoesOn}
+use Rattle.avr_tool.proofs.Leads.{Leads, GoesOn, memories_after_steps}
 use Rattle.stk_emu.specs.Effect.{Memories, Item, effects}
-use Rattle.stk_emu.specs.Settled.{HasMemories, Settled, FitsPart}
-use Rattle.stk_emu.specs.WriteOperations.{memories_after_steps, steps_of_items, AreSteps, ItemsFit}
+use Rattle.stk_emu.specs.Settled.{HasMemories, FitsPart}
+use Rattle.stk_emu.proofs.Repeatable.{Settled}
+use Rattle.stk_emu.specs.WriteOperations.{steps_of_items, AreSteps}
+use Rattle.avr_tool.proofs.WriteOperations.Items.{ItemsFit}
 use Rattle.avr_tool.specs.Tallies.{Count, with_next, then_count, Tallies}
 use Rattle.avr_tool.proofs.Hosts.Attempts.{along_bind, along_next_dialog}
 use Rattle.avr_tool.proofs.Hosts.AnyExchange.{done_is}

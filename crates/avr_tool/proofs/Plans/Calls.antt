@@ -21,7 +21,8 @@ use Rattle.stk_host.specs.Steps.{play}
 use Rattle.stk_host.specs.WriteSteps.{write_steps}
 use Rattle.stk_emu.specs.Effect.{Memories, Erase, Write, effects, memory_in}
 use Rattle.stk_emu.specs.StepData.{data_of_steps}
-use Rattle.stk_emu.specs.WriteOperations.{memories_after_steps, steps_of_items, AreSteps}
+use Rattle.stk_emu.specs.WriteOperations.{steps_of_items, AreSteps}
+use Rattle.avr_tool.proofs.Leads.{memories_after_steps}
 use Rattle.stk_emu.specs.Settled.{FitsPart}
 use Rattle.avr_tool.proofs.OverFaultyLink.FirstSteps.{quiet_stays, read_quiet}
 use Rattle.avr_tool.proofs.Given.WholeMemories.{read_gives}

@@ -9,7 +9,7 @@ use Rattle.avr_plan.specs.Plan.{Plan, IsFitted}
 use Rattle.avr_plan.specs.declared.planned.Task.{Task}
 use Rattle.avr_plan.specs.declared.planned.Task.TheVariants.{Write, Verify}
 use Rattle.avr_session.specs.Actions.{Action, OpenSession, WriteImage, CompareImage, erase_actions, task_actions, tasks_actions}
-use Rattle.stk_emu.specs.WriteOperations.{ItemsFit}
+use Rattle.avr_tool.proofs.WriteOperations.Items.{ItemsFit}
 use Rattle.avr_tool.specs.Items.{action_items}
 use Rattle.avr_tool.proofs.Each.{Each, each_on}
 

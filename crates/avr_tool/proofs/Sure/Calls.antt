@@ -12,12 +12,12 @@ use Rattle.stk_host.specs.Dialog.{Dialog, ◌>>=◌}
 use Rattle.stk_host.specs.Steps.{StepOutcome, step, unless_step_fault, play}
 use Rattle.stk_host.specs.ReadSteps.{signature_steps}
 use Rattle.stk_host.specs.Operations as host
-use Rattle.stk_host.specs.Operations.{checked_by, signature_checked, without_bytes}
+use Rattle.stk_host.specs.Operations.{checked_by, signature_checked, no_result}
 use Rattle.stk_emu.proofs.Answers.Commands.{ready_idle, ready_settled}
 use Rattle.stk_emu.specs.Device.{device}
 use Rattle.stk_emu.specs.Effect.{Memories, effects}
 use Rattle.stk_emu.specs.StepData.{data_of_steps}
-use Rattle.stk_emu.specs.WriteOperations.{memories_after_steps}
+use Rattle.avr_tool.proofs.Leads.{memories_after_steps}
 use Rattle.stk_emu.specs.Settled.{HasMemories, Ready, FitsPart}
 use Rattle.stk_emu.specs.Exchange.{Exchange}
 use Rattle.avr_tool.proofs.OverFaultyLink.EachAction.{Comes, Passes, operation_comes, opening_comes}
@@ -72,14 +72,14 @@ module _ (Such : List Exchange → Type 0) (sure : IsSure Such) where
     opening_brings force =
         subst (λ r. Brings Such (HasMemories part m) (host.opening part.signature force) r (Ready part m))
         (signature_taken part.signature force)
-        (brings_reported Such host.handshake (signature_checked part.signature force) (Ok part.signature)
+        (brings_reported Such host.handshake (checked_by (signature_checked part.signature force)) (Ok part.signature)
         (HasMemories part m) (Ready part m) handshake_brings)
 
   closing_brings : (part : Part) (m : Memories) → Brings Such (HasMemories part m) host.closing (Ok tt)
       (HasMemories part m)
   unfolding host.closing
   closing_brings part m =
-      brings_reported Such (step (leave ∷ [])) without_bytes (Ok []) (HasMemories part m) (HasMemories part m)
+      brings_reported Such (step (leave ∷ [])) (checked_by no_result) (Ok []) (HasMemories part m) (HasMemories part m)
       (sure (leave ∷ []) [] (HasMemories part m) (HasMemories part m) (leave_steady part m) (omega arith)
       (λ q stands. refl))
 

@@ -11,10 +11,11 @@ use Rattle.stk_emu.specs.Exchange.{Exchange}
 use Rattle.stk_emu.specs.Programmer.{Programmer}
 use Rattle.stk_emu.specs.Device.{device}
 use Rattle.stk_emu.specs.Effect.{Memories}
-use Rattle.stk_emu.specs.Repeatable.{IsRepeatable}
 use Rattle.stk_emu.specs.Settled.{Ready, FitsPart}
-use Rattle.stk_emu.specs.WriteOperations.{memories_after_step, memories_after_steps, IsStep, AreSteps}
-use Rattle.stk_emu.specs.StepData.{joined_reply, data_of_step, data_of_steps}
+use Rattle.stk_emu.specs.WriteOperations.{memories_after_step, IsStep, AreSteps}
+use Rattle.avr_tool.proofs.Leads.{memories_after_steps}
+use Rattle.stk_emu.specs.StepData.{data_of_step, data_of_steps}
+use Rattle.stk_emu.proofs.Repeatable.{joined_reply, IsRepeatable}
 use Rattle.avr_tool.proofs.Hosts.OneLink.{Spot, Runs}
 use Rattle.stk_emu.proofs.Answers.Commands.{steady}
 use Rattle.avr_tool.proofs.WriteOperations.Steps.{step_ready}

@@ -10,8 +10,7 @@ use Rattle.stk_host.proofs.Dialogs.Logic.{HoldsFrom, NoOutput, OnReply, done, as
 use Rattle.stk_emu.specs.Exchange.{Exchange, Execution, ThenRestarted, OtherReading, Ending, AsIntended, Disturbed, after_exchange, reading_of_exchange, first_exchange, later_exchanges}
 use Rattle.stk_emu.specs.Programmer.{Programmer}
 use Rattle.stk_emu.specs.Device.{device}
-use Rattle.stk_emu.specs.Repeatable.{IsRepeatable}
-use Rattle.stk_emu.specs.StepData.{on_data, joined_reply}
+use Rattle.stk_emu.proofs.Repeatable.{on_data, joined_reply, IsRepeatable}
 use Rattle.avr_tool.specs.OverFaultyLink.{AllArriveRight}
 use Rattle.avr_tool.proofs.Hosts.AnyExchange.{AfterStep, try_goes}
 use Rattle.avr_tool.proofs.Hosts.OneLink.{Spot, this_link, Runs, on_link, both}

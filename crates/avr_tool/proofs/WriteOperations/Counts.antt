@@ -9,10 +9,10 @@ use Rattle.stk_emu.specs.Programmer.{Programmer}
 use Rattle.stk_emu.specs.Device.{Device, device}
 use Rattle.stk_emu.specs.DialogOverExchanges.{StateAfter, state_after}
 use Rattle.stk_emu.specs.Effect.{Memories}
-use Rattle.stk_emu.specs.Settled.{Settled}
+use Rattle.stk_emu.proofs.Repeatable.{Settled}
 use Rattle.avr_tool.specs.Completed.{step_count, steps_completed}
-use Rattle.avr_tool.proofs.Leads.{Climbs, GoesOn}
-use Rattle.stk_emu.specs.WriteOperations.{memories_after_steps, AreSteps}
+use Rattle.avr_tool.proofs.Leads.{Climbs, GoesOn, memories_after_steps}
+use Rattle.stk_emu.specs.WriteOperations.{AreSteps}
 use Rattle.avr_tool.specs.Tallies.{Count, with_next, then_count, Tallies}
 use Rattle.avr_tool.proofs.Hosts.Attempts.{along_bind, along_next_dialog}
 use Rattle.avr_tool.proofs.WriteOperations.Conditions.{along_before}

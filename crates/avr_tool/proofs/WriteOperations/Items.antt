@@ -22,10 +22,19 @@ use Rattle.stk_host.specs.WriteSteps.{page_step, page_steps, page_end, begins_ru
 use Rattle.stk_host.specs.ReadSteps.{read_count, block_size, read_step, read_steps}
 use Rattle.stk_emu.specs.Effect.{Memories, Image, Item, Erase, Write, effect, effects}
 use Rattle.stk_emu.specs.Settled.{FitsPart}
-use Rattle.stk_emu.specs.WriteOperations.{memories_after_step, memories_after_steps, write_operations_of, IsStep, ProgramsPage, ProgramsEepromRun, ProgramsFuse, ProgramsLock, ReadsFlash, ReadsEeprom, ReadsFuse, ReadsLock, ReadsSignature, ReadsCalibration, AreSteps, IsBlock, AreWords, steps_of_item, steps_of_items, ItemFits, ItemsFit}
+use Rattle.stk_emu.specs.WriteOperations.{memories_after_step, write_operations_of, IsStep, ProgramsPage, ProgramsEepromRun, ProgramsFuse, ProgramsLock, ReadsFlash, ReadsEeprom, ReadsFuse, ReadsLock, ReadsSignature, ReadsCalibration, AreSteps, IsBlock, AreWords, steps_of_item, steps_of_items}
+use Rattle.avr_tool.proofs.Leads.{memories_after_steps}
 use Rattle.avr_tool.proofs.WriteOperations.EachMemory.{size_stays}
 use Rattle.avr_tool.proofs.WriteOperations.Pages.{write_operations_append, effects_on, pages_effect, AllBelow, below_and_in}
 use Rattle.avr_tool.proofs.WriteOperations.Runs.{runs_effect}
+
+abbrev pub ItemFits : Part → Item → Type 0
+ItemFits part Erase = Unit {0}
+ItemFits part (Write mem image) = length image ≤ size_of mem part
+
+abbrev pub ItemsFit : Part → List Item → Type 0
+ItemsFit part [] = Unit {0}
+ItemsFit part (item ∷ items) = ItemFits part item × ItemsFit part items
 
 either_way : {A : Type 0} (b : Bool) (x : A) → cond b x x ≡ x
 either_way b x = search rules

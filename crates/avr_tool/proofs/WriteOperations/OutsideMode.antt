@@ -18,11 +18,10 @@ use Rattle.stk_host.specs.Tape.{Answered}
 use Rattle.stk_emu.specs.Programmer.{Programmer, Response, fail, execute, execute_command}
 use Rattle.stk_emu.specs.Device.{device}
 use Rattle.stk_emu.specs.Effect.{Memories}
-use Rattle.stk_emu.specs.Settled.{Settled, Ready}
-use Rattle.stk_emu.specs.Repeatable.{after_commands, IsRepeatable}
-use Rattle.avr_tool.proofs.Leads.{AllFit}
-use Rattle.stk_emu.specs.StepData.{on_data, reply_to, joined_reply}
-use Rattle.stk_emu.specs.WriteOperations.{memories_after_step, memories_after_steps, IsStep, Erases, ProgramsPage, ProgramsEepromRun, ProgramsFuse, ProgramsLock, ReadsFlash, ReadsEeprom, ReadsFuse, ReadsLock, ReadsSignature, ReadsCalibration, AreSteps}
+use Rattle.stk_emu.specs.Settled.{Ready}
+use Rattle.avr_tool.proofs.Leads.{AllFit, memories_after_steps}
+use Rattle.stk_emu.proofs.Repeatable.{on_data, reply_to, joined_reply, after_commands, IsRepeatable, Settled}
+use Rattle.stk_emu.specs.WriteOperations.{memories_after_step, IsStep, Erases, ProgramsPage, ProgramsEepromRun, ProgramsFuse, ProgramsLock, ReadsFlash, ReadsEeprom, ReadsFuse, ReadsLock, ReadsSignature, ReadsCalibration, AreSteps}
 use Rattle.stk_emu.proofs.Answers.Commands.{executes_command, executed_none, steady, ready_settled, settled_ready, restart_is_settled}
 use Rattle.avr_tool.proofs.WriteOperations.Steps.{step_ready, address_fits}
 

@@ -8,7 +8,8 @@ use Rattle.stk_frame.specs.declared.command.Command.{Command}
 use Rattle.stk_host.specs.WriteSteps.{write_steps}
 use Rattle.avr_tool.proofs.Each.{Each, each_on, each_of}
 use Rattle.stk_emu.specs.Effect.{Memories, Image, Item, Erase, Write, effects}
-use Rattle.stk_emu.specs.WriteOperations.{write_operation_of, write_operations_of, memories_after_steps, steps_of_items}
+use Rattle.stk_emu.specs.WriteOperations.{write_operation_of, write_operations_of, steps_of_items}
+use Rattle.avr_tool.proofs.Leads.{memories_after_steps}
 
 abbrev IsWriteOperation : List Command → Type 0
 IsWriteOperation commands = length (write_operation_of commands) ≡ 1

@@ -13,8 +13,8 @@ use Rattle.stk_host.specs.Places.{flash_address, load_flash, load_eeprom}
 use Rattle.stk_emu.specs.Programmer.{Programmer}
 use Rattle.stk_emu.specs.Device.{device}
 use Rattle.stk_emu.specs.Effect.{Memories, Item, Erase, Write, effect}
-use Rattle.stk_emu.specs.Settled.{HasMemories, Settled, Ready}
-use Rattle.stk_emu.specs.Repeatable.{IsRepeatable}
+use Rattle.stk_emu.specs.Settled.{HasMemories, Ready}
+use Rattle.stk_emu.proofs.Repeatable.{IsRepeatable, Settled}
 use Rattle.stk_emu.specs.WriteOperations.{memories_after_step, IsStep, Erases, ProgramsPage, ProgramsEepromRun, ProgramsFuse, ProgramsLock, ReadsFlash, ReadsEeprom, ReadsFuse, ReadsLock, ReadsSignature, ReadsCalibration, IsPage, FitsEepromPage, IsBlock, AreWords}
 use Rattle.stk_emu.proofs.Memories.LaidImages.{laid_twice, and_in_twice, and_byte}
 use Rattle.stk_emu.proofs.Answers.Commands.{one_fits, steady, one_steady, two_steady, settled_idle, ready_settled, ready_idle, restart_keeps_memories, restart_is_settled, enter_does, leave_keeps, load_keeps, fuse_does, lock_does, erase_does, fuse_read_after, lock_read_after, calibration_read_after}

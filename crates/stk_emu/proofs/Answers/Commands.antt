@@ -12,10 +12,10 @@ use Rattle.stk_frame.specs.HostCommands.{enter, leave, erase, program_fuse, prog
 use Rattle.stk_frame.proofs.DecodedBodies.{read_back}
 use Rattle.stk_emu.specs.Programmer.{Programmer, Response, execute, execute_command, execute_decoded}
 use Rattle.stk_emu.specs.Device.{Device, device}
-use Rattle.stk_emu.specs.Repeatable.{after_commands, IsRepeatable}
+use Rattle.stk_emu.proofs.Repeatable.{after_commands, IsRepeatable, Settled}
 use Rattle.stk_emu.specs.Effect.{Memories}
 use Rattle.stk_emu.specs.WriteOperations.{memories_after_step}
-use Rattle.stk_emu.specs.Settled.{HasMemories, Settled, Ready}
+use Rattle.stk_emu.specs.Settled.{HasMemories, Ready}
 
 -- executing a command's body is executing the command
 pub executes_command : (c : Command) (p : Programmer) → decoding.FieldsFit c → execute (body c) p ≡ execute_command c p

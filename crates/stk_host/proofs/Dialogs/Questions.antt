@@ -13,7 +13,7 @@ use Rattle.stk_host.specs.Dialog.{Dialog, Done, Emit, Ask, ◌>>=◌, Event, Fra
 use Rattle.stk_host.specs.Play.{IsPrefixOfEvents, NoPart}
 use Rattle.stk_host.specs.Steps.{exchange, Reply, reply_from_reading, with_data, attempt, StepOutcome, retry_or_end, attempts_or_fault, step, unless_step_fault, play}
 use Rattle.stk_host.specs.WriteSteps.{write_steps}
-use Rattle.stk_host.specs.Operations.{handshake, opening, without_bytes, closing, checked_by, operation, writing}
+use Rattle.stk_host.specs.Operations.{handshake, opening, no_result, closing, checked_by, operation, writing}
 use Rattle.stk_host.specs.Bound.{AsksAtMost, SendsAtMost, commands_in, opening_steps, closing_steps, IsBoundedBy}
 
 -- questions
@@ -147,7 +147,8 @@ opening_most signature force = search (rules, checked_most, beginning_most)
 
 pub closing_most : AsksAtMost (4 * commands_in closing_steps) closing
 unfolding closing
-closing_most = checked_most (4 * commands_in closing_steps) (step (leave ∷ [])) without_bytes (step_most (leave ∷ []))
+closing_most =
+    checked_most (4 * commands_in closing_steps) (step (leave ∷ [])) (checked_by no_result) (step_most (leave ∷ []))
 
 -- a memory that can't be written is asked nothing
 pub writing_most : (part : Part) (mem : Mem) (image : List (Option ℕ))

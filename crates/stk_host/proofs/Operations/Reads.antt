@@ -3,8 +3,9 @@ use Rattle.std.proofs.Common.{◌≡◌, ℕ, ◌+◌, ◌*◌, ◌<◌, ◌≤�
 use Rattle.std.specs.Prelude.{min}
 use Rattle.avr_part.specs.declared.part.Mem.{Mem}
 use Rattle.avr_part.specs.Part.{Part, IsPart, size_of}
+use Rattle.stk_frame.specs.Commands.{shape}
 use Rattle.stk_host.specs.ReadSteps.{read_unit, read_count, load_command_at, read_command_at}
-use Rattle.stk_host.specs.Calls.{IsSizedStep, step_data_count}
+use Rattle.stk_host.specs.Calls.{IsSizedStep, data_count}
 
 -- how many bytes the steps before this number have brought
 abbrev pub read_before : Part → Mem → ℕ → ℕ
@@ -12,8 +13,8 @@ read_before part mem number = min (number * read_unit mem) (size_of mem part)
 
 -- what one more step brings
 pub record BringsMore (part : Part) (mem : Mem) (number : ℕ) : Type 0 where
-  pub more : read_before part mem (number + 1) ≡ read_before part mem number + step_data_count
-      (read_command_at part mem number)
+  pub more : read_before part mem (number + 1) ≡ read_before part mem number + data_count
+      (shape (read_command_at part mem number))
   pub within : read_before part mem (number + 1) ≤ size_of mem part
 
 pub brings_more : (part : Part) (mem : Mem) (number : ℕ) → number < read_count part mem → BringsMore part mem number

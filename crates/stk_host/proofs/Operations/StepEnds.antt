@@ -11,7 +11,7 @@ use Rattle.stk_host.specs.Dialog.{Dialog, Done, ◌>>=◌}
 use Rattle.stk_host.specs.Play.{Progress, RunsOverLink}
 use Rattle.stk_host.specs.Reach.{Reaches}
 use Rattle.stk_host.specs.Steps.{StepOutcome, unless_step_fault, step, play}
-use Rattle.stk_host.specs.Operations.{host_fault, signature_checked, handshake, opening, without_bytes, closing}
+use Rattle.stk_host.specs.Operations.{host_fault, checked_by, signature_checked, handshake, opening, no_result, closing}
 use Rattle.stk_host.specs.Calls.{StopsSteps, EndsSteps, EndsCall, opening_result}
 use Rattle.stk_host.proofs.Transcripts.Reached.{reaches_on, reaches_from, played_from, broken_on, broken_bind, then_reaches}
 
@@ -76,11 +76,12 @@ pub opening_ends : (wanted : List ℕ) (force : Bool) (begun : Result (List ℕ)
 unfolding opening
 opening_ends wanted force (Ok found) m n o p e =
     checked_ends wanted found force (bytes_eq found wanted)
-    (played_from (then_reaches (λ outcome. Done (signature_checked wanted force outcome)) e))
+    (played_from (then_reaches (λ outcome. Done (checked_by (signature_checked wanted force) outcome)) e))
 opening_ends wanted force (Err fault) m n o p e = search (rules, stop_ends)
 
 pub closing_ends : (result : Result (Unit {0}) HostFault) (m n : Progress) (o p : LinkState)
     → EndsSteps (step (leave ∷ [])) (λ done. []) m o p result n → EndsCall false closing m o p result n
 unfolding closing
-closing_ends (Ok done) m n o p e = played_from (then_reaches (λ outcome. Done (without_bytes outcome)) e)
-closing_ends (Err fault) m n o p e = stop_ends false (step (leave ∷ [])) without_bytes (λ fault. refl) fault m n o p e
+closing_ends (Ok done) m n o p e = played_from (then_reaches (λ outcome. Done (checked_by no_result outcome)) e)
+closing_ends (Err fault) m n o p e =
+    stop_ends false (step (leave ∷ [])) (checked_by no_result) (λ fault. refl) fault m n o p e

@@ -2,6 +2,7 @@
 use Rattle.std.proofs.Common.{Bool, ◌≡◌, ℕ, ◌+◌, ◌<◌, ◌≤◌, ◌^◌, List, [], ◌∷◌, ◌++◌, length, ◌-◌, true, false, ◌∙◌, Option, Ok, Err, Result, rules}
 use Rattle.std.proofs.lemmas.List.{nil_from_length}
 use Rattle.std.specs.Prelude.{OnOk}
+use Rattle.std.specs.Result.{result_and}
 use Rattle.avr_part.specs.declared.part.Mem.{Mem}
 use Rattle.avr_part.specs.Mem.{is_writable}
 use Rattle.avr_part.specs.Part.{Part, IsPart, size_of}
@@ -18,7 +19,7 @@ use Rattle.stk_host.specs.Steps.{StepOutcome, step, play}
 use Rattle.stk_host.specs.Places.{each_from}
 use Rattle.stk_host.specs.WriteSteps.{write_steps}
 use Rattle.stk_host.specs.Operations.{checked_by, operation, writing, Difference, difference_from, differs, comparison}
-use Rattle.stk_host.specs.Calls.{StopsSteps, EndsSteps, EndsCall, CompletesSteps, CompletesStepsWithData, IsSizedShape, data_count, value_or_fault, emptied_on_fault, verifying_result}
+use Rattle.stk_host.specs.Calls.{StopsSteps, EndsSteps, EndsCall, CompletesSteps, CompletesStepsWithData, IsSizedShape, data_count, emptied_on_fault}
 use Rattle.stk_host.proofs.ImagePlaces.PagesAndRuns.{next_place}
 use Rattle.stk_host.proofs.Transcripts.Reached.{reaches_here, reaches_on, played_from, then_reaches}
 use Rattle.stk_host.proofs.Operations.StepEnds.{stops_on, stop_ends, play_on, play_stops, play_done}
@@ -116,7 +117,7 @@ writes_nothing part mem image m o cannot = search (rules, played_from, reaches_h
 
 pub reading_ends : (steps : List (List Command)) (bytes : List ℕ) (result : Result (Unit {0}) HostFault)
     (m n : Progress) (o p : LinkState) → EndsSteps (play steps []) (λ done. bytes) m o p result n
-    → EndsCall true (operation steps Ok) m o p (value_or_fault (emptied_on_fault result bytes) result) n
+    → EndsCall true (operation steps Ok) m o p (result_and result (Ok (emptied_on_fault result bytes))) n
 reading_ends steps bytes (Ok done) m n o p e = checked_from steps Ok bytes e
 reading_ends steps bytes (Err fault) m n o p e = reported_ends true steps Ok fault m n o p e
 
@@ -128,7 +129,7 @@ differs_ends dialog mem found e = search rules
 pub verifying_ends : (steps : List (List Command)) (mem : Mem) (image : List (Option ℕ)) (bytes : List ℕ)
     (result : Result (Unit {0}) HostFault) (m n : Progress) (o p : LinkState)
     → EndsSteps (play steps []) (λ done. bytes) m o p result n
-    → EndsCall true (operation steps (comparison mem image)) m o p (verifying_result mem image bytes result) n
+    → EndsCall true (operation steps (comparison mem image)) m o p (result_and result (comparison mem image bytes)) n
 verifying_ends steps mem image bytes (Ok done) m n o p e =
     differs_ends (operation steps (comparison mem image)) mem (difference_from 0 image bytes)
     (checked_from steps (comparison mem image) bytes e)

@@ -1,0 +1,53 @@
+-- Steps that are cut short and repeated, on a device that may restart.
+use Rattle.std.specs.Prelude.{ℕ, zero, suc, ◌⊎◌, ◌≡◌, List, [], ◌∷◌, ◌++◌, length, replicate, None}
+use Rattle.avr_part.specs.Part.{Part}
+use Rattle.stk_frame.specs.declared.command.Command.{Command}
+use Rattle.stk_frame.specs.Commands.{body}
+use Rattle.stk_host.specs.Tape.{Answered}
+use Rattle.stk_host.specs.Steps.{Reply, Data, Again, Stop, reply_from_reading}
+use Rattle.stk_emu.specs.Programmer.{Programmer}
+use Rattle.stk_emu.specs.Device.{Device}
+use Rattle.stk_emu.specs.Effect.{Memories, memories_of}
+use Rattle.stk_emu.specs.Settled.{NeedsNoExtendedAddress}
+
+abbrev pub on_data : Reply → (List ℕ → Reply) → Reply
+on_data (Data bytes) go_on = go_on bytes
+on_data (Again fault) go_on = Again fault
+on_data (Stop fault) go_on = Stop fault
+
+abbrev pub reply_to : {P : Type 0} → Device P → Command → P → Reply
+reply_to m command p = reply_from_reading command (Answered (m.answer (body command) p))
+
+-- The result of commands that are all executed and replied to: their data joined, after `before`.
+abbrev pub joined_reply : {P : Type 0} → Device P → List Command → List ℕ → P → Reply
+joined_reply m [] before p = Data before
+joined_reply m (command ∷ commands) before p =
+    on_data (reply_to m command p) (λ bytes. joined_reply m commands (before ++ bytes) (m.after (body command) p))
+
+-- The device after the first `i` commands.
+abbrev pub after_commands : {P : Type 0} → Device P → ℕ → List Command → P → P
+after_commands m zero commands p = p
+after_commands m (suc i) [] p = p
+after_commands m (suc i) (command ∷ commands) p = after_commands m i commands (m.after (body command) p)
+
+-- The commands of a step lead from `Before` to `After`, also if the step is cut short and repeated. A prefix of them
+-- keeps `After`, and leads from `Before` to either. All of them lead to `After` if each brought its data. A restart
+-- keeps both conditions.
+pub record IsRepeatable {P : Type 0} (m : Device P) (commands : List Command) (Before After : P → Type 0) : Type 0 where
+  pub prefix : (p : P) (i : ℕ) → Before p → Before (after_commands m i commands p)
+      ⊎ After (after_commands m i commands p)
+  pub again : (p : P) (i : ℕ) → After p → After (after_commands m i commands p)
+  pub whole : (p : P) (bytes : List ℕ) → joined_reply m commands [] p ≡ Data bytes → Before p
+      → After (after_commands m (length commands) commands p)
+  pub restart_keeps : (p : P) → Before p → Before (m.reset p)
+  pub restart_keeps_after : (p : P) → After p → After (m.reset p)
+
+-- A programmer with empty buffers, in programming mode or restarted. No extended address is set that a step would not
+-- set again. Address and parameters don't matter, because each attempt of a step loads its address. Outside
+-- programming mode, which no step enters, every attempt fails.
+pub record Settled (part : Part) (m : Memories) (p : Programmer) : Type 0 where
+  pub memories : memories_of p.chip ≡ m
+  pub part_is : p.chip.part ≡ part
+  pub flash_buffer : p.chip.flash_buffer ≡ replicate part.flash_page 255
+  pub eeprom_buffer : p.chip.eeprom_buffer ≡ replicate part.eeprom_page None
+  pub extended : NeedsNoExtendedAddress part → p.chip.extended ≡ 0
