@@ -1,5 +1,5 @@
 -- An image of a memory: for each address below its size an optional byte.
-use Rattle.std.specs.Prelude.{◌≡◌, ◌<◌, ◌^◌, ℕ, zero, suc, Bool, true, nat_le, length, ◌+◌, ◌-◌, List, [], ◌∷◌, ◌++◌, map, take, drop, replicate, Option, Some, None, is_some, nat_eq, unwrap_or, slice_index_or, slice_set, fold, count_by}
+use Rattle.std.specs.Prelude.{◌≡◌, ◌<◌, ◌^◌, ℕ, zero, suc, Bool, true, nat_le, length, ◌+◌, ◌-◌, List, [], ◌∷◌, ◌++◌, map, take, drop, replicate, Option, Some, None, is_some, nat_eq, unwrap_or, slice_index_or, slice_set, fold, count_by, if◌then◌else◌}
 use Rattle.std.specs.Cmp.Lexicographic.{pointwise}
 use Rattle.std.specs.Option.{option_eq, option_or}
 use Rattle.std.specs.List.{list_any, position_from, prefix_len}
@@ -34,6 +34,12 @@ image_of_pairs size = with_pairs (empty size)
 
 abbrev pub from_zero : List ℕ → ℕ → List (Option ℕ)
 from_zero bytes size = map (λ byte. Some byte) bytes ++ replicate (size - length bytes) None
+
+-- The bytes, the first for `addr`, at the addresses that are held. The others are gaps.
+abbrev pub with_gaps : (ℕ → Bool) → ℕ → List ℕ → List (Option ℕ)
+with_gaps is_held addr [] = []
+with_gaps is_held addr (byte ∷ bytes) =
+    (if is_held addr then Some byte else None) ∷ with_gaps is_held (suc addr) bytes
 
 -- Whether the bytes from `addr` on are inside a memory of this size. An empty list always is.
 abbrev pub fits : ℕ → List ℕ → ℕ → Bool
