@@ -2,9 +2,9 @@
 use Rattle.std.proofs.Common.{◌≡◌, refl, ℕ, ◌+◌, true, false, List, [], ◌∷◌, length, Result, Ok, Err, ⊎_elim, rules}
 use Rattle.std.specs.Prelude.{nat_lt}
 use Rattle.std.proofs.lemmas.Bool.{cases_Bool}
-use Rattle.avr_part.specs.PartFile.{Bytes}
+use Rattle.avr_part.specs.PartFile.{Bytes, ◌>>=◌}
 use Rattle.avr_cli.specs.Port.{port_of_option}
-use Rattle.avr_cli.specs.Settings.{◌>>=◌, Entries, GivesUnlessOutOfMemory, ReportsAnyway, checked_streams, is_reported_anyway, run_settings, updates_from, updates_of}
+use Rattle.avr_cli.specs.Settings.{Entries, GivesUnlessOutOfMemory, ReportsAnyway, checked_streams, is_reported_anyway, run_settings, updates_from, updates_of}
 use Rattle.avr_cli.specs.declared.settings.Port.{Port}
 use Rattle.avr_cli.specs.declared.settings.Settings.{Settings}
 use Rattle.avr_cli.specs.declared.settings.SettingsFault.{SettingsFault}

@@ -8,7 +8,7 @@ use Rattle.std.proofs.Math.Seq.{get_or-append_seam, take-append_seam}
 use Rattle.avr_part.specs.declared.part.Mem.{Mem}
 use Rattle.avr_part.specs.PartFile.{Bytes}
 use Rattle.avr_cli.specs.Split.{colon}
-use Rattle.avr_cli.specs.Update.{file_and_letter, format_of, op_name, update_by, update_of, update_text, with_memory}
+use Rattle.avr_cli.specs.Update.{file_and_letter, format_of, op_name, update_by, update_of, update_after, update_text}
 use Rattle.avr_cli.specs.declared.update.Format.{Format}
 use Rattle.avr_cli.specs.declared.update.Op.{Op}
 
@@ -18,7 +18,7 @@ file_and_letter-append file letter =
     grind (arith, common_steps, nat_tests, length-append, get_or-append_seam, get_or-append-add, take-append_seam)
 
 of_op : (memory : Mem) (op : Op) (rest : Bytes)
-    → with_memory (Some memory) (op_name op ++ colon ∷ rest) ≡ update_by memory op (file_and_letter rest)
+    → update_after memory (op_name op ++ colon ∷ rest) ≡ update_by memory op (file_and_letter rest)
 of_op memory op rest = search rules
 
 pub not_empty : (text : Bytes) → text ≢ [] → (length text == 0) ≡ false

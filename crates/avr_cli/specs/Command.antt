@@ -1,5 +1,6 @@
 -- The command line: its options, as `clap` reads them, and what they give.
-use Rattle.std.specs.Prelude.{ℕ, Bool, true, false, List, [], ◌∷◌, ◌≡◌, Option, Some, None, codes, pos, Result, IfOk, unwrap_or}
+use Rattle.std.specs.Prelude.{ℕ, Bool, true, false, List, [], ◌∷◌, ◌≡◌, Some, codes, pos, Result, IfOk, unwrap_or, fold}
+use Rattle.std.specs.Option.{option_map_or}
 use Rattle.std.specs.Str.{bytes_eq}
 use Rattle.clap.specs.declared.builder.command.Command.{Command}
 use Rattle.clap.specs.declared.builder.arg.Arg.{Arg}
@@ -37,42 +38,27 @@ long_rule id = record (new_rule id) { long = Some id; value_names = 1 }
 -- -p, -c, -P and -U: the part, the programmer, its port and the updates
 unfoldable pub target_rules : List Rule
 target_rules =
-    value_rule (codes "part") 112
-    ∷ value_rule (codes "programmer") 99
-    ∷ value_rule (codes "port") 80
-    ∷ list_rule (codes "update") 85 ∷ []
+    value_rule (codes "part") 112 ∷ value_rule (codes "programmer") 99
+    ∷ value_rule (codes "port") 80 ∷ list_rule (codes "update") 85 ∷ []
 
 -- -e, -D and -V: what is done before and after a write
 unfoldable pub write_rules : List Rule
-write_rules =
-    flag_rule (codes "erase") 101
-    ∷ flag_rule (codes "keep-flash") 68
-    ∷ flag_rule (codes "no-verify") 86 ∷ []
+write_rules = flag_rule (codes "erase") 101 ∷ flag_rule (codes "keep-flash") 68 ∷ flag_rule (codes "no-verify") 86 ∷ []
 
 -- -n, -F and -A: the whole run
 unfoldable pub run_rules : List Rule
-run_rules =
-    flag_rule (codes "dry") 110
-    ∷ flag_rule (codes "force") 70
-    ∷ flag_rule (codes "all") 65 ∷ []
+run_rules = flag_rule (codes "dry") 110 ∷ flag_rule (codes "force") 70 ∷ flag_rule (codes "all") 65 ∷ []
 
 -- -q, -b and -v
 unfoldable pub message_rules : List Rule
-message_rules =
-    count_rule (codes "quiet") 113
-    ∷ number_rule (codes "baud") 98
-    ∷ count_rule (codes "verbose") 118 ∷ []
+message_rules = count_rule (codes "quiet") 113 ∷ number_rule (codes "baud") 98 ∷ count_rule (codes "verbose") 118 ∷ []
 
 -- --parts, --serve and --chip
 unfoldable pub file_rules : List Rule
 file_rules = long_rule (codes "parts") ∷ long_rule (codes "serve") ∷ long_rule (codes "chip") ∷ []
 
 abbrev pub with_rules : App → List Rule → App
-with_rules a [] = a
-with_rules a (rule ∷ rules) = with_rules (with_rule a rule) rules
-
-abbrev pub overriding : App → App
-overriding a = record a { top = record a.top { args_override_self = true } }
+with_rules = fold with_rule
 
 -- what was built is this command, unless allocation failed
 pub record Builds {E : Type 0} (built : Result Command E) (a : App) : Type 0 where
@@ -85,15 +71,13 @@ pub record IsOption (arg : Arg) (rule : Rule) : Type 0 where
 
 unfoldable pub avrstk : App
 avrstk =
-    with_rules (with_rules (with_rules (with_rules (with_rules (overriding (new_app (codes "avrstk")))
-    target_rules) write_rules) run_rules) message_rules) file_rules
-
-abbrev pub is_true : Option Bytes → Bool
-is_true None = false
-is_true (Some text) = bytes_eq text (codes "true")
+    let new = new_app (codes "avrstk") in
+    let bare = record new { top = record new.top { args_override_self = true } } in
+    with_rules (with_rules (with_rules (with_rules (with_rules bare target_rules) write_rules) run_rules) message_rules)
+    file_rules
 
 abbrev pub is_on : Bytes → List Row → Bool
-is_on id rows = is_true (first_of id rows)
+is_on id rows = option_map_or (λ text. bytes_eq text (codes "true")) (first_of id rows) false
 
 abbrev pub switches_of : List Row → Switches
 switches_of rows = record {

@@ -2,6 +2,7 @@
 use Rattle.std.specs.Prelude.{◌==◌, ◌&&◌, ℕ, Bool, false, not, is_some, nat_le, nat_lt, length, Option, Some, None, Result, Ok}
 use Rattle.std.specs.Prelude.{Err, codes, if◌then◌else◌}
 use Rattle.std.specs.List.{list_all}
+use Rattle.std.specs.Option.{option_map_or}
 use Rattle.std.specs.Char.{is_ascii_digit}
 use Rattle.std.specs.Str.{bytes_eq}
 use Rattle.std.specs.Str.Parse.{digits_value}
@@ -18,19 +19,14 @@ port_number text =
     if list_all is_ascii_digit text && nat_le 1 (digits_value 10 text) && nat_lt (digits_value 10 text) 65536
     then Some (digits_value 10 text) else None
 
-abbrev pub is_host_and_port : Option (Bytes × Bytes) → Bool
-is_host_and_port None = false
-is_host_and_port (Some parts) = not (length parts.0 == 0) && is_some (port_number parts.1)
-
 -- a host that isn't empty, the last colon, and a port number
 abbrev pub is_address : Bytes → Bool
-is_address text = is_host_and_port (split_last text)
+is_address text =
+    option_map_or (λ parts. not (length parts.0 == 0) && is_some (port_number parts.1)) (split_last text) false
 
 abbrev pub port_after : Bytes → Option Bytes → Option Bytes → Result Port SettingsFault
-port_after text (Some file) other =
-    if length file == 0 then Err (BadPort (Some text)) else Ok (Emulated file)
-port_after text None (Some address) =
-    if is_address address then Ok (Network address) else Err (BadPort (Some text))
+port_after text (Some file) other = if length file == 0 then Err (BadPort (Some text)) else Ok (Emulated file)
+port_after text None (Some address) = if is_address address then Ok (Network address) else Err (BadPort (Some text))
 port_after text None None = Err (BadPort (Some text))
 
 abbrev pub port_of : Bytes → Result Port SettingsFault

@@ -1,8 +1,10 @@
 -- The settings of a run, as a function of the options given.
 use Rattle.std.specs.Prelude.{◌≡◌, ◌⊎◌, ◌+◌, ℕ, Bool, true, false, nat_lt, List, [], ◌∷◌, length, Option, Some, None, Result, Ok, Err, codes}
-use Rattle.std.specs.Prelude.{if◌then◌else◌, ⊤}
+use Rattle.std.specs.Prelude.{if◌then◌else◌, ⊤, ok_or}
+use Rattle.std.specs.Option.{option_map_or}
+use Rattle.std.specs.Result.{result_map_both}
 use Rattle.std.specs.Str.{bytes_eq}
-use Rattle.avr_part.specs.PartFile.{Bytes}
+use Rattle.avr_part.specs.PartFile.{Bytes, ◌>>=◌}
 use Rattle.avr_cli.specs.Port.{port_number, port_of_option, port_to_serve}
 use Rattle.avr_cli.specs.Standard.{is_taken}
 use Rattle.avr_cli.specs.Update.{update_of}
@@ -31,35 +33,24 @@ pub record Entries : Type 0 where
 abbrev pub GivesUnlessOutOfMemory : {T : Type 0} → Result T SettingsFault → Result T SettingsFault → Type 0
 GivesUnlessOutOfMemory want got = (got ≡ want) ⊎ (got ≡ Err Memory)
 
--- the fault holds no text and comes before any text is copied
-abbrev pub keeps_no_text : SettingsFault → Bool
-keeps_no_text NoPart = true
-keeps_no_text (BadPort None) = true
-keeps_no_text NoChip = true
-keeps_no_text fault = false
-
+-- a fault that holds no text and comes before any text is copied
 abbrev pub is_reported_anyway : {T : Type 0} → Result T SettingsFault → Bool
-is_reported_anyway (Ok value) = false
-is_reported_anyway (Err fault) = keeps_no_text fault
+is_reported_anyway (Err NoPart) = true
+is_reported_anyway (Err (BadPort None)) = true
+is_reported_anyway (Err NoChip) = true
+is_reported_anyway result = false
 
 -- such a fault is returned even if allocation fails
 abbrev pub ReportsAnyway : {T : Type 0} → Result T SettingsFault → Result T SettingsFault → Type 0
 ReportsAnyway want got = is_reported_anyway want ≡ true → got ≡ want
 
-infixl 10 ◌>>=◌
-abbrev pub ◌>>=◌ : {A B : Type 0} → Result A SettingsFault → (A → Result B SettingsFault) → Result B SettingsFault
-Ok x >>= f = f x
-Err e >>= f = Err e
-
 -- `stk500v2` is the default and the only programmer
 abbrev pub checked_programmer : Option Bytes → Result ⊤ SettingsFault
 checked_programmer None = Ok tt
-checked_programmer (Some name) =
-    if bytes_eq name (codes "stk500v2") then Ok tt else Err (BadProgrammer name)
+checked_programmer (Some name) = if bytes_eq name (codes "stk500v2") then Ok tt else Err (BadProgrammer name)
 
 abbrev pub update_at : ℕ → Result Update UpdateFault → Result Update SettingsFault
-update_at n (Ok u) = Ok u
-update_at n (Err fault) = Err (BadUpdate n fault)
+update_at n = result_map_both (λ update. update) (BadUpdate n)
 
 -- the updates of texts; the first has the number n
 abbrev pub updates_from : ℕ → List Bytes → Result (List Update) SettingsFault
@@ -86,15 +77,8 @@ run_settings part e = do
   Ok (record { part = part; port = port; parts = e.parts; updates = updates; switches = e.switches })
 
 abbrev pub no_switches : Switches
-no_switches = record {
-  erase = false;
-  keep_flash = false;
-  no_verify = false;
-  dry = false;
-  force = false;
-  all = false;
-  quiet = 0;
-}
+no_switches =
+    record { erase = false; keep_flash = false; no_verify = false; dry = false; force = false; all = false; quiet = 0 }
 
 -- the settings of a run over a caller's own link: a session with this part and no updates; its port is not used
 abbrev pub link_settings : Bytes → Settings
@@ -107,13 +91,7 @@ serve_settings part text e = do
   streams ← checked_streams port [] e.parts e.chip
   Ok (record { part = part; port = port; parts = e.parts; updates = []; switches = no_switches })
 
-abbrev pub settings_by : Option Bytes → Bytes → Entries → Result Settings SettingsFault
-settings_by None part e = run_settings part e
-settings_by (Some text) part e = serve_settings part text e
-
-abbrev pub with_part : Option Bytes → Entries → Result Settings SettingsFault
-with_part None e = Err NoPart
-with_part (Some part) e = settings_by e.serve part e
-
 abbrev pub settings_of : Entries → Result Settings SettingsFault
-settings_of e = with_part e.part e
+settings_of e = do
+  part ← ok_or e.part NoPart
+  option_map_or (λ text. serve_settings part text e) e.serve (run_settings part e)

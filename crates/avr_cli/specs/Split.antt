@@ -1,5 +1,6 @@
 -- Texts split at a colon or after a prefix.
 use Rattle.std.specs.Prelude.{◌==◌, ℕ, [], ◌∷◌, Option, Some, None, option_map, if◌then◌else◌}
+use Rattle.std.specs.Option.{option_or}
 use Rattle.avr_part.specs.PartFile.{Bytes}
 
 -- what follows this prefix, if the text begins with it
@@ -18,11 +19,6 @@ abbrev pub split_first : Bytes → Option (Bytes × Bytes)
 split_first [] = None
 split_first (c ∷ cs) = if c == colon then Some ([], cs) else with_byte_before c (split_first cs)
 
-abbrev pub or_else : Option (Bytes × Bytes) → Option (Bytes × Bytes) → Option (Bytes × Bytes)
-or_else (Some p) other = Some p
-or_else None other = other
-
 abbrev pub split_last : Bytes → Option (Bytes × Bytes)
 split_last [] = None
-split_last (c ∷ cs) =
-    or_else (with_byte_before c (split_last cs)) (if c == colon then Some ([], cs) else None)
+split_last (c ∷ cs) = option_or (with_byte_before c (split_last cs)) (if c == colon then Some ([], cs) else None)

@@ -1,13 +1,11 @@
 -- Which standard streams the command line asks for, and whether one is asked for twice.
-use Rattle.std.specs.Prelude.{◌&&◌, ◌||◌, Bool, true, false, not, nat_le, List, count_by, Option, codes}
+use Rattle.std.specs.Prelude.{◌&&◌, ◌||◌, Bool, true, false, nat_le, List, count_by, Option, codes}
 use Rattle.std.specs.List.{list_any}
 use Rattle.std.specs.Option.{option_map_or}
 use Rattle.std.specs.Str.{bytes_eq}
 use Rattle.avr_part.specs.PartFile.{Bytes}
 use Rattle.avr_cli.specs.declared.update.Update.{Update}
-use Rattle.avr_cli.specs.declared.update.Op.{Op}
 use Rattle.avr_cli.specs.declared.update.Op.TheVariants.{Read}
-use Rattle.avr_cli.specs.declared.update.Format.{Format}
 use Rattle.avr_cli.specs.declared.update.Format.TheVariants.{Immediate}
 use Rattle.avr_cli.specs.declared.settings.Port.{Port}
 use Rattle.avr_cli.specs.declared.settings.Port.TheVariants.{Stdio, Emulated, Network, Served}
@@ -15,20 +13,12 @@ use Rattle.avr_cli.specs.declared.settings.Port.TheVariants.{Stdio, Emulated, Ne
 abbrev pub is_standard : Bytes → Bool
 is_standard name = bytes_eq name (codes "-")
 
-abbrev pub is_immediate : Format → Bool
-is_immediate Immediate = true
-is_immediate format = false
-
-abbrev pub is_read : Op → Bool
-is_read Read = true
-is_read op = false
-
 -- the update's file is standard input or output; values are no file
 abbrev pub uses_standard : Update → Bool
-uses_standard u = is_standard u.file && not (is_immediate u.format)
+uses_standard u = is_standard u.file && elim (u.format) [ Immediate ↦ false | format ↦ true ]
 
 abbrev pub uses_input : Update → Bool
-uses_input u = uses_standard u && not (is_read u.op)
+uses_input u = uses_standard u && elim (u.op) [ Read ↦ false | op ↦ true ]
 
 abbrev pub is_given_standard : Option Bytes → Bool
 is_given_standard file = option_map_or is_standard file false

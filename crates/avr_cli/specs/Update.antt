@@ -1,11 +1,12 @@
 -- The update that the text of `-U` means: MEMORY:OP:FILE[:FORMAT], or a file alone for flash.
 use Rattle.std.specs.Prelude.{◌≡◌, ◌⊎◌, ◌==◌, ◌-◌, ◌&&◌, ℕ, nat_le, List, [], ◌∷◌, ◌++◌, Option, Some, None, Result, Ok, Err, IsOk}
-use Rattle.std.specs.Prelude.{codes, length, take, slice_index, find, if◌then◌else◌}
+use Rattle.std.specs.Prelude.{codes, length, take, slice_index, find, unwrap_or, ok_or, if◌then◌else◌}
+use Rattle.std.specs.Option.{option_map_or}
 use Rattle.std.specs.Str.{bytes_eq}
 use Rattle.avr_part.specs.Mem.{name_of, memory_named}
 use Rattle.avr_part.specs.declared.part.Mem.{Mem}
 use Rattle.avr_part.specs.declared.part.Mem.TheVariants.{Flash}
-use Rattle.avr_part.specs.PartFile.{Bytes}
+use Rattle.avr_part.specs.PartFile.{Bytes, ◌>>=◌}
 use Rattle.avr_cli.specs.Split.{colon, split_first}
 use Rattle.avr_cli.specs.declared.update.Op.{Op}
 use Rattle.avr_cli.specs.declared.update.Op.TheVariants.{Read, Write, Verify}
@@ -65,36 +66,22 @@ file_and_letter rest =
     then (take (length rest - 2) rest, Some (slice_index rest (length rest - 1)))
     else (rest, None)
 
-abbrev pub update_in : Mem → Op → Bytes → Option Format → Result Update UpdateFault
-update_in memory op file None = Err BadFormat
-update_in memory op file (Some format) =
-    Ok (record { memory = memory; op = op; format = format; file = file })
-
 abbrev pub update_by : Mem → Op → Bytes × Option ℕ → Result Update UpdateFault
-update_by memory op named =
-    if length named.0 == 0 then Err NoFile else update_in memory op named.0 (format_of op named.1)
+update_by memory op named = do
+  format ← if length named.0 == 0 then Err NoFile else ok_or (format_of op named.1) BadFormat
+  Ok (record { memory = memory; op = op; format = format; file = named.0 })
 
-abbrev pub with_op : Mem → Option Op → Bytes → Result Update UpdateFault
-with_op memory None rest = Err BadOp
-with_op memory (Some op) rest = update_by memory op (file_and_letter rest)
-
--- what is before the second colon, or the end, and what follows it
-abbrev pub op_and_rest : Bytes → Option (Bytes × Bytes) → Bytes × Bytes
-op_and_rest after None = (after, [])
-op_and_rest after (Some parts) = parts
-
-abbrev pub with_memory : Option Mem → Bytes → Result Update UpdateFault
-with_memory None after = Err BadMemory
-with_memory (Some memory) after =
-    let parts = op_and_rest after (split_first after) in with_op memory (op_named parts.0) parts.1
+-- what follows a memory's colon: the operation up to the next colon, or the end, and the file after it
+abbrev pub update_after : Mem → Bytes → Result Update UpdateFault
+update_after memory after =
+    let parts = unwrap_or (split_first after) (after, []) in
+    ok_or (op_named parts.0) BadOp >>= (λ op. update_by memory op (file_and_letter parts.1))
 
 -- a text without a colon is a file, written to flash in the format that its first bytes show
-abbrev pub update_of_parts : Bytes → Option (Bytes × Bytes) → Result Update UpdateFault
-update_of_parts text None = update_by Flash Write (text, None)
-update_of_parts text (Some parts) = with_memory (memory_named parts.0) parts.1
-
 abbrev pub update_of : Bytes → Result Update UpdateFault
-update_of text = update_of_parts text (split_first text)
+update_of text =
+    option_map_or (λ parts. ok_or (memory_named parts.0) BadMemory >>= (λ memory. update_after memory parts.1))
+    (split_first text) (update_by Flash Write (text, None))
 
 abbrev pub update_text : Mem → Op → Bytes → ℕ → Bytes
 update_text memory op file letter =

@@ -10,6 +10,39 @@ use std::alloc::{AllocError, Global};
 
 const ABOUT: &str = "Programs AVR parts through an STK500v2 programmer";
 
+// The help of the options, in their order.
+const PART: &str = "The part: m328p, t85, m2560, or one of a part file; needed";
+
+const PROGRAMMER: &str = "The programmer: stk500v2, the default";
+
+const PORT: &str = "Where the programmer is: stdio:, emu:CHIPFILE or net:HOST:PORT";
+
+const UPDATE: &str = "Write, compare or read a memory; up to 16 times";
+
+const ERASE: &str = "Erase the chip";
+
+const KEEP_FLASH: &str = "Don't erase the chip before flash is written";
+
+const NO_VERIFY: &str = "Don't read back what was written";
+
+const DRY: &str = "Write and erase nothing";
+
+const FORCE: &str = "Go on despite a wrong signature";
+
+const ALL: &str = "Keep trailing FF of what is read from flash";
+
+const QUIET: &str = "Suppress information lines; twice: warnings too";
+
+const BAUD: &str = "The speed of a serial line; no effect";
+
+const VERBOSE: &str = "Accepted for compatibility; no effect";
+
+const PARTS: &str = "A file of parts in TOML, before the built-in ones";
+
+const SERVE: &str = "Be an emulated programmer at this port of 127.0.0.1";
+
+const CHIP: &str = "The chip file of --serve";
+
 const AFTER: &str = "\
 UPDATE is MEMORY:OP:FILE or MEMORY:OP:FILE:FORMAT. A FILE alone is flash:w:FILE:a.
   MEMORY  flash, eeprom, lfuse, hfuse, efuse, lock, signature or calibration
@@ -72,39 +105,20 @@ fn counted<'a>(alloc: Global, id: &'a str, short: char, help: &'a str) -> Arg<'a
 fn update<'a>(alloc: Global) -> Arg<'a>
     ensures { IsOption result (list_rule (codes "update") 85) }
 {
-    value(
-        alloc,
-        "update",
-        'U',
-        "UPDATE",
-        "Write, compare or read a memory; up to 16 times",
-    )
-    .action(ArgAction::Append)
+    value(alloc, "update", 'U', "UPDATE", UPDATE).action(ArgAction::Append)
 }
 
 /// `-b`, whose value is a number below 2 to the power 32.
 fn baud<'a>(alloc: Global) -> Arg<'a>
     ensures { IsOption result (number_rule (codes "baud") 98) }
 {
-    value(
-        alloc,
-        "baud",
-        'b',
-        "N",
-        "The speed of a serial line; no effect",
-    )
-    .value_parser(value_parser!(u32))
+    value(alloc, "baud", 'b', "N", BAUD).value_parser(value_parser!(u32))
 }
 
 fn all<'a>(alloc: Global) -> Arg<'a>
     ensures { IsOption result (flag_rule (codes "all") 65) }
 {
-    flag(
-        alloc,
-        "all",
-        'A',
-        "Keep trailing FF of what is read from flash",
-    )
+    flag(alloc, "all", 'A', ALL)
 }
 
 /// Adds one option, unless allocation failed before. Only this function has the early exit: proving one is slow while
@@ -125,36 +139,9 @@ fn with_target<'a>(
 ) -> Result<Command<'a>, AllocError>
     ensures app { (a : App) → Builds command.entry a → Builds result (with_rules a target_rules) }
 {
-    let command = add(
-        command,
-        value(
-            alloc,
-            "part",
-            'p',
-            "ID",
-            "The part: m328p, t85, m2560, or one of a part file; needed",
-        ),
-    );
-    let command = add(
-        command,
-        value(
-            alloc,
-            "programmer",
-            'c',
-            "NAME",
-            "The programmer: stk500v2, the default",
-        ),
-    );
-    let command = add(
-        command,
-        value(
-            alloc,
-            "port",
-            'P',
-            "PORT",
-            "Where the programmer is: stdio:, emu:CHIPFILE or net:HOST:PORT",
-        ),
-    );
+    let command = add(command, value(alloc, "part", 'p', "ID", PART));
+    let command = add(command, value(alloc, "programmer", 'c', "NAME", PROGRAMMER));
+    let command = add(command, value(alloc, "port", 'P', "PORT", PORT));
     add(command, update(alloc))
 }
 
@@ -164,20 +151,9 @@ fn with_write<'a>(
 ) -> Result<Command<'a>, AllocError>
     ensures app { (a : App) → Builds command.entry a → Builds result (with_rules a write_rules) }
 {
-    let command = add(command, flag(alloc, "erase", 'e', "Erase the chip"));
-    let command = add(
-        command,
-        flag(
-            alloc,
-            "keep-flash",
-            'D',
-            "Don't erase the chip before flash is written",
-        ),
-    );
-    add(
-        command,
-        flag(alloc, "no-verify", 'V', "Don't read back what was written"),
-    )
+    let command = add(command, flag(alloc, "erase", 'e', ERASE));
+    let command = add(command, flag(alloc, "keep-flash", 'D', KEEP_FLASH));
+    add(command, flag(alloc, "no-verify", 'V', NO_VERIFY))
 }
 
 fn with_run<'a>(
@@ -186,11 +162,8 @@ fn with_run<'a>(
 ) -> Result<Command<'a>, AllocError>
     ensures app { (a : App) → Builds command.entry a → Builds result (with_rules a run_rules) }
 {
-    let command = add(command, flag(alloc, "dry", 'n', "Write and erase nothing"));
-    let command = add(
-        command,
-        flag(alloc, "force", 'F', "Go on despite a wrong signature"),
-    );
+    let command = add(command, flag(alloc, "dry", 'n', DRY));
+    let command = add(command, flag(alloc, "force", 'F', FORCE));
     add(command, all(alloc))
 }
 
@@ -200,25 +173,9 @@ fn with_message_options<'a>(
 ) -> Result<Command<'a>, AllocError>
     ensures app { (a : App) → Builds command.entry a → Builds result (with_rules a message_rules) }
 {
-    let command = add(
-        command,
-        counted(
-            alloc,
-            "quiet",
-            'q',
-            "Suppress information lines; twice: warnings too",
-        ),
-    );
+    let command = add(command, counted(alloc, "quiet", 'q', QUIET));
     let command = add(command, baud(alloc));
-    add(
-        command,
-        counted(
-            alloc,
-            "verbose",
-            'v',
-            "Accepted for compatibility; no effect",
-        ),
-    )
+    add(command, counted(alloc, "verbose", 'v', VERBOSE))
 }
 
 fn with_files<'a>(
@@ -227,28 +184,9 @@ fn with_files<'a>(
 ) -> Result<Command<'a>, AllocError>
     ensures app { (a : App) → Builds command.entry a → Builds result (with_rules a file_rules) }
 {
-    let command = add(
-        command,
-        long_value(
-            alloc,
-            "parts",
-            "FILE",
-            "A file of parts in TOML, before the built-in ones",
-        ),
-    );
-    let command = add(
-        command,
-        long_value(
-            alloc,
-            "serve",
-            "PORT",
-            "Be an emulated programmer at this port of 127.0.0.1",
-        ),
-    );
-    add(
-        command,
-        long_value(alloc, "chip", "FILE", "The chip file of --serve"),
-    )
+    let command = add(command, long_value(alloc, "parts", "FILE", PARTS));
+    let command = add(command, long_value(alloc, "serve", "PORT", SERVE));
+    add(command, long_value(alloc, "chip", "FILE", CHIP))
 }
 
 fn with_options<'a>(alloc: Global) -> Result<Command<'a>, AllocError>

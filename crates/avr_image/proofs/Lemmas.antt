@@ -3,7 +3,8 @@
 use Rattle.std.proofs.Common.{◌≡◌, ◌≢◌, refl, ℕ, ◌+◌, ◌-◌, ◌<◌, ◌≤◌, ◌⊎◌, ◌↔◌, List, [], ◌∷◌, ◌++◌, length, take, drop, min, All, true, Option, Some, None, Ok, Err, is_some}
 use Rattle.std.specs.Prelude.{slice_index_or, IsTrue}
 use Rattle.std.specs.List.{enumerate_from, flat_map, slice_range}
-use Rattle.avr_image.specs.Image.{byte_at, byte_or_else, filled_bytes, first_from, fits, from_zero, image_of_pairs, is_same, with_pairs, over, run_end, with_byte}
+use Rattle.std.specs.Option.{option_or}
+use Rattle.avr_image.specs.Image.{byte_at, filled_bytes, first_from, fits, from_zero, image_of_pairs, is_same, with_pairs, over, run_end, with_byte}
 use Rattle.avr_image.specs.ByAddress.{last_at}
 use Rattle.avr_image.specs.Runs.{runs, leading_run, places_of}
 use Rattle.avr_image.specs.Walk.{IsNextHeld, IsByteRun, IsFilled, IsLongestRun}
@@ -92,12 +93,12 @@ none_fit addr size = refl
 
 -- each address has the second's byte, if the second has one, else the first's
 pub over_at : (first second : List (Option ℕ)) (addr : ℕ) → length first ≡ length second
-    → byte_at (over first second) addr ≡ byte_or_else (byte_at second addr) (byte_at first addr)
+    → byte_at (over first second) addr ≡ option_or (byte_at second addr) (byte_at first addr)
 over_at = by_address.over-at
 
 -- each address has the last byte put there, else what it had
 pub laid_at : (image : List (Option ℕ)) (places : List (ℕ × ℕ)) (addr : ℕ) → addr < length image
-    → byte_at (with_pairs image places) addr ≡ byte_or_else (last_at addr places) (byte_at image addr)
+    → byte_at (with_pairs image places) addr ≡ option_or (last_at addr places) (byte_at image addr)
 laid_at = by_address.laid-at
 
 -- putting bytes into an image gives the same as laying an image of them over it

@@ -1,16 +1,10 @@
 -- How `Image` stores its bytes: one for each address, FF in gaps, and presence bits.
-use Rattle.std.specs.Prelude.{◌≡◌, ℕ, suc, ◌*◌, ◌^◌, ◌<◌, ◌≤◌, false, List, [], ◌∷◌, ◌++◌, ◌+◌, length, take, drop, slice_index, Option, Some, None, if◌then◌else◌}
+use Rattle.std.specs.Prelude.{◌≡◌, ℕ, ◌*◌, ◌^◌, ◌<◌, ◌≤◌, false, List, ◌++◌, ◌+◌, length, take, drop, slice_index, Option}
+use Rattle.avr_image.specs.Image.{with_gaps}
 use Rattle.avr_image.specs.Present.{is_present}
 
-abbrev pub shown_byte : List ℕ → ℕ → ℕ → Option ℕ
-shown_byte words addr byte = if is_present words addr then Some byte else None
-
-abbrev pub shown_from : ℕ → List ℕ → List ℕ → List (Option ℕ)
-shown_from addr words [] = []
-shown_from addr words (byte ∷ bytes) = shown_byte words addr byte ∷ shown_from (suc addr) words bytes
-
 abbrev pub dense_image : List ℕ → List ℕ → List (Option ℕ)
-dense_image words bytes = shown_from 0 words bytes
+dense_image words bytes = with_gaps (is_present words) 0 bytes
 
 -- There is a presence bit for each byte. The bytes are fewer than 2 to the power 32, each below 256, and FF in gaps.
 pub record IsSoundStorage (words bytes : List ℕ) : Type 0 where

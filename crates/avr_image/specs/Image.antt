@@ -1,7 +1,7 @@
 -- An image of a memory: for each address below its size an optional byte.
-use Rattle.std.specs.Prelude.{◌≡◌, ◌<◌, ◌^◌, ℕ, zero, suc, Bool, true, nat_le, length, ◌+◌, ◌-◌, List, [], ◌∷◌, ◌++◌, map, take, drop, replicate, Option, Some, None, is_some, nat_eq, unwrap_or, slice_index_or, slice_set, fold, count_by}
+use Rattle.std.specs.Prelude.{◌≡◌, ◌<◌, ◌^◌, ℕ, zero, suc, Bool, true, nat_le, length, ◌+◌, ◌-◌, List, [], ◌∷◌, ◌++◌, map, take, drop, replicate, Option, Some, None, is_some, nat_eq, unwrap_or, slice_index_or, slice_set, fold, count_by, if◌then◌else◌}
 use Rattle.std.specs.Cmp.Lexicographic.{pointwise}
-use Rattle.std.specs.Option.{option_eq}
+use Rattle.std.specs.Option.{option_eq, option_or}
 use Rattle.std.specs.List.{list_any, position_from, prefix_len}
 
 -- The image of a memory of this size without a byte.
@@ -18,19 +18,11 @@ byte_at image addr = slice_index_or image addr None
 abbrev pub with_byte : List (Option ℕ) → ℕ → ℕ → List (Option ℕ)
 with_byte image addr byte = slice_set image addr (Some byte)
 
-abbrev pub without_byte : List (Option ℕ) → ℕ → List (Option ℕ)
-without_byte image addr = slice_set image addr None
-
--- Returns the first byte if there is one, else the second.
-abbrev pub byte_or_else : Option ℕ → Option ℕ → Option ℕ
-byte_or_else (Some b) a = Some b
-byte_or_else None a = a
-
 -- The second image over the first, both of one size. If both hold a byte, the second's wins. `Image::lay_over` does it.
 abbrev pub over : List (Option ℕ) → List (Option ℕ) → List (Option ℕ)
 over [] bs = []
 over (a ∷ more) [] = a ∷ more
-over (a ∷ more) (b ∷ bs) = byte_or_else b a ∷ over more bs
+over (a ∷ more) (b ∷ bs) = option_or b a ∷ over more bs
 
 -- The image with these bytes put at their addresses, in the list's order. A later byte at an address wins.
 abbrev pub with_pairs : List (Option ℕ) → List (ℕ × ℕ) → List (Option ℕ)
@@ -42,6 +34,12 @@ image_of_pairs size = with_pairs (empty size)
 
 abbrev pub from_zero : List ℕ → ℕ → List (Option ℕ)
 from_zero bytes size = map (λ byte. Some byte) bytes ++ replicate (size - length bytes) None
+
+-- The bytes, the first for `addr`, at the addresses that are held. The others are gaps.
+abbrev pub with_gaps : (ℕ → Bool) → ℕ → List ℕ → List (Option ℕ)
+with_gaps is_held addr [] = []
+with_gaps is_held addr (byte ∷ bytes) =
+    (if is_held addr then Some byte else None) ∷ with_gaps is_held (suc addr) bytes
 
 -- Whether the bytes from `addr` on are inside a memory of this size. An empty list always is.
 abbrev pub fits : ℕ → List ℕ → ℕ → Bool

@@ -7,10 +7,6 @@ use Rattle.avr_image.specs.declared.fault.ImageFault.TheVariants.{OutOfRange}
 abbrev pub raw : List ℕ → ℕ → Result (List (Option ℕ)) ImageFault
 raw bytes size = if nat_le (length bytes) size then Ok (from_zero bytes size) else Err (OutOfRange size)
 
-abbrev pub without_image : Result (List (Option ℕ)) ImageFault → Result (Unit {0}) ImageFault
-without_image (Ok image) = Ok tt
-without_image (Err fault) = Err fault
-
 -- The state of a `RawReader`: the image so far, how many bytes it was fed, and whether it has failed.
 pub record RawReaderState : Type 0 where
   pub image : List (Option ℕ)

@@ -1,6 +1,7 @@
 -- Values given on the command line, AVRDUDE's format `m`: what `parse_immediate` reads.
 use Rattle.std.specs.Prelude.{ℕ, Bool, ◌+◌, ◌-◌, ◌^◌, min, ◌==◌, ◌&&◌, ◌||◌, not, nat_lt, nat_le, List, [], ◌∷◌, length, map, filter, Option, Some, None, Result, Ok, Err, if◌then◌else◌}
 use Rattle.std.specs.List.{list_all, slice_split, enumerate_from}
+use Rattle.std.specs.Result.{result_map_both}
 use Rattle.std.specs.Char.{digit_value}
 use Rattle.std.specs.Str.Parse.{digits_value}
 use Rattle.avr_image.specs.Image.{from_zero}
@@ -23,17 +24,13 @@ number_in_base base digits =
     if nat_lt 0 (length digits) && list_all (is_digit_of base) digits
     then Some (digits_value base digits) else None
 
--- The number after a leading zero. The character after the zero decides its base.
-abbrev pub prefixed_number : ℕ → List ℕ → Option ℕ
-prefixed_number letter digits =
-    if letter == 120 || letter == 88 then number_in_base 16 digits
-    else if letter == 98 || letter == 66 then number_in_base 2 digits
-    else number_in_base 8 (letter ∷ digits)
-
 -- The number of one value: `0x` and hexadecimal digits, `0b` and binary ones, `0` and octal ones, or decimal digits.
 abbrev pub value_of : List ℕ → Option ℕ
 value_of (first ∷ second ∷ more) =
-    if first == 48 then prefixed_number second more else number_in_base 10 (first ∷ second ∷ more)
+    if not (first == 48) then number_in_base 10 (first ∷ second ∷ more)
+    else if second == 120 || second == 88 then number_in_base 16 more
+    else if second == 98 || second == 66 then number_in_base 2 more
+    else number_in_base 8 (second ∷ more)
 value_of digits = number_in_base 10 digits
 
 -- The 1-based number of the value for an address, at most 2^32 - 1, as faults report it.
@@ -53,16 +50,14 @@ byte_of_value size piece = fitting size piece.0 (value_of piece.1)
 
 abbrev pub onto_ok : Result ℕ ImageFault → Result (List ℕ) ImageFault → Result (List ℕ) ImageFault
 onto_ok (Err fault) rest = Err fault
-onto_ok (Ok byte) (Err fault) = Err fault
-onto_ok (Ok byte) (Ok bytes) = Ok (byte ∷ bytes)
+onto_ok (Ok byte) rest = result_map_both (λ bytes. byte ∷ bytes) (λ fault. fault) rest
 
 abbrev pub all_ok : List (Result ℕ ImageFault) → Result (List ℕ) ImageFault
 all_ok [] = Ok []
 all_ok (r ∷ rs) = onto_ok r (all_ok rs)
 
 abbrev pub image_of_bytes : ℕ → Result (List ℕ) ImageFault → Result (List (Option ℕ)) ImageFault
-image_of_bytes size (Ok bytes) = Ok (from_zero bytes size)
-image_of_bytes size (Err fault) = Err fault
+image_of_bytes size = result_map_both (λ bytes. from_zero bytes size) (λ fault. fault)
 
 -- The image of the values, from address 0 on, or the first value's fault. A text without values is `BadNumber 1`.
 abbrev pub image_of_values : List ℕ → ℕ → Result (List (Option ℕ)) ImageFault

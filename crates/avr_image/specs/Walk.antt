@@ -14,9 +14,6 @@ pub record IsLastHeld (image : List (Option ℕ)) (place : ℕ) : Type 0 where
   pub held : is_some (byte_at image place) ≡ true
   pub above : (k : ℕ) → place < k → byte_at image k ≡ None
 
-abbrev pub HoldsNone : List (Option ℕ) → Type 0
-HoldsNone image = (addr : ℕ) → byte_at image addr ≡ None
-
 -- The bytes from `addr` to `place` are the longest run from `addr` on that ends at `end` or before.
 pub record IsByteRun (image : List (Option ℕ)) (addr end place : ℕ) : Type 0 where
   pub after : addr ≤ place

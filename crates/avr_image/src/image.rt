@@ -1,11 +1,11 @@
 //! Images of memories: for each byte address a byte or a gap.
 
-ghost use Rattle.std.specs.Prelude.{◌≡◌, ◌==◌, ◌+◌, ◌^◌, ◌<◌, ◌≤◌, ℕ, List, length, max, nat_lt, Ok, Err, OnOk, OnErr, MatchOption, MatchResult, slice_index, slice_index_or, if◌then◌else◌};
+ghost use Rattle.std.specs.Prelude.{◌≡◌, ◌==◌, ◌+◌, ◌^◌, ◌<◌, ◌≤◌, ℕ, List, length, max, nat_lt, Ok, Err, OnOk, OnErr, MatchOption, MatchResult, None, slice_index, slice_index_or, slice_set, if◌then◌else◌};
 ghost use Rattle.std.specs.Cmp.{nat_eq_equiv, partial_equiv_from_equiv};
 ghost use Rattle.std.specs.Cmp.Lexicographic.{lists_equiv, options_equiv};
-ghost use Rattle.avr_image.specs.Image.{empty, is_same, byte_at, with_byte, without_byte, byte_count, filled_bytes, first_from, holds_any, run_end, fits, with_pairs, over, IsImage};
+ghost use Rattle.avr_image.specs.Image.{empty, is_same, byte_at, with_byte, byte_count, filled_bytes, first_from, holds_any, run_end, fits, with_pairs, over, IsImage};
 ghost use Rattle.avr_image.specs.Runs.{runs};
-ghost use Rattle.avr_image.specs.Walk.{HoldsNone, IsLastHeld};
+ghost use Rattle.avr_image.specs.Walk.{IsLastHeld};
 ghost use Rattle.std.specs.List.{enumerate_from};
 ghost use Rattle.avr_image.specs.Dense.{with_span};
 ghost use Rattle.avr_image.specs.Overlap.{AreDisjoint, IsFirstOverlap};
@@ -247,7 +247,7 @@ impl Image {
     /// ```
     pub fn remove(&mut self, addr: u32) -> Option<u8>
         ensures taken { result ≡ byte_at self.old addr }
-        ensures removed { self.new ≡ without_byte self.old addr }
+        ensures removed { self.new ≡ slice_set self.old addr None }
         ensures size { length self.new ≡ length self.old }
     {
         let byte = self.get(addr);
@@ -393,7 +393,7 @@ impl Image {
     /// assert_eq!(rt; image.last_held(), Some(9));
     /// ```
     pub fn last_held(&self) -> Option<u32>
-        ensures { MatchOption result (HoldsNone self.now) (IsLastHeld self.now) }
+        ensures { MatchOption result ((addr : ℕ) → byte_at self.now addr ≡ None) (IsLastHeld self.now) }
     {
         let mut end = self.size();
         while end > 0 {

@@ -2,7 +2,8 @@
 
 ghost use Rattle.std.specs.Prelude.{◌≡◌, ◌≢◌, ◌<◌, ◌≤◌, ◌↔◌, ◌+◌, ◌-◌, ◌++◌, ◌⊎◌, ℕ, true, List, [], ◌∷◌, All, length, take, drop, min, flat_map, slice_index_or, is_some, IsTrue, Ok, Err, Option, None, Some};
 ghost use Rattle.std.specs.List.{enumerate_from, slice_range};
-ghost use Rattle.avr_image.specs.Image.{byte_at, byte_or_else, filled_bytes, first_from, fits, from_zero, image_of_pairs, is_same, with_pairs, over, run_end, with_byte};
+ghost use Rattle.std.specs.Option.{option_or};
+ghost use Rattle.avr_image.specs.Image.{byte_at, filled_bytes, first_from, fits, from_zero, image_of_pairs, is_same, with_pairs, over, run_end, with_byte};
 ghost use Rattle.avr_image.specs.Lists.{list_line};
 ghost use Rattle.avr_image.specs.Runs.{leading_run, places_of, runs};
 ghost use Rattle.avr_image.specs.Values.{image_of_values};
@@ -44,9 +45,9 @@ pub fn laying_over_groups()
 /// bytes were put into an image, an address holds the last byte put there, else the image's.
 pub fn over_is_by_address()
     ensures over { (first second : List (Option ℕ)) (addr : ℕ) → length first ≡ length second
-        → byte_at (over first second) addr ≡ byte_or_else (byte_at second addr) (byte_at first addr) }
+        → byte_at (over first second) addr ≡ option_or (byte_at second addr) (byte_at first addr) }
     ensures laid { (image : List (Option ℕ)) (places : List (ℕ × ℕ)) (addr : ℕ) → addr < length image
-        → byte_at (with_pairs image places) addr ≡ byte_or_else (last_at addr places) (byte_at image addr) }
+        → byte_at (with_pairs image places) addr ≡ option_or (last_at addr places) (byte_at image addr) }
 {}
 
 /// A byte or span that was put inside an image is at its addresses. All other addresses and the size are unchanged.

@@ -34,7 +34,8 @@ impl Model for RawReader {
 }
 
 impl RawReader {
-    ghost use Rattle.avr_image.specs.Raw.{raw, without_image, HoldsText};
+    ghost use Rattle.std.specs.Result.{result_and};
+    ghost use Rattle.avr_image.specs.Raw.{raw, HoldsText};
 
     /// Creates a reader for a memory of `size` bytes. No later call allocates.
     ///
@@ -71,7 +72,7 @@ impl RawReader {
     /// ```
     pub fn feed(&mut self, piece: &[u8]) -> Result<(), ImageFault>
         ensures answer { (text : List ℕ) → HoldsText self.old text → result
-            ≡ without_image (raw (text ++ piece.now) (length self.old.image)) }
+            ≡ result_and (raw (text ++ piece.now) (length self.old.image)) (Ok tt) }
         ensures stands { OnOk result ((text : List ℕ) → HoldsText self.old text
             → HoldsText self.new (text ++ piece.now)) }
         ensures size { length self.new.image ≡ length self.old.image }

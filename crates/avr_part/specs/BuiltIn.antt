@@ -1,5 +1,6 @@
 -- The built-in parts, and how a part is found.
-use Rattle.std.specs.Prelude.{ℕ, List, [], ◌∷◌, ◌++◌, Bool, codes, Option, Some, None, Result, ok_or, find}
+use Rattle.std.specs.Prelude.{ℕ, List, [], ◌∷◌, ◌++◌, Bool, codes, Option, Result, ok_or, find}
+use Rattle.std.specs.Option.{option_map_or}
 use Rattle.std.specs.Global.{Vec}
 use Rattle.std.specs.Str.{bytes_eq}
 use Rattle.avr_part.specs.Part.{Part}
@@ -50,5 +51,4 @@ abbrev pub part_of_id : List ℕ → List Part → Result Part PartFault
 part_of_id id parts = ok_or (find (has_id id) (parts ++ built_in_parts)) NoSuchPart
 
 abbrev pub parts_of_file : Option (Vec Part) → List Part
-parts_of_file None = []
-parts_of_file (Some v) = v.items
+parts_of_file file = option_map_or (λ v. v.items) file []

@@ -16,15 +16,6 @@ decode_write b d =
     else if b == 0xE0 then WriteLock d
     else Nothing
 
--- instructions that read a fuse or the lock, by their first two bytes
-abbrev pub decode_read : ℕ → ℕ → Instruction
-decode_read a b =
-    if a == 0x50 && b == 0x00 then ReadFuse fuse.Low
-    else if a == 0x58 && b == 0x08 then ReadFuse fuse.High
-    else if a == 0x50 && b == 0x08 then ReadFuse fuse.Extended
-    else if a == 0x58 && b == 0x00 then ReadLock
-    else Nothing
-
 abbrev pub decode_bytes : ℕ → ℕ → ℕ → ℕ → Instruction
 decode_bytes a b c d =
     if a == 0xAC then decode_write b d
@@ -41,7 +32,11 @@ decode_bytes a b c d =
     else if a == 0x38 then ReadCalibration
     else if a == 0xF0 then Poll
     else if a == 0x4D then Extend c
-    else decode_read a b
+    else if a == 0x50 && b == 0x00 then ReadFuse fuse.Low
+    else if a == 0x58 && b == 0x08 then ReadFuse fuse.High
+    else if a == 0x50 && b == 0x08 then ReadFuse fuse.Extended
+    else if a == 0x58 && b == 0x00 then ReadLock
+    else Nothing
 
 abbrev pub instruction_of : List ℕ → Instruction
 instruction_of x = decode_bytes (slice_index x 0) (slice_index x 1) (slice_index x 2) (slice_index x 3)

@@ -1,5 +1,6 @@
 -- The parts, or the fault, that a part file means by its TOML tree.
-use Rattle.std.specs.Prelude.{◌≡◌, ◌≢◌, ◌≤◌, ◌⊎◌, ◌+◌, ℕ, ℤ, pos, negsuc, List, [], ◌∷◌, ◌&&◌, ◌==◌, ◌%◌, Option, Some, None, Result, Ok, Err, ok_or, codes, count_by, take, if◌then◌else◌}
+use Rattle.std.specs.Prelude.{◌≡◌, ◌≢◌, ◌≤◌, ◌⊎◌, ◌+◌, ℕ, pos, negsuc, List, [], ◌∷◌, ◌&&◌, ◌==◌, ◌%◌, Option, Some, None, Result, Ok, Err, ok_or, codes, count_by, take, MatchOption, if◌then◌else◌}
+use Rattle.std.specs.Result.{result_map_both, result_ok}
 use Rattle.std.specs.Int.{is_power_of_two}
 use Rattle.std.specs.Str.{is_utf8}
 use Rattle.std.specs.Global.{Vec}
@@ -25,47 +26,36 @@ abbrev pub ◌>>=◌ : {A B E : Type 0} → Result A E → (A → Result B E) �
 Ok x >>= f = f x
 Err e >>= f = Err e
 
-abbrev pub number_in : Field → ℕ → ℕ → ℤ → Result ℕ PartFault
-number_in f least most (pos n) = if is_between least most n then Ok n else Err (BadValue f)
-number_in f least most (negsuc n) = Err (BadValue f)
-
 abbrev pub number_field : Field → ℕ → ℕ → Option Data → Result ℕ PartFault
 number_field f least most d = do
   value ← ok_or d (Missing f)
   number ← ok_or (as_integer value) (BadValue f)
-  number_in f least most number
-
-abbrev pub power_of : Field → ℕ → Result ℕ PartFault
-power_of f n = if is_power_of_two n then Ok n else Err (BadValue f)
+  elim number [ pos n ↦ if is_between least most n then Ok n else Err (BadValue f) | negsuc n ↦ Err (BadValue f) ]
 
 -- a field that is a page: a power of two from `least` to 256
 abbrev pub page_field : Field → ℕ → Option Data → Result ℕ PartFault
-page_field f least d = number_field f least 256 d >>= power_of f
-
-abbrev pub hex_value : {E : Type 0} → Result Bytes E → Result Bytes PartFault
-hex_value (Ok bytes) = Ok bytes
-hex_value (Err e) = Err (BadValue field.Signature)
+page_field f least d =
+    number_field f least 256 d >>= (λ n. if is_power_of_two n then Ok n else Err (BadValue f))
 
 abbrev pub signature_field : Option Data → Result Bytes PartFault
 signature_field d = do
   value ← ok_or d (Missing field.Signature)
   text ← ok_or (as_str value) (BadValue field.Signature)
-  hex_value (decode_sized text 3)
+  ok_or (result_ok (decode_sized text 3)) (BadValue field.Signature)
 
-abbrev pub fitted_part : Part → Result Part PartFault
-fitted_part p =
-    if p.flash_size % p.flash_page == 0 && p.eeprom_size % p.eeprom_page == 0 then Ok p else Err BadSizes
-
--- the fields of a part, in their order
-abbrev pub part_of_fields : Bytes → Members → Result Part PartFault
-part_of_fields id ms = do
+-- a member of the table of parts: a table named by the part's id, with the fields in their order
+abbrev pub part_of : Bytes → Data → Result Part PartFault
+part_of key d = do
+  ms ← ok_or (as_table d) (BadValue field.Parts)
+  id ← ok_or (id_of key) (BadValue field.Id)
   signature ← signature_field (get_member (codes "signature") ms)
   flash_size ← number_field field.FlashSize 2 262144 (get_member (codes "flash_size") ms)
   flash_page ← page_field field.FlashPage 2 (get_member (codes "flash_page") ms)
   eeprom_size ← number_field field.EepromSize 1 4096 (get_member (codes "eeprom_size") ms)
   eeprom_page ← page_field field.EepromPage 1 (get_member (codes "eeprom_page") ms)
   eesave_bit ← number_field field.EesaveBit 0 7 (get_member (codes "eesave_bit") ms)
-  fitted_part (record {
+  fits ← if flash_size % flash_page == 0 && eeprom_size % eeprom_page == 0 then Ok (tt {0}) else Err BadSizes
+  Ok (record {
     id = id;
     signature = signature;
     flash_size = flash_size;
@@ -74,13 +64,6 @@ part_of_fields id ms = do
     eeprom_page = eeprom_page;
     eesave_bit = eesave_bit;
   })
-
--- a member of the table of parts: a table named by the part's id
-abbrev pub part_of : Bytes → Data → Result Part PartFault
-part_of key d = do
-  fields ← ok_or (as_table d) (BadValue field.Parts)
-  id ← ok_or (id_of key) (BadValue field.Id)
-  part_of_fields id fields
 
 -- why a part file is refused, and the id of the part at fault, if it has one
 pub record NamedFault : Type 0 where
@@ -91,8 +74,7 @@ abbrev pub of_file : PartFault → NamedFault
 of_file fault = record { part = None; fault = fault }
 
 abbrev pub in_part : Bytes → Result Part PartFault → Result Part NamedFault
-in_part key (Ok part) = Ok part
-in_part key (Err fault) = Err (record { part = id_of key; fault = fault })
+in_part key = result_map_both (λ part. part) (λ fault. record { part = id_of key; fault = fault })
 
 -- the members of the table of parts, in the byte order of their keys
 abbrev pub parts_in : Members → Result (List Part) NamedFault
@@ -127,20 +109,15 @@ abbrev pub without_line : NamedFault → FaultWithLine
 without_line why = record { why = why; line = None }
 
 -- only a text that is not TOML has a line, which is one of its lines
-abbrev pub HasLine : Bytes → PartFault → Option ℕ → Type 0
-HasLine text fault (Some line) = (fault ≡ NotToml) × (1 ≤ line) × (line ≤ line_count text)
-HasLine text fault None = fault ≢ NotToml
-
 abbrev pub IsPlaced : Bytes → FaultWithLine → Type 0
-IsPlaced text f = HasLine text f.why.fault f.line
+IsPlaced text f =
+    MatchOption f.line (f.why.fault ≢ NotToml) (λ line. (f.why.fault ≡ NotToml) × (1 ≤ line) × (line ≤ line_count text))
 
 abbrev pub unplaced : {T : Type 0} → Result T FaultWithLine → Result T NamedFault
-unplaced (Ok t) = Ok t
-unplaced (Err f) = Err f.why
+unplaced = result_map_both (λ t. t) (λ f. f.why)
 
 abbrev pub unnamed : {T : Type 0} → Result T NamedFault → Result T PartFault
-unnamed (Ok t) = Ok t
-unnamed (Err f) = Err f.fault
+unnamed = result_map_both (λ t. t) (λ f. f.fault)
 
 abbrev pub utf8_text : Bytes → Option Bytes
 utf8_text bytes = if is_utf8 bytes then Some bytes else None
@@ -159,8 +136,7 @@ abbrev pub ReadsUnlessOutOfMemory : {T : Type 0} → Result T NamedFault → Res
 ReadsUnlessOutOfMemory want got = (got ≡ want) ⊎ (got ≡ Err (of_file Memory))
 
 abbrev pub listed_items : Result (Vec Part) NamedFault → Result (List Part) NamedFault
-listed_items (Ok v) = Ok v.items
-listed_items (Err e) = Err e
+listed_items = result_map_both (λ v. v.items) (λ e. e)
 
 -- the document, or allocation failed
 abbrev pub ReadsDocument : Option Members → Result (BTreeMap (String Global) Value) FaultWithLine → Type 0

@@ -42,22 +42,14 @@ fresh_state p = record {
 
 -- FF in all of the flash buffer, nothing in the EEPROM buffer
 abbrev pub with_empty_buffers : ChipState → ChipState
-with_empty_buffers s = record s {
-  flash_buffer = blank s.flash_buffer;
-  eeprom_buffer = nothing_loaded s.eeprom_buffer;
-  extended = 0;
-}
+with_empty_buffers s =
+    record s { flash_buffer = blank s.flash_buffer; eeprom_buffer = nothing_loaded s.eeprom_buffer; extended = 0 }
 
--- the EESAVE bit is 0, so an erase keeps the EEPROM
-abbrev pub keeps_eeprom : ChipState → Bool
-keeps_eeprom s = bit_at s.hfuse s.part.eesave_bit == 0
-
+-- if the EESAVE bit is 0, an erase keeps the EEPROM
 abbrev pub with_erased : ChipState → ChipState
-with_erased s = record s {
-  flash = blank s.flash;
-  lock = 255;
-  eeprom = if keeps_eeprom s then s.eeprom else blank s.eeprom;
-}
+with_erased s =
+    let eeprom = if bit_at s.hfuse s.part.eesave_bit == 0 then s.eeprom else blank s.eeprom in
+    record s { flash = blank s.flash; lock = 255; eeprom = eeprom }
 
 -- lock bit 0 is 0: only a chip erase changes flash, EEPROM and fuses
 abbrev pub is_locked : ChipState → Bool
@@ -68,9 +60,8 @@ half_offset half.Low = 0
 half_offset half.High = 1
 
 abbrev pub with_load : Half → ℕ → ℕ → ChipState → ChipState
-with_load h word byte s = record s {
-  flash_buffer = slice_set s.flash_buffer (word % (s.part.flash_page / 2) * 2 + half_offset h) byte;
-}
+with_load h word byte s =
+    record s { flash_buffer = slice_set s.flash_buffer (word % (s.part.flash_page / 2) * 2 + half_offset h) byte }
 
 -- the address of a word's low byte
 abbrev pub word_address : ChipState → ℕ → ℕ
@@ -92,9 +83,8 @@ with_eeprom_byte address byte s =
     record s { eeprom = if is_locked s then s.eeprom else slice_set s.eeprom (eeprom_address s address) byte }
 
 abbrev pub with_eeprom_load : ℕ → ℕ → ChipState → ChipState
-with_eeprom_load place byte s = record s {
-  eeprom_buffer = slice_set s.eeprom_buffer (place % s.part.eeprom_page) (Some byte);
-}
+with_eeprom_load place byte s =
+    record s { eeprom_buffer = slice_set s.eeprom_buffer (place % s.part.eeprom_page) (Some byte) }
 
 abbrev pub with_eeprom_page : ℕ → ChipState → ChipState
 with_eeprom_page address s = record s {
@@ -114,9 +104,6 @@ with_lock byte s = record s { lock = bit_and s.lock byte }
 abbrev pub flash_byte : Half → ℕ → ChipState → ℕ
 flash_byte h word s = slice_index s.flash (word_address s word + half_offset h)
 
-abbrev pub eeprom_byte : ℕ → ChipState → ℕ
-eeprom_byte address s = slice_index s.eeprom (eeprom_address s address)
-
 abbrev pub fuse_of : Fuse → ChipState → ℕ
 fuse_of fuse.Low s = s.lfuse
 fuse_of fuse.High s = s.hfuse
@@ -128,7 +115,7 @@ signature_byte place s = if place % 4 == 3 then 255 else slice_index s.part.sign
 -- the byte that an instruction reads, or its third byte if it reads none
 abbrev pub output_byte : Instruction → ℕ → ChipState → ℕ
 output_byte (ReadFlash h word) third s = flash_byte h word s
-output_byte (ReadEeprom address) third s = eeprom_byte address s
+output_byte (ReadEeprom address) third s = slice_index s.eeprom (eeprom_address s address)
 output_byte (ReadFuse f) third s = fuse_of f s
 output_byte ReadLock third s = s.lock
 output_byte (ReadSignature place) third s = signature_byte place s

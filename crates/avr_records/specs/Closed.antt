@@ -1,5 +1,5 @@
 -- The first fault of the lines that have ended. `RecordReader::feed` returns it.
-use Rattle.std.specs.Prelude.{ℕ, List, [], ◌∷◌, map, Option, Some, None, Result, Ok, Err}
+use Rattle.std.specs.Prelude.{ℕ, List, [], ◌∷◌, map, Option}
 use Rattle.avr_records.specs.Lines.{lines}
 use Rattle.avr_records.specs.Reading.{LineResult, up_to_end, with_lines_before, first_fault, line_result}
 use Rattle.avr_records.specs.declared.kind.Kind.{Kind}
@@ -17,7 +17,3 @@ first_fault_among size meant = first_fault size (with_lines_before [] (up_to_end
 -- The first fault of the text's ended lines, for a memory of this size.
 abbrev pub ended_lines_fault : Kind → List ℕ → ℕ → Option RecordFault
 ended_lines_fault kind text size = first_fault_among size (map (line_result kind) (all_but_last (lines text)))
-
-abbrev pub unit_unless_fault : Option RecordFault → Result Unit RecordFault
-unit_unless_fault None = Ok tt
-unit_unless_fault (Some fault) = Err fault

@@ -20,21 +20,15 @@ abbrev pub rebase : (ℕ → AddressBase) → List ℕ → Meaning
 rebase base (high ∷ low ∷ []) = Rebase (base (high * 256 + low))
 rebase base bytes = Nothing
 
-abbrev pub ihex_means : RecordFields → Meaning
-ihex_means r =
+abbrev pub means : Kind → RecordFields → Meaning
+means Ihex r =
     if r.type == 0 then Data r.address r.bytes
     else if r.type == 1 then End
     else if r.type == 2 then rebase Segment r.bytes
     else if r.type == 4 then rebase Linear r.bytes
     else Nothing
-
-abbrev pub srec_means : RecordFields → Meaning
-srec_means r =
+means Srec r =
     if r.type == 0 then Nothing
     else if nat_le r.type 3 then Data r.address r.bytes
     else if nat_le r.type 6 then Counted r.address
     else End
-
-abbrev pub means : Kind → RecordFields → Meaning
-means Ihex = ihex_means
-means Srec = srec_means

@@ -1,9 +1,9 @@
 -- The record files of memories with gaps: what `Writer` and `Cursor` write.
-use Rattle.std.specs.Prelude.{◌≡◌, ℕ, ◌+◌, ◌/◌, ◌%◌, ◌-◌, ◌^◌, ◌≤◌, ◌==◌, List, [], ◌∷◌, ◌++◌, length, flat_map, map, replicate, Option, Some, None, Ok, if◌then◌else◌}
+use Rattle.std.specs.Prelude.{◌≡◌, ℕ, ◌+◌, ◌/◌, ◌%◌, ◌-◌, ◌^◌, ◌≤◌, ◌==◌, List, [], ◌∷◌, ◌++◌, length, min, flat_map, map, replicate, Option, Some, None, Ok, if◌then◌else◌}
 use Rattle.avr_image.specs.Image.{HoldsBytes, empty}
 use Rattle.avr_image.specs.Runs.{runs}
 use Rattle.avr_records.specs.Reading.{image_in_text}
-use Rattle.avr_records.specs.Text.{rows, ihex_record, ihex_rows, ihex_row_size, low_bytes, srec_record, srec_rows, address_size, width_of}
+use Rattle.avr_records.specs.Text.{rows, ihex_record, ihex_rows, low_bytes, srec_record, srec_rows, address_size, width_of}
 use Rattle.avr_records.specs.declared.address_size.AddressSize.{AddressSize}
 use Rattle.avr_records.specs.declared.kind.Kind.{Kind}
 use Rattle.avr_records.specs.declared.kind.Kind.TheVariants.{Ihex, Srec}
@@ -23,9 +23,9 @@ run_at base (b ∷ bs) = replicate base None ++ map (λ byte. Some byte) (b ∷ 
 abbrev pub rows_of : (ℕ → ℕ) → List (ℕ × List ℕ) → List (ℕ × List ℕ)
 rows_of size = flat_map (λ run. rows size run.0 run.1)
 
--- The most bytes of a row at this address.
+-- The most bytes of a row at this address: 32, but none past a multiple of 65,536 in Intel HEX.
 abbrev pub row_size : Kind → ℕ → ℕ
-row_size Ihex addr = ihex_row_size addr
+row_size Ihex addr = min 32 (65536 - addr % 65536)
 row_size Srec addr = 32
 
 -- The upper 16 bits of an address, if a record of Intel HEX has to set them.

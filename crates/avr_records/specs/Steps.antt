@@ -1,10 +1,10 @@
 -- How one line changes what a reader keeps.
-use Rattle.std.specs.Prelude.{ℕ, true, false, ◌+◌, ◌≡◌, ◌≤◌, List, Option, Some, None, Result, Ok, Err, IsSome, MatchResult, OnOk, if◌then◌else◌}
+use Rattle.std.specs.Prelude.{ℕ, true, false, ◌+◌, ◌≡◌, ◌≤◌, List, option_map, Result, Ok, Err, IsSome, MatchResult, OnOk, if◌then◌else◌}
 use Rattle.avr_image.specs.Image.{with_pairs}
 use Rattle.avr_records.specs.Fault.{fault_line_number}
 use Rattle.avr_records.specs.Needed.{end_after}
 use Rattle.avr_records.specs.Progress.{image_size}
-use Rattle.avr_records.specs.Reading.{LineResult, is_end_record, is_data_record, next_base, bytes_under_base, fault_under_base, in_line, line_result}
+use Rattle.avr_records.specs.Reading.{LineResult, is_end_record, is_data_record, next_base, bytes_under_base, fault_under_base, in_line, line_result, unless_fault}
 use Rattle.avr_records.specs.declared.extent.Extent.{Extent}
 use Rattle.avr_records.specs.declared.kind.Kind.{Kind}
 use Rattle.avr_records.specs.declared.kind.Kind.TheVariants.{Ihex, Srec}
@@ -12,7 +12,6 @@ use Rattle.avr_records.specs.declared.kind.Ending.{Ending}
 use Rattle.avr_records.specs.declared.kind.Ending.TheVariants.{Ended, NoEnd}
 use Rattle.avr_records.specs.declared.kind.AddressBase.{AddressBase}
 use Rattle.avr_records.specs.declared.kind.AddressBase.TheVariants.{Linear}
-use Rattle.avr_records.specs.declared.fault.LineFault.{LineFault}
 use Rattle.avr_records.specs.declared.fault.RecordFault.{RecordFault}
 use Rattle.avr_records.specs.declared.progress.Progress.{Progress}
 
@@ -25,13 +24,11 @@ extended e meant = record {
   ended = if is_end_record meant then true else e.ended;
 }
 
-abbrev pub extent_unless : Option LineFault → Extent → Result Extent RecordFault
-extent_unless (Some fault) new = Err (in_line new.lines fault)
-extent_unless None new = Ok new
-
 -- The extent after one more line, or the line's fault.
 abbrev pub next_extent : ℕ → Extent → LineResult → Result Extent RecordFault
-next_extent size e meant = extent_unless (fault_under_base size e.base e.data_records meant) (extended e meant)
+next_extent size e meant =
+    let fault = option_map (in_line (e.lines + 1)) (fault_under_base size e.base e.data_records meant) in
+    unless_fault fault (extended e meant)
 
 abbrev pub with_extent : Progress → LineResult → Result Extent RecordFault → Result Progress RecordFault
 with_extent p meant (Err fault) = Err fault

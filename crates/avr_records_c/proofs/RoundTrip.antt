@@ -1,20 +1,20 @@
 -- What is written of a memory reads back.
 use Rattle.std.proofs.lemmas.Bool.Decides.{nat_tests}
 use Rattle.std.proofs.Common.{◌≡◌, arith, ℕ, zero, suc, ◌<◌, ◌≤◌, ◌^◌, List, [], ◌∷◌, length, Bool, cond, Some, None, rules}
-use Rattle.avr_image.specs.Image.{HoldsBytes}
+use Rattle.avr_image.specs.Image.{HoldsBytes, with_gaps}
 use Rattle.avr_records.specs.Reading.{image_in_text}
 use Rattle.avr_records.specs.declared.kind.Kind.{Kind}
 use Rattle.avr_records.specs.Sparse.{IsMemory, image_text}
 use Rattle.avr_records.proofs.Writers.Sparse.{reads-back-same}
 use Rattle.avr_records_c.proofs.Walks.{length-image}
-use Rattle.avr_records_c.specs.Bitmap.{is_marked, image_from, image_of}
+use Rattle.avr_records_c.specs.Bitmap.{is_marked, image_of}
 use Rattle.avr_records_c.specs.Reading.{read_into}
 use Rattle.avr_records_c.specs.RoundTrip.{EachIsByte, written_and_read}
 
 byte_below : (there : Bool) (b byte : ℕ) → b < 256 → cond there (Some b) None ≡ Some byte → byte < 256
 byte_below there b byte small is = search rules
 
-holds : (at : ℕ) (present bytes : List ℕ) → EachIsByte bytes → HoldsBytes (image_from at present bytes)
+holds : (at : ℕ) (present bytes : List ℕ) → EachIsByte bytes → HoldsBytes (with_gaps (is_marked present) at bytes)
 holds at present [] small addr byte is = absurd (cc is)
 holds at present (b ∷ bytes) small zero byte is = byte_below (is_marked present at) b byte (small 0 (omega arith)) is
 holds at present (b ∷ bytes) small (suc addr) byte is =

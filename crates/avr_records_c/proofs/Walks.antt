@@ -3,26 +3,28 @@ use Rattle.std.proofs.lemmas.Bool.Decides.{nat_tests}
 use Rattle.std.proofs.Common.{◌≡◌, ap, sym, refl, arith, ℕ, zero, suc, ◌+◌, ◌-◌, ◌/◌, ◌%◌, ◌<◌, ◌≤◌, List, [], ◌∷◌, length, take, drop, get_or, true, false, Some, None, inl, inr, add-zero, min, rules}
 use Rattle.std.proofs.lemmas.Bool.{cases_Bool, cases_lt}
 use Rattle.std.proofs.lemmas.List.{drop_all, drop_more, length-drop, take_min}
-use Rattle.avr_image.specs.Image.{first_from}
+use Rattle.std.specs.Prelude.{if◌then◌else◌}
+use Rattle.avr_image.specs.Image.{first_from, with_gaps}
 use Rattle.avr_image.specs.Runs.{leading_run}
-use Rattle.avr_records_c.specs.Bitmap.{is_marked, byte_if_there, image_from, image_of}
+use Rattle.avr_records_c.specs.Bitmap.{is_marked, image_of}
 
 -- ---- the image of the bytes from an address on
 
-pub length-image : (addr : ℕ) (present bytes : List ℕ) → length (image_from addr present bytes) ≡ length bytes
+pub length-image : (addr : ℕ) (present bytes : List ℕ)
+    → length (with_gaps (is_marked present) addr bytes) ≡ length bytes
 length-image addr present [] = refl
 length-image addr present (b ∷ bytes) = ap suc (length-image (suc addr) present bytes)
 
 drop-image : (k addr : ℕ) (present bytes : List ℕ)
-    → drop k (image_from addr present bytes) ≡ image_from (addr + k) present (drop k bytes)
-drop-image zero addr present bytes = ap (λ (a : ℕ). image_from a present bytes) (sym (add-zero addr))
+    → drop k (with_gaps (is_marked present) addr bytes) ≡ with_gaps (is_marked present) (addr + k) (drop k bytes)
+drop-image zero addr present bytes = ap (λ (a : ℕ). with_gaps (is_marked present) a bytes) (sym (add-zero addr))
 drop-image (suc k) addr present [] = refl
 drop-image (suc k) addr present (b ∷ bytes) = grind (arith, nat_tests, drop-image k (suc addr) present bytes)
 
 -- a byte, if its bit is 1, and what is after it
 next-here : (k : ℕ) (present bytes : List ℕ) → k < length bytes
     → drop k (image_of present bytes)
-    ≡ byte_if_there present k (get_or bytes k 0) ∷ drop (k + 1) (image_of present bytes)
+    ≡ (if is_marked present k then Some (get_or bytes k 0) else None) ∷ drop (k + 1) (image_of present bytes)
 next-here k present bytes inside = grind (arith, nat_tests, drop-image, drop_more)
 
 -- ---- the next byte that the bitmap marks
@@ -71,19 +73,21 @@ run-gap k present bytes inside gap = grind (arith, nat_tests, next-here)
 pub run-past : (k : ℕ) (present bytes : List ℕ) → length bytes ≤ k → run k present bytes ≡ 0
 run-past k present bytes past = grind (arith, nat_tests, drop_all, length-image)
 
-leading_run-bytes : (n addr : ℕ) (present bytes : List ℕ) → n ≤ length (leading_run (image_from addr present bytes))
-    → take n bytes ≡ take n (leading_run (image_from addr present bytes))
+leading_run-bytes : (n addr : ℕ) (present bytes : List ℕ)
+    → n ≤ length (leading_run (with_gaps (is_marked present) addr bytes))
+    → take n bytes ≡ take n (leading_run (with_gaps (is_marked present) addr bytes))
 leading_run-bytes (suc n) addr present (b ∷ bytes) few = elim (cases_Bool (is_marked present addr)) [
   | inl there ↦
-      let some : suc n ≤ length (leading_run (Some b ∷ image_from (suc addr) present bytes)) = rw there at few in
+      let some : suc n ≤ length (leading_run (Some b ∷ with_gaps (is_marked present) (suc addr) bytes)) =
+      rw there at few in
       rw there (ap (λ (more : List ℕ). b ∷ more) (leading_run-bytes n (suc addr) present bytes (omega (arith, some))))
   | inr gap ↦
       grind (arith, nat_tests)
 ]
 leading_run-bytes x addr present y few = refl
 
-leading_run-long : (addr : ℕ) (present bytes : List ℕ) → length (leading_run (image_from addr present bytes)) ≤ length
-    bytes
+leading_run-long : (addr : ℕ) (present bytes : List ℕ)
+    → length (leading_run (with_gaps (is_marked present) addr bytes)) ≤ length bytes
 leading_run-long addr present [] = omega arith
 leading_run-long addr present (b ∷ bytes) = grind (arith, nat_tests, leading_run-long (suc addr) present bytes)
 

@@ -1,7 +1,7 @@
 -- A memory as C passes it: its bytes, and a bitmap that marks the present ones, the lowest address in the lowest bit.
-use Rattle.std.specs.Prelude.{◌≡◌, ℕ, zero, suc, Bool, ◌+◌, ◌*◌, ◌/◌, ◌%◌, ◌^◌, ◌<◌, ◌==◌, List, [], ◌∷◌, length, slice_index, Option, Some, None, is_some, if◌then◌else◌}
+use Rattle.std.specs.Prelude.{◌≡◌, ℕ, zero, suc, Bool, ◌+◌, ◌*◌, ◌/◌, ◌%◌, ◌^◌, ◌<◌, ◌==◌, List, [], ◌∷◌, length, slice_index, Option, is_some, if◌then◌else◌}
 use Rattle.std.specs.Int.{bit_at}
-use Rattle.avr_image.specs.Image.{byte_at}
+use Rattle.avr_image.specs.Image.{byte_at, with_gaps}
 
 abbrev pub octets_of : ℕ → ℕ
 octets_of size = (size + 7) / 8
@@ -24,15 +24,8 @@ bitmap image n = octets image 0 n
 abbrev pub is_marked : List ℕ → ℕ → Bool
 is_marked present addr = bit_at (slice_index present (addr / 8)) (addr % 8) == 1
 
-abbrev pub byte_if_there : List ℕ → ℕ → ℕ → Option ℕ
-byte_if_there present addr byte = if is_marked present addr then Some byte else None
-
-abbrev pub image_from : ℕ → List ℕ → List ℕ → List (Option ℕ)
-image_from addr present [] = []
-image_from addr present (byte ∷ bytes) = byte_if_there present addr byte ∷ image_from (suc addr) present bytes
-
 abbrev pub image_of : List ℕ → List ℕ → List (Option ℕ)
-image_of present bytes = image_from 0 present bytes
+image_of present bytes = with_gaps (is_marked present) 0 bytes
 
 -- There are fewer than 2 to the power 32 bytes, and as many octets as these need.
 pub record HasBitmap (present bytes : List ℕ) : Type 0 where

@@ -1,6 +1,6 @@
 -- The numbers of a cursor of C, and the position in a file that they stand for.
 use Rattle.std.specs.Prelude.{ℕ, Bool, true, false, ◌==◌, min, List, Option, Some, None, if◌then◌else◌}
-use Rattle.std.specs.Option.{option_map, option_and_then}
+use Rattle.std.specs.Option.{option_map, option_zip}
 use Rattle.avr_records.specs.Sparse.{last_held}
 use Rattle.avr_records.specs.Text.{address_size, width_of}
 use Rattle.avr_records.specs.declared.address_size.AddressSize.{AddressSize}
@@ -24,23 +24,10 @@ size_in_force Srec n image =
     else if n == 4 then Some Four
     else None
 
-abbrev pub position_with : Kind → Cursor → Bool → AddressSize → Position
-position_with kind cursor ended size =
-    record { kind = kind; addr = cursor.addr; upper = cursor.upper; address_size = size; ended = ended }
-
 abbrev pub position_of : Kind → Cursor → List (Option ℕ) → Option Position
 position_of kind cursor image =
-    option_and_then
-    (λ ended. option_map (position_with kind cursor ended) (size_in_force kind cursor.address_size image))
-    (ended_of cursor.ended)
-
-abbrev pub upper_number : Kind → ℕ → ℕ
-upper_number Ihex upper = upper
-upper_number Srec upper = 0
-
-abbrev pub size_number : Kind → AddressSize → ℕ
-size_number Ihex size = 0
-size_number Srec size = width_of size
+    option_map (λ p. record { kind = kind; addr = cursor.addr; upper = cursor.upper; address_size = p.1; ended = p.0 })
+    (option_zip (ended_of cursor.ended) (size_in_force kind cursor.address_size image))
 
 -- The cursor for the position `lines`, with `gone` bytes of the next line put.
 abbrev pub cursor_of : Position → ℕ → Cursor
@@ -48,7 +35,7 @@ cursor_of lines gone =
     record {
       addr = min lines.addr 4294967295;
       gone = gone;
-      upper = upper_number lines.kind lines.upper;
-      address_size = size_number lines.kind lines.address_size;
+      upper = elim (lines.kind) [ Ihex ↦ lines.upper | Srec ↦ 0 ];
+      address_size = elim (lines.kind) [ Ihex ↦ 0 | Srec ↦ width_of lines.address_size ];
       ended = if lines.ended then 1 else 0;
     }

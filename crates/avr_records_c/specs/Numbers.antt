@@ -1,5 +1,5 @@
 -- The numbers that C has for formats, faults and versions.
-use Rattle.std.specs.Prelude.{ℕ, true, false, ◌+◌, ◌*◌, ◌==◌, Option, Some, None, Result, Ok, Err, unwrap_or, if◌then◌else◌}
+use Rattle.std.specs.Prelude.{ℕ, true, false, ◌+◌, ◌*◌, ◌==◌, ◌||◌, Option, Some, None, Result, Err, ok_or, unwrap_or, if◌then◌else◌}
 use Rattle.avr_records.specs.Fault.{fault_number, fault_line_number, fault_address}
 use Rattle.avr_records.specs.declared.fault.RecordFault.{RecordFault}
 use Rattle.avr_records.specs.declared.kind.Kind.{Kind}
@@ -25,12 +25,8 @@ outcome_of_end NoEnd = record { line = 0; address = 0; fault = 0; ended = false 
 
 abbrev pub outcome_of_fault : RecordFault → Outcome
 outcome_of_fault fault =
-    record {
-      line = unwrap_or (fault_line_number fault) 0;
-      address = unwrap_or (fault_address fault) 0;
-      fault = fault_number fault;
-      ended = false;
-    }
+    let line = unwrap_or (fault_line_number fault) 0 in
+    record { line = line; address = unwrap_or (fault_address fault) 0; fault = fault_number fault; ended = false }
 
 abbrev pub misfit : Outcome
 misfit = record { line = 0; address = 0; fault = 11; ended = false }
@@ -41,11 +37,7 @@ no_records = record { line = 0; address = 0; fault = 12; ended = false }
 -- The kind of record file to read. Raw bytes and ELF have no records, and other numbers name no format.
 abbrev pub kind_to_read : ℕ → Result Kind Outcome
 kind_to_read number =
-    if number == 0 then Err no_records
-    else if number == 1 then Ok kind.Ihex
-    else if number == 2 then Ok kind.Srec
-    else if number == 3 then Err no_records
-    else Err misfit
+    if number == 0 || number == 3 then Err no_records else ok_or (kind_numbered number) misfit
 
 abbrev pub version_number : ℕ → ℕ → ℕ → ℕ
 version_number major minor patch = major * 10000 + minor * 100 + patch

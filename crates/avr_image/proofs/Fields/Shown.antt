@@ -6,13 +6,18 @@ use Rattle.std.proofs.lemmas.Bool.{cases_eq, cases_lt, lt-ltb, le-ltb}
 use Rattle.std.proofs.lemmas.List.{get_or-set_same, get_or-set_other, length-set, length-drop, length-take, get_or-take, get_or-drop}
 use Rattle.std.proofs.lemmas.Nat.Bits.{bit_at_set_same, bit_at_set_other}
 use Rattle.std.proofs.lemmas.List.Sums.{prefix_len_is}
+use Rattle.std.specs.Prelude.{if◌then◌else◌}
 use Rattle.std.specs.List.{list_any, position_from, prefix_len}
 use Rattle.std.proofs.lemmas.List.Folds.{list_any_at}
-use Rattle.avr_image.specs.Image.{byte_at, byte_or_ff, filled_bytes, first_from, holds_any, run_end}
+use Rattle.avr_image.specs.Image.{byte_at, byte_or_ff, filled_bytes, first_from, holds_any, run_end, with_gaps}
 use Rattle.avr_image.specs.Present.{is_present, with_mark, FirstPlace}
-use Rattle.avr_image.specs.Dense.{shown_byte, shown_from, dense_image, with_span}
+use Rattle.avr_image.specs.Dense.{dense_image, with_span}
 
-pub length-shown_from : (k : ℕ) (words bytes : List ℕ) → length (shown_from k words bytes) ≡ length bytes
+-- the byte at an address, if it is present
+abbrev shown_byte : List ℕ → ℕ → ℕ → Option ℕ
+shown_byte words addr byte = if is_present words addr then Some byte else None
+
+pub length-shown_from : (k : ℕ) (words bytes : List ℕ) → length (with_gaps (is_present words) k bytes) ≡ length bytes
 length-shown_from k words [] = refl
 length-shown_from k words (b ∷ bs) = ap suc (length-shown_from (suc k) words bs)
 
@@ -20,7 +25,7 @@ pub length_shown : (words bytes : List ℕ) → length (dense_image words bytes)
 length_shown = length-shown_from 0
 
 pub get_or-shown_from : (k : ℕ) (words bytes : List ℕ) (i : ℕ) → i < length bytes
-    → get_or (shown_from k words bytes) i None ≡ shown_byte words (k + i) (get_or bytes i 0)
+    → get_or (with_gaps (is_present words) k bytes) i None ≡ shown_byte words (k + i) (get_or bytes i 0)
 get_or-shown_from k words [] i l = absurd (omega (arith, l))
 get_or-shown_from k words (b ∷ bs) zero l = ap (λ (n : ℕ). shown_byte words n b) (omega arith)
 get_or-shown_from k words (b ∷ bs) (suc i) l = search (rules, get_or-shown_from (suc k) words bs i (omega (arith, l)))
@@ -63,7 +68,7 @@ pub get_or-zeros : (n i : ℕ) → ◌≡◌ {A = ℕ} (get_or {A = ℕ} (replic
 get_or-zeros (suc n) (suc i) = get_or-zeros n i
 get_or-zeros x y = refl
 
-pub shown_from-zeros : (k n m b : ℕ) → shown_from k (replicate m 0) (replicate n b) ≡ replicate n None
+pub shown_from-zeros : (k n m b : ℕ) → with_gaps (is_present (replicate m 0)) k (replicate n b) ≡ replicate n None
 shown_from-zeros k zero m b = refl
 shown_from-zeros k (suc n) m b = search (rules, nat_tests, get_or-zeros, shown_from-zeros (suc k) n m b)
 

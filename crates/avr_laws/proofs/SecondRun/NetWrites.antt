@@ -7,7 +7,7 @@ use Rattle.std.proofs.lemmas.Nat.{and_assoc}
 use Rattle.std.proofs.lemmas.Nat.Bits.{bit_at_and}
 use Rattle.std.specs.Prelude.{⊤, ◌==◌, if◌then◌else◌, replicate, take, drop}
 use Rattle.std.specs.Int.{bit_at}
-use Rattle.avr_image.specs.Image.{byte_or_else}
+use Rattle.std.specs.Option.{option_or}
 use Rattle.avr_part.specs.Memory.{blank}
 use Rattle.avr_part.specs.Part.{Part}
 use Rattle.avr_part.specs.declared.part.Mem.{Mem}
@@ -40,7 +40,7 @@ both (Some a) (Some b) = Some (bit_and a b)
 abbrev joined : Bool → Image → Image → Image
 joined zeros [] b = b
 joined zeros (x ∷ a) [] = x ∷ a
-joined zeros (x ∷ a) (y ∷ b) = (if zeros then both x y else byte_or_else y x) ∷ joined zeros a b
+joined zeros (x ∷ a) (y ∷ b) = (if zeros then both x y else option_or y x) ∷ joined zeros a b
 
 laid_nothing : (zeros : Bool) (xs : List ℕ) → laid zeros [] xs ≡ xs
 laid_nothing true [] = refl

@@ -1,5 +1,4 @@
 -- The loop of `needed_size`, line by line, gives the size that the text needs.
-use Rattle.std.proofs.lemmas.Grind.{common_steps}
 use Rattle.std.proofs.lemmas.Bool.Decides.{nat_tests}
 use Rattle.std.proofs.Common.{arith, ◌≡◌, ◌∙◌, sym, ap, refl, ℕ, ◌+◌, List, [], ◌∷◌, ◌++◌, length, map, true, false, Ok, Err, rules}
 use Rattle.std.proofs.lemmas.List.{append-nil, append_assoc, map-append, nil_from_length}
@@ -57,7 +56,10 @@ walk-last kind e text w = grind (arith, nat_tests, append-nil)
 pub walk-fault : (kind : Kind) (e : Extent) (text line : List ℕ) (left more : List (List ℕ)) (fault : RecordFault)
     → left ≡ line ∷ more → e.ended ≡ false → Walked kind e text left
     → next_extent largest_memory e (line_result kind line) ≡ Err fault → Err fault ≡ size_needed_in_text kind text
-walk-fault kind e text line left more fault is on w step = grind (arith, common_steps, counts-bad)
+walk-fault kind e text line left more fault is on w step =
+    let bad = counts-bad largest_memory e (map (line_result kind) w.prefix) (map (line_result kind) more)
+    (line_result kind line) fault on w.extent step in
+    rw (meant-all kind w.prefix left text w.cut, is, bad) refl
 
 -- an empty last line changes nothing
 pub walk-empty : (kind : Kind) (e : Extent) (text left : List ℕ) → e.ended ≡ false → Walked kind e text (lines left)

@@ -5,7 +5,8 @@ use Rattle.std.proofs.lemmas.Bool.{cases_Bool}
 use Rattle.std.proofs.lemmas.List.{append-nil, append_assoc}
 use Rattle.std.proofs.lemmas.List.Splits.{slice_split-cons_yes, slice_split-cons_no}
 use Rattle.std.specs.List.{list_any, slice_split, onto_first}
-use Rattle.avr_records.specs.Reading.{LineResult, is_end_record, up_to_end, with_lines_before, first_fault, fault_of_line, or_later}
+use Rattle.std.specs.Option.{option_map, option_or}
+use Rattle.avr_records.specs.Reading.{LineResult, is_end_record, up_to_end, with_lines_before, first_fault, fault_of_line, in_line}
 use Rattle.avr_records.specs.declared.fault.LineFault.{LineFault}
 use Rattle.avr_records.specs.declared.fault.RecordFault.{RecordFault}
 
@@ -15,7 +16,8 @@ with_lines_before-append before [] ys = ap (λ (b : List LineResult). with_lines
 with_lines_before-append before (x ∷ xs) ys =
     grind (arith, nat_tests, with_lines_before-append (before ++ x ∷ []) xs ys, append_assoc)
 
-pub or_later-none : (n : ℕ) (fault : Option LineFault) (later : Option RecordFault) → or_later n fault later ≡ None
+pub or_later-none : (n : ℕ) (fault : Option LineFault) (later : Option RecordFault)
+    → option_or (option_map (in_line n) fault) later ≡ None
     → (fault ≡ None) × (later ≡ None)
 or_later-none n fault later e = search rules
 

@@ -13,7 +13,8 @@ use Rattle.avr_records.specs.Lines.{lines}
 use Rattle.avr_records.specs.Meaning.{Data, Rebase, End, Nothing}
 use Rattle.avr_records.specs.Ihex.{ihex_from_fields, typed_ihex}
 use Rattle.avr_records.specs.Reading.{LineResult, line_result, record_meaning}
-use Rattle.avr_records.specs.Text.{two_bytes, with_sum_checksum, ihex_row_size, upper_record, ihex_rows}
+use Rattle.avr_records.specs.Sparse.{row_size}
+use Rattle.avr_records.specs.Text.{two_bytes, with_sum_checksum, upper_record, ihex_rows}
 use Rattle.avr_records.specs.declared.kind.Kind.TheVariants.{Ihex}
 use Rattle.avr_records.specs.declared.kind.AddressBase.TheVariants.{Linear}
 use Rattle.avr_records.proofs.Rows.Cuts.{IsBytes-nil, IsBytes-cons, IsBytes-append, IsRow, Every}
@@ -80,7 +81,7 @@ upper-lines old new rest below =
     ]
 
 -- the lines of the text mean the rows and the end
-pub lines-results : (upper end : ℕ) (rows : List (ℕ × List ℕ)) → end ≤ 2 ^ 32 → Every (IsRow ihex_row_size end) rows
+pub lines-results : (upper end : ℕ) (rows : List (ℕ × List ℕ)) → end ≤ 2 ^ 32 → Every (IsRow (row_size Ihex) end) rows
     → map (line_result Ihex) (lines (ihex_rows upper rows)) ≡ row_results upper rows ++ Ok End ∷ Ok Nothing ∷ []
 lines-results upper end [] fits all = search (rules, plain-line, lines-plain, emits-line)
 lines-results upper end (row ∷ rows) fits all =

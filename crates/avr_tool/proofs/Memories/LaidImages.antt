@@ -4,7 +4,8 @@ use Rattle.std.proofs.lemmas.Bool.{true≢false}
 use Rattle.std.proofs.lemmas.List.{length-replicate}
 use Rattle.std.specs.Prelude.{◌==◌, if◌then◌else◌}
 use Rattle.avr_cli.specs.declared.settings.Switches.{Switches}
-use Rattle.avr_image.specs.Image.{empty, byte_at, byte_or_else, over}
+use Rattle.std.specs.Option.{option_or}
+use Rattle.avr_image.specs.Image.{empty, byte_at, over}
 use Rattle.avr_part.specs.Part.{Part, size_of}
 use Rattle.avr_part.specs.declared.part.Mem.{Mem}
 use Rattle.avr_plan.specs.declared.planned.Task.{Task}
@@ -31,7 +32,7 @@ length-over (x ∷ a) [] = refl
 length-over (x ∷ a) (y ∷ b) = ap suc (length-over a b)
 
 byte_of_over : (a b : Image) (i : ℕ) → length b ≤ length a → byte_at (over a b) i
-    ≡ byte_or_else (byte_at b i) (byte_at a i)
+    ≡ option_or (byte_at b i) (byte_at a i)
 byte_of_over [] [] i l = refl
 byte_of_over [] (y ∷ b) i l = absurd (omega (arith, l))
 byte_of_over (x ∷ a) [] i l = refl
