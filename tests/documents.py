@@ -28,7 +28,7 @@ def text(name):
 
 
 def what_check_quotes():
-    """The law, mutants, files and lines of code that docs/CHECK quotes are there, and the mutant is tried."""
+    """docs/CHECK quotes a law, mutants, files and lines of code as they are, and its command tries the mutant."""
     page = text("docs/CHECK.md")
     module, law = re.search(r"^    \$ rt check --only (\w+)::(\w+)$", page, re.M).groups()
     source = text(f"crates/avr_laws/src/{module}.rt")

@@ -189,7 +189,7 @@ def in_place_of_avrdude(clone):
 
 
 def jobs(clone):
-    """The recipes for jobs: GitLab's and GitHub's steps, after the installation, and pytest's fixture."""
+    """Runs the recipes for jobs of docs/EMULATOR: GitLab's and GitHub's steps, after the installation, and pytest's fixture."""
     clone.types(["./install.sh ~/.local"])
     text = (TOP / "docs/EMULATOR.md").read_text().split("### Recipes for jobs")[1]
     gitlab, github, fixture = [textwrap.dedent(it) for it in re.findall(r"(?:^(?:    (?!\$ ).*)?\n)+", text, re.M) if it.strip()]
