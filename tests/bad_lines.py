@@ -1,7 +1,7 @@
 #!/usr/bin/env python3
 """Makes 150 runs to the served programmer, as two processes at the ends of a bad link. The random generators have fixed seeds.
 
-Not proved: That two processes and their sockets are such a link; how often a run succeeds.
+Not proved: No theorem says that two processes and their sockets are such a link, or how often a run succeeds.
 
     tests/bad_lines.py [CASE ..]    needs a built program (program.py)
 

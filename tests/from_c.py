@@ -3,7 +3,7 @@
 exchanges record files with other programs. These are srec_cat, avr-objcopy and python3-intelhex. Without a C compiler all is
 left out. AVR_RECORDS_C may name a folder for the library, which is built there if it has none.
 
-Not proved: The boundary to C and Python; the formats as other programs read and write them.
+Not proved: C, Python and other programs are outside of the proofs.
 
     tests/from_c.py [CASE ..]
 

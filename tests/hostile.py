@@ -2,7 +2,7 @@
 """Runs the built program in a failing environment: closed and full outputs, bad files, programmers that disconnect or are
 slow, callers that send garbage, and signals.
 
-Not proved: What the system does with closed, full and broken streams, files and sockets; time and signals.
+Not proved: No proof covers time and signals, or what the system does with closed, full and broken streams, files and sockets.
 
     tests/hostile.py [CASE ..]      needs a built program (program.py)
 """

@@ -2,7 +2,7 @@
 """Makes the built program print each line that a user can meet, and compares it with docs/TROUBLESHOOTING. Checks that no
 line there is left out.
 
-Not proved: The text of a line, byte for byte, as a user sees it; how many writes it takes.
+Not proved: No proof shows the text of a line, byte for byte, as a user sees it, or how many writes it takes.
 
     tests/lines.py [CASE ..]      needs a built program (program.py)
 """

@@ -5,7 +5,7 @@ ends with status 0, but the chip has another byte than the image. A second link 
 forges no frame: the programmer takes the following bytes as the rest of that frame, and the run ends with an error. A
 third one brings a reply of an earlier run, and a chip has less flash than its part is said to have.
 
-Not proved: It shows what the theorem leaves out.
+Not proved: The theorem says nothing about these links.
 
     tests/made_frames.py       needs a built program (program.py)
 """
