@@ -2,7 +2,7 @@
 """Tests that a chip file is whole, and used by one run at a time. Whatever ends a run, the file is the old one or the new
 one.
 
-Not proved: The proofs assume what the system's calls on files do, and what a crash of the system leaves.
+Not proved: The proofs assume how the system's calls on files behave, also in a crash of the system.
 
     tests/chips.py [CASE ..]        needs strace, or leaves out what it does at single calls
 

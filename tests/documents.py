@@ -1,5 +1,5 @@
 #!/usr/bin/env python3
-"""Compares what docs/CHECK and CONTRIBUTING quote of sources with these, and the logic that documents name with the kit's.
+"""Compares what docs/CHECK and CONTRIBUTING quote with the sources, and the sum of the logic in documents with the kit's.
 
 Not proved: Documents are not code.
 

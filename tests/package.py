@@ -3,7 +3,7 @@
 both clones are identical. They contain what install.sh installs and name their sources. They can be installed, run and
 removed.
 
-Not proved: Scripts of the shell, and Debian's package tools.
+Not proved: Scripts of the shell and Debian's package tools are not Rattle.
 
     tests/package.py [CASE ..]
 """

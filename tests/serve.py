@@ -389,7 +389,7 @@ def a_command():
 
 
 def no_inner_port():
-    """Nobody can come between a client and its run: the run has no socket of the network."""
+    """No other process can come between a client and its run, because the run listens at no port."""
     with Serving() as it:
         client, run = changes_fuse(it, 0x60)
         rows = "".join(Path(f"/proc/net/{name}").read_text() for name in ["tcp", "tcp6", "udp", "udp6"])

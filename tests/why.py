@@ -2,7 +2,7 @@
 """Compares what README and docs/WHY say beside AVRDUDE with runs of both programs: the tables of examples/lossy/compare.py,
 the frames, files that are no firmware, and a programmer that never replies.
 
-Not proved: AVRDUDE is a program of others; time.
+Not proved: AVRDUDE is a program of others, and no proof covers time.
 
     tests/why.py        needs a built program (program.py); rows and frames of AVRDUDE 7.1 are left out without it
 """
