@@ -1,8 +1,8 @@
 #!/usr/bin/env python3
 """Counts how large the sources are and how they read.
 
-    tools/measure.py            prints the table that docs/ARCHITECTURE has
-    tools/measure.py -v         also lists lines over 120 columns, and names with several meanings
+    tools/measure.py            prints the table that docs/ARCHITECTURE has, and how many names have several meanings
+    tools/measure.py -v         also lists these names, and lines over 120 columns
     tools/measure.py --write    writes the table into docs/ARCHITECTURE, and the rounded sums into README
     tools/measure.py --check    fails if one of them is out of date, or if a document has a sentence over 30 words
 
@@ -154,12 +154,9 @@ def figures():
 
 
 def with_figures(page):
-    """Returns the page with the current table and counts."""
-    table, several, shared = figures()
+    """Returns the page with the current table."""
     head, rest = page.split("| Crate | Code |", 1)
-    behind = rest.split("\n\n", 1)[1]
-    page = re.sub(rf"{SEVERAL}\d+", several, f"{head}{table}\n\n{behind}")
-    return re.sub(rf"{SHARED}\d+", shared, page)
+    return f"{head}{figures()[0]}\n\n" + rest.split("\n\n", 1)[1]
 
 
 def with_sums(readme, page):

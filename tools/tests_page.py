@@ -20,10 +20,10 @@ SHARED = ("all", "cases", "disk", "line", "program", "records")
 
 HEAD = """# What is tried where
 
-Made by `tools/tests_page.py --write` from the heads of the scripts. `./test` runs the quick ones, and samples of long
-lists of cases; a line has the seed, and `SAMPLE=SEED` draws the same again. `./test NAME ..` runs those named, `./test
---all` all, whole. `tests/NAME.py CASE ..` runs cases of one. [tests/rattle](rattle/README.md) has what is tried by the
-crates' own calls.
+Made by `tools/tests_page.py --write` from the heads of the scripts. `./test` runs the quick scripts, with samples of
+long lists of cases. It prints the seed of the samples, and `SAMPLE=SEED` draws the same again. `./test NAME ..` runs the
+named scripts, `./test --all` all scripts with all cases. `tests/NAME.py CASE ..` runs cases of one script.
+[tests/rattle](rattle/README.md) tries the crates' own calls.
 
 | Script | What it tries | Why that is not proved |
 | --- | --- | --- |
