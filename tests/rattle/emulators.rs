@@ -23,7 +23,7 @@ fn answers(
 {
     let mut all = Vec::new(alloc);
     for piece in bytes.chunks(size) {
-        emulator.answer_all(piece, &mut all)?;
+        emulator.reply_to_all(piece, &mut all)?;
     }
     Ok(all)
 }

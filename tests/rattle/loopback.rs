@@ -4,7 +4,7 @@ ghost use Rattle.stk_host.specs.Links.{stream_state};
 use avr_cli::{Settings, read_settings, read_words};
 use avr_desk::MemDesk;
 use avr_part::{Chip, Mem, Parts};
-use avr_tool::{accept, answer_all, listen, run};
+use avr_tool::{accept, serve_link, listen, run};
 use std::alloc::Global;
 use std::net::{OpenListener, TcpStream};
 use std::test::Fail;
@@ -29,7 +29,7 @@ impl Link for Loopback {
 
     fn send(&mut self, bytes: &[u8]) -> Result<usize, LinkFault> {
         let sent = self.near.send(bytes);
-        let _ = answer_all(&mut self.emulator, &mut self.far, 1);
+        let _ = serve_link(&mut self.emulator, &mut self.far, 1);
         sent
     }
 

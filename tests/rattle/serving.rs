@@ -1,6 +1,6 @@
 //! Frames in pieces, timeouts, and a link of which each call fails in turn.
 use avr_part::{Chip, PartFault, Parts};
-use avr_tool::{Served, answer_all};
+use avr_tool::{Served, serve_link};
 use std::alloc::{AllocError, Global};
 use std::test::Fail;
 use stk_emu::Emulator;
@@ -35,7 +35,7 @@ fn a_frame_is_answered_over_a_silence(rt: HostRuntime) -> Result<(), Fail> {
     add_bytes(&mut items, &FRAMES[6..7])?;
     items.push(Item::End)?;
     let mut link = TapeLink::new(rt.alloc(), items, 281);
-    let served = answer_all(&mut emulator(rt.alloc())?, &mut link, 100);
+    let served = serve_link(&mut emulator(rt.alloc())?, &mut link, 100);
     assert_eq!(rt; served, Served::Ended);
     assert_eq!(rt; link.sent(), &ANSWERS[..8]);
     Ok(())
@@ -45,7 +45,7 @@ fn a_frame_is_answered_over_a_silence(rt: HostRuntime) -> Result<(), Fail> {
 fn silences_use_up_the_turns(rt: HostRuntime) -> Result<(), Fail> {
     let items = vec![in rt.alloc(); Item::Silence; 5]?;
     let mut link = TapeLink::new(rt.alloc(), items, 281);
-    let served = answer_all(&mut emulator(rt.alloc())?, &mut link, 3);
+    let served = serve_link(&mut emulator(rt.alloc())?, &mut link, 3);
     assert_eq!(rt; served, Served::TooManyReads);
     assert!(rt; link.sent().is_empty());
     Ok(())
@@ -70,7 +70,7 @@ fn every_call_of_the_link_fails_in_turn(rt: HostRuntime) -> Result<(), Fail> {
         let mut items = Vec::new(rt.alloc());
         add_bytes(&mut items, &FRAMES)?;
         let mut link = FailingLink::new(TapeLink::new(rt.alloc(), items, 281), *call, 5);
-        let served = answer_all(&mut emulator(rt.alloc())?, &mut link, 100);
+        let served = serve_link(&mut emulator(rt.alloc())?, &mut link, 100);
         assert_eq!(rt; served, *end, "call {call}");
         assert_eq!(rt; link.inner().sent().len(), *count, "call {call}");
         assert!(rt; ANSWERS.starts_with(link.inner().sent()), "call {call}");

@@ -71,7 +71,7 @@ impl RawReader {
     /// assert_eq!(rt; reader.feed(&[]), Err(ImageFault::Failed));
     /// ```
     pub fn feed(&mut self, piece: &[u8]) -> Result<(), ImageFault>
-        ensures answer { (text : List ℕ) → HoldsText self.old text → result
+        ensures of_text { (text : List ℕ) → HoldsText self.old text → result
             ≡ result_and (raw (text ++ piece.now) (length self.old.image)) (Ok tt) }
         ensures stands { OnOk result ((text : List ℕ) → HoldsText self.old text
             → HoldsText self.new (text ++ piece.now)) }
@@ -111,7 +111,7 @@ impl RawReader {
     /// assert_eq!(rt; image.get(2), None);
     /// ```
     pub fn finish(self) -> Result<Image, ImageFault>
-        ensures answer { (text : List ℕ) → HoldsText self text → result ≡ raw text (length self.image) }
+        ensures of_text { (text : List ℕ) → HoldsText self text → result ≡ raw text (length self.image) }
         ensures size { IfOk result (λ image. length image ≡ length self.image) }
         ensures failed { self.failed ≡ true → result ≡ Err ImageFault.Failed }
         ensures memory { result ≢ Err ImageFault.Memory }

@@ -11,7 +11,7 @@ use Rattle.stk_host.specs.declared.link.Item.TheVariants.{Byte, Silence, End}
 use Rattle.stk_host.specs.Play.{IsBytePrefixOf, Progress}
 use Rattle.stk_host.specs.Transcript.{LinkState, Transcript, Sent, Taken, Got, sent, heard}
 use Rattle.stk_host.specs.Tape.{Tape, bytes_on_tape}
-use Rattle.stk_emu.specs.Device.{device, answers, after_frames}
+use Rattle.stk_emu.specs.Device.{device, replies, after_frames}
 use Rattle.stk_emu.specs.Programmer.{Programmer}
 use Rattle.stk_emu.specs.Exchange.{Execution, Executed}
 use Rattle.avr_tool.specs.ServedRun.{ServesChip}
@@ -70,7 +70,7 @@ pub record HasServed (p : Programmer) (transcript : Transcript) (left : Programm
   pub unused : List ℕ
   pub used_and_unused : used ++ unused ≡ bytes_on_tape (heard transcript)
   pub unsent : List ℕ
-  pub sent_is : sent transcript ++ unsent ≡ answers device (frames used) p
+  pub sent_is : sent transcript ++ unsent ≡ replies device (frames used) p
   pub left_is : left ≡ after_frames device (frames used) p
 
 -- ---- 3. What happened to the frames

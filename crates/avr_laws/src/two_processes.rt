@@ -11,12 +11,12 @@ ghost use Rattle.avr_plan.specs.Plan.{Plan, IsFitted};
 ghost use Rattle.avr_session.specs.Run.{RunsSession};
 ghost use Rattle.avr_session.specs.Runs.{Devices, start, RanWhole};
 ghost use Rattle.avr_session.specs.Session.{session};
-ghost use Rattle.stk_emu.specs.Device.{device, after_frames, answers};
+ghost use Rattle.stk_emu.specs.Device.{device, after_frames, replies};
 ghost use Rattle.avr_tool.specs.Saving.{SavesChip};
 ghost use Rattle.avr_part.specs.ChipFile.{chip_file};
 ghost use Rattle.avr_tool.specs.ServedRun.{ServesChip};
 ghost use Rattle.avr_tool.specs.Serving.{HasNoEnd, RepliesToAll, RepliesInTurn, ServingLeaves};
-ghost use Rattle.avr_tool.specs.declared.answering.Served.{Served};
+ghost use Rattle.avr_tool.specs.declared.serving_link.Served.{Served};
 ghost use Rattle.avr_laws.specs.TwoProcesses.{EndCall, HostSends, ServerReceives, host_transcript, server_transcript, IsJoined, IsOrdered, HasNoTimeout, TimesOutBetweenReplies, HasPromptRun, HasServed, all_executed};
 ghost use Rattle.stk_emu.specs.Emulator.{EmulatorState};
 ghost use Rattle.stk_emu.specs.Effect.{memories_of};
@@ -36,7 +36,7 @@ ghost use Rattle.stk_host.specs.Tape.{Tape, bytes_on_tape};
 pub fn a_server_sends_the_replies_to_what_it_received()
     ensures all { (p : Programmer) (transcript : Transcript) (left : EmulatorState)
         → RepliesToAll p [] (bytes_on_tape (heard transcript)) (sent transcript) left
-        → (sent transcript ≡ answers device (frames (bytes_on_tape (heard transcript))) p)
+        → (sent transcript ≡ replies device (frames (bytes_on_tape (heard transcript))) p)
         × (left.programmer ≡ after_frames device (frames (bytes_on_tape (heard transcript))) p) }
     ensures however { (served : Served) (p : Programmer) (transcript : Transcript) (left : EmulatorState)
         → ServingLeaves served p [] transcript left → HasServed p transcript left.programmer }

@@ -121,7 +121,7 @@ impl RecordReader {
     /// ```
     pub fn feed(&mut self, piece: &[u8]) -> Result<(), RecordFault>
         requires { self.old.fed + length piece.now < 2 ^ 32 }
-        ensures answer { (text : List ℕ) → MayHaveRead self.old text → result
+        ensures of_text { (text : List ℕ) → MayHaveRead self.old text → result
             ≡ unless_fault (ended_lines_fault self.old.kind (text ++ piece.now) (memory_size self.old)) tt }
         ensures stands { OnOk result ((text : List ℕ) → MayHaveRead self.old text
             → MayHaveRead self.new (text ++ piece.now)) }
@@ -159,7 +159,7 @@ impl RecordReader {
     /// assert_eq!(rt; reader.finish().err(), Some(RecordFault::BadSum(1)));
     /// ```
     pub fn finish(self) -> Result<(Image, Ending), RecordFault>
-        ensures answer { (text : List ℕ) → MayHaveRead self text → result
+        ensures of_text { (text : List ℕ) → MayHaveRead self text → result
             ≡ image_in_text self.kind text (memory_size self) }
         ensures size { IfOk result (λ read. length read.0 ≡ memory_size self) }
         ensures failed { self.failed ≡ true → result ≡ Err RecordFault.Failed }

@@ -11,9 +11,9 @@ use Rattle.stk_host.specs.Tape.{Tape}
 use Rattle.stk_host.specs.Transcript.{Transcript, Got, NoneTaken, sent}
 use Rattle.stk_host.proofs.Transcripts.Laws.{sent_append, none_behind}
 use Rattle.stk_emu.specs.Programmer.{Programmer}
-use Rattle.stk_emu.specs.Device.{device, answers, after_frames}
+use Rattle.stk_emu.specs.Device.{device, replies, after_frames}
 use Rattle.stk_emu.specs.Emulator.{EmulatorState, WasFedText, RepliesToFrame, emulate}
-use Rattle.stk_emu.proofs.Answers.Texts.{answers_more, frames_fed, is_fed, emulated}
+use Rattle.stk_emu.proofs.Answers.Texts.{replies_more_frames, frames_fed, is_fed, emulated}
 use Rattle.avr_tool.specs.Serving.{RepliesToAll, LastReplyFailed}
 
 pub all_nothing : (p : Programmer) (text : List ℕ) (machine : EmulatorState) → WasFedText p text machine
@@ -43,13 +43,13 @@ breaks_found : (p : Programmer) (text used unused part unsent : List ℕ) (trans
     (found : List (List ℕ))
     → length found ≤ 1
     → frames (text ++ used) ≡ frames text ++ found
-    → part ++ unsent ≡ answers device found (after_frames device (frames text) p)
+    → part ++ unsent ≡ replies device found (after_frames device (frames text) p)
     → WasFedText p (text ++ used) now → 0 < length (part ++ unsent) → sent transcript ≡ part
     → (NoneTaken transcript → 0 < length unsent) → LastReplyFailed p text (used ++ unused) transcript now
-breaks_found p text used unused part unsent transcript now [] few fs answered fed some is not_whole = search rules
-breaks_found p text used unused part unsent transcript now (frame ∷ []) few fs answered fed some is not_whole =
+breaks_found p text used unused part unsent transcript now [] few fs replied fed some is not_whole = search rules
+breaks_found p text used unused part unsent transcript now (frame ∷ []) few fs replied fed some is not_whole =
     search (rules, append-nil)
-breaks_found p text used unused part unsent transcript now (frame ∷ other ∷ more) few fs answered fed some is
+breaks_found p text used unused part unsent transcript now (frame ∷ other ∷ more) few fs replied fed some is
     not_whole =
     absurd (omega arith)
 
@@ -59,7 +59,7 @@ pub breaks_here : (p : Programmer) (text used unused out : List ℕ) (a b : Tran
 breaks_here p text used unused out b c old now a f s =
     breaks_found p text used unused s.part s.unsent s.during now a.found a.few
     (frames_fed old.held used now.held a.found text a.fed a.are_frames f.stands)
-    (sym s.bytes_are ∙ (a.answered ∙ ap (answers device a.found) f.executed)) (is_fed old now used out p text a f)
+    (sym s.bytes_are ∙ (a.replied ∙ ap (replies device a.found) f.executed)) (is_fed old now used out p text a f)
     (rw (← s.bytes_are) s.some) s.bytes_sent s.not_whole
 
 -- the replies to a prefix are a prefix of the replies
@@ -68,8 +68,8 @@ answers_prefix p x y =
     let later : List (List ℕ) = filter is_frame (cut (rest x ++ y)) in
     let all : frames (x ++ y) ≡ frames x ++ later =
     ap (filter is_frame) (cut_append x y) ∙ filter-append is_frame (cut x) (cut (rest x ++ y)) in (
-      answers device later (after_frames device (frames x) p),
-      sym (ap (λ fs. answers device fs p) all ∙ answers_more device (frames x) later p),
+      replies device later (after_frames device (frames x) p),
+      sym (ap (λ fs. replies device fs p) all ∙ replies_more_frames device (frames x) later p),
     )
 
 pub breaks_prefix : (p : Programmer) (text bytes : List ℕ) (transcript : Transcript) (now : EmulatorState)
@@ -77,4 +77,4 @@ pub breaks_prefix : (p : Programmer) (text bytes : List ℕ) (transcript : Trans
     → IsBytePrefixOf (emulate p text ++ sent transcript) (emulate p (text ++ bytes))
 breaks_prefix p text bytes transcript now b =
     let prefix = answers_prefix p (text ++ b.used) b.unused in
-    search (rules, answers_more, append-nil, append_assoc)
+    search (rules, replies_more_frames, append-nil, append_assoc)

@@ -8,8 +8,8 @@ use Rattle.stk_host.proofs.Transcripts.Laws.{sent_append, heard_append, heard_qu
 use Rattle.stk_host.proofs.Tapes.Answers.{bytes_of_append, bytes_of_on_tape}
 use Rattle.stk_emu.specs.Programmer.{Programmer}
 use Rattle.stk_emu.specs.Emulator.{EmulatorState}
-use Rattle.avr_tool.specs.declared.answering.Served.{Served}
-use Rattle.avr_tool.specs.declared.answering.Served.TheVariants.{SendFailed, TooManyReads}
+use Rattle.avr_tool.specs.declared.serving_link.Served.{Served}
+use Rattle.avr_tool.specs.declared.serving_link.Served.TheVariants.{SendFailed, TooManyReads}
 use Rattle.avr_tool.specs.Serving.{ReceivesUntil, RepliesToAll, LastReplyFailed, NoSendFailed, ServingLeaves, Serves}
 use Rattle.avr_tool.specs.Replying.{SendsAllReplies, SendsPartOfReplies}
 use Rattle.avr_tool.proofs.Transcripts.{no_end_append, no_end_on_tape, reads_append, reads_quiet, in_turn_quiet, in_turn_append}

@@ -19,8 +19,8 @@ module _ (piece part out : List ℕ) (n used : ℕ) (old mid now : EmulatorState
   replies_more sends = record {
     out = r.out ++ out;
     sends = grind (arith, common_steps, grows_on, quiet_append, none_append, sent_append);
-    answers = λ p text f.
-        let first = r.answers p text f in
+    replies = λ p text f.
+        let first = r.replies p text f in
         subst (λ bs. RepliesToAll p text bs (r.out ++ out) now)
         (ap (λ bs. take n piece ++ take used bs) is ∙ sym (take-add n used piece))
         (search (rules, all_more, all_fed));
@@ -33,7 +33,7 @@ module _ (piece part out : List ℕ) (n used : ℕ) (old mid now : EmulatorState
     quiet = quiet_append r.sends.during s.during r.sends.none_taken r.sends.quiet s.quiet;
     breaks = λ p text f.
         let first : RepliesToAll p text (take n piece) (sent r.sends.during) mid =
-        rw r.sends.bytes_sent (r.answers p text f) in
+        rw r.sends.bytes_sent (r.replies p text f) in
         subst (λ bs. LastReplyFailed p text bs (r.sends.during ++ s.during) now)
         (ap (λ bs. take n piece ++ bs) (take-append-drop used part ∙ is) ∙ take-append-drop n piece)
         (search (rules, breaks_more, breaks_here));

@@ -11,7 +11,7 @@ pub record SendsAllReplies (old : EmulatorState) (bytes : List ℕ) (before afte
     (now : EmulatorState) : Type 0 where
   pub out : List ℕ
   pub sends : SendsExactly out before.transcript after.transcript
-  pub answers : (p : Programmer) (text : List ℕ) → WasFedText p text old → RepliesToAll p text bytes out now
+  pub replies : (p : Programmer) (text : List ℕ) → WasFedText p text old → RepliesToAll p text bytes out now
 
 -- The emulator was fed a prefix of these bytes, and sending the last reply failed.
 pub record SendsPartOfReplies (old : EmulatorState) (bytes : List ℕ) (before after : LinkState)

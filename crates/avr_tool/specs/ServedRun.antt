@@ -18,8 +18,8 @@ use Rattle.avr_session.specs.Runs.{Devices, devices}
 use Rattle.stk_emu.specs.Programmer.{fresh_programmer}
 use Rattle.stk_emu.specs.Emulator.{EmulatorState}
 use Rattle.avr_tool.specs.Serving.{Serves, RepliesInTurn, ServingLeaves, FailsBy}
-use Rattle.avr_tool.specs.declared.answering.Served.{Served}
-use Rattle.avr_tool.specs.declared.answering.Served.TheVariants.{Ended, RecvFailed, SendFailed, TooManyReads}
+use Rattle.avr_tool.specs.declared.serving_link.Served.{Served}
+use Rattle.avr_tool.specs.declared.serving_link.Served.TheVariants.{Ended, RecvFailed, SendFailed, TooManyReads}
 
 -- The part of the settings: in the part file, if one is given, then in the built-in parts.
 abbrev pub settings_part : Settings → Stage Part

@@ -6,10 +6,10 @@ use Rattle.stk_host.specs.Tape.{Tape, bytes_on_tape}
 use Rattle.stk_host.specs.Transcript.{Transcript, LinkState, Sent, Taken, Got, NoneTaken, sent, heard, Grows, HasFailed}
 use Rattle.stk_host.specs.Play.{IsBytePrefixOf}
 use Rattle.stk_emu.specs.Programmer.{Programmer}
-use Rattle.stk_emu.specs.Device.{device, answers, reply_frame, after_frames}
+use Rattle.stk_emu.specs.Device.{device, replies, reply_frame, after_frames}
 use Rattle.stk_emu.specs.Emulator.{EmulatorState, WasFedText, emulate}
-use Rattle.avr_tool.specs.declared.answering.Served.{Served}
-use Rattle.avr_tool.specs.declared.answering.Served.TheVariants.{Ended, RecvFailed, SendFailed, TooManyReads}
+use Rattle.avr_tool.specs.declared.serving_link.Served.{Served}
+use Rattle.avr_tool.specs.declared.serving_link.Served.TheVariants.{Ended, RecvFailed, SendFailed, TooManyReads}
 
 abbrev pub HasNoEnd : Tape → Type 0
 HasNoEnd [] = Unit {0}
@@ -35,18 +35,18 @@ NoSendFailed SendFailed transcript = Unit {0}
 NoSendFailed _ transcript = NoneTaken transcript
 
 -- Before each piece received, all replies to what was fed before had been sent. After a send that failed nothing
--- passes. The programmer was fed `text` and had sent `answered` when the transcript began.
+-- passes. The programmer was fed `text` and had sent `replied` when the transcript began.
 abbrev pub RepliesInTurn : Programmer → List ℕ → List ℕ → Transcript → Type 0
-RepliesInTurn p text answered [] = Unit {0}
-RepliesInTurn p text answered (Sent bytes ∷ transcript) = RepliesInTurn p text (answered ++ bytes) transcript
-RepliesInTurn p text answered (Taken bytes ∷ transcript) = transcript ≡ []
-RepliesInTurn p text answered (Got tape ∷ transcript) =
-    (answered ≡ emulate p text) × RepliesInTurn p (text ++ bytes_on_tape tape) answered transcript
+RepliesInTurn p text replied [] = Unit {0}
+RepliesInTurn p text replied (Sent bytes ∷ transcript) = RepliesInTurn p text (replied ++ bytes) transcript
+RepliesInTurn p text replied (Taken bytes ∷ transcript) = transcript ≡ []
+RepliesInTurn p text replied (Got tape ∷ transcript) =
+    (replied ≡ emulate p text) × RepliesInTurn p (text ++ bytes_on_tape tape) replied transcript
 
 -- An emulator that was fed `text` was fed these bytes, and `out` is exactly its replies to them.
 pub record RepliesToAll (p : Programmer) (text bytes out : List ℕ) (now : EmulatorState) : Type 0 where
   pub fed : WasFedText p (text ++ bytes) now
-  pub answered : emulate p (text ++ bytes) ≡ emulate p text ++ out
+  pub replied : emulate p (text ++ bytes) ≡ emulate p text ++ out
 
 -- The emulator was fed a prefix of these bytes, and sending the reply to the last frame in it failed. All replies to
 -- the frames before were sent, and a part of this one. It was sent whole only if the send that failed had taken its
@@ -64,7 +64,7 @@ pub record LastReplyFailed (p : Programmer) (text bytes : List ℕ) (transcript 
   pub unsent : List ℕ
   pub answer_is : reply_frame device last (after_frames device earlier p) ≡ part ++ unsent
   pub not_whole : NoneTaken transcript → 0 < length unsent
-  pub sent_is : emulate p text ++ sent transcript ≡ answers device earlier p ++ part
+  pub sent_is : emulate p text ++ sent transcript ≡ replies device earlier p ++ part
 
 -- What was sent, and the emulator after it. If a send failed, only a prefix of all replies was sent.
 abbrev pub ServingLeaves : Served → Programmer → List ℕ → Transcript → EmulatorState → Type 0

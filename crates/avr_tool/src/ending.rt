@@ -3,7 +3,7 @@ ghost use Rattle.avr_desk.specs.Fault.{CountsNeverFall};
 ghost use Rattle.avr_tool.specs.ServedRun.{ReportsIfAny, end_pieces, status_of_end};
 ghost use Rattle.ghosts.specs.Preserves.{Preserves};
 
-use crate::answering::Served;
+use crate::serving_link::Served;
 use avr_desk::{Desk, Message, refuse};
 use avr_session::{unreceived_message, unsent_message};
 

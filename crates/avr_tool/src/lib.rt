@@ -30,7 +30,7 @@ mod loading;
 mod messages;
 mod saving;
 // the emulated programmer with its chip file: a run over it, and serving it
-mod answering;
+mod serving_link;
 mod ending;
 mod over_emulator;
 mod served_run;
@@ -81,7 +81,7 @@ pub use served_run::{READS, check_part, serve, serve_chip, serve_for, serve_part
 pub use serving::{serve_net, serve_on};
 pub use texts::refuse_text;
 // the emulated programmer and the chip file
-pub use answering::{Served, answer_all};
+pub use serving_link::{Served, serve_link};
 pub use holding::hold_chip;
 pub use loading::load_chip;
 pub use saving::save_chip;

@@ -8,7 +8,7 @@ ghost use Rattle.avr_tool.specs.Ports.{HasChip, chip_file_of};
 ghost use Rattle.avr_session.specs.Runs.{devices};
 ghost use Rattle.ghosts.specs.Preserves.{Preserves};
 
-use crate::answering::answer_all;
+use crate::serving_link::serve_link;
 use crate::ending::{report_end, status_of_served};
 use crate::holding::hold_chip;
 use crate::ports::chip_file;
@@ -88,7 +88,7 @@ pub fn serve_chip<D: ChipDesk, L: Link>(
     ensures stays { Preserves D.started_as desk.old desk.new }
 {
     let mut emulator = Emulator::new(chip);
-    let served = answer_all(&mut emulator, link, turns);
+    let served = serve_link(&mut emulator, link, turns);
     report_end(desk, served);
     save_after(emulator.chip(), file, desk, status_of_served(served))
 }

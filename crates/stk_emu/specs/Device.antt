@@ -32,9 +32,9 @@ abbrev pub reply_frame : {P : Type 0} → Device P → List ℕ → P → List �
 reply_frame m piece p = frame (seq_of piece) (reply_body m piece p)
 
 -- The replies to whole frames, joined; below, the device after them.
-abbrev pub answers : {P : Type 0} → Device P → List (List ℕ) → P → List ℕ
-answers m [] p = []
-answers m (piece ∷ pieces) p = reply_frame m piece p ++ answers m pieces (after_frame m piece p)
+abbrev pub replies : {P : Type 0} → Device P → List (List ℕ) → P → List ℕ
+replies m [] p = []
+replies m (piece ∷ pieces) p = reply_frame m piece p ++ replies m pieces (after_frame m piece p)
 
 abbrev pub after_frames : {P : Type 0} → Device P → List (List ℕ) → P → P
 after_frames m [] p = p

@@ -3,7 +3,7 @@ use Rattle.std.specs.Prelude.{ℕ, List, ◌≡◌, ◌<◌, ◌≤◌, ◌++◌
 use Rattle.stk_frame.specs.Cut.{frames, is_frame}
 use Rattle.stk_frame.specs.Reader.{HoldsFrame, MayHaveBeenFed, Fed}
 use Rattle.stk_emu.specs.Programmer.{Programmer}
-use Rattle.stk_emu.specs.Device.{device, answers, after_frames}
+use Rattle.stk_emu.specs.Device.{device, replies, after_frames}
 
 -- The bytes of the frame that is arriving or has just ended, and the programmer.
 pub record EmulatorState : Type 0 where
@@ -12,7 +12,7 @@ pub record EmulatorState : Type 0 where
 
 -- The replies of a programmer to all frames of a text, in order.
 abbrev pub emulate : Programmer → List ℕ → List ℕ
-emulate p text = answers device (frames text) p
+emulate p text = replies device (frames text) p
 
 -- An emulator that began with this programmer and was fed this text.
 pub record WasFedText (p : Programmer) (text : List ℕ) (machine : EmulatorState) : Type 0 where
@@ -26,7 +26,7 @@ pub record RepliesToFrame (old : EmulatorState) (used : List ℕ) (new : Emulato
   pub are_frames : filter is_frame found ≡ found
   pub fed : Fed old.held used new.held found
   pub ends : 0 < length out → HoldsFrame new.held
-  pub answered : out ≡ answers device found old.programmer
+  pub replied : out ≡ replies device found old.programmer
   pub executed : new.programmer ≡ after_frames device found old.programmer
 
 -- It was fed these bytes, and appended the replies to all frames that end in them, whatever text came before.
@@ -35,7 +35,7 @@ pub record AppendsReplies (old : EmulatorState) (bytes : List ℕ) (new : Emulat
   pub found : List (List ℕ)
   pub ends : (text : List ℕ) → MayHaveBeenFed old.held text → frames (text ++ bytes) ≡ frames text ++ found
   pub stands : (text : List ℕ) → MayHaveBeenFed old.held text → MayHaveBeenFed new.held (text ++ bytes)
-  pub appended : after ≡ before ++ answers device found old.programmer
+  pub appended : after ≡ before ++ replies device found old.programmer
   pub executed : new.programmer ≡ after_frames device found old.programmer
 
 -- It was fed a proper prefix of these bytes, and all replies to that prefix were appended.

@@ -11,4 +11,4 @@ pub record PortState : Type 0 where
 -- A port that began with this programmer and was fed `written`: what was read, and then what waits, are all replies.
 pub record IsPortAfter (p : Programmer) (written read : List ℕ) (port : PortState) : Type 0 where
   pub fed : WasFedText p written port.machine
-  pub answers : read ++ port.waits ≡ emulate p written
+  pub replies : read ++ port.waits ≡ emulate p written

@@ -163,10 +163,10 @@ impl Late {
     }
 
     /// Adds a reply; a fourth one drops the first.
-    pub fn hold(&mut self, answered: Frame)
-        ensures { self.new ≡ with_late_reply self.old answered.items }
+    pub fn hold(&mut self, reply: Frame)
+        ensures { self.new ≡ with_late_reply self.old reply.items }
     {
-        let third = mem::replace(&mut self.third, answered);
+        let third = mem::replace(&mut self.third, reply);
         self.first = mem::replace(&mut self.second, third);
     }
 

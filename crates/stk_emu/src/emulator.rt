@@ -5,7 +5,7 @@ ghost use Rattle.stk_frame.specs.Frame.{frame};
 ghost use Rattle.stk_frame.specs.Cut.{is_good, seq_of};
 ghost use Rattle.stk_frame.specs.Reader.{HoldsFrame, EventMatchesHeld, frames_of_event};
 ghost use Rattle.stk_emu.specs.Programmer.{Programmer as ProgrammerState, fresh_programmer};
-ghost use Rattle.stk_emu.specs.Device.{device, refusal, reply_frame, after_frame, answers, after_frames};
+ghost use Rattle.stk_emu.specs.Device.{device, refusal, reply_frame, after_frame, replies, after_frames};
 ghost use Rattle.stk_emu.specs.Emulator.{RepliesToFrame, AppendsReplies, AppendsRepliesToPrefix, WasFedText, emulate};
 
 use crate::programmer::{Body, Programmer};
@@ -31,10 +31,10 @@ pub(crate) fn refuse(reader: &FrameReader, out: &mut Frame)
 }
 
 /// Makes `out` the reply to the frame in the reader, which is executed if it is good, and refused otherwise.
-pub(crate) fn answer(reader: &FrameReader, good: bool, programmer: &mut Programmer, out: &mut Frame)
+pub(crate) fn put_reply(reader: &FrameReader, good: bool, programmer: &mut Programmer, out: &mut Frame)
     requires holds { HoldsFrame reader.now }
     requires is_reported { is_good reader.now ≡ good }
-    ensures answer { out.new.items ≡ reply_frame device reader.now programmer.old }
+    ensures reply { out.new.items ≡ reply_frame device reader.now programmer.old }
     ensures after { programmer.new ≡ after_frame device reader.now programmer.old }
 {
     if !good {
@@ -48,13 +48,13 @@ pub(crate) fn answer(reader: &FrameReader, good: bool, programmer: &mut Programm
 /// Makes `out` the reply to the frame that the event reports, or empty if it reports none.
 fn reply_to_event(reader: &FrameReader, event: Event, programmer: &mut Programmer, out: &mut Frame)
     requires { EventMatchesHeld event reader.now }
-    ensures answers { out.new.items ≡ answers device (frames_of_event event reader.now) programmer.old }
+    ensures replies { out.new.items ≡ replies device (frames_of_event event reader.now) programmer.old }
     ensures after { programmer.new ≡ after_frames device (frames_of_event event reader.now) programmer.old }
 {
     match event {
         Event::More => out.clear(),
-        Event::Frame => answer(reader, true, programmer, out),
-        Event::Spoiled => answer(reader, false, programmer, out),
+        Event::Frame => put_reply(reader, true, programmer, out),
+        Event::Spoiled => put_reply(reader, false, programmer, out),
     }
 }
 
@@ -67,9 +67,9 @@ fn reply_to_event(reader: &FrameReader, event: Event, programmer: &mut Programme
 /// let chip = Chip::fresh(alloc, Parts::none().find("t85")?)?;
 /// let mut emulator = Emulator::new(chip);
 /// let mut answer = ArrayVec::new();
-/// let used = emulator.feed(b"\x1B\x01\x00\x01\x0E\x01\x14", &mut answer);
+/// let used = emulator.feed(b"\x1B\x01\x00\x01\x0E\x01\x14", &mut reply);
 /// assert_eq!(rt; used, 7);
-/// assert!(rt; answer.as_slice() == b"\x1B\x01\x00\x0B\x0E\x01\x00\x08STK500_2\x02".as_slice());
+/// assert!(rt; reply.as_slice() == b"\x1B\x01\x00\x0B\x0E\x01\x00\x08STK500_2\x02".as_slice());
 /// ```
 #[derive(Drop)]
 pub struct Emulator {
@@ -138,8 +138,8 @@ impl Emulator {
     /// let mut emulator = Emulator::new(chip);
     /// let mut answer = ArrayVec::new();
     /// let spoiled = b"\x1B\x01\x00\x01\x0E\x01\x15";
-    /// assert_eq!(rt; emulator.feed(spoiled, &mut answer), 7);
-    /// assert!(rt; answer.as_slice() == b"\x1B\x01\x00\x02\x0E\xB0\xC1\x67".as_slice());
+    /// assert_eq!(rt; emulator.feed(spoiled, &mut reply), 7);
+    /// assert!(rt; reply.as_slice() == b"\x1B\x01\x00\x02\x0E\xB0\xC1\x67".as_slice());
     /// ```
     pub fn feed(&mut self, piece: &[u8], out: &mut ArrayVec<u8, LARGEST_FRAME>) -> usize
         ensures within { result ≤ length piece.now }
@@ -157,7 +157,7 @@ impl Emulator {
         used
     }
 
-    /// Uses all of these bytes, and appends the replies to their frames to `answers`, in order.
+    /// Uses all of these bytes, and appends the replies to their frames to `replies`, in order.
     ///
     /// # Errors
     ///
@@ -167,28 +167,28 @@ impl Emulator {
     /// ```text
     /// let chip = Chip::fresh(alloc, Parts::none().find("t85")?)?;
     /// let mut emulator = Emulator::new(chip);
-    /// let mut answers = Vec::new(alloc);
+    /// let mut replies = Vec::new(alloc);
     /// let spoiled = b"\x1B\x01\x00\x01\x0E\x01\x15\x1B\x02\x00\x01\x0E\x01\x16";
-    /// emulator.answer_all(spoiled, &mut answers)?;
+    /// emulator.reply_to_all(spoiled, &mut replies)?;
     /// let refused = b"\x1B\x01\x00\x02\x0E\xB0\xC1\x67\x1B\x02\x00\x02\x0E\xB0\xC1\x64";
-    /// assert!(rt; answers.as_slice() == refused.as_slice());
+    /// assert!(rt; replies.as_slice() == refused.as_slice());
     /// ```
-    pub fn answer_all(&mut self, bytes: &[u8], answers: &mut Vec<u8>) -> Result<(), AllocError>
+    pub fn reply_to_all(&mut self, bytes: &[u8], replies: &mut Vec<u8>) -> Result<(), AllocError>
         ensures appends { OnOk result (AppendsReplies self.old bytes.now self.new
-            answers.old.items answers.new.items) }
+            replies.old.items replies.new.items) }
         ensures prefix { OnErr result (AppendsRepliesToPrefix self.old bytes.now self.new
-            answers.old.items answers.new.items) }
+            replies.old.items replies.new.items) }
         ensures fed { (p : ProgrammerState) (text : List ℕ) → WasFedText p text self.old
             → OnOk result (WasFedText p (text ++ bytes.now) self.new) }
         ensures all { (p : ProgrammerState) (text : List ℕ) → WasFedText p text self.old
-            → answers.old.items ≡ emulate p text → OnOk result (answers.new.items ≡ emulate p (text ++ bytes.now)) }
+            → replies.old.items ≡ emulate p text → OnOk result (replies.new.items ≡ emulate p (text ++ bytes.now)) }
     {
         let mut used = 0;
         while used < bytes.len() {
-            answers.reserve(LARGEST_FRAME)?;
-            let mut answer = Frame::new();
-            used += self.feed(&bytes[used..], &mut answer);
-            let _there_is_room = answers.extend_from_slice(answer.as_slice());
+            replies.reserve(LARGEST_FRAME)?;
+            let mut reply = Frame::new();
+            used += self.feed(&bytes[used..], &mut reply);
+            let _there_is_room = replies.extend_from_slice(reply.as_slice());
         }
         Ok(())
     }

@@ -28,7 +28,7 @@ use stk_frame::LARGEST_FRAME;
 /// let mut port = EmulatedPort::new(alloc, Emulator::new(chip));
 /// port.write_all(b"\x1B\x01\x00\x01\x0E\x01\x15")?;
 /// let mut answer = [0; 281];
-/// assert_eq!(rt; port.read(&mut answer)?, 8);
+/// assert_eq!(rt; port.read(&mut reply)?, 8);
 /// assert!(rt; &answer[..8] == b"\x1B\x01\x00\x02\x0E\xB0\xC1\x67".as_slice());
 /// ```
 #[derive(Debug, Drop)]
@@ -127,7 +127,7 @@ impl Write for EmulatedPort {
         ensures bound { WritesAtMost result buf.now }
         ensures bytes { WriteAppends None None result buf.now }
         ensures some { IfOk result (λ n. 0 < length buf.now → 0 < n) }
-        ensures answers { IfOk result (λ n. AppendsReplies self.old.machine (take n buf.now) self.new.machine
+        ensures replies { IfOk result (λ n. AppendsReplies self.old.machine (take n buf.now) self.new.machine
             self.old.waits self.new.waits) }
         ensures passed { (p : ProgrammerState) (written given : List ℕ) → IsPortAfter p written given self.old
             → IfOk result (λ n. IsPortAfter p (written ++ take n buf.now) given self.new) }
@@ -135,9 +135,9 @@ impl Write for EmulatedPort {
         ensures same { OnErr result (self.new ≡ self.old) }
     {
         self.waits.reserve(LARGEST_FRAME)?;
-        let mut answer = Frame::new();
-        let used = self.emulator.feed(buf, &mut answer);
-        append(&mut self.waits, answer.as_slice());
+        let mut reply = Frame::new();
+        let used = self.emulator.feed(buf, &mut reply);
+        append(&mut self.waits, reply.as_slice());
         Ok(used)
     }
 

@@ -72,7 +72,7 @@ pub record ReceivesReply (seq : ℕ) (unread : List ℕ) (old new : LinkState) (
   pub grows : Grows old.transcript during new.transcript
   pub waits : WaitsFrom seq (on_tape unread) during
   pub few : length unread + length (heard during) ≤ reply_byte_limit
-  pub answers : (more : Tape) → answer seq (on_tape unread ++ (heard during ++ more))
+  pub reading_is : (more : Tape) → answer seq (on_tape unread ++ (heard during ++ more))
       ≡ Some (reading, on_tape left ++ more)
 
 -- The wait broke off before the reply arrived.
@@ -81,4 +81,4 @@ pub record ReceivesNoReply (seq : ℕ) (unread : List ℕ) (old new : LinkState)
   pub grows : Grows old.transcript during new.transcript
   pub waits : WaitsFrom seq (on_tape unread) during
   pub few : length unread + length (heard during) ≤ reply_byte_limit
-  pub no_answer : answer seq (on_tape unread ++ heard during) ≡ None
+  pub no_reply : answer seq (on_tape unread ++ heard during) ≡ None

@@ -1,6 +1,6 @@
 ghost use Rattle.std.specs.Prelude.{◌≡◌, ◌<◌, ◌≤◌, ◌++◌, ◌∷◌, [], length, take, OnOk, OnErr};
 ghost use Rattle.stk_host.specs.Tape.{bytes_on_tape};
-ghost use Rattle.stk_host.specs.Log.{heard_byte_count};
+ghost use Rattle.stk_host.specs.Log.{received_byte_count};
 ghost use Rattle.stk_host.specs.Transcript as transcript;
 ghost use Rattle.stk_host.specs.Transcript.{FitsBuffer};
 
@@ -18,7 +18,7 @@ enum Mark {
 /// Returns the bytes received, which are at the start of the buffer.
 fn received(heard: Heard, buffer: &[u8]) -> &[u8]
     requires { FitsBuffer heard (length buffer.now) }
-    ensures { result.now ≡ take (heard_byte_count heard) buffer.now }
+    ensures { result.now ≡ take (received_byte_count heard) buffer.now }
 {
     match heard {
         Heard::Bytes(count) => &buffer[..count],

@@ -11,7 +11,7 @@ use Rattle.stk_emu.specs.DialogOverExchanges.{SendsValidBodies}
 use Rattle.avr_laws.specs.AnyTape.{after_sent_frames}
 use Rattle.avr_tool.specs.Authentic.{first_execution, later_executions, on_reading, RepliesAreAuthentic}
 use Rattle.avr_tool.proofs.Lines.Plays.{cons_none, head_is}
-use Rattle.stk_emu.specs.Device.{Device, reply_frame, after_frame, after_frames, answers}
+use Rattle.stk_emu.specs.Device.{Device, reply_frame, after_frame, after_frames, replies}
 use Rattle.stk_emu.specs.Lawful.{IsFrameBody}
 use Rattle.stk_emu.specs.Exchange.{Executed, after_execution, IsAuthentic}
 use Rattle.stk_emu.proofs.Answers.BodySizes.{RepliesFitFrames}
@@ -291,9 +291,9 @@ module _ {P : Type 0} (m : Device P) (sound : RepliesFitFrames m) where
 
   -- ---- what was sent in order
 
-  pub answers_joined : (frames : List (List ℕ)) (p : P) → answers m frames p ≡ concat (answer_list m frames p)
-  answers_joined [] p = refl
-  answers_joined (f ∷ frames) p = ap (λ x. reply_frame m f p ++ x) (answers_joined frames (after_frame m f p))
+  pub replies_joined : (frames : List (List ℕ)) (p : P) → replies m frames p ≡ concat (answer_list m frames p)
+  replies_joined [] p = refl
+  replies_joined (f ∷ frames) p = ap (λ x. reply_frame m f p ++ x) (replies_joined frames (after_frame m f p))
 
   pub after_first : (h : ℕ) (sent : List (List ℕ)) (p : P)
       → after_frames m (first_of h sent) p ≡ after_sent_frames m sent (all_executed h) p

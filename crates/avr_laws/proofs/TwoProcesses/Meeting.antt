@@ -19,13 +19,13 @@ use Rattle.stk_emu.specs.Device.{device, reply_body, reply_frame, after_frame}
 use Rattle.stk_emu.specs.Emulator.{EmulatorState}
 use Rattle.stk_emu.specs.Lawful.{IsFrameBody}
 use Rattle.stk_emu.specs.Programmer.{Programmer}
-use Rattle.stk_emu.proofs.Answers.Texts.{answers_more}
+use Rattle.stk_emu.proofs.Answers.Texts.{replies_more_frames}
 use Rattle.stk_emu.proofs.Answers.BodySizes.{replies_fit_frames, reply_fits_frame}
 use Rattle.avr_tool.proofs.Lines.InTurn.{sends_whole, frames_prefix}
 use Rattle.avr_tool.specs.Serving.{HasNoEnd, RepliesToAll, LastReplyFailed, ServingLeaves}
-use Rattle.avr_tool.specs.declared.answering.Served.{Served}
+use Rattle.avr_tool.specs.declared.serving_link.Served.{Served}
 use Rattle.avr_laws.specs.TwoProcesses.{IsJoined, HasNoTimeout, TimesOutBetweenReplies, HasServed, all_executed}
-use Rattle.avr_laws.proofs.TwoProcesses.InOrder.{MissesFew, first_of, answer_list, Brings, in_order_authentic, in_order_ends, answers_joined, after_first}
+use Rattle.avr_laws.proofs.TwoProcesses.InOrder.{MissesFew, first_of, answer_list, Brings, in_order_authentic, in_order_ends, replies_joined, after_first}
 use Rattle.avr_laws.proofs.TwoProcesses.NeverSilent.{Straight, goes_straight}
 use Rattle.avr_laws.proofs.TwoProcesses.AnswerParts.{IsShort, AreShort, InSlots, parted}
 
@@ -54,7 +54,7 @@ all_served p transcript left all = search (rules, append-nil (bytes_on_tape (hea
 
 broken_served : (p : Programmer) (transcript : Transcript) (left : EmulatorState)
     → LastReplyFailed p [] (bytes_on_tape (heard transcript)) transcript left → HasServed p transcript left.programmer
-broken_served p transcript left b = search (rules, append_assoc, answers_more)
+broken_served p transcript left b = search (rules, append_assoc, replies_more_frames)
 
 pub has_served : (served : Served) (p : Programmer) (transcript : Transcript) (left : EmulatorState)
     → ServingLeaves served p [] transcript left
@@ -105,7 +105,7 @@ module _ {E R : Type 0} (d : Dialog E R) (asks : SendsValidBodies d) (p left : P
     unreceived = joined.down.0 ++ serves.unsent
 
     heard_are : bytes_on_tape (heard host) ++ unreceived ≡ concat given
-    heard_are = search (rules, append_assoc, answers_joined, replies_fit_frames)
+    heard_are = search (rules, append_assoc, replies_joined, replies_fit_frames)
 
     slots : InSlots [] (heard host) given unreceived
     slots = search (rules, parted, answers_short, heard_are)

@@ -20,7 +20,7 @@ use Rattle.stk_host.specs.Tape.{Tape, Answered, Reading, answer, bytes_on_tape, 
 use Rattle.stk_host.specs.declared.link.Item.TheVariants.{End}
 use Rattle.stk_host.proofs.Transcripts.InDialogs.{bytes_append}
 use Rattle.stk_host.proofs.Tapes.Answers.{answer_found, answer_waits, bytes_of_append, bytes_of_on_tape}
-use Rattle.stk_emu.proofs.Answers.Texts.{after_more, answers_more}
+use Rattle.stk_emu.proofs.Answers.Texts.{after_more, replies_more_frames}
 use Rattle.stk_emu.proofs.Answers.BodySizes.{replies_fit_frames}
 use Rattle.stk_emu.specs.DialogOverExchanges.{SendsValidBodies}
 use Rattle.stk_emu.specs.Device.{after_frames, device}
@@ -29,7 +29,7 @@ use Rattle.stk_emu.specs.Lawful.{IsFrameBody}
 use Rattle.stk_emu.specs.Programmer.{Programmer, fresh_programmer}
 use Rattle.avr_tool.specs.Serving.{RepliesToAll, RepliesInTurn, HasNoEnd, reads}
 use Rattle.avr_tool.specs.ServedRun.{ServesChip, fresh_machine}
-use Rattle.avr_tool.specs.declared.answering.Served.TheVariants.{Ended}
+use Rattle.avr_tool.specs.declared.serving_link.Served.TheVariants.{Ended}
 use Rattle.avr_laws.specs.TwoProcesses.{EndCall, HostSends, HostSendFails, HostReceives, ServerSends, ServerSendFails, ServerReceives, HasPromptRun, IsOrdered, HasNoTimeout, host_transcript, server_transcript}
 
 -- each frame is received and replied to at once, and at last the server receives the end of the link
@@ -266,7 +266,7 @@ module _ (p : Programmer) (text : List ℕ) (n : ℕ) (bytes : List ℕ) (body :
   }
 
   answered_more : emulate p (text ++ question) ≡ emulate p text ++ frame n (device.answer bytes now)
-  answered_more = grind (arith, common_steps, one_more, answers_more)
+  answered_more = grind (arith, common_steps, one_more, replies_more_frames)
 
 -- what is left of the programmer
 abbrev pub left_of : {E R : Type 0} → Dialog E R → ℕ → Programmer → Programmer
@@ -279,7 +279,7 @@ record ServesOn (p : Programmer) (text : List ℕ) (transcript : Transcript) (le
   in_turn : RepliesInTurn p text (emulate p text) transcript
   none_taken : NoneTaken transcript
   fed : HasExecuted p (text ++ bytes_on_tape (heard transcript)) left
-  answered : emulate p (text ++ bytes_on_tape (heard transcript)) ≡ emulate p text ++ sent transcript
+  replied : emulate p (text ++ bytes_on_tape (heard transcript)) ≡ emulate p text ++ sent transcript
 
 serves_on : {E R : Type 0} (d : Dialog E R) (n : ℕ) (now p : Programmer) (text : List ℕ) → SendsValidBodies d
     → HasExecuted p text now
@@ -294,7 +294,7 @@ serves_on (Ask bytes go_on) n now p text asks was =
     serves_on (go_on (Answered (device.answer bytes now))) (next n) (device.after bytes now) p (text ++ question)
     (asks.1 (Answered (device.answer bytes now)))
     (fed_more p text n bytes asks.0 now was) in
-    let answered = answered_more p text n bytes asks.0 now was in
+    let replied = answered_more p text n bytes asks.0 now was in
     search (rules, bytes_of_append, bytes_of_on_tape, append_assoc)
 
 -- the end of the link is received last

@@ -38,7 +38,7 @@ exchange_done seq then command {u = u} {v = v} {o = o} {p = p} {q = q} {reading 
           receives.grows;
       plays = rw is (plays_from (leads_ask (body command) (λ r. Done (reply_from_reading command r)) seq u v
           sends.during receives.during reading sends.quiet sends.none_taken sends.bytes_sent receives.waits
-          receives.answers));
+          receives.reading_is));
       sound = same;
     }
 

@@ -96,7 +96,7 @@ module _ {seq : ℕ} {u : List ℕ} {o : LinkState} where
       grows = grows_on o.transcript p.transcript q.transcript l.during (Got (item ∷ []) ∷ []) l.grows piece.1;
       waits = waits_more (item ∷ []);
       few = grind (arith, common_steps, heard_append);
-      answers = search (rules, heard_both, l, append_assoc, text_heard);
+      reading_is = search (rules, heard_both, l, append_assoc, text_heard);
     })
 
     pub heard_silence : {q : LinkState} {what : Heard} {new : List ℕ} → what ≡ heard.Silence
@@ -131,7 +131,7 @@ module _ {seq : ℕ} {u : List ℕ} {o : LinkState} where
     grows = l.grows;
     waits = l.waits;
     few = omega (arith, heard_count l, l.few);
-    answers = search (rules, append_assoc, on_tape_append);
+    reading_is = search (rules, append_assoc, on_tape_append);
   }
 
   finds_in : {held : List ℕ} {count : ℕ} {p : LinkState} (used left new : List ℕ)

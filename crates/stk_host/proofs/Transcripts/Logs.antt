@@ -8,7 +8,7 @@ use Rattle.stk_host.specs.declared.link.Heard.TheVariants as heard
 use Rattle.stk_host.specs.Tape.{on_tape, bytes_on_tape}
 use Rattle.stk_host.specs.Transcript as transcript
 use Rattle.stk_host.specs.Transcript.{Transcript, Got, FitsBuffer, items_of, sent}
-use Rattle.stk_host.specs.Log.{heard_byte_count, transcript_of, sent_count, received_count}
+use Rattle.stk_host.specs.Log.{received_byte_count, transcript_of, sent_count, received_count}
 use Rattle.stk_host.proofs.Tapes.Answers.{bytes_of_append, bytes_of_on_tape}
 
 drop_prefix : (n : ℕ) (xs ys : List ℕ) → n ≤ length xs → drop n (xs ++ ys) ≡ drop n xs ++ ys
@@ -62,7 +62,7 @@ sent_in [] [] back o = refl
 sent_in [] (x ∷ out) back o = absurd (omega arith)
 sent_in (mark.Sent n ∷ marks) out back o =
     rw (sent_in marks (drop n out) back (rw length-drop (omega arith))) (take-append-drop n out)
-sent_in (mark.Heard h ∷ marks) out back o = sent_in marks out (drop (heard_byte_count h) back) o
+sent_in (mark.Heard h ∷ marks) out back o = sent_in marks out (drop (received_byte_count h) back) o
 
 pub heard_in : (marks : List Mark) (out back : List ℕ) → received_count marks ≡ length back
     → bytes_on_tape (transcript.heard (transcript_of marks out back)) ≡ back
@@ -78,11 +78,11 @@ heard_in (mark.Heard heard.End ∷ marks) out back b = heard_in marks out back (
 
 -- what was received is what is kept of the buffer
 pub items_received : (h : Heard) (buffer : List ℕ) → FitsBuffer h (length buffer)
-    → items_of h (take (heard_byte_count h) buffer) ≡ items_of h buffer
+    → items_of h (take (received_byte_count h) buffer) ≡ items_of h buffer
 items_received h buffer fits = search (rules, take_all)
 
 pub count_received : (h : Heard) (buffer : List ℕ) → FitsBuffer h (length buffer)
-    → received_count (mark.Heard h ∷ []) ≡ length (take (heard_byte_count h) buffer)
+    → received_count (mark.Heard h ∷ []) ≡ length (take (received_byte_count h) buffer)
 count_received h buffer fits = search rules
 
 -- the whole log, as the code goes on: this mark and these bytes are new

@@ -7,16 +7,16 @@ pub returns-clause-serves : goal.returns-clause-serves
 returns-clause-serves g c =
     let begun = c.new-emulator.ensures in
     let fresh = is_fresh c.args.chip c.new-emulator.result begun.held begun.programmer in
-    let serves = rw fresh at c.answer_all-served.ensures.serves in
+    let serves = rw fresh at c.serve_link-served.ensures.serves in
     let fed = rw fresh at begun.begins in
     record {
-      served = c.answer_all-served.result;
-      left = c.answer_all-served.new.emulator;
+      served = c.serve_link-served.result;
+      left = c.serve_link-served.new.emulator;
       reported_desk = g.D.Desk.view c.report_end.new.desk;
       serves = serves;
       in_turn = serves.in_turn (fresh_programmer c.args.chip) [] fed;
       leaves = serves.leaves (fresh_programmer c.args.chip) [] fed;
-      fails = c.answer_all-served.ensures.failed;
+      fails = c.serve_link-served.ensures.failed;
       notice = c.report_end.ensures.notice;
       rises = c.report_end.ensures.follows;
       saved = rw (c.chip.ensures, c.status_of_served.ensures) at c.save_after.ensures.saved;

@@ -4,4 +4,4 @@ use Rattle.avr_plan.proofs.intake.Intake.fed.Goals as goal
 
 pub returns-in-Err-clause-takes : goal.returns-in-Err-clause-takes
 returns-in-Err-clause-takes c = λ found size text takes.
-    let reads = rw c.in-Records.is at takes in search (rules, record-decides, c.in-Err.ensures.answer)
+    let reads = rw c.in-Records.is at takes in search (rules, record-decides, c.in-Err.ensures.of_text)

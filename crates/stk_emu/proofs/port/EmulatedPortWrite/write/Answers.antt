@@ -3,8 +3,8 @@ use Rattle.stk_emu.proofs.Answers.Texts.{appends_one}
 use Rattle.stk_emu.proofs.Wires.Ports.{passed_in}
 use Rattle.stk_emu.proofs.port.EmulatedPortWrite.write.Goals as goal
 
-pub returns-clause-answers : goal.returns-clause-answers
-returns-clause-answers c =
+pub returns-clause-replies : goal.returns-clause-replies
+returns-clause-replies c =
     rw (← c.self.view_is)
     (appends_one _ _ _ c.feed-used.new.out.items c.self.inside.waits.items _ c.feed-used.ensures.one
     (c.append.ensures
@@ -12,4 +12,4 @@ returns-clause-answers c =
     ∙ ap (λ o. c.self.inside.waits.items ++ o) c.as_slice.ensures.value)))
 
 pub returns-clause-passed : goal.returns-clause-passed
-returns-clause-passed c = λ p written given passed. passed_in _ _ _ p written given (returns-clause-answers c) passed
+returns-clause-passed c = λ p written given passed. passed_in _ _ _ p written given (returns-clause-replies c) passed

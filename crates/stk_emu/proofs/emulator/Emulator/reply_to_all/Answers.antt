@@ -2,16 +2,16 @@ use Rattle.std.proofs.Common.{rules, [], ◌≡◌, ◌++◌, arith, take_all}
 use Rattle.std.proofs.lemmas.Result.{err_from_is_err_and}
 use Rattle.stk_host.proofs.Transcripts.Sending.{behind, part_fits}
 use Rattle.stk_emu.proofs.Answers.Texts.{appends_none, appends_one, appends_on, appends_prefix, appends_fed, appends_all}
-use Rattle.stk_emu.proofs.emulator.Emulator.answer_all.Goals as goal
+use Rattle.stk_emu.proofs.emulator.Emulator.reply_to_all.Goals as goal
 
 pub loop-used-init : goal.loop-used-init
-loop-used-init c = record { within = omega arith; appends = appends_none c.args.self.now c.args.answers.now.items }
+loop-used-init c = record { within = omega arith; appends = appends_none c.args.self.now c.args.replies.now.items }
 
 pub loop-used-preserved : goal.loop-used-preserved
 loop-used-preserved c =
     let put : c.extend_from_slice-there_is_room.new.self.items
-    ≡ c.loop-used.answers.items ++ c.feed-used.new.out.items = search rules in
-    let one = appends_one _ _ _ c.feed-used.new.out.items c.loop-used.answers.items _ c.feed-used.ensures.one put in
+    ≡ c.loop-used.replies.items ++ c.feed-used.new.out.items = search rules in
+    let one = appends_one _ _ _ c.feed-used.new.out.items c.loop-used.replies.items _ c.feed-used.ensures.one put in
     search (rules, behind, part_fits, appends_on)
 
 pub returns-clause-appends : goal.returns-clause-appends

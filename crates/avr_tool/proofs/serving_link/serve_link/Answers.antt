@@ -1,8 +1,8 @@
 use Rattle.std.proofs.Common.{◌+◌, ◌≤◌, arith, rules}
-use Rattle.avr_tool.specs.declared.answering.Served.TheVariants.{Ended}
+use Rattle.avr_tool.specs.declared.serving_link.Served.TheVariants.{Ended}
 use Rattle.avr_tool.specs.Serving.{Serves}
 use Rattle.avr_tool.proofs.ReadByRead.{serves_none, serves_more, serves_within, read_answered, read_broken}
-use Rattle.avr_tool.proofs.answering.answer_all.Goals as goal
+use Rattle.avr_tool.proofs.serving_link.serve_link.Goals as goal
 
 pub loop-reads_done-init : goal.loop-reads_done-init
 loop-reads_done-init g c = search (rules, serves_none)

@@ -1,7 +1,7 @@
 use Rattle.std.proofs.Common.{length, take, ◌-◌, ◌≤◌, ◌≡◌}
 use Rattle.ghosts.specs.Preserves.{Preserves}
 use Rattle.avr_tool.specs.Replying.{SendsAllReplies}
-use Rattle.avr_tool.proofs.answering.reply_to_piece.Given as goal
+use Rattle.avr_tool.proofs.serving_link.reply_to_piece.Given as goal
 
 abbrev pub invariant-loop-used : goal.invariant-loop-used
 invariant-loop-used g l = record {

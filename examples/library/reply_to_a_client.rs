@@ -22,7 +22,7 @@ fn main(rt: HostRuntime) -> Result<()> {
     let chip = Chip::fresh(rt.alloc(), Parts::none().find("m328p")?)?;
     let mut emulator = Emulator::new(chip);
     let mut answers = Vec::new(rt.alloc());
-    emulator.answer_all(SENT, &mut answers)?;
+    emulator.reply_to_all(SENT, &mut answers)?;
     let mut out = io::writer(&rt);
     print_bytes(answers.as_slice(), &mut out)?;
     read_answers(answers.as_slice(), &mut out)

@@ -1,8 +1,8 @@
 use Rattle.std.proofs.Common.{◌≡◌}
 use Rattle.ghosts.specs.Preserves.{Preserves}
-use Rattle.avr_tool.specs.declared.answering.Served.TheVariants.{TooManyReads}
+use Rattle.avr_tool.specs.declared.serving_link.Served.TheVariants.{TooManyReads}
 use Rattle.avr_tool.specs.Serving.{Serves}
-use Rattle.avr_tool.proofs.answering.answer_all.Given as goal
+use Rattle.avr_tool.proofs.serving_link.serve_link.Given as goal
 
 abbrev pub invariant-loop-reads_done : goal.invariant-loop-reads_done
 invariant-loop-reads_done g l = record {

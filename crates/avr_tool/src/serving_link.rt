@@ -34,11 +34,11 @@ fn reply_to_piece<L: Link>(
     ensures counts { LinkCounts (L.view link.old) (L.view link.new) result }
     ensures comes { Preserves L.started_as link.old link.new }
 {
-    let mut answer = ArrayVec::new();
+    let mut reply = ArrayVec::new();
     let mut used = 0;
     while used < piece.len() {
-        used += emulator.feed(&piece[used..], &mut answer);
-        send_all(link, answer.as_slice())?;
+        used += emulator.feed(&piece[used..], &mut reply);
+        send_all(link, reply.as_slice())?;
     }
     Ok(())
 }
@@ -48,7 +48,7 @@ fn reply_to_piece<L: Link>(
 ///
 /// A timeout counts as a read. The bytes of the last read still get their replies.
 #[tactic(auto, using(crate::proofs::ReadByRead::read_answered, crate::proofs::ReadByRead::read_broken))]
-pub fn answer_all<L: Link>(emulator: &mut Emulator, link: &mut L, turns: u32) -> Served
+pub fn serve_link<L: Link>(emulator: &mut Emulator, link: &mut L, turns: u32) -> Served
     ensures serves { Serves emulator.old turns result (L.view link.old) (L.view link.new) emulator.new }
     ensures counted { (L.view link.old).failures ≤ (L.view link.new).failures }
     ensures failed { FailsBy result (L.view link.old) (L.view link.new) }

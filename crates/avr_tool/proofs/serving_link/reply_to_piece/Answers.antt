@@ -2,7 +2,7 @@ use Rattle.std.proofs.Common.{rules}
 use Rattle.std.proofs.lemmas.Result.{err_from_is_err_and}
 use Rattle.stk_host.proofs.Transcripts.Sending.{behind, part_fits}
 use Rattle.avr_tool.proofs.Replies.{replies_more, replies_part}
-use Rattle.avr_tool.proofs.answering.reply_to_piece.Goals as goal
+use Rattle.avr_tool.proofs.serving_link.reply_to_piece.Goals as goal
 
 pub returns-in_err-send_all-clause-err : goal.returns-in_err-send_all-clause-err
 returns-in_err-send_all-clause-err g c =
