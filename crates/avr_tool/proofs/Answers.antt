@@ -13,7 +13,7 @@ use Rattle.stk_host.proofs.Transcripts.Laws.{sent_append, none_behind}
 use Rattle.stk_emu.specs.Programmer.{Programmer}
 use Rattle.stk_emu.specs.Device.{device, replies, after_frames}
 use Rattle.stk_emu.specs.Emulator.{EmulatorState, WasFedText, RepliesToFrame, emulate}
-use Rattle.stk_emu.proofs.Answers.Texts.{replies_more_frames, frames_fed, is_fed, emulated}
+use Rattle.stk_emu.proofs.Answers.Texts.{replies_append, frames_fed, is_fed, emulated}
 use Rattle.avr_tool.specs.Serving.{RepliesToAll, LastReplyFailed}
 
 pub all_nothing : (p : Programmer) (text : List ℕ) (machine : EmulatorState) → WasFedText p text machine
@@ -69,7 +69,7 @@ answers_prefix p x y =
     let all : frames (x ++ y) ≡ frames x ++ later =
     ap (filter is_frame) (cut_append x y) ∙ filter-append is_frame (cut x) (cut (rest x ++ y)) in (
       replies device later (after_frames device (frames x) p),
-      sym (ap (λ fs. replies device fs p) all ∙ replies_more_frames device (frames x) later p),
+      sym (ap (λ fs. replies device fs p) all ∙ replies_append device (frames x) later p),
     )
 
 pub breaks_prefix : (p : Programmer) (text bytes : List ℕ) (transcript : Transcript) (now : EmulatorState)
@@ -77,4 +77,4 @@ pub breaks_prefix : (p : Programmer) (text bytes : List ℕ) (transcript : Trans
     → IsBytePrefixOf (emulate p text ++ sent transcript) (emulate p (text ++ bytes))
 breaks_prefix p text bytes transcript now b =
     let prefix = answers_prefix p (text ++ b.used) b.unused in
-    search (rules, replies_more_frames, append-nil, append_assoc)
+    search (rules, replies_append, append-nil, append_assoc)

@@ -30,10 +30,10 @@ mod loading;
 mod messages;
 mod saving;
 // the emulated programmer with its chip file: a run over it, and serving it
-mod serving_link;
 mod ending;
 mod over_emulator;
 mod served_run;
+mod serving_link;
 // the network
 mod network;
 mod over_net;
@@ -81,10 +81,10 @@ pub use served_run::{READS, check_part, serve, serve_chip, serve_for, serve_part
 pub use serving::{serve_net, serve_on};
 pub use texts::refuse_text;
 // the emulated programmer and the chip file
-pub use serving_link::{Served, serve_link};
 pub use holding::hold_chip;
 pub use loading::load_chip;
 pub use saving::save_chip;
+pub use serving_link::{Served, serve_link};
 // parts, their chips and the contents of their memories
 pub use avr_image::Image;
 pub use avr_part::{Chip, Mem, Part, PartFault, Parts};

@@ -8,11 +8,11 @@ ghost use Rattle.avr_tool.specs.Ports.{HasChip, chip_file_of};
 ghost use Rattle.avr_session.specs.Runs.{devices};
 ghost use Rattle.ghosts.specs.Preserves.{Preserves};
 
-use crate::serving_link::serve_link;
 use crate::ending::{report_end, status_of_served};
 use crate::holding::hold_chip;
 use crate::ports::chip_file;
 use crate::saving::save_after;
+use crate::serving_link::serve_link;
 use avr_cli::Settings;
 use avr_desk::{ChipDesk, Desk};
 use avr_part::{Chip, Part};

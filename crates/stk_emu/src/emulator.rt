@@ -31,7 +31,7 @@ pub(crate) fn refuse(reader: &FrameReader, out: &mut Frame)
 }
 
 /// Makes `out` the reply to the frame in the reader, which is executed if it is good, and refused otherwise.
-pub(crate) fn put_reply(reader: &FrameReader, good: bool, programmer: &mut Programmer, out: &mut Frame)
+pub(crate) fn reply(reader: &FrameReader, good: bool, programmer: &mut Programmer, out: &mut Frame)
     requires holds { HoldsFrame reader.now }
     requires is_reported { is_good reader.now ≡ good }
     ensures reply { out.new.items ≡ reply_frame device reader.now programmer.old }
@@ -53,8 +53,8 @@ fn reply_to_event(reader: &FrameReader, event: Event, programmer: &mut Programme
 {
     match event {
         Event::More => out.clear(),
-        Event::Frame => put_reply(reader, true, programmer, out),
-        Event::Spoiled => put_reply(reader, false, programmer, out),
+        Event::Frame => reply(reader, true, programmer, out),
+        Event::Spoiled => reply(reader, false, programmer, out),
     }
 }
 

@@ -11,7 +11,7 @@ ghost use Rattle.stk_emu.specs.Wire.{AreLawful, IsLawfulFate, fresh_wire, tape_o
 ghost use Rattle.stk_emu.specs.Exchange.{after_exchange};
 
 use crate::arrival::{Arrivals, Late};
-use crate::emulator::{Frame, put_reply, refuse};
+use crate::emulator::{Frame, refuse, reply};
 use crate::fate::Fate;
 use crate::programmer::Programmer;
 use avr_part::Chip;
@@ -68,16 +68,16 @@ fn pass_with(
     late.release_replies(fate, out);
     match fate {
         Fate::Good => {
-            put_reply(reader, good, programmer, &mut frame);
+            reply(reader, good, programmer, &mut frame);
             out.put(frame.as_slice());
         }
         Fate::LostCommand => out.put_timeout(),
         Fate::LostAnswer => {
-            put_reply(reader, good, programmer, &mut frame);
+            reply(reader, good, programmer, &mut frame);
             out.put_timeout();
         }
         Fate::LateAnswer | Fate::HeldAnswer => {
-            put_reply(reader, good, programmer, &mut frame);
+            reply(reader, good, programmer, &mut frame);
             late.hold(frame);
             out.put_timeout();
         }
@@ -90,7 +90,7 @@ fn pass_with(
             out.put(frame.as_slice());
         }
         Fate::AnswerSpoiled(noise) => {
-            put_reply(reader, good, programmer, &mut frame);
+            reply(reader, good, programmer, &mut frame);
             out.put(noise.as_slice());
             out.put_timeout();
         }

@@ -19,7 +19,7 @@ use Rattle.stk_emu.specs.Device.{device, reply_body, reply_frame, after_frame}
 use Rattle.stk_emu.specs.Emulator.{EmulatorState}
 use Rattle.stk_emu.specs.Lawful.{IsFrameBody}
 use Rattle.stk_emu.specs.Programmer.{Programmer}
-use Rattle.stk_emu.proofs.Answers.Texts.{replies_more_frames}
+use Rattle.stk_emu.proofs.Answers.Texts.{replies_append}
 use Rattle.stk_emu.proofs.Answers.BodySizes.{replies_fit_frames, reply_fits_frame}
 use Rattle.avr_tool.proofs.Lines.InTurn.{sends_whole, frames_prefix}
 use Rattle.avr_tool.specs.Serving.{HasNoEnd, RepliesToAll, LastReplyFailed, ServingLeaves}
@@ -54,7 +54,7 @@ all_served p transcript left all = search (rules, append-nil (bytes_on_tape (hea
 
 broken_served : (p : Programmer) (transcript : Transcript) (left : EmulatorState)
     → LastReplyFailed p [] (bytes_on_tape (heard transcript)) transcript left → HasServed p transcript left.programmer
-broken_served p transcript left b = search (rules, append_assoc, replies_more_frames)
+broken_served p transcript left b = search (rules, append_assoc, replies_append)
 
 pub has_served : (served : Served) (p : Programmer) (transcript : Transcript) (left : EmulatorState)
     → ServingLeaves served p [] transcript left

@@ -20,7 +20,7 @@ use Rattle.stk_host.specs.Tape.{Tape, Answered, Reading, answer, bytes_on_tape, 
 use Rattle.stk_host.specs.declared.link.Item.TheVariants.{End}
 use Rattle.stk_host.proofs.Transcripts.InDialogs.{bytes_append}
 use Rattle.stk_host.proofs.Tapes.Answers.{answer_found, answer_waits, bytes_of_append, bytes_of_on_tape}
-use Rattle.stk_emu.proofs.Answers.Texts.{after_more, replies_more_frames}
+use Rattle.stk_emu.proofs.Answers.Texts.{after_more, replies_append}
 use Rattle.stk_emu.proofs.Answers.BodySizes.{replies_fit_frames}
 use Rattle.stk_emu.specs.DialogOverExchanges.{SendsValidBodies}
 use Rattle.stk_emu.specs.Device.{after_frames, device}
@@ -266,7 +266,7 @@ module _ (p : Programmer) (text : List ℕ) (n : ℕ) (bytes : List ℕ) (body :
   }
 
   answered_more : emulate p (text ++ question) ≡ emulate p text ++ frame n (device.answer bytes now)
-  answered_more = grind (arith, common_steps, one_more, replies_more_frames)
+  answered_more = grind (arith, common_steps, one_more, replies_append)
 
 -- what is left of the programmer
 abbrev pub left_of : {E R : Type 0} → Dialog E R → ℕ → Programmer → Programmer

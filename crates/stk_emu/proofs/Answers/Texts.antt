@@ -13,10 +13,10 @@ use Rattle.stk_emu.specs.Programmer.{Programmer}
 use Rattle.stk_emu.specs.Device.{Device, device, replies, after_frames, after_frame}
 use Rattle.stk_emu.specs.Emulator.{EmulatorState, WasFedText, RepliesToFrame, AppendsReplies, AppendsRepliesToPrefix, emulate}
 
-pub replies_more_frames : {P : Type 0} (m : Device P) (xs ys : List (List ℕ)) (p : P)
+pub replies_append : {P : Type 0} (m : Device P) (xs ys : List (List ℕ)) (p : P)
     → replies m (xs ++ ys) p ≡ replies m xs p ++ replies m ys (after_frames m xs p)
-replies_more_frames m [] ys p = refl
-replies_more_frames m (x ∷ xs) ys p = search (rules, append_assoc, replies_more_frames m xs ys (after_frame m x p))
+replies_append m [] ys p = refl
+replies_append m (x ∷ xs) ys p = search (rules, append_assoc, replies_append m xs ys (after_frame m x p))
 
 pub after_more : {P : Type 0} (m : Device P) (xs ys : List (List ℕ)) (p : P)
     → after_frames m (xs ++ ys) p ≡ after_frames m ys (after_frames m xs p)
@@ -58,7 +58,7 @@ appends_one old new used out before after a is = grind (arith, common_steps)
 pub appends_on : (bytes : List ℕ) (n used : ℕ) (old mid new : EmulatorState) (a b c : List ℕ)
     → AppendsReplies old (take n bytes) mid a b → AppendsReplies mid (take used (drop n bytes)) new b c
     → AppendsReplies old (take (n + used) bytes) new a c
-appends_on bytes n used old mid new a b c first then = search (rules, take-add, append_assoc, replies_more_frames, after_more)
+appends_on bytes n used old mid new a b c first then = search (rules, take-add, append_assoc, replies_append, after_more)
 
 -- a prefix of the bytes, after which some are left
 pub appends_prefix : (bytes : List ℕ) (n : ℕ) (old new : EmulatorState) (a b : List ℕ)
@@ -74,7 +74,7 @@ appends_fed old new bytes a b p text appends f = search (rules, after_more)
 pub appends_all : (old new : EmulatorState) (bytes a b : List ℕ) (p : Programmer) (text given : List ℕ)
     → AppendsReplies old bytes new a b → WasFedText p text old → given ++ a ≡ emulate p text
     → given ++ b ≡ emulate p (text ++ bytes)
-appends_all old new bytes a b p text given appends f all = search (rules, append_assoc, replies_more_frames)
+appends_all old new bytes a b p text given appends f all = search (rules, append_assoc, replies_append)
 
 pub is_fed : (old new : EmulatorState) (used out : List ℕ) (p : Programmer) (text : List ℕ)
     → RepliesToFrame old used new out → WasFedText p text old → WasFedText p (text ++ used) new

@@ -1,7 +1,7 @@
 use Rattle.std.proofs.Common.{◌≡◌, ap, ◌∙◌}
 use Rattle.stk_emu.specs.Programmer.{execute}
 use Rattle.stk_emu.proofs.Answers.BodySizes.{reply_fits_frame}
-use Rattle.stk_emu.proofs.emulator.put_reply.Goals as goal
+use Rattle.stk_emu.proofs.emulator.reply.Goals as goal
 
 pub put_frame-requires-clause-some : goal.put_frame-requires-clause-some
 put_frame-requires-clause-some c =
