@@ -23,10 +23,8 @@ unfolding whole_command
 is_free-avrstk = refl
 
 pub rows_given : (a b : App) (words : List Text) → a ≡ b → is_simple b ≡ true → (m : ArgMatches)
-    → HasMatchesOf a words m
-    → rows_of (found_of m) ≡ matches_of b words
+    → HasMatchesOf a words m → rows_of (found_of m) ≡ matches_of b words
 rows_given a b words is simple m h = (h (ap is_simple is ∙ simple)).0 ∙ ap (λ (c : App). matches_of c words) is
 
-pub arg_added : {a b : Command} {x : Arg} {r : Rule} → AddsArg a x b → IsOption x r
-    → app_of b ≡ with_rule (app_of a) r
+pub arg_added : {a b : Command} {x : Arg} {r : Rule} → AddsArg a x b → IsOption x r → app_of b ≡ with_rule (app_of a) r
 arg_added {a} adds is = adds.shape is.local ∙ ap (with_rule (app_of a)) is.shape

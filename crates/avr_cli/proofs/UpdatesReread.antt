@@ -25,7 +25,6 @@ pub not_empty : (text : Bytes) → text ≢ [] → (length text == 0) ≡ false
 not_empty text some = grind (arith, common_steps, nat_tests)
 
 pub update_is_read : (memory : Mem) (op : Op) (file : Bytes) (letter : ℕ) (format : Format) → file ≢ []
-    → format_of op (Some letter) ≡ Some format
-    → update_of (update_text memory op file letter)
+    → format_of op (Some letter) ≡ Some format → update_of (update_text memory op file letter)
     ≡ Ok (record { memory = memory; op = op; format = format; file = file })
 update_is_read memory op file letter format some is = search (rules, of_op, file_and_letter-append)

@@ -65,8 +65,7 @@ abbrev pub updates_of : List Bytes → Result (List Update) SettingsFault
 updates_of texts = if nat_lt 16 (length texts) then Err TooMany else updates_from 1 texts
 
 abbrev pub checked_streams : Port → List Update → Option Bytes → Option Bytes → Result ⊤ SettingsFault
-checked_streams port updates parts chip =
-    if is_taken port updates parts chip then Err StandardTaken else Ok tt
+checked_streams port updates parts chip = if is_taken port updates parts chip then Err StandardTaken else Ok tt
 
 abbrev pub run_settings : Bytes → Entries → Result Settings SettingsFault
 run_settings part e = do

@@ -84,5 +84,4 @@ update_of text =
     (split_first text) (update_by Flash Write (text, None))
 
 abbrev pub update_text : Mem → Op → Bytes → ℕ → Bytes
-update_text memory op file letter =
-    name_of memory ++ (colon ∷ (op_name op ++ (colon ∷ (file ++ colon ∷ letter ∷ []))))
+update_text memory op file letter = name_of memory ++ (colon ∷ (op_name op ++ (colon ∷ (file ++ colon ∷ letter ∷ []))))

@@ -38,8 +38,7 @@ from_zero bytes size = map (λ byte. Some byte) bytes ++ replicate (size - lengt
 -- The bytes, the first for `addr`, at the addresses that are held. The others are gaps.
 abbrev pub with_gaps : (ℕ → Bool) → ℕ → List ℕ → List (Option ℕ)
 with_gaps is_held addr [] = []
-with_gaps is_held addr (byte ∷ bytes) =
-    (if is_held addr then Some byte else None) ∷ with_gaps is_held (suc addr) bytes
+with_gaps is_held addr (byte ∷ bytes) = (if is_held addr then Some byte else None) ∷ with_gaps is_held (suc addr) bytes
 
 -- Whether the bytes from `addr` on are inside a memory of this size. An empty list always is.
 abbrev pub fits : ℕ → List ℕ → ℕ → Bool

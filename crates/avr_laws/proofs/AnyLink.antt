@@ -83,8 +83,7 @@ module _ (plan : Plan) (begun : Programmer) (is_sound : IsSoundChip begun.chip) 
       emitted = search (rules, same, goes)
 
       pub over_any_line : WholeSessionOverExchanges plan begun (after_sent_frames device (frames bytes) executions
-          begun) exchanges bytes events
-          status
+          begun) exchanges bytes events status
       over_any_line = (
         subst (ReportsOverExchanges plan begun (after_sent_frames device (frames bytes) executions begun) exchanges
             bytes)
@@ -106,8 +105,7 @@ module _ (plan : Plan) (begun : Programmer) (is_sound : IsSoundChip begun.chip) 
 
     pub over_bytes : (left : Tape) (events : List (Event OutputEvent)) (status next : ℕ)
         → played (session plan) 1 tape ≡ record { events = events; outcome = Some (status, next, left) }
-        → bytes_sent events ≡ bytes
-        → WholeSessionOverExchanges plan begun (after_received_bytes device got later begun)
+        → bytes_sent events ≡ bytes → WholeSessionOverExchanges plan begun (after_received_bytes device got later begun)
         (exchanges_on_tape (session plan) 1 tape executions) bytes events status
     over_bytes left events status next is sent_is =
         subst (λ q. WholeSessionOverExchanges plan begun q (exchanges_on_tape (session plan) 1 tape executions) bytes
@@ -116,8 +114,7 @@ module _ (plan : Plan) (begun : Programmer) (is_sound : IsSoundChip begun.chip) 
 
     pub end_bytes : IsBytePrefixOf bytes (bytes_sent (played (session plan) 1 tape).events)
         → ReportsOverExchanges plan begun (after_received_bytes device got later begun)
-        (exchanges_on_tape (session plan) 1 tape executions) bytes
-        (played (session plan) 1 tape).events
+        (exchanges_on_tape (session plan) 1 tape executions) bytes (played (session plan) 1 tape).events
     end_bytes prefix =
         subst (λ q. ReportsOverExchanges plan begun q (exchanges_on_tape (session plan) 1 tape executions) bytes
         (played (session plan) 1 tape).events) left_bytes

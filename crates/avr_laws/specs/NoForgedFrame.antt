@@ -28,8 +28,7 @@ IsNotForged sent piece = is_good piece ≡ true → (body_of piece ≡ refusal) 
 -- No piece is forged, up to and including the reply to frame `n`. What follows isn't read yet.
 abbrev pub AreNotForged : ℕ → List (List ℕ) → List (List ℕ) → Type 0
 AreNotForged n sent [] = Unit {0}
-AreNotForged n sent (piece ∷ pieces) =
-    IsNotForged sent piece × (is_answer n piece ≡ false → AreNotForged n sent pieces)
+AreNotForged n sent (piece ∷ pieces) = IsNotForged sent piece × (is_answer n piece ≡ false → AreNotForged n sent pieces)
 
 -- THE LINK FORGES NO FRAME: at a command, each good frame that the host cuts is the programmer's reply to one of the
 -- last 256 frames sent, or a refusal. The dialog is run over this tape. Anything else may be anywhere on the tape:

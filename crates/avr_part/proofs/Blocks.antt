@@ -28,9 +28,8 @@ place_on : (word i half : ℕ) → word % half * 2 + i < half * 2 → (word + i 
 place_on word i half inside = search (rules, mod_on)
 
 pub loaded_at_once : (word i half : ℕ) (bytes : List ℕ) (s : ChipState) → s.part.flash_page / 2 ≡ half
-    → ((x : ℕ) → x % 256 % half ≡ x % half)
-    → word % half * 2 + i + length bytes ≤ half * 2 → half * 2 ≤ length s.flash_buffer
-    → loaded_one_by_one word i bytes s ≡ record s {
+    → ((x : ℕ) → x % 256 % half ≡ x % half) → word % half * 2 + i + length bytes ≤ half * 2
+    → half * 2 ≤ length s.flash_buffer → loaded_one_by_one word i bytes s ≡ record s {
       flash_buffer = with_bytes_at (word % half * 2 + i) bytes s.flash_buffer;
     }
 loaded_at_once word i half [] s is wraps inside long = search (rules, take-append-drop)
@@ -60,8 +59,7 @@ wraps_in_page : (half : ℕ) → 256 % (half * 2) ≡ 0 → (x : ℕ) → x % 25
 wraps_in_page half whole x = search (rules, mod-mod_of_dvd, dvd_trans, dvd-mul_right, dvd_of_mod-eq-zero)
 
 pub block_loaded : (word place : ℕ) (bytes : List ℕ) (s : ChipState) → IsSoundChip s
-    → is_in_page word (length bytes) s ≡ true
-    → place ≡ word % (s.part.flash_page / 2) * 2
+    → is_in_page word (length bytes) s ≡ true → place ≡ word % (s.part.flash_page / 2) * 2
     → record s { flash_buffer = with_bytes_at place bytes s.flash_buffer } ≡ loaded_one_by_one word 0 bytes s
 block_loaded word place bytes s sound inside at =
     let half = s.part.flash_page / 2 in

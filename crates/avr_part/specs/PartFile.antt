@@ -34,8 +34,7 @@ number_field f least most d = do
 
 -- a field that is a page: a power of two from `least` to 256
 abbrev pub page_field : Field → ℕ → Option Data → Result ℕ PartFault
-page_field f least d =
-    number_field f least 256 d >>= (λ n. if is_power_of_two n then Ok n else Err (BadValue f))
+page_field f least d = number_field f least 256 d >>= (λ n. if is_power_of_two n then Ok n else Err (BadValue f))
 
 abbrev pub signature_field : Option Data → Result Bytes PartFault
 signature_field d = do

@@ -51,8 +51,7 @@ last_held last addr (Some b ∷ image) = last_held addr (addr + 1) image
 
 -- The whole record file of a memory: what `Writer` writes and `avr_records_length` measures.
 abbrev pub image_text : Kind → List (Option ℕ) → List ℕ
-image_text kind image =
-    file_rows kind 0 (address_size (last_held 0 0 image)) (rows_of (row_size kind) (runs 0 image))
+image_text kind image = file_rows kind 0 (address_size (last_held 0 0 image)) (rows_of (row_size kind) (runs 0 image))
 
 -- The file written of a memory reads back, into one at least as large, as the same bytes and gaps, with the end
 -- record.

@@ -39,8 +39,7 @@ with_extent p meant (Ok e) = Ok (record {
 
 -- Extent and image after one more line, or the line's fault. After an end record a line changes nothing.
 abbrev pub next_progress : Progress → LineResult → Result Progress RecordFault
-next_progress p meant =
-    if p.extent.ended then Ok p else with_extent p meant (next_extent (image_size p) p.extent meant)
+next_progress p meant = if p.extent.ended then Ok p else with_extent p meant (next_extent (image_size p) p.extent meant)
 
 abbrev pub ending_of : Extent → Ending
 ending_of e = if e.ended then Ended else NoEnd

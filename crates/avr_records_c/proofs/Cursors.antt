@@ -53,8 +53,7 @@ joins kind image cursor (piece ∷ more) text is (next, call, wrote) =
       common_steps,
       call-prefix,
       take-append-drop,
-      joins kind image next more (drop n call.text)
-          (call.goes.left ∙ ap Some call.goes.puts.left) wrote,
+      joins kind image next more (drop n call.text) (call.goes.left ∙ ap Some call.goes.puts.left) wrote,
     )
 
 pub pieces_join : (kind : Kind) (image : List (Option ℕ)) (pieces : List (List ℕ))

@@ -33,8 +33,7 @@ pub record NextLine (whole : List ℕ) : Type 0 where
 
 -- the part of a line that fits
 pub more-put : (text whole room now after : List ℕ) (put gone count : ℕ) (next : NextLine whole)
-    → IsPut text (drop gone whole) room put now
-    → count ≡ min (length now - put) (length (drop gone next.line))
+    → IsPut text (drop gone whole) room put now → count ≡ min (length now - put) (length (drop gone next.line))
     → after ≡ take put now ++ (take count (drop gone next.line) ++ drop (put + count) now)
     → IsPut text (drop (gone + count) whole) room (put + count) after
 more-put text whole room now after put gone count next is fit put_is =

@@ -20,8 +20,7 @@ holds at present (b ∷ bytes) small zero byte is = byte_below (is_marked presen
 holds at present (b ∷ bytes) small (suc addr) byte is =
     holds (suc at) present bytes (λ i l. small (suc i) (omega (arith, l))) addr byte is
 
-pub is-memory : (present bytes : List ℕ) → length bytes ≤ 2 ^ 32 → EachIsByte bytes
-    → IsMemory (image_of present bytes)
+pub is-memory : (present bytes : List ℕ) → length bytes ≤ 2 ^ 32 → EachIsByte bytes → IsMemory (image_of present bytes)
 is-memory present bytes few small = grind (arith, nat_tests, length-image, holds)
 
 pub reads_back : (kind : Kind) (present bytes : List ℕ) → length bytes ≤ 2 ^ 32 → EachIsByte bytes

@@ -22,8 +22,7 @@ drop-image (suc k) addr present [] = refl
 drop-image (suc k) addr present (b ∷ bytes) = grind (arith, nat_tests, drop-image k (suc addr) present bytes)
 
 -- a byte, if its bit is 1, and what is after it
-next-here : (k : ℕ) (present bytes : List ℕ) → k < length bytes
-    → drop k (image_of present bytes)
+next-here : (k : ℕ) (present bytes : List ℕ) → k < length bytes → drop k (image_of present bytes)
     ≡ (if is_marked present k then Some (get_or bytes k 0) else None) ∷ drop (k + 1) (image_of present bytes)
 next-here k present bytes inside = grind (arith, nat_tests, drop-image, drop_more)
 
@@ -41,8 +40,7 @@ pub first-past : (k : ℕ) (present bytes : List ℕ) → length bytes ≤ k →
 first-past k present bytes past = search (rules, nat_tests, drop_all, length-image)
 
 -- a gap of `n` addresses, some of them perhaps past the memory
-pub first-gaps : (n k : ℕ) (present bytes : List ℕ)
-    → ((at : ℕ) → k ≤ at → at < k + n → is_marked present at ≡ false)
+pub first-gaps : (n k : ℕ) (present bytes : List ℕ) → ((at : ℕ) → k ≤ at → at < k + n → is_marked present at ≡ false)
     → first_from (image_of present bytes) k ≡ first_from (image_of present bytes) (k + n)
 first-gaps zero k present bytes gap = grind (arith, nat_tests)
 first-gaps (suc n) k present bytes gap =

@@ -21,5 +21,4 @@ fault_text fault =
 -- and an empty room stays empty.
 abbrev pub put_text : List ℕ → List ℕ → List ℕ
 put_text text [] = []
-put_text text (first ∷ room) =
-    take (length room) text ++ 0 ∷ drop (min (length room) (length text)) room
+put_text text (first ∷ room) = take (length room) text ++ 0 ∷ drop (min (length room) (length text)) room

@@ -36,8 +36,7 @@ no_records = record { line = 0; address = 0; fault = 12; ended = false }
 
 -- The kind of record file to read. Raw bytes and ELF have no records, and other numbers name no format.
 abbrev pub kind_to_read : ℕ → Result Kind Outcome
-kind_to_read number =
-    if number == 0 || number == 3 then Err no_records else ok_or (kind_numbered number) misfit
+kind_to_read number = if number == 0 || number == 3 then Err no_records else ok_or (kind_numbered number) misfit
 
 abbrev pub version_number : ℕ → ℕ → ℕ → ℕ
 version_number major minor patch = major * 10000 + minor * 100 + patch

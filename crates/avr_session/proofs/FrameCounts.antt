@@ -17,8 +17,7 @@ pub commands_append : (first second : List (List Command))
 commands_append [] second = omega arith
 commands_append (commands ∷ first) second = let more = commands_append first second in omega (arith, more)
 
-pub actions_append : (part : Part) (first second : List Action)
-    → commands_in (actions_steps part (first ++ second))
+pub actions_append : (part : Part) (first second : List Action) → commands_in (actions_steps part (first ++ second))
     ≡ commands_in (actions_steps part first) + commands_in (actions_steps part second)
 actions_append part [] second = omega arith
 actions_append part (action ∷ first) second = search (rules, commands_append, actions_append part first second)
@@ -30,8 +29,7 @@ write_and_read part mem image = search (rules, commands_append)
 
 module _ (steps_at : ℕ → List (List Command)) where
   -- the commands from this place on are those at it and those after it
-  pub next_place : (place count : ℕ) → place < count
-      → commands_in (each_from steps_at place (count - place))
+  pub next_place : (place count : ℕ) → place < count → commands_in (each_from steps_at place (count - place))
       ≡ commands_in (steps_at place) + commands_in (each_from steps_at (place + 1) (count - (place + 1)))
   next_place place count before = search (rules, commands_append)
 
@@ -61,11 +59,9 @@ pub counts_first : (plan : Plan) (erase : ℕ)
     → min most (6 + erase + left plan 0) ≡ min most (all plan)
 counts_first plan erase is = search (rules, min, commands_append)
 
-pub counts_on : (plan : Plan) (i count more next : ℕ) (task : Task)
-    → drop i plan.tasks ≡ task ∷ drop (i + 1) plan.tasks
-    → more ≡ commands_in (actions_steps plan.part (task_actions plan.switches task))
-    → next ≡ min (count + more) most → min most (count + left plan i) ≡ min most (all plan)
-    → min most (next + left plan (i + 1)) ≡ min most (all plan)
+pub counts_on : (plan : Plan) (i count more next : ℕ) (task : Task) → drop i plan.tasks ≡ task ∷ drop (i + 1) plan.tasks
+    → more ≡ commands_in (actions_steps plan.part (task_actions plan.switches task)) → next ≡ min (count + more) most
+    → min most (count + left plan i) ≡ min most (all plan) → min most (next + left plan (i + 1)) ≡ min most (all plan)
 counts_on plan i count more next task cut more_is next_is counted = search (rules, actions_append)
 
 pub counts_all : (plan : Plan) (i count : ℕ) → drop i plan.tasks ≡ [] → count ≤ most

@@ -23,8 +23,7 @@ StopsSession plan old new =
 
 -- The contract of `drive`: the session of a plan ran whole to its status, or it broke off with status 1.
 abbrev pub RunsSession : Plan → Devices → Devices → ℕ → Type 0
-RunsSession plan old new status =
-    RanToStatus (session plan) old new status ⊎ (StopsSession plan old new × (status ≡ 1))
+RunsSession plan old new status = RanToStatus (session plan) old new status ⊎ (StopsSession plan old new × (status ≡ 1))
 
 -- A plan was made from what the files gave, up to `between`, and then this holds.
 pub record WithPlan (settings : Settings) (old : DeskState) (Then : Plan → DeskState → Type 0) : Type 0 where

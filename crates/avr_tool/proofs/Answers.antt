@@ -40,12 +40,10 @@ breaks_heard p text bytes tape transcript now b = search rules
 
 -- a reply whose send failed belongs to a frame, the last that was fed
 breaks_found : (p : Programmer) (text used unused part unsent : List ℕ) (transcript : Transcript) (now : EmulatorState)
-    (found : List (List ℕ))
-    → length found ≤ 1
-    → frames (text ++ used) ≡ frames text ++ found
-    → part ++ unsent ≡ replies device found (after_frames device (frames text) p)
-    → WasFedText p (text ++ used) now → 0 < length (part ++ unsent) → sent transcript ≡ part
-    → (NoneTaken transcript → 0 < length unsent) → LastReplyFailed p text (used ++ unused) transcript now
+    (found : List (List ℕ)) → length found ≤ 1 → frames (text ++ used) ≡ frames text ++ found
+    → part ++ unsent ≡ replies device found (after_frames device (frames text) p) → WasFedText p (text ++ used) now
+    → 0 < length (part ++ unsent) → sent transcript ≡ part → (NoneTaken transcript → 0 < length unsent)
+    → LastReplyFailed p text (used ++ unused) transcript now
 breaks_found p text used unused part unsent transcript now [] few fs replied fed some is not_whole = search rules
 breaks_found p text used unused part unsent transcript now (frame ∷ []) few fs replied fed some is not_whole =
     search (rules, append-nil)

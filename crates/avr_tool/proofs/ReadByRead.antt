@@ -31,8 +31,7 @@ receives_more : (served : Served) (most_reads : ℕ) (x y : Transcript) → Rece
     → ReceivesUntil served 1 y → ReceivesUntil served (most_reads + 1) (x ++ y)
 receives_more served most_reads x y first then = search (rules, no_end_append, heard_append, append_assoc, reads_append)
 
-sends_more : (served : Served) (x y : Transcript) → NoneTaken x → NoSendFailed served y
-    → NoSendFailed served (x ++ y)
+sends_more : (served : Served) (x y : Transcript) → NoneTaken x → NoSendFailed served y → NoSendFailed served (x ++ y)
 sends_more served x y first then = search (rules, none_append)
 
 pub serves_none : (machine : EmulatorState) (o : LinkState) → Serves machine 0 TooManyReads o o machine

@@ -14,8 +14,7 @@ use Rattle.stk_emu.specs.Emulator.{EmulatorState}
 use Rattle.avr_tool.specs.ServedRun.{settings_part, fresh_machine}
 
 pub goes_with_parts : (s : Settings) (id : Bytes) (old mid new : DeskState) (parts : List Part) (result : Result Part ℕ)
-    → id ≡ s.part
-    → StageCompleted (parts_stage s.parts) old mid (Produced parts)
+    → id ≡ s.part → StageCompleted (parts_stage s.parts) old mid (Produced parts)
     → RunsStage (OnlyAtStart false) (part_stage id parts) mid new result
     → RunsStage (OnlyAtStart false) (settings_part s) old new result
 goes_with_parts s id old mid new parts result same went goes =

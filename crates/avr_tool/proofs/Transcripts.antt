@@ -36,9 +36,8 @@ in_turn_quiet p text out [] quiet = tt
 in_turn_quiet p text out (Sent bytes ∷ transcript) quiet = in_turn_quiet p text (out ++ bytes) transcript quiet
 in_turn_quiet p text out transcript quiet = search rules
 
-pub in_turn_append : (p : Programmer) (text out : List ℕ) (x y : Transcript) → NoneTaken x
-    → RepliesInTurn p text out x → RepliesInTurn p (text ++ bytes_on_tape (heard x)) (out ++ sent x) y
-    → RepliesInTurn p text out (x ++ y)
+pub in_turn_append : (p : Programmer) (text out : List ℕ) (x y : Transcript) → NoneTaken x → RepliesInTurn p text out x
+    → RepliesInTurn p (text ++ bytes_on_tape (heard x)) (out ++ sent x) y → RepliesInTurn p text out (x ++ y)
 in_turn_append p text out [] y none f g = search (rules, append-nil)
 in_turn_append p text out (Sent bytes ∷ x) y none f g =
     in_turn_append p text (out ++ bytes) x y none f
@@ -46,6 +45,5 @@ in_turn_append p text out (Sent bytes ∷ x) y none f g =
 in_turn_append p text out (Taken bytes ∷ x) y none f g = absurd none
 in_turn_append p text out (Got tape ∷ x) y none f g = (
   f.0,
-  in_turn_append p (text ++ bytes_on_tape tape) out x y none f.1
-      (search (rules, bytes_of_append, append_assoc)),
+  in_turn_append p (text ++ bytes_on_tape tape) out x y none f.1 (search (rules, bytes_of_append, append_assoc)),
 )

@@ -30,8 +30,7 @@ IsFirst plan transcript = InTurn (session plan) start transcript
     × IsBytePrefixOf (sent transcript) (bytes_sent (played (session plan) 1 (heard transcript)).events)
 
 pub sent_first : (plan : Plan) (old new : Devices) (status : ℕ) → old.link.transcript ≡ []
-    → RunsSession plan old new status
-    → IsFirst plan new.link.transcript
+    → RunsSession plan old new status → IsFirst plan new.link.transcript
 sent_first plan old new status silent runs = elim runs [
   | inl whole ↦
       let ran = whole.1 in
@@ -53,8 +52,7 @@ sent_first plan old new status silent runs = elim runs [
   where
     now : (during : Transcript) → Grows old.link.transcript during new.link.transcript → IsFirst plan during
         → IsFirst plan new.link.transcript
-    now during grows first =
-        search rules
+    now during grows first = search rules
 
 -- a fresh wire follows its fates
 fresh_follows : (w : WiredState) → IsFresh w → FollowsFates (fresh_programmer w.wire.programmer.chip) w.wire.fates w

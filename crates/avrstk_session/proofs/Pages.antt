@@ -5,5 +5,4 @@ use Rattle.avrstk_session.specs.Outline.{page_text, pages_text}
 pub next_page : (part : Part) (image : List (Option ℕ)) (page count : ℕ) → page < count
     → pages_text part image page (count - page)
     ≡ page_text part image page ++ pages_text part image (page + 1) (count - (page + 1))
-next_page part image page count before =
-    let e : count - page ≡ suc (count - (page + 1)) = omega arith in rw e refl
+next_page part image page count before = let e : count - page ≡ suc (count - (page + 1)) = omega arith in rw e refl

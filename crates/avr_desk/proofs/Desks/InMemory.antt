@@ -101,8 +101,7 @@ absent_true ok name own old new same none is = used_true ok (Opened (Absent own)
 
 -- a file with these bytes is opened
 pub opened_true : (ok : Bool) (name own bytes first : Bytes) (old closed new : MemDeskState) → ok ≡ true → own ≡ name
-    → first ≡ [] → Some bytes ≡ contents name old
-    → closed ≡ (if ok then record old {
+    → first ≡ [] → Some bytes ≡ contents name old → closed ≡ (if ok then record old {
       kept = record old.kept {
         uses = all_uses old.kept ++ [];
         current = ToRead (record { name = own; bytes = first; ended = false });

@@ -65,8 +65,7 @@ module _ {H : Type 0} (reads : Reads H) where
   given_none h name = record { gave = Consumes-nil (reads.remaining h); ends = λ e. absurd (cc) }
 
   given_more : (first old new : H) (x : Reading) (buf : Bytes) (n : ℕ) → HandleGave reads first old x
-      → GivesBytes reads old new buf n
-      → HandleGave reads first new
+      → GivesBytes reads old new buf n → HandleGave reads first new
       (record x { bytes = x.bytes ++ take n buf; ended = x.ended || (n == 0 && not (length buf == 0)) })
   given_more first old new x buf n given gives = grind (arith, common_steps, nat_tests)
 

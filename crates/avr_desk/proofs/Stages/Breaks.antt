@@ -47,8 +47,7 @@ openings_shown (event ∷ events) r = search (rules, one_shown, append_assoc, op
 -- so the same record shows the same openings
 same_openings : (first second : List OutputEvent) (r : Record) → after_events first r ≡ after_events second r
     → openings_in first ≡ openings_in second
-same_openings first second r kept =
-    search (rules, append_cancel_left, openings_shown first r, openings_shown second r)
+same_openings first second r kept = search (rules, append_cancel_left, openings_shown first r, openings_shown second r)
 
 -- ---- a stage that begins by opening a file
 
@@ -169,6 +168,5 @@ module _ {A : Type 0} (line notice : Bytes) (stage : Stage A)
   at_once passed x y break some output_events is taken is_reported kept = search (rules, only_reported)
 
   pub refused_once : (status : ℕ) → RunsStage taking stage Here There (Err status) → ReportsOne
-  refused_once status (one, inl (other, went)) =
-      let comes = went.comes [] in grind (arith, nat_tests, only_reported)
+  refused_once status (one, inl (other, went)) = let comes = went.comes [] in grind (arith, nat_tests, only_reported)
   refused_once status (one, inr b) = let rest = b.rest [] in search (rules, at_once)

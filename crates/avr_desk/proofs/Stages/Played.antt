@@ -115,8 +115,7 @@ reported_whole old new line kept same =
 
 -- or it broke off there
 broke_here : {A : Type 0} (taking : AllocationPoints) (stage : Stage A) (old new : DeskState) (break : BreakCause)
-    (notice : List ℕ) → AllocatesThere taking break [] []
-    → ((more : List Opening)
+    (notice : List ℕ) → AllocatesThere taking break [] [] → ((more : List Opening)
     → BreakFitsNext break more (events_with_refusal (stage more).output_events (stage more).stage_outcome))
     → ReportsBreakAs break notice old new → ChangesRecord (after_events (events_of_break break notice)) old new
     → CountsNeverFall old new → StageBrokeOff taking stage old new

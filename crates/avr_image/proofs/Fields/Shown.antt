@@ -129,8 +129,7 @@ kept_byte words bytes {image} a seen blank =
 
 -- the presence of a byte is its bit
 pub presence : (words bytes : List ℕ) {image : List (Option ℕ)} (a : ℕ) → dense_image words bytes ≡ image
-    → a < length bytes
-    → is_some (byte_at image a) ≡ is_present words a
+    → a < length bytes → is_some (byte_at image a) ≡ is_present words a
 presence words bytes {image} a seen l = grind (arith, nat_tests, byte_at-shown)
 
 -- a run of places of a list, found by its first and its last
@@ -176,8 +175,7 @@ first_none words bytes {image} addr from seen le found =
 none_held : (bytes : List (Option ℕ)) → ((k : ℕ) → k < length bytes → is_some (get_or bytes k None) ≡ false)
     → list_any is_some bytes ≡ false
 none_held [] none = refl
-none_held (b ∷ bytes) none =
-    rw (none 0 (omega arith)) (none_held bytes (λ k l. none (suc k) (omega (arith, l))))
+none_held (b ∷ bytes) none = rw (none 0 (omega arith)) (none_held bytes (λ k l. none (suc k) (omega (arith, l))))
 
 pub any_is : (words bytes : List ℕ) {image : List (Option ℕ)} (start count from end place : ℕ)
     → dense_image words bytes ≡ image → from ≡ min (length bytes) start → end ≡ from + min (length bytes - from) count
@@ -252,6 +250,5 @@ small-take (suc n) (x ∷ xs) all (suc i) = small-take n xs (λ k. all (suc k)) 
 small-take x y all i = omega arith
 
 pub small-pasted : (start : ℕ) (span bytes : List ℕ) → ((i : ℕ) → get_or span i 0 < 256)
-    → ((i : ℕ) → get_or bytes i 0 < 256)
-    → (i : ℕ) → get_or (with_span start span bytes) i 0 < 256
+    → ((i : ℕ) → get_or bytes i 0 < 256) → (i : ℕ) → get_or (with_span start span bytes) i 0 < 256
 small-pasted start span bytes new old = grind (arith, nat_tests, small-append, small-take, get_or-drop)

@@ -118,8 +118,7 @@ pasted_low : (start : ℕ) (span bytes : List ℕ) (i : ℕ) → start + length 
 pasted_low start span bytes i room l = grind (arith, nat_tests, get_or_append_left, length-take, get_or-take)
 
 pasted_in : (start : ℕ) (span bytes : List ℕ) (i : ℕ) → start + length span ≤ length bytes → start ≤ i
-    → i < start + length span
-    → get_or (with_span start span bytes) i 0 ≡ get_or span (i - start) 0
+    → i < start + length span → get_or (with_span start span bytes) i 0 ≡ get_or span (i - start) 0
 pasted_in start span bytes i room a b = grind (arith, nat_tests, get_or-append_right, length-take, get_or_append_left)
 
 pasted_high : (start : ℕ) (span bytes : List ℕ) (i : ℕ) → start + length span ≤ length bytes → start + length span ≤ i
@@ -129,8 +128,7 @@ pasted_high start span bytes i room l = grind (arith, nat_tests, length-take, ge
 -- the bits of a span are those of its bytes
 pub shown-pasted : (words words' bytes span : List ℕ) (addr : ℕ) → addr + length span ≤ length bytes
     → ((k : ℕ) → is_present words' k ≡ (is_within addr (addr + length span) k || is_present words k))
-    → dense_image words' (with_span addr span bytes) ≡ with_pairs (dense_image words bytes)
-    (enumerate_from addr span)
+    → dense_image words' (with_span addr span bytes) ≡ with_pairs (dense_image words bytes) (enumerate_from addr span)
 shown-pasted words words' bytes span addr room bits =
     let size = length_shown words bytes in
     let left = length_shown words' (with_span addr span bytes) ∙ length-pasted addr span bytes room in

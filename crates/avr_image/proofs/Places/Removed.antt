@@ -41,9 +41,8 @@ shown-removed words bytes a l within =
 
 -- FF stays at addresses without a byte
 pub blank-removed : (words bytes : List ℕ) (a : ℕ) → a < length bytes → a / 64 < length words
-    → ((i : ℕ) → i < length bytes → is_present words i ≡ false → get_or bytes i 0 ≡ 255)
-    → (i : ℕ) → i < length (set bytes a 255) → is_present (without_mark words a) i ≡ false
-    → get_or (set bytes a 255) i 0 ≡ 255
+    → ((i : ℕ) → i < length bytes → is_present words i ≡ false → get_or bytes i 0 ≡ 255) → (i : ℕ)
+    → i < length (set bytes a 255) → is_present (without_mark words a) i ≡ false → get_or (set bytes a 255) i 0 ≡ 255
 blank-removed words bytes a l within blank i j none =
     grind (arith, nat_tests, get_or-set_same, get_or-set_other, length-set, cleared-other)
 

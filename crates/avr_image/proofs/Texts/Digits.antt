@@ -35,8 +35,7 @@ digits-step base i digits l here = sym (ap (list_all (is_digit_of base)) (drop_m
 -- ---- written
 
 pub written-step : (radix rest at next glyph : ℕ) (buffer : List ℕ) → at ≡ next + 1 → next < length buffer
-    → glyph ≡ digit_glyph false (rest % radix)
-    → digits_onto (56 + at) radix false rest (drop at buffer)
+    → glyph ≡ digit_glyph false (rest % radix) → digits_onto (56 + at) radix false rest (drop at buffer)
     ≡ cond (eqb (rest / radix) 0) (drop next (set buffer next glyph))
     (digits_onto (56 + next) radix false (rest / radix) (drop next (set buffer next glyph)))
 written-step radix rest at next glyph buffer step l here =

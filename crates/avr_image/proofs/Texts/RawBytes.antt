@@ -9,8 +9,7 @@ use Rattle.avr_image.specs.declared.fault.ImageFault.{ImageFault}
 use Rattle.avr_image.proofs.Places.Laid.{from_zero-laid, length-with_pairs}
 
 pub stands-fed : (image after : List (Option ℕ)) (fed end : ℕ) (failed : Bool) (text piece : List ℕ)
-    (fault : ImageFault)
-    → HoldsText (record { image = image; fed = fed; failed = failed }) text
+    (fault : ImageFault) → HoldsText (record { image = image; fed = fed; failed = failed }) text
     → ◌≡◌ {A = Result ℕ ImageFault} (Ok end)
     (cond (fits fed piece (length image)) (Ok (fed + length piece)) (Err fault))
     → after ≡ with_pairs image (enumerate_from fed piece)

@@ -36,8 +36,7 @@ pub fitting_below : (size addr : ℕ) (value : Option ℕ) (byte : ℕ) → fitt
 fitting_below size addr value byte e = search (rules, nat_tests)
 
 with_next : (bytes : List ℕ) (size addr : ℕ) (parts : List (List ℕ)) (rest : Result (List ℕ) ImageFault)
-    (r : Result ℕ ImageFault)
-    → ((byte : ℕ) → r ≡ Ok byte → addr < size) → addr ≡ length bytes
+    (r : Result ℕ ImageFault) → ((byte : ℕ) → r ≡ Ok byte → addr < size) → addr ≡ length bytes
     → ((byte : ℕ) → addr < size → with_pieces (from_zero (bytes ++ byte ∷ []) size) (addr + 1) parts
     ≡ image_of_bytes size (before (bytes ++ byte ∷ []) rest))
     → on_ok r (λ byte. with_pieces (with_byte (from_zero bytes size) addr byte) (addr + 1) parts)
@@ -45,8 +44,7 @@ with_next : (bytes : List ℕ) (size addr : ℕ) (parts : List (List ℕ)) (rest
 with_next bytes size addr parts rest r below here more = search (rules, from_zero-next, append_assoc)
 
 pub with_pieces_is : (bytes : List ℕ) (size addr : ℕ) (parts : List (List ℕ)) → addr ≡ length bytes
-    → length bytes ≤ size
-    → with_pieces (from_zero bytes size) addr parts
+    → length bytes ≤ size → with_pieces (from_zero bytes size) addr parts
     ≡ image_of_bytes size (before bytes (all_ok (map (byte_of_value size) (enumerate_from addr parts))))
 with_pieces_is bytes size addr [] here l = ap (λ (xs : List ℕ). image_of_bytes size (ok_of xs)) (sym (append-nil bytes))
 with_pieces_is bytes size addr (piece ∷ parts) here l =

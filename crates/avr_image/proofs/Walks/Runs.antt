@@ -178,8 +178,7 @@ pub record Stepped (addr place end : ℕ) (image : List (Option ℕ)) : Type 0 w
   pub within : end ≤ length image
 
 pub next_run : (addr place end : ℕ) (image : List (Option ℕ)) → first_from image addr ≡ Some place
-    → end ≡ run_end image place (length image)
-    → Stepped addr place end image
+    → end ≡ run_end image place (length image) → Stepped addr place end image
 next_run addr place end image found is =
     let some = leading_run-some image addr place found in
     let run : ℕ = length (leading_run (drop place image)) in
@@ -253,8 +252,7 @@ empty-held image found none is notice = search (rules, nat_tests, none-held, som
 -- ---- the runs are the longest
 
 longest_run : (addr place end : ℕ) (image : List (Option ℕ)) → (addr ≡ 0) ⊎ (byte_at image addr ≡ None)
-    → first_from image addr ≡ Some place
-    → end ≡ run_end image place (length image)
+    → first_from image addr ≡ Some place → end ≡ run_end image place (length image)
     → IsLongestRun image (place, slice_range (filled_bytes image 0 (length image)) place end)
 longest_run addr place end image gap found is =
     let next = next_held image addr place found in

@@ -53,14 +53,13 @@ done_further : (plan : Plan) (before begun after : Memories) → IsPart plan.par
 done_further plan before begun after sound fitted fits erases both kept touched done =
     search (rules, done_again, agrees_anyway)
 
-pub further_repairs : (plan : Plan) (w v x y : WiredState) (d e f g : DeskState) (status further : ℕ)
-    → IsPart plan.part → All (IsFitted plan.part) plan.tasks → FitsPart plan.part (memories w)
-    → has_erase (items plan) ≡ true → AgreesOnTwoChips plan
+pub further_repairs : (plan : Plan) (w v x y : WiredState) (d e f g : DeskState) (status further : ℕ) → IsPart plan.part
+    → All (IsFitted plan.part) plan.tasks → FitsPart plan.part (memories w) → has_erase (items plan) ≡ true
+    → AgreesOnTwoChips plan
     → (erase_keeps_eeprom plan.part (memories w) ≡ true → ItemsKeepEeprom plan.part (items plan))
-    → SessionOverWire plan w v d e status
-    → memories x ≡ memories v → AtMostThreeBadOfSeven (exchanges_of_fates x.wire.fates)
-    → OverAnyWire plan x y f g further → ((further ≡ 0) × IsDone plan (memories w) (memories y))
-    ⊎ SessionStopped plan x y f g
+    → SessionOverWire plan w v d e status → memories x ≡ memories v
+    → AtMostThreeBadOfSeven (exchanges_of_fates x.wire.fates) → OverAnyWire plan x y f g further
+    → ((further ≡ 0) × IsDone plan (memories w) (memories y)) ⊎ SessionStopped plan x y f g
 further_repairs plan w v x y d e f g status further sound fitted fits erases both kept first same few second =
     elim second.end [
       | inl came ↦

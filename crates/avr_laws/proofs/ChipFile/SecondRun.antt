@@ -66,8 +66,7 @@ module _ (file : Bytes) (stock : Stock) (no_dash : is_dash file ≡ false) where
 
   -- with status 0 the chip's, because a session of status 0 has sent something
   zero_held : (out : List ℕ) (old new : DeskState) (bytes : Bytes) (ran : ℕ) → (out ≡ [] → ran ≡ 0 → ⊥)
-      → IsSavedIfSent out old new file bytes ran 0
-      → contents_held stock new.kept file ≡ Some bytes
+      → IsSavedIfSent out old new file bytes ran 0 → contents_held stock new.kept file ≡ Some bytes
   zero_held out old new bytes ran some saved = search (rules, files_replaced, newest_append)
 
 -- a session that ran begins with a frame

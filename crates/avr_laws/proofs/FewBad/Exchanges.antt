@@ -168,8 +168,7 @@ Tries size exchanges got d z = Runs steady (λ y. ⊤) (λ reply y. Tried size e
 module _ (go_on : List ℕ → Dialog ⊥ Reply) (go : List ℕ → Reply) (size : ℕ) (exchanges : List Exchange) (got : List ℕ)
     (few : AtMostThreeBadOfSeven (later_exchanges exchanges)) where
   -- by the reply to a command that was executed
-  answered : (q : Programmer) (reply : Reply)
-      → ((bytes : List ℕ) → go bytes ≡ Data got
+  answered : (q : Programmer) (reply : Reply) → ((bytes : List ℕ) → go bytes ≡ Data got
       → Tries size (later_exchanges exchanges) got (go_on bytes) (q, later_exchanges exchanges))
       → on_data reply go ≡ Data got → Tries (suc size) exchanges got (with_data go_on reply) (
         q,
@@ -184,16 +183,14 @@ module _ (go_on : List ℕ → Dialog ⊥ Reply) (go : List ℕ → Reply) (size
       → Tries size (later_exchanges exchanges) got (go_on bytes) (
         steady.after (body command) p,
         later_exchanges exchanges,
-      )) → on_data (reply_to steady command p) go ≡ Data got
-      → Tries (suc size) exchanges got
+      )) → on_data (reply_to steady command p) go ≡ Data got → Tries (suc size) exchanges got
       (with_data go_on (reply_from_reading command (reading_of_exchange one_exchange (steady.answer (body command) p))))
       (after_exchange one_exchange (steady.after (body command) p) p steady.reset, later_exchanges exchanges)
   by_exchange one_exchange command p is calm each has = search (rules, answered)
 
 -- an attempt whose commands would all have data: the data come, or a frame went wrong
 attempt_tried : (commands : List Command) (before : List ℕ) (z : Spot) (got : List ℕ) → AtMostThreeBadOfSeven z.1
-    → joined_reply steady commands before z.0 ≡ Data got
-    → Tries (length commands) z.1 got (attempt commands before) z
+    → joined_reply steady commands before z.0 ≡ Data got → Tries (length commands) z.1 got (attempt commands before) z
 unfolding attempt exchange
 attempt_tried [] before z got few has = done (inl has, few)
 attempt_tried (command ∷ commands) before z got few has =

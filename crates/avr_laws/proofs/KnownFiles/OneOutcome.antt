@@ -54,8 +54,7 @@ ended_more {E = E} {R = R} (Ask body answered) seq t u r n left is =
           outcome = Some (r, n, left ++ u);
         }
     by_reading None behind_it found ended = search rules
-    by_reading (Some (reading, rest)) behind_it found ended =
-        search (rules, answer_extends)
+    by_reading (Some (reading, rest)) behind_it found ended = search (rules, answer_extends)
 
 run_more : (s : Settings) (openings : List Opening) (t u : Tape) (status n : ℕ) (left : Tape)
     → (run s openings t).outcome ≡ Some (status, n, left)

@@ -75,17 +75,14 @@ opened_past (Absent name) r = inl ([], sym (append-nil (all_uses r ++ Opened (Ab
 opened_past (Found x) r = inr (x, refl, refl)
 
 pub run_past : (uses : List FileUse) (dialog : Dialog OutputEvent ℕ) (old new : Devices) (allocates : Bool)
-    (points : RunAllocationPoints)
-    (status : ℕ)
-    → (RanToStatus dialog old new status
-    ⊎ (BrokeOff dialog start old new (before_fault allocates) points × (status ≡ 1)))
-    → ArePast uses old.desk.kept → ArePast uses new.desk.kept
+    (points : RunAllocationPoints) (status : ℕ) → (RanToStatus dialog old new status
+    ⊎ (BrokeOff dialog start old new (before_fault allocates) points × (status ≡ 1))) → ArePast uses old.desk.kept
+    → ArePast uses new.desk.kept
 run_past uses dialog old new allocates points status (inl (place, ran)) past =
     subst (ArePast uses) (sym ran.kept) (past_all uses (outputs ran.events) old.desk.kept past)
 run_past uses dialog old new allocates points status (inr (broke, one)) past =
     subst (ArePast uses) (sym broke.kept) (search (rules, past_all))
 
 pub saved_past : (uses : List FileUse) (sent : List ℕ) (old new : DeskState) (file bytes : Bytes) (ran status : ℕ)
-    → IsSavedIfSent sent old new file bytes ran status
-    → ArePast uses old.kept → ArePast uses new.kept
+    → IsSavedIfSent sent old new file bytes ran status → ArePast uses old.kept → ArePast uses new.kept
 saved_past uses sent old new file bytes ran status saved past = grind (arith, common_steps)

@@ -120,8 +120,7 @@ planning_left output_events reads = left_all output_events nothing_kept ∙ only
 
 -- so were the openings before a refusal
 seen_before : (stock : Stock) (output_events : List OutputEvent) (stage_outcome : StageOutcome Plan)
-    → AreTrueOpenings stock (events_with_refusal output_events stage_outcome)
-    → AreTrueOpenings stock output_events
+    → AreTrueOpenings stock (events_with_refusal output_events stage_outcome) → AreTrueOpenings stock output_events
 seen_before stock output_events stage_outcome seen = search (rules, seen_first)
 
 module _ (settings : Settings) (stock : Stock) (old m : DeskState) (stage_outcome : StageOutcome Plan)
@@ -179,9 +178,8 @@ left_by events status = outcome_shown status (bytes_sent events) (after_events (
 
 -- planning's output events, then these events, leave what the desk shows
 left_is : (status : ℕ) (output_events : List OutputEvent) (events : List (Event OutputEvent)) (between kept : Record)
-    (transcript : Transcript)
-    → left_in (after_events output_events nothing_kept) ≡ left_in between → kept ≡ after_events (outputs events) between
-    → bytes_sent events ≡ sent transcript
+    (transcript : Transcript) → left_in (after_events output_events nothing_kept) ≡ left_in between
+    → kept ≡ after_events (outputs events) between → bytes_sent events ≡ sent transcript
     → left_by (map Emitted output_events ++ events) status ≡ outcome_shown status (sent transcript) kept
 left_is status output_events events between kept transcript alike then frames =
     search (rules, emitted_outputs, after_append, left_all, emitted_bytes)
@@ -247,8 +245,7 @@ module _ (settings : Settings) (old new : MemDeskState) (before after : LinkStat
   -- that, or it stopped
   pub run_is : (between : MemDeskState) → Preserves HoldsTrue old between → Preserves HoldsTrue old new
       → RunsSettings settings (devices before (memory_state old)) (memory_state between)
-      (devices after (memory_state new))
-      status
+      (devices after (memory_state new)) status
       → LeavesShown ⊎ IsStopped settings (devices before (memory_state old)) (devices after (memory_state new)) status
   run_is between first all (inl runs) = elim runs.runs [
     | inl played_whole ↦ inl (search (rules, whole, begins_true))
@@ -272,15 +269,13 @@ module _ (settings : Settings) (old new : MemDeskState) (status : ℕ) where
   over_tape before after silent of_tape left = search (rules, append_assoc)
 
   pub run_is_over_tape : (before after : TapeState) (between : MemDeskState)
-      (unused : AreUnused old (tape_state before))
-      → ConsumesTape before after
-      → Preserves HoldsTrue old between → Preserves HoldsTrue old new
+      (unused : AreUnused old (tape_state before)) → ConsumesTape before after → Preserves HoldsTrue old between
+      → Preserves HoldsTrue old new
       → RunsSettings settings (devices (tape_state before) (memory_state old)) (memory_state between)
       (devices (tape_state after) (memory_state new)) status
       → LeavesOutcome settings (stock_of old) before.left (outcome_shown status (sent after.transcript) new.kept)
       ⊎ IsStopped settings (devices (tape_state before) (memory_state old))
-      (devices (tape_state after) (memory_state new))
-      status
+      (devices (tape_state after) (memory_state new)) status
   run_is_over_tape before after between unused of_tape first all runs =
       elim (run_is settings old new (tape_state before) (tape_state after) status unused between first all runs) [
         | inl left ↦ inl (over_tape before after (ap (λ (l : LinkState). l.transcript) unused.link_is) of_tape left.is)

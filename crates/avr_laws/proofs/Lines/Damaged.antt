@@ -54,10 +54,8 @@ same_length (x ∷ xs) (y ∷ ys) (inr (same, d)) = ap suc (same_length xs ys d)
 
 header_same : (a s o h l t : ℕ) (more rest : List ℕ) → DifferInOne (s ∷ more) (o ∷ rest)
     → DifferInOne (a ∷ s ∷ h ∷ l ∷ t ∷ more) (a ∷ o ∷ h ∷ l ∷ t ∷ rest)
-header_same a s o h l t more rest (inl (other, same)) =
-    inr (refl, inl (other, ap (λ m. h ∷ l ∷ t ∷ m) same))
-header_same a s o h l t more rest (inr (same, d)) =
-    inr (refl, inr (same, inr (refl, inr (refl, inr (refl, d)))))
+header_same a s o h l t more rest (inl (other, same)) = inr (refl, inl (other, ap (λ m. h ∷ l ∷ t ∷ m) same))
+header_same a s o h l t more rest (inr (same, d)) = inr (refl, inr (same, inr (refl, inr (refl, inr (refl, d)))))
 
 -- the damaged frame is a piece as long, and no good one
 abbrev BadPiece : List ℕ → Type 0
@@ -166,8 +164,7 @@ one_of (suc k) [] piece all is = absurd is
 one_of (suc k) (first ∷ sent) piece (inl none, all) (inl same) = inl (same ∙ none)
 one_of (suc k) (first ∷ sent) piece (inr (n, body, b, e), all) (inl same) =
     inr (subst IsPiece (sym (same ∙ e)) (whole_frame n body b), λ good. inl same)
-one_of (suc k) (first ∷ sent) piece (inl none, all) (inr (inl d)) =
-    absurd (subst (λ f. IsDamaged f piece) none d)
+one_of (suc k) (first ∷ sent) piece (inl none, all) (inr (inl d)) = absurd (subst (λ f. IsDamaged f piece) none d)
 one_of (suc k) (first ∷ sent) piece (inr (n, body, b, e), all) (inr (inl d)) =
     let bad = damaged_frame n body piece b (subst (λ f. IsDamaged f piece) e d) in
     inr (bad.0, λ good. absurd (bad.1 good))
@@ -183,8 +180,7 @@ refuses : (piece : List ℕ) → IsSomeRefusal piece → Sound (λ p. body_of p 
 refuses piece (n, inl same) =
     inr (
       subst IsPiece (sym same) (whole_frame n refusal refused_body),
-      λ good. ap body_of same ∙ body_of_frame n
-          refusal,
+      λ good. ap body_of same ∙ body_of_frame n refusal,
     )
 refuses piece (n, inr d) =
     let bad = damaged_frame n refusal piece refused_body d in inr (bad.0, λ good. absurd (bad.1 good))

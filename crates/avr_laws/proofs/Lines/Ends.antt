@@ -28,8 +28,7 @@ module _ (m : Device Programmer) where
 
 -- a whole run sends all bytes of what it sends over what was received
 pub plays_prefix : {E R : Type 0} (d : Dialog E R) (n : ℕ) (transcript : Transcript) (events : List (Event E)) (r : R)
-    (after : Progress)
-    → Plays d (progress_at n []) transcript events r after
+    (after : Progress) → Plays d (progress_at n []) transcript events r after
     → IsBytePrefixOf (sent transcript) (bytes_sent (played d n (heard transcript)).events)
 plays_prefix d n transcript events r after plays =
     search (rules, append-nil (sent transcript), append-nil (heard transcript))

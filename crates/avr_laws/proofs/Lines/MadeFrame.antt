@@ -31,8 +31,7 @@ promise_void p q exchanges bytes events other over =
 
 -- So such a frame was forged: with a chip whose fuse differs, no link that forges none brings this tape.
 pub frame_is_forged : (s : chips.ChipState) (got : List ℕ) (later : List (List ℕ)) (executions : List Execution)
-    → IsSoundChip s → s.part ≡ fuse_plan.part
-    → (s.lfuse ≡ 0xE2 → ⊥)
+    → IsSoundChip s → s.part ≡ fuse_plan.part → (s.lfuse ≡ 0xE2 → ⊥)
     → ReceivedSentFrames got later (frames (bytes_sent (played (session fuse_plan) 1 forged_replies).events)) executions
     → ForgesNoFrame device (session fuse_plan) 1 forged_replies (fresh_programmer s) executions [] → ⊥
 frame_is_forged s got later executions sound part other came none =

@@ -117,13 +117,11 @@ module _ {P : Type 0} (m : Device P) where
 
   authentic_by : {E R : Type 0} (bytes : List ℕ) (go_on : Reading → Dialog E R) (n : ℕ) (tape : Tape) (p : P)
       (executions : List Execution) (before : List (List ℕ)) (o : Option (Reading × Tape)) → answer n tape ≡ o
-      → Past n 1 before
-      → ((reading : Reading) (left : Tape)
+      → Past n 1 before → ((reading : Reading) (left : Tape)
       → ForgesNoFrame m (go_on reading) (next n) left (after_execution (first_execution executions) (m.after bytes p) p
       m.reset) (later_executions executions) (frame_of_reply m n bytes p (first_execution executions) ∷ before)
       → RepliesAreAuthentic m (go_on reading) (next n) left (after_execution (first_execution executions)
-      (m.after bytes p) p m.reset) (later_executions executions))
-      → on_reading (λ reading left.
+      (m.after bytes p) p m.reset) (later_executions executions)) → on_reading (λ reading left.
       AreNotForged n (frame_of_reply m n bytes p (first_execution executions)
       ∷ before) (cut (take reply_byte_limit (leading_bytes tape))) × ForgesNoFrame m (go_on reading) (next n) left
       (after_execution (first_execution executions) (m.after bytes p) p m.reset) (later_executions executions)
@@ -159,8 +157,7 @@ all_good [] ys e = refl
 all_good (x ∷ xs) ys e = elim (cases_Bool (is_good x)) [
   | inl good ↦ cond-true (is_good x) _ _ good
       ∙ ap (λ zs. x ∷ zs) (all_good xs ys (tail_is x x _ _ (sym (cond-true (is_good x) _ _ good) ∙ e)))
-  | inr bad ↦ absurd (fewer (search (rules, cond-false))
-      (filter_fewer (xs ++ ys)))
+  | inr bad ↦ absurd (fewer (search (rules, cond-false)) (filter_fewer (xs ++ ys)))
 ]
   where
     filter_fewer : (zs : List (List ℕ)) → length (filter is_good zs) ≤ length zs

@@ -81,8 +81,7 @@ module _ (part : Part) (addr : ℕ) where
         joined,
         writes,
         still_inside,
-        made xs (effect part (Write Flash image) m) (still_inside image
-            m.flash addr (are_locked m) l),
+        made xs (effect part (Write Flash image) m) (still_inside image m.flash addr (are_locked m) l),
       )
   made (Write mem image ∷ xs) m l = search (rules, are_later, made xs (effect part (Write mem image) m) l)
 
@@ -107,8 +106,7 @@ erase_of (suc k) (Write mem image ∷ xs) has = erase_of k xs has
 pub done_made : (plan : Plan) (before after : Memories) (addr : ℕ) → addr < length before.flash
     → IsDone plan before after
     → IsMadeByImages (items plan) addr (get_or before.flash addr 0) (get_or after.flash addr 0)
-done_made plan before after addr l done =
-    search (rules, made)
+done_made plan before after addr l done = search (rules, made)
 
 pub touched_made : (plan : Plan) (before after : Memories) (addr : ℕ) → addr < length before.flash
     → HasFirstOperations plan before after

@@ -67,8 +67,7 @@ silent_after events p = ap (λ (all : List (Event OutputEvent)). record { events
     (joined events p.events)
 
 silent_on : {A B : Type 0} (events : List (Event OutputEvent)) (o : Option (A × ℕ × Tape))
-    (go_on : A → ℕ → Tape → Played OutputEvent B)
-    → silent (prepend_events events (continued o go_on))
+    (go_on : A → ℕ → Tape → Played OutputEvent B) → silent (prepend_events events (continued o go_on))
     ≡ prepend_events (without_lines events) (continued o (λ a seq tape. silent (go_on a seq tape)))
 silent_on events None go_on = silent_after events (record { events = []; outcome = None })
 silent_on events (Some (a, seq, tape)) go_on = silent_after events (go_on a seq tape)

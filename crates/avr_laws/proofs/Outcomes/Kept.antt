@@ -50,8 +50,7 @@ on_each_reading A B None each read = tt
 on_each_reading A B (Some (reading, left)) each read = each reading left read
 
 -- the frames sent after a reading, and these
-abbrev sent_then : {E R : Type 0} → (Reading → Dialog E R) → ℕ → List (List ℕ) → Option (Reading × Tape)
-    → List (List ℕ)
+abbrev sent_then : {E R : Type 0} → (Reading → Dialog E R) → ℕ → List (List ℕ) → Option (Reading × Tape) → List (List ℕ)
 sent_then go_on n more o =
     frames_in (continue_with_reading (λ reading. played (go_on reading) (next n)) o).events ++ more
 

@@ -108,16 +108,14 @@ module _ (part : Part) (id signature : Bytes) where
   fits_other (Read mem format file) fits = fits
 
   module _ (s : Switches) (accepted : (s.force ≡ true) ⊎ (part.signature ≡ signature)) where
-    same_check : (outcome : StepOutcome)
-        → checked_by (signature_checked part.signature s.force) outcome
+    same_check : (outcome : StepOutcome) → checked_by (signature_checked part.signature s.force) outcome
         ≡ checked_by (signature_checked signature s.force) outcome
     same_check outcome = elim accepted [
       | inl forced ↦ rw forced (forcibly outcome)
       | inr same ↦ ap (λ (wanted : Bytes). checked_by (signature_checked wanted s.force) outcome) same
     ]
       where
-        forcibly : (outcome : StepOutcome)
-            → checked_by (signature_checked part.signature true) outcome
+        forcibly : (outcome : StepOutcome) → checked_by (signature_checked part.signature true) outcome
             ≡ checked_by (signature_checked signature true) outcome
         forcibly (Ok found) = refl
         forcibly (Err fault) = refl

@@ -42,8 +42,7 @@ pub output_otherwise : (plan : Plan) (w v : WiredState) (d e : DeskState)
 output_otherwise plan w v d e other over = search rules
 
 pub touched_in_silence : (plan : Plan) (w v : WiredState) (d e : DeskState) (status : ℕ)
-    → frames (sent v.transcript) ≡ []
-    → (memories v ≡ memories w → ⊥) → SessionOverWire plan w v d e status → ⊥
+    → frames (sent v.transcript) ≡ [] → (memories v ≡ memories w → ⊥) → SessionOverWire plan w v d e status → ⊥
 touched_in_silence plan w v d e status none other over = other (untouched plan w v d e status over none)
 
 -- ---- the worked run
@@ -92,14 +91,11 @@ another_status transcript a b d e all x = absurd (one_no (worked_status transcri
     one_no e = cc
 
 pub another_frame : (transcript : Transcript) (a b : ℕ) (d e : DeskState) (status : ℕ)
-    → heard transcript ≡ worked_replies
-    → (sent transcript ≡ worked_frames → ⊥) → IsRun worked_settings (devices (link_state [] a) d)
-    (devices (link_state transcript b) e)
-    status → ⊥
+    → heard transcript ≡ worked_replies → (sent transcript ≡ worked_frames → ⊥)
+    → IsRun worked_settings (devices (link_state [] a) d) (devices (link_state transcript b) e) status → ⊥
 another_frame transcript a b d e status all other x = other (worked_sent transcript a b d e status all x)
 
 pub another_line : (transcript : Transcript) (a b : ℕ) (d e : DeskState) (status : ℕ)
-    → heard transcript ≡ worked_replies
-    → (ChangesRecord (after_events worked_lines) d e → ⊥)
+    → heard transcript ≡ worked_replies → (ChangesRecord (after_events worked_lines) d e → ⊥)
     → IsRun worked_settings (devices (link_state [] a) d) (devices (link_state transcript b) e) status → ⊥
 another_line transcript a b d e status all other x = search (rules, worked_emitted, x.kept)

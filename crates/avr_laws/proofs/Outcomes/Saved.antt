@@ -91,8 +91,7 @@ saved_as false file text is =
 abbrev unprinted : Record → Record
 unprinted r = record r { messages = [] }
 
-one_unprinted : (event : OutputEvent) (r : Record)
-    → unprinted (after event (unprinted r)) ≡ unprinted (after event r)
+one_unprinted : (event : OutputEvent) (r : Record) → unprinted (after event (unprinted r)) ≡ unprinted (after event r)
 one_unprinted (Opens (Absent name)) r = refl
 one_unprinted (Opens (Found reading)) r = refl
 one_unprinted event r = refl

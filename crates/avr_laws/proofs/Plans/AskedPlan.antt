@@ -157,8 +157,7 @@ module _ (Gives : GivesText) where
 
     all_tasks : (updates : List Update) (openings : List Opening) (made : List Task)
         → Saw (tasks_stage switches part [] updates) openings made → AreTasksOf Gives part updates made
-    all_tasks updates openings made saw =
-        let all = tasks [] updates openings made saw in search rules
+    all_tasks updates openings made saw = let all = tasks [] updates openings made saw in search rules
 
   part_given : (id : Bytes) (r : Result Part PartFault) (part : Part) → or_line (λ fault. no_part_line id) r ≡ Ok part
       → r ≡ Ok part

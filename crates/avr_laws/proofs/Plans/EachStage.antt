@@ -43,8 +43,7 @@ module _ (Holds : (A : Type 0) → Stage A → List Bytes → Type 0)
   module _ (s : Switches) where
     file_image : (name : Bytes) (kind : Format) (size : ℕ)
         → Holds (List (Option ℕ)) (file_image_stage s name kind size) (name ∷ [])
-    file_image name kind size =
-        search (rules, last)
+    file_image name kind size = search (rules, last)
 
     image : (memory : Mem) (size : ℕ) (name : Bytes) (kind : Format)
         → Holds (List (Option ℕ)) (image_stage s memory size name kind) (image_file name kind)
@@ -62,8 +61,7 @@ module _ (Holds : (A : Type 0) → Stage A → List Bytes → Type 0)
         where
           by_memory : (b : Bool) → Holds Task
               (if b then (update_image s part u >>= λ bytes. result_stage (Ok (Write u.memory bytes)))
-              else result_stage (Err (read_only_line u.memory)))
-              (if b then image_file u.file u.format else [])
+              else result_stage (Err (read_only_line u.memory))) (if b then image_file u.file u.format else [])
           by_memory true = imaged u (Write u.memory)
           by_memory false = settled Task (Err (read_only_line u.memory))
 

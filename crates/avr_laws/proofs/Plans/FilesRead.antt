@@ -67,8 +67,7 @@ module _ (stock : Stock) where
   }
 
   onward : {A B : Type 0} (stage : Stage A) (go_on : A → Stage B) (prefix back : List Bytes) → Sees stage prefix
-      → ((a : A) → Sees (go_on a) back)
-      → Sees (stage >>= go_on) (prefix ++ back)
+      → ((a : A) → Sees (go_on a) back) → Sees (stage >>= go_on) (prefix ++ back)
   onward {A = A} stage go_on prefix back first second openings rest seen read =
       search (rules, map-append, append_assoc, of_first, whole)
     where
@@ -154,5 +153,4 @@ module _ (stock : Stock) where
       → AreTrueOpenings stock (planned s openings).output_events → ((planned s openings).stage_outcome ≡ NotReadToEnd
       → ⊥) → ((planned_from_files s stock).stage_outcome ≡ (planned s openings).stage_outcome)
       × (lines_in (all_events_of (planned_from_files s stock)) ≡ lines_in (all_events_of (planned s openings)))
-  seen_is_planned s openings seen read =
-      let same = plan_sees s openings [] seen read in search (rules, lines_append)
+  seen_is_planned s openings seen read = let same = plan_sees s openings [] seen read in search (rules, lines_append)

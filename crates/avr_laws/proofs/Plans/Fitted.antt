@@ -54,8 +54,7 @@ content : {A : Type 0} (name : Bytes) (limit : ℕ) (judge : Bytes → Result A 
     → (bytes : Bytes) × (judge bytes ≡ Ok a)
 content name limit judge opening openings a is = search rules
 
-pub given : (file : Bytes) (r : ImageOrBadFile) (p : Image × Ending) → or_line (bad_file_line file) r ≡ Ok p
-    → r ≡ Ok p
+pub given : (file : Bytes) (r : ImageOrBadFile) (p : Image × Ending) → or_line (bad_file_line file) r ≡ Ok p → r ≡ Ok p
 given file r p is = search rules
 
 file_size : (switches : Switches) (file : Bytes) (kind : Format) (size : ℕ) (openings : List Opening) (image : Image)
@@ -78,8 +77,7 @@ onto : (r : Result ℕ ImageFault) (rs : Result (List ℕ) ImageFault) (bytes : 
 onto r rs bytes is = search rules
 
 inside : (size k : ℕ) (texts : List (List ℕ)) (bytes : List ℕ)
-    → all_ok (map (byte_of_value size) (enumerate_from k texts)) ≡ Ok bytes
-    → (bytes ≡ []) ⊎ (k + length bytes ≤ size)
+    → all_ok (map (byte_of_value size) (enumerate_from k texts)) ≡ Ok bytes → (bytes ≡ []) ⊎ (k + length bytes ≤ size)
 inside size k [] bytes is = inl cc
 inside size k (text ∷ texts) bytes is =
     let rest = all_ok (map (byte_of_value size) (enumerate_from (k + 1) texts)) in
@@ -118,8 +116,7 @@ module _ (switches : Switches) (part : Part) where
   tasks : (before : List Task) (updates : List Update) (openings : List Opening) (made : List Task)
       → All (IsFitted part) before → (tasks_stage switches part before updates openings).stage_outcome ≡ Produced made
       → All (IsFitted part) made
-  tasks before [] openings made fitted is =
-      let same : before ≡ made = cc in subst (All (IsFitted part)) same fitted
+  tasks before [] openings made fitted is = let same : before ≡ made = cc in subst (All (IsFitted part)) same fitted
   tasks before (u ∷ updates) openings made fitted is =
       let first = earlier (task_stage switches part u) (λ task. tasks_stage switches part (before ++ task ∷ []) updates)
       openings made is in

@@ -26,8 +26,7 @@ erase_first plan first later e =
     nothing_before (has_erase (items plan)) (writes plan) first later (tasks_write plan.switches plan.tasks)
     (sym (items_are plan) ∙ e)
 
-pub plan_agrees : (plan : Plan) (m : Memories)
-    → EachComparisonAgrees plan.part (tasks_actions plan.switches plan.tasks)
+pub plan_agrees : (plan : Plan) (m : Memories) → EachComparisonAgrees plan.part (tasks_actions plan.switches plan.tasks)
     (effects plan.part (actions_items (erase_actions plan.switches plan.tasks)) m) → ComparisonsAgree plan m
 plan_agrees plan m agree = search rules
 

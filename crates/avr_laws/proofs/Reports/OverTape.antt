@@ -33,8 +33,7 @@ by_reading : (execution : Execution) (reading : Reading) → execution ≡ execu
 by_reading execution reading = search rules
 
 by_answered : {E R : Type 0} (executions : List Execution) (go_on : Reading → Tape → Played E R)
-    (more : Reading → Tape → List Exchange) (o : Option (Reading × Tape))
-    → ((reading : Reading) (left : Tape)
+    (more : Reading → Tape → List Exchange) (o : Option (Reading × Tape)) → ((reading : Reading) (left : Tape)
     → ByExchanges (length (frames_in (go_on reading left).events)) (later_executions executions) (more reading left))
     → ByExchanges (suc (length (frames_in (continue_with_reading go_on o).events))) executions
     (exchanges_from (first_execution executions) more o)
@@ -62,13 +61,11 @@ module _ {P : Type 0} (m : Device P) where
       → ByExchanges (length (frames_in (played (go_on reading) (next n) left).events)) (later_executions executions)
       (later_exchanges exchanges)
       → EmittedTrue m T (played (go_on reading) (next n) left).events (later_exchanges exchanges) q)
-      → on_reading (λ reading left.
-      IsAuthentic m bytes p (first_execution executions) reading
+      → on_reading (λ reading left. IsAuthentic m bytes p (first_execution executions) reading
       × RepliesAreAuthentic m (go_on reading) (next n) left (after_execution (first_execution executions)
       (m.after bytes p) p m.reset) (later_executions executions)) o
       → ByExchanges (suc (length (frames_in (continue_with_reading (λ reading. played (go_on reading) (next n))
-      o).events))) executions exchanges
-      → EmittedTrue m T (Frame (frame n bytes)
+      o).events))) executions exchanges → EmittedTrue m T (Frame (frame n bytes)
       ∷ (continue_with_reading (λ reading. played (go_on reading) (next n)) o).events) exchanges p
   asked T bytes go_on n tape p executions exchanges None e b is_reported each h same = tt
   asked T bytes go_on n tape p executions exchanges (Some (reading, left)) e b is_reported each h same =
@@ -88,8 +85,7 @@ module _ {P : Type 0} (m : Device P) where
   reported_any T (Done r) n tape p executions exchanges asks is_reported h same = tt
   reported_any T (Emit e d) n tape p executions exchanges asks is_reported h same = (
     (is_reported 0 []).0,
-    reported_any T d n tape p executions exchanges asks
-        (λ k exchanges. (is_reported k exchanges).1) h same,
+    reported_any T d n tape p executions exchanges asks (λ k exchanges. (is_reported k exchanges).1) h same,
   )
   reported_any T (Ask bytes go_on) n tape p executions exchanges asks is_reported h same =
       asked T bytes go_on n tape p executions exchanges (answer n tape) refl asks.0 is_reported

@@ -54,8 +54,7 @@ all_true True Now After zero (Ask bytes go_on) z h = tt
 all_true True Now After (suc k) (Ask bytes go_on) z h = all_true True Now After k (go_on _) (link.after bytes z tt) h.1
 
 hold_on : (T : OutputEvent → Programmer → Type 0) (xs ys : List OutputEvent) (q : Programmer) → AllTrue T xs q
-    → AllTrue T ys q
-    → AllTrue T (xs ++ ys) q
+    → AllTrue T ys q → AllTrue T (xs ++ ys) q
 hold_on T [] ys q f g = g
 hold_on T (x ∷ xs) ys q f g = (f.0, hold_on T xs ys q f.1 g)
 
@@ -83,8 +82,7 @@ module _ (plan : Plan) (sound : IsPart plan.part) (m0 : Memories) (f0 : FitsPart
   -- ---- the opening
 
   own_signature : (quiet : ℕ) (q : Programmer) → AllTrue T (opening_output quiet plan.part (Ok plan.part.signature)) q
-  own_signature quiet q =
-      search (rules, hold_on, informs_hold, bytes_same)
+  own_signature quiet q = search (rules, hold_on, informs_hold, bytes_same)
 
   -- ---- the actions after it
 
@@ -161,11 +159,9 @@ module _ (plan : Plan) (sound : IsPart plan.part) (m0 : Memories) (f0 : FitsPart
           counts_hold mem (byte_count image) (codes " bytes not written") q (WriteLeftOut mem image has refl)
 
   -- the memories after one more action
-  one_more : (done : List Action) (action : Action)
-      → effects plan.part (actions_items (done ++ action ∷ [])) m0
+  one_more : (done : List Action) (action : Action) → effects plan.part (actions_items (done ++ action ∷ [])) m0
       ≡ effects plan.part (action_items action) (effects plan.part (actions_items done) m0)
-  one_more done action =
-      search (rules, items_on, append-nil, effects_on)
+  one_more done action = search (rules, items_on, append-nil, effects_on)
 
   actions_true : (later done : List Action) → AllFitActions plan.part later → actions plan ≡ done ++ later
       → ActionsTrue plan.part plan.switches T later (effects plan.part (actions_items done) m0)
@@ -180,8 +176,7 @@ module _ (plan : Plan) (sound : IsPart plan.part) (m0 : Memories) (f0 : FitsPart
 
   -- over any link, or if no step fails
   pub session_prints_true : All (IsFitted plan.part) plan.tasks → (At : Memories → Spot → Type 0) (Fails : Type 0)
-      → Passes plan.part plan.switches At Fails → (z : Spot)
-      → Comes plan.part plan.switches At Fails OpenSession m0 z
+      → Passes plan.part plan.switches At Fails → (z : Spot) → Comes plan.part plan.switches At Fails OpenSession m0 z
       → Prints T (AtMoment plan m0) (AtEnd plan m0 Fails) (session plan) z
   session_prints_true fitted At Fails pass z opened =
       session_prints plan sound fitted T failed

@@ -82,6 +82,5 @@ first_prefix plan m output_events first =
     let prefix = actions_prefix plan.part plan.switches first.done first.more m first.fine in
     let ending = ending_output plan (working_expected plan m).standing in (
       prefix.0 ++ ending,
-      ap (λ xs. xs ++ ending) (search rules)
-          ∙ append_assoc output_events prefix.0 ending,
+      ap (λ xs. xs ++ ending) (search rules) ∙ append_assoc output_events prefix.0 ending,
     )

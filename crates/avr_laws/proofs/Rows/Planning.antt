@@ -90,8 +90,7 @@ mixed = record wanted { updates = of_values ∷ of_file ∷ [] }
 
 begins_mixed : (passed : List Opening) (emitted : List OutputEvent) (done : List Update) (due : Update)
     (more : List Update)
-    (made : Plan)
-    → of_values ∷ of_file ∷ [] ≡ done ++ due ∷ more → op_allocates due due.op ≡ true
+    (made : Plan) → of_values ∷ of_file ∷ [] ≡ done ++ due ∷ more → op_allocates due due.op ≡ true
     → planned (record mixed { updates = done }) passed ≡ record {
       output_events = emitted;
       stage_outcome = Produced made;

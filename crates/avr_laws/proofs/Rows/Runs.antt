@@ -276,12 +276,10 @@ abbrev read_tasks : List Task
 read_tasks = Read Lfuse Raw (codes "fuse") ∷ []
 
 abbrev saved_of : Part → Switches → List Task → Chip → List Writing
-saved_of part s these chip =
-    saved_files (record { part = part; tasks = these; switches = s }) (memories_of chip)
+saved_of part s these chip = saved_files (record { part = part; tasks = these; switches = s }) (memories_of chip)
 
 two_names : codes "fuse" ≡ codes "chip" → ⊥
-two_names same =
-    let first : 102 ≡ 99 = ap (λ (name : Bytes). get_or name 0 0) same in omega (arith, first)
+two_names same = let first : 102 ≡ 99 = ap (λ (name : Bytes). get_or name 0 0) same in omega (arith, first)
 
 -- a fresh chip's fuse is FF
 saved_there : saved_of m328p worked_settings.switches read_tasks (fresh_state m328p)

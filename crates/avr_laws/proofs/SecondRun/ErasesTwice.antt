@@ -66,8 +66,7 @@ module _ (part : Part) where
   items_keep want w (x ∷ xs) m f e = items_keep want w xs (effect part x m) f.1 (item_keeps want w x m f.0 e)
 
   first_keep : (want : Type 0) → want → (k : ℕ) (xs : List Item) (m : Memories) → AllMild part want xs
-      → erase_keeps_eeprom part m ≡ true
-      → erase_keeps_eeprom part (effects part (take k (Erase ∷ xs)) m) ≡ true
+      → erase_keeps_eeprom part m ≡ true → erase_keeps_eeprom part (effects part (take k (Erase ∷ xs)) m) ≡ true
   first_keep want w zero xs m f e = e
   first_keep want w (suc k) xs m f e = items_keep want w (take k xs) (effect part Erase m) (mild_take part want k xs f)
       e
@@ -105,8 +104,7 @@ module _ (part : Part) where
 -- ---- the items of a plan
 
 some_write_operations_again : (part : Part) (sound : IsPart part) (xs : List Item) (k : ℕ) (m : Memories)
-    → ItemsFit part xs
-    → FitsPart part m → has_erase xs ≡ false
+    → ItemsFit part xs → FitsPart part m → has_erase xs ≡ false
     → (erase_keeps_eeprom part m ≡ true → ItemsKeepEeprom part xs)
     → effects part (Erase ∷ xs) (effects part (take k (write_operations_of (steps_of_items part (Erase ∷ xs)))) m)
     ≡ effects part (Erase ∷ xs) m

@@ -18,8 +18,7 @@ use Rattle.avr_tool.proofs.WriteOperations.EachMemory.{keeps_zeros, laid, is_bar
 use Rattle.avr_tool.specs.Items.{has_erase}
 
 -- memories are equal if each of them is
-same_memories : (part : Part) (m n : Memories) → ((mem : Mem) → memory_in part mem m ≡ memory_in part mem n)
-    → m ≡ n
+same_memories : (part : Part) (m n : Memories) → ((mem : Mem) → memory_in part mem m ≡ memory_in part mem n) → m ≡ n
 same_memories part m n each =
     let byte : (mem : Mem) → get_or (memory_in part mem m) 0 0 ≡ get_or (memory_in part mem n) 0 0 =
     λ mem. ap (λ (xs : List ℕ). get_or xs 0 0) (each mem) in
@@ -68,8 +67,7 @@ module _ (part : Part) where
       → are_locked (effects part items m) ≡ true
   ends_locked [] m w e = e
   ends_locked (Erase ∷ items) m w e = absurd (true≢false w)
-  ends_locked (Write mem image ∷ items) m w e =
-      ends_locked items (write_effect mem image m) w (search (rules, stays))
+  ends_locked (Write mem image ∷ items) m w e = ends_locked items (write_effect mem image m) w (search (rules, stays))
 
   begins_open : (items : List Item) (m : Memories) → has_erase items ≡ false
       → are_locked (effects part items m) ≡ false → are_locked m ≡ false
@@ -185,8 +183,7 @@ module _ (part : Part) where
     back mem = search (rules, net_is mem items blanked w)
 
     pub erased_again : effects part (Erase ∷ items) left ≡ left
-    erased_again = same_memories part _ _
-        (grind (arith, common_steps, net_is, same_net, by_lock, back))
+    erased_again = same_memories part _ _ (grind (arith, common_steps, net_is, same_net, by_lock, back))
 
   -- ---- some first ones, and then all
 

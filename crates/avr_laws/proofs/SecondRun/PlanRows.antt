@@ -82,8 +82,7 @@ abbrev unerased : Plan
 unerased = record {
   part = tiny;
   tasks = Write Flash (Some 0 ∷ None ∷ None ∷ None ∷ []) ∷ [];
-  switches =
-      record erasing { erase = false; keep_flash = true };
+  switches = record erasing { erase = false; keep_flash = true };
 }
 
 zeros_agree : (expected_run unerased (chip_filled_with tiny 0)).status ≡ 0

@@ -223,9 +223,8 @@ module _ {P : Type 0} (m : Device P) (sound : RepliesFitFrames m) where
 
   authentic_by : {E R : Type 0} (bytes : List ℕ) (go_on : Reading → Dialog E R) (n : ℕ) (tape : Tape) (p : P)
       (h count : ℕ) (more : List (List ℕ)) → ((reading : Reading) → Authentic (go_on reading) (next n))
-      → Comes m bytes go_on n tape p h count more
-      → MissesFew (suc count) (Ask bytes go_on) → SendsValidBodies (Ask bytes go_on)
-      → on_reading (Reading_is bytes go_on n p h) (answer n tape)
+      → Comes m bytes go_on n tape p h count more → MissesFew (suc count) (Ask bytes go_on)
+      → SendsValidBodies (Ask bytes go_on) → on_reading (Reading_is bytes go_on n p h) (answer n tape)
   authentic_by bytes go_on n tape p h count more each (inl c) few asks =
       subst (on_reading (Reading_is bytes go_on n p h)) (sym c.is) (
         inl (c.execution, refl),

@@ -38,8 +38,7 @@ body_answered : (piece : List ℕ) (p : Programmer) → IsFrameBody (reply_body 
 body_answered piece p = grind (arith, common_steps, reply_fits_frame)
 
 answer_short : (piece : List ℕ) (p : Programmer) → IsShort (reply_frame device piece p)
-answer_short piece p =
-    let b = body_answered piece p in search (rules, frame_is_piece, length_frame)
+answer_short piece p = let b = body_answered piece p in search (rules, frame_is_piece, length_frame)
 
 answers_short : (pieces : List (List ℕ)) (p : Programmer) → AreShort (answer_list device pieces p)
 answers_short [] p = tt
@@ -57,8 +56,7 @@ broken_served : (p : Programmer) (transcript : Transcript) (left : EmulatorState
 broken_served p transcript left b = search (rules, append_assoc, replies_append)
 
 pub has_served : (served : Served) (p : Programmer) (transcript : Transcript) (left : EmulatorState)
-    → ServingLeaves served p [] transcript left
-    → HasServed p transcript left.programmer
+    → ServingLeaves served p [] transcript left → HasServed p transcript left.programmer
 has_served served p transcript left l = search (rules, all_served, broken_served)
 
 -- ---- both ends

@@ -165,8 +165,7 @@ AfterAction k Faulty = Between 4 k
 AfterAction k Over = Between 4 k
 
 output_few : {R : Type 0} (Post : ℕ → R → Type 0) (k : ℕ) (outputs : List OutputEvent) (d : Dialog OutputEvent R)
-    → Misses Post k d
-    → Misses Post k (emits outputs d)
+    → Misses Post k d → Misses Post k (emits outputs d)
 output_few Post k [] d f = f
 output_few Post k (event ∷ outputs) d f = output_few Post k outputs d f
 
@@ -178,8 +177,7 @@ reported_few call is_reported f =
     (λ j outcome post. output_few AfterAction j (is_reported outcome) (Done (standing outcome)) (search rules))
 
 any_reported : {A : Type 0} (k : ℕ) (call : Dialog ⊥ (Result A HostFault)) (is_reported : Result A HostFault
-    → List OutputEvent)
-    → Misses Any k call → Misses Any k (reported call is_reported)
+    → List OutputEvent) → Misses Any k call → Misses Any k (reported call is_reported)
 any_reported k call is_reported f =
     bind Any Any k (lifted call) (λ outcome. emits (is_reported outcome) (Done (standing outcome)))
     (lifts OutputEvent Any k call f)
@@ -190,8 +188,7 @@ module _ (part : Part) (s : Switches) where
   action_few action = search (rules, reported_few, opening_few, operation_few)
 
   unless_few : (next : Dialog OutputEvent Standing) → Misses AfterAction 8 next → (j : ℕ) (at : Standing)
-      → AfterAction j at
-      → Misses AfterAction j (unless_fault next at)
+      → AfterAction j at → Misses AfterAction j (unless_fault next at)
   unless_few next f j x3 e = search rules
 
   actions_few : (actions : List Action) → Misses AfterAction 8 (actions_dialog part s actions)

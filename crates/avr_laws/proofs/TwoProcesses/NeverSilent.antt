@@ -62,8 +62,7 @@ read_on None bytes tape p = elim (cases_Bool (nat_le reply_byte_limit (length by
         heard = refl;
         left = dropped reply_byte_limit tape p;
       })
-  | inr few ↦ subst ReadsOn (search rules)
-      (end_on (drop (length bytes) tape) (dropped (length bytes) tape p))
+  | inr few ↦ subst ReadsOn (search rules) (end_on (drop (length bytes) tape) (dropped (length bytes) tape p))
 ]
 
 answer_on : (n : ℕ) (tape : Tape) → HasNoTimeout tape → ReadsOn (answer n tape)
@@ -94,9 +93,8 @@ module _ {P : Type 0} (m : Device P) (sound : RepliesFitFrames m) where
   straight_by : {E R : Type 0} (bytes : List ℕ) (go_on : Reading → Dialog E R) (n : ℕ) (tape : Tape) (p : P)
       (h count : ℕ) (more : List (List ℕ)) → ((reading : Reading) → GoesStraight (go_on reading) (next n))
       → Comes m bytes go_on n tape p h count more → MissesFew (suc count) (Ask bytes go_on)
-      → SendsValidBodies (Ask bytes go_on) → HasNoTimeout tape
-      → (r : R) (seq : ℕ) (unread : Tape) → (played (Ask bytes go_on) n tape).outcome ≡ Some (r, seq, unread)
-      → Straight m (Ask bytes go_on) n tape p h r
+      → SendsValidBodies (Ask bytes go_on) → HasNoTimeout tape → (r : R) (seq : ℕ) (unread : Tape)
+      → (played (Ask bytes go_on) n tape).outcome ≡ Some (r, seq, unread) → Straight m (Ask bytes go_on) n tape p h r
   straight_by {E} {R} bytes go_on n tape p h count more each (inl c) few asks prompt r seq unread e =
       let d = go_on (Answered (m.answer bytes p)) in
       let first : played (Ask bytes go_on) n tape ≡ prepend_events (Frame (frame n bytes)

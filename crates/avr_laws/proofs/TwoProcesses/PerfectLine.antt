@@ -161,8 +161,7 @@ own_answer n bytes later b =
 
 -- a command with this reply
 asked : {E R : Type 0} (bytes : List ℕ) (go_on : Reading → Dialog E R) (n : ℕ) (reply : List ℕ) (later : Tape)
-    → IsFrameBody reply
-    → played (Ask bytes go_on) n (on_tape (frame n reply) ++ later)
+    → IsFrameBody reply → played (Ask bytes go_on) n (on_tape (frame n reply) ++ later)
     ≡ prepend_events (Frame (frame n bytes) ∷ []) (played (go_on (Answered reply)) (next n) later)
 asked bytes go_on n reply later b = search (rules, own_answer)
 
@@ -282,8 +281,7 @@ record ServesOn (p : Programmer) (text : List ℕ) (transcript : Transcript) (le
   replied : emulate p (text ++ bytes_on_tape (heard transcript)) ≡ emulate p text ++ sent transcript
 
 serves_on : {E R : Type 0} (d : Dialog E R) (n : ℕ) (now p : Programmer) (text : List ℕ) → SendsValidBodies d
-    → HasExecuted p text now
-    → ServesOn p text (server_transcript (calls_of d n now)) (left_of d n now)
+    → HasExecuted p text now → ServesOn p text (server_transcript (calls_of d n now)) (left_of d n now)
 serves_on (Done r) n now p text asks was = search rules
 serves_on (Emit e d) n now p text asks was = serves_on d n now p text asks was
 serves_on (Ask bytes go_on) n now p text asks was =

@@ -149,8 +149,7 @@ module _ (plan : Plan) (s : chips.ChipState) (is_sound : IsSoundChip s) (part_is
 
       -- and one over a link without timeouts
       pub expected_of : (left : Programmer) → HasServed (fresh_programmer s) server left → IsJoined host server
-          → HasNoTimeout (heard host)
-          → (status ≡ (expected_run plan (memories_of s)).status)
+          → HasNoTimeout (heard host) → (status ≡ (expected_run plan (memories_of s)).status)
           × (outputs events ≡ (expected_run plan (memories_of s)).output_events)
           × (memories_of left.chip ≡ (expected_run plan (memories_of s)).memories)
       expected_of left serves joined prompt =
@@ -170,8 +169,7 @@ module _ (plan : Plan) (s : chips.ChipState) (is_sound : IsSoundChip s) (part_is
 
   -- over an ordered link that stalls anywhere, and forges no frame
   pub stalling : (left : Programmer) (host server : Transcript) (events : List (Event OutputEvent)) (status : ℕ)
-      (after : Progress)
-      (serves : HasServed (fresh_programmer s) server left) → IsJoined host server
+      (after : Progress) (serves : HasServed (fresh_programmer s) server left) → IsJoined host server
       → Plays (session plan) start host events status after
       → ForgesNoFrame device (session plan) 1 (heard host) (fresh_programmer s)
       (all_executed (length (frames serves.used))) [] → WholeSessionOverExchanges plan (fresh_programmer s) left

@@ -40,14 +40,12 @@ lengthened kind text more =
 
 -- a fault of a line that has ended stays the first one when more bytes come
 pub ended_lines_fault-more : (kind : Kind) (text more : List ℕ) (size : ℕ) (fault : RecordFault)
-    → ended_lines_fault kind text size ≡ Some fault
-    → ended_lines_fault kind (text ++ more) size ≡ Some fault
+    → ended_lines_fault kind text size ≡ Some fault → ended_lines_fault kind (text ++ more) size ≡ Some fault
 ended_lines_fault-more kind text more size fault is =
     let l = lengthened kind text more in search (rules, closed-prefix, map-append, among-stands)
 
 -- and it is the fault of the whole file
 pub ended_lines_fault-whole : (kind : Kind) (text more : List ℕ) (size : ℕ) (fault : RecordFault)
-    → ended_lines_fault kind text size ≡ Some fault
-    → image_in_text kind (text ++ more) size ≡ Err fault
+    → ended_lines_fault kind text size ≡ Some fault → image_in_text kind (text ++ more) size ≡ Err fault
 ended_lines_fault-whole kind text more size fault is =
     let l = lengthened kind text more in search (rules, map-append, among-stands)

@@ -32,8 +32,7 @@ module _ (old now new : DeskState) (first last : Intake) (room left n : ℕ) (bu
     (going : FedSoFar old now first last room left) (then : ChangesRecord (after_read buf (Ok n)) now new) where
   pub going_on : (next : Intake) (rest : ℕ) → (n ≡ 0 → ⊥) → length (take n buf) + rest ≡ left
       → ((found : Found) (size : ℕ) (text : Bytes) → WasFed found size last text
-      → WasFed found size next (text ++ take n buf))
-      → FedSoFar old new first next room rest
+      → WasFed found size next (text ++ take n buf)) → FedSoFar old new first next room rest
   going_on next rest some count feeds = record {
     bytes = going.bytes ++ take n buf;
     kept = read_piece old.kept now.kept new.kept going.bytes buf n going.kept then some;
@@ -46,8 +45,7 @@ module _ (old now new : DeskState) (first last : Intake) (room left n : ℕ) (bu
     -- the end was seen
     pub rest_ends : (result : ImageOrFault) → n ≡ 0 → 0 < length buf
         → ((found : Found) (size : ℕ) (text : Bytes) → WasFed found size last text
-        → IsImageResult (image_of_file found text size) result)
-        → RestIsRead limit found size before old new result
+        → IsImageResult (image_of_file found text size) result) → RestIsRead limit found size before old new result
     rest_ends result zero some gives = search (rules, length-append, read_next)
 
     -- more bytes came than the limit allows

@@ -17,8 +17,7 @@ use Rattle.avr_plan.specs.declared.intake.BadFile.{BadFile}
 use Rattle.avr_plan.specs.declared.intake.BadFile.TheVariants.{Record, TooLong}
 
 decides-record : (kind : Kind) (size : ℕ) (fault : RecordFault) (text : Bytes)
-    → ended_lines_fault kind text size ≡ Some fault
-    → HasCertainFault (found_as kind) size (Record fault) text
+    → ended_lines_fault kind text size ≡ Some fault → HasCertainFault (found_as kind) size (Record fault) text
 decides-record kind size fault text is = search (rules, ended_lines_fault-whole, ended_lines_fault-more)
 
 -- a line has a fault
@@ -49,8 +48,7 @@ sound-long kind size text none = search rules
 
 -- no line has a fault
 pub records-long : (found : Found) (size : ℕ) (reader : ReaderState) (text : Bytes)
-    → RecordReaderWasFed found size reader text
-    → TooLong ≡ fault_of_long_file found text size
+    → RecordReaderWasFed found size reader text → TooLong ≡ fault_of_long_file found text size
 records-long found size reader text takes =
     let none : ended_lines_fault reader.kind text size ≡ None =
     ap (ended_lines_fault reader.kind text) (sym takes.of_size)
@@ -58,7 +56,6 @@ records-long found size reader text takes =
     subst (λ f. TooLong ≡ fault_of_long_file f text size) (sym takes.of_kind) (sound-long reader.kind size text none)
 
 pub raw-too-long : (found : Found) (size : ℕ) (reader : raw_file.RawReaderState) (text : Bytes)
-    → RawReaderWasFed found size reader text
-    → TooLong ≡ fault_of_long_file found text size
+    → RawReaderWasFed found size reader text → TooLong ≡ fault_of_long_file found text size
 raw-too-long found size reader text takes = subst (λ f. TooLong ≡ fault_of_long_file f text size) (sym takes.of_kind)
     refl

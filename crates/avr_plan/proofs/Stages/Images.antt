@@ -93,9 +93,7 @@ module _ (switches : Switches) (file : Bytes) (format : Format) (size : ℕ) whe
   -- the file gave no image
   pub goes_without_image : (old mid new : DeskState) (fault : ReadFault) (status : ℕ)
       → ImageIsRead LARGEST_IMAGE_FILE format size file old mid (Err fault) → CountsNeverFall old mid
-      → CountsReadFault old mid fault
-      → status ≡ 1
-      → ReportsLine mid new (image_line file fault)
+      → CountsReadFault old mid fault → status ≡ 1 → ReportsLine mid new (image_line file fault)
       → RunsStage (OnlyAtStart false) (file_image_stage switches file format size) old new (Err status)
   goes_without_image old mid new (fault_of.File fault) status reads rose counted one notice =
       search (rules, goes_unread, goes_file_fault)

@@ -22,8 +22,7 @@ use Rattle.avr_desk.specs.Stage.{Produced, file_stage}
 pub goes_long_parts : (file bytes : Bytes) (ended : Bool) (old mid new : DeskState) (status : ℕ)
     → ChangesRecord (with_read file bytes ended) old mid
     → EndsOrExceedsLimit LARGEST_PART_FILE (record { bytes = bytes; ended = ended }) → ended ≡ false
-    → HasSameCounts old mid → status ≡ 1
-    → ReportsLine mid new (too_long_line file LARGEST_PART_FILE)
+    → HasSameCounts old mid → status ≡ 1 → ReportsLine mid new (too_long_line file LARGEST_PART_FILE)
     → RunsStage (OnlyAtStart false) (file_stage file LARGEST_PART_FILE (checked_parts file)) old new (Err status)
 goes_long_parts file bytes true old mid new status kept whole is same one notice = cc
 goes_long_parts file bytes false old mid new status kept whole is same one notice =

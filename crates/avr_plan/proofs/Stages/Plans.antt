@@ -68,8 +68,7 @@ at_due s old first mid parts part went found passed emitted due = search (rules,
           stage_outcome = Produced (plan_of s part due.made);
           openings_left = [];
         }
-    planned_so =
-        search (rules, append-nil)
+    planned_so = search (rules, append-nil)
 
 -- allocation points after the part file
 abbrev Behind : Settings → List Opening → List OutputEvent → AllocationPoints

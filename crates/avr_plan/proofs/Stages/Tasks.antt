@@ -50,8 +50,7 @@ pub goes_writable : (switches : Switches) (part : Part) (u : Update) (old new : 
 goes_writable switches part u old new result is goes = search rules
 
 pub goes_read_only : (switches : Switches) (part : Part) (u : Update) (old new : DeskState) (status : ℕ)
-    → false ≡ is_writable u.memory
-    → status ≡ 1 → ReportsLine old new (read_only_line u.memory)
+    → false ≡ is_writable u.memory → status ≡ 1 → ReportsLine old new (read_only_line u.memory)
     → RunsStage (OnlyAtStart (op_allocates u op.Write)) (write_stage switches part u) old new (Err status)
 goes_read_only switches part u old new status is one notice =
     subst (λ b. RunsStage (OnlyAtStart (if b then has_immediate_values u.format else false))

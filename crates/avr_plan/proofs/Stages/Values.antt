@@ -30,8 +30,7 @@ went_values switches memory size text d image gives =
     (ap (or_line (values_line memory)) (sym (given_values text size image gives)))
 
 pub goes_bad_values : (switches : Switches) (memory : Mem) (size : ℕ) (text : Bytes) (old new : DeskState) (status : ℕ)
-    (fault : ImageFault)
-    → OrOutOfMemory (Err fault) (image_of_values text size) → status ≡ 1
+    (fault : ImageFault) → OrOutOfMemory (Err fault) (image_of_values text size) → status ≡ 1
     → ReportsLine old new (values_line memory fault)
     → RunsStage (OnlyAtStart true) (image_stage switches memory size text Immediate) old new (Err status)
 goes_bad_values switches memory size text old new status fault (inl is) one notice =
@@ -42,7 +41,6 @@ goes_bad_values switches memory size text old new status fault (inr refused) one
 
 -- or there was no room for its task
 pub goes_without_room : (switches : Switches) (memory : Mem) (size : ℕ) (text : Bytes) (old new : DeskState)
-    (status : ℕ)
-    → status ≡ 1 → ReportsLine old new memory_line
+    (status : ℕ) → status ≡ 1 → ReportsLine old new memory_line
     → RunsStage (OnlyAtStart true) (image_stage switches memory size text Immediate) old new (Err status)
 goes_without_room switches memory size text old new status one notice = search (rules, runs_without_memory)

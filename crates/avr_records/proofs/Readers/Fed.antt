@@ -102,8 +102,7 @@ keeps-done kind p part new text more done r =
 
 -- the lines of the text once its last line has ended
 ends : (text rest more : List ℕ) (prefix : List (List ℕ)) (last : List ℕ) → lines rest ≡ rest ∷ []
-    → lines text ≡ prefix ++ last ∷ []
-    → lines (text ++ (rest ++ 10 ∷ more)) ≡ prefix ++ (last ++ rest) ∷ lines more
+    → lines text ≡ prefix ++ last ∷ [] → lines (text ++ (rest ++ 10 ∷ more)) ≡ prefix ++ (last ++ rest) ∷ lines more
 ends text rest more prefix last one cut = grind (arith, nat_tests, goes-on, line-first)
 
 pub results-prefix : (kind : Kind) (prefix : List (List ℕ)) (line : List ℕ)
@@ -151,8 +150,7 @@ pub reads-sound : (kind : Kind) (p : Progress) (part text : List ℕ) → ReadsL
 reads-sound kind p part text r = grind (arith, nat_tests, closed-prefix, append-nil)
 
 pub no_fault_so_far : (kind : Kind) (p : Progress) (size : ℕ) (part text : List ℕ) → image_size p ≡ size
-    → ReadsLines kind p part text
-    → Ok tt ≡ unless_refused (ended_lines_fault kind text size) (tt {0})
+    → ReadsLines kind p part text → Ok tt ≡ unless_refused (ended_lines_fault kind text size) (tt {0})
 no_fault_so_far kind p size part text same r = search (rules, reads-sound kind p part text r)
 
 -- ---- the whole text
@@ -230,18 +228,16 @@ carries-next kind old now new piece left line more carries one end is clear =
 pub carries-fault : (kind : Kind) (old now : LineState) (piece left line more : List ℕ) (fault : RecordFault)
     → Carries kind old now piece left → lines line ≡ line ∷ [] → left ≡ line ++ 10 ∷ more
     → next_progress now.progress (line_result kind (now.part ++ line)) ≡ Err fault
-    → image_size now.progress ≡ image_size old.progress
-    → (text : List ℕ) → ReadsLines kind old.progress old.part text
+    → image_size now.progress ≡ image_size old.progress → (text : List ℕ) → ReadsLines kind old.progress old.part text
     → ended_lines_fault kind (text ++ piece) (image_size old.progress) ≡ Some fault
 carries-fault kind old now piece left line more fault carries one end is same text r =
     let parts : text ++ piece ≡ (text ++ carries.used) ++ (line ++ 10 ∷ more) =
     search (rules, append_assoc) in search (rules, ends-bad)
 
-pub carries-last : (kind : Kind) (old now new : LineState) (piece left : List ℕ)
-    → Carries kind old now piece left → (now.progress.extent.ended ≡ false → lines left ≡ left ∷ [])
-    → new.progress ≡ now.progress → (now.progress.extent.ended ≡ false → new.part ≡ kept_of_line (now.part ++ left))
-    → (text : List ℕ) → ReadsLines kind old.progress old.part text
-    → ReadsLines kind new.progress new.part (text ++ piece)
+pub carries-last : (kind : Kind) (old now new : LineState) (piece left : List ℕ) → Carries kind old now piece left
+    → (now.progress.extent.ended ≡ false → lines left ≡ left ∷ []) → new.progress ≡ now.progress
+    → (now.progress.extent.ended ≡ false → new.part ≡ kept_of_line (now.part ++ left)) → (text : List ℕ)
+    → ReadsLines kind old.progress old.part text → ReadsLines kind new.progress new.part (text ++ piece)
 carries-last kind old now new piece left carries one is goes text r =
     grind (arith, nat_tests, append_assoc, keeps-done, keeps)
 

@@ -36,16 +36,14 @@ count-last : (meant : List LineResult) (line : LineResult) → count_by is_data_
 count-last meant line = grind (arith, nat_tests, sum_by-append)
 
 any_end-last : (meant : List LineResult) (line : LineResult)
-    → (if is_end_record line then true else list_any is_end_record meant) ≡ list_any is_end_record (meant ++ line
-    ∷ [])
+    → (if is_end_record line then true else list_any is_end_record meant) ≡ list_any is_end_record (meant ++ line ∷ [])
 any_end-last meant line = grind (arith, nat_tests, list_any-append)
 
 -- ---- one more line
 
 extent-bad : (size : ℕ) (e : Extent) (meant more : List LineResult) (line : LineResult) (fault : RecordFault)
-    → IsExtentOf size e meant
-    → next_extent size e line ≡ Err fault → first_fault size (with_lines_before [] (meant ++ line ∷ more))
-    ≡ Some fault
+    → IsExtentOf size e meant → next_extent size e line ≡ Err fault
+    → first_fault size (with_lines_before [] (meant ++ line ∷ more)) ≡ Some fault
 extent-bad size e meant more line fault m is = grind (arith, nat_tests, with_lines_before-append, first_fault-append)
 
 -- ---- up to an end record
@@ -73,11 +71,9 @@ counts-bad size e meant more line fault on m is = grind (arith, nat_tests, up_to
 
 -- ---- with the image
 
-length-with_pairs : (places : List (ℕ × ℕ)) (image : List (Option ℕ)) → length (with_pairs image places)
-    ≡ length image
+length-with_pairs : (places : List (ℕ × ℕ)) (image : List (Option ℕ)) → length (with_pairs image places) ≡ length image
 length-with_pairs [] image = refl
-length-with_pairs (p ∷ ps) image = length-with_pairs ps (with_byte image p.0 p.1) ∙ length-set image p.0
-    (Some p.1)
+length-with_pairs (p ∷ ps) image = length-with_pairs ps (with_byte image p.0 p.1) ∙ length-set image p.0 (Some p.1)
 
 with-good : (p new : Progress) (line : LineResult) (step : Result Extent RecordFault) → with_extent p line step ≡ Ok new
     → (step ≡ Ok new.extent) × (new.image ≡ with_pairs p.image (bytes_under_base p.extent.base line))

@@ -17,8 +17,7 @@ with_lines_before-append before (x ∷ xs) ys =
     grind (arith, nat_tests, with_lines_before-append (before ++ x ∷ []) xs ys, append_assoc)
 
 pub or_later-none : (n : ℕ) (fault : Option LineFault) (later : Option RecordFault)
-    → option_or (option_map (in_line n) fault) later ≡ None
-    → (fault ≡ None) × (later ≡ None)
+    → option_or (option_map (in_line n) fault) later ≡ None → (fault ≡ None) × (later ≡ None)
 or_later-none n fault later e = search rules
 
 pub first_fault-append : (size : ℕ) (ps qs : List (List LineResult × LineResult)) → first_fault size ps ≡ None

@@ -79,7 +79,6 @@ least kind text size read l is =
     let reach = reaches size 0 (bytes_of_lines taken) (omega arith) (all-lie size (with_lines_before [] taken) none) in
     let inside' = (inside largest_memory 0 (bytes_of_lines taken) (omega (arith, l, reach))).1 in (
       end_of_bytes (bytes_of_lines taken),
-      rw (all-good size largest_memory (with_lines_before [] taken) none inside')
-          refl,
+      rw (all-good size largest_memory (with_lines_before [] taken) none inside') refl,
       reach,
     )

@@ -34,8 +34,7 @@ Every P [] = Unit {0}
 Every P (row ∷ rows) = P row × Every P rows
 
 pub rows_behind-are : (taken : ℕ) (size : ℕ → ℕ) (addr end : ℕ) (bytes : List ℕ) → ((a : ℕ) → 0 < size a)
-    → addr + length bytes ≡ end → IsBytes bytes
-    → Every (IsRow size end) (rows_behind taken size addr bytes)
+    → addr + length bytes ≡ end → IsBytes bytes → Every (IsRow size end) (rows_behind taken size addr bytes)
 rows_behind-are taken size addr end [] wide is all = tt
 rows_behind-are (suc taken) size addr end (b ∷ bs) wide is all =
     rows_behind-are taken size (addr + 1) end bs wide (omega arith) (λ i. all (suc i))
@@ -43,8 +42,7 @@ rows_behind-are zero size addr end (b ∷ bs) wide is all =
     grind (
       arith,
       common_steps,
-      rows_behind-are (size addr - 1) size (addr + 1) end bs wide (omega arith)
-          (λ i. all (suc i)),
+      rows_behind-are (size addr - 1) size (addr + 1) end bs wide (omega arith) (λ i. all (suc i)),
     )
 
 pub enumerate-split : (n addr : ℕ) (bytes : List ℕ)

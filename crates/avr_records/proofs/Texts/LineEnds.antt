@@ -30,8 +30,7 @@ cut_at zero (c ∷ text) len = refl
 cut_at (suc n) (c ∷ text) len = grind (arith, nat_tests, cut_at n text (omega (arith, len)))
 
 pub no_end : (text : List ℕ) → IsFirstByte (is_byte 10) text None → lines text ≡ text ∷ []
-no_end text none =
-    let all = take_all {A = ℕ} (length text) text (omega arith) in search (rules, one_line)
+no_end text none = let all = take_all {A = ℕ} (length text) text (omega arith) in search (rules, one_line)
 
 pub first_end : (text : List ℕ) (at : ℕ) → IsFirstByte (is_byte 10) text (Some at)
     → (lines (take at text) ≡ take at text ∷ []) × (text ≡ take at text ++ 10 ∷ drop (at + 1) text)

@@ -44,8 +44,7 @@ segment-from paragraph offset i (b ∷ c ∷ bs) addr is room =
     let next : (offset + (i + 1)) % 65536 ≡ (offset + i) % 65536 + 1 = omega (arith, room) in
     search (
       rules,
-      segment-from paragraph offset (i + 1) (c ∷ bs) (addr + 1) (omega (arith, is, next))
-          (omega (arith, room, next)),
+      segment-from paragraph offset (i + 1) (c ∷ bs) (addr + 1) (omega (arith, is, next)) (omega (arith, room, next)),
     )
 
 -- they do so within a segment too
@@ -60,15 +59,13 @@ places_from-append base offset i (x ∷ xs) ys = grind (arith, nat_tests, places
 
 -- past the end of a segment they go on at its beginning
 pub places-wrapped : (paragraph offset : ℕ) (before behind : List ℕ) → offset % 65536 + length before ≡ 65536
-    → length behind ≤ 65536
-    → places (Segment paragraph) offset (before ++ behind)
+    → length behind ≤ 65536 → places (Segment paragraph) offset (before ++ behind)
     ≡ enumerate_from (paragraph * 16 + offset % 65536) before ++ enumerate_from (paragraph * 16) behind
 places-wrapped paragraph offset before behind full short = grind (arith, nat_tests, places_from-append, segment-from)
 
 -- the same, cut at the segment's end
 pub places-wrapped-at : (paragraph offset n : ℕ) (bytes : List ℕ) → offset % 65536 + n ≡ 65536 → n ≤ length bytes
-    → length bytes ≤ 255
-    → places (Segment paragraph) offset bytes
+    → length bytes ≤ 255 → places (Segment paragraph) offset bytes
     ≡ enumerate_from (paragraph * 16 + offset % 65536) (take n bytes) ++ enumerate_from (paragraph * 16) (drop n bytes)
 places-wrapped-at paragraph offset n bytes full fits' short =
     let before = length-take-le n bytes fits' in
@@ -155,15 +152,13 @@ extends-both limit end mid xs ys result first second = search (rules, first_outs
 pub lays-span : (old new : List (Option ℕ)) (addr : ℕ) (bytes : List ℕ) (result : Result ℕ ImageFault)
     → first_outside (length old) (enumerate_from addr bytes) ≡ None
     → result ≡ (if fits addr bytes (length old) then Ok (addr + length bytes)
-    else Err (OutOfRange (max addr (length old))))
-    → OnOk result (new ≡ with_pairs old (enumerate_from addr bytes)) → new
-    ≡ with_pairs old (enumerate_from addr bytes)
+    else Err (OutOfRange (max addr (length old)))) → OnOk result (new ≡ with_pairs old (enumerate_from addr bytes))
+    → new ≡ with_pairs old (enumerate_from addr bytes)
 lays-span old new addr bytes result none is laid = grind (arith, nat_tests, first_outside-span-end)
 
 -- ---- addresses in range
 
 -- an offset of Intel HEX has 16 bits, and S-records set no base
 pub near : (kind : Kind) (base : AddressBase) (offset : ℕ) (bytes : _) → FitsKind kind (Data offset bytes)
-    → HasBase kind base
-    → StartsInRange base offset
+    → HasBase kind base → StartsInRange base offset
 near kind base offset bytes fits' has = search rules

@@ -98,8 +98,7 @@ lines-results upper end (row ∷ rows) fits all =
 
 pub rows-go_on : (upper : ℕ) (cut : List (ℕ × List ℕ)) → AllGoOn (row_results upper cut)
 rows-go_on upper [] = tt
-rows-go_on upper (row ∷ more) =
-    let high : ℕ = row.0 / 65536 in search (rules, rows-go_on high more)
+rows-go_on upper (row ∷ more) = let high : ℕ = row.0 / 65536 in search (rules, rows-go_on high more)
 
 pub rows-threaded : (upper : ℕ) (rows : List (ℕ × List ℕ))
     → threaded (Linear upper) (then_end (row_results upper rows)) ≡ flat_map places_of rows

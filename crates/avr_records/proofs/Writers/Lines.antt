@@ -82,8 +82,7 @@ open-plain (c ∷ cs) all =
     let parts = and_parts (is_plain c) (list_all is_plain cs) all in search (rules, open-plain cs parts.1)
 
 open-append : (prefix back : List ℕ) → list_all (λ c. not (is_line_end c)) prefix ≡ true
-    → list_all (λ c. not (is_line_end c)) back ≡ true
-    → list_all (λ c. not (is_line_end c)) (prefix ++ back) ≡ true
+    → list_all (λ c. not (is_line_end c)) back ≡ true → list_all (λ c. not (is_line_end c)) (prefix ++ back) ≡ true
 open-append [] back all more = more
 open-append (c ∷ cs) back all more =
     let parts = and_parts (not (is_line_end c)) (list_all (λ c. not (is_line_end c)) cs) all in

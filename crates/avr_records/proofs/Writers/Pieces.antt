@@ -70,7 +70,6 @@ wide_row x addr = grind (arith, nat_tests)
 
 -- the first record sets the upper 16 bits of the address
 pub rows-upper : (kind : Kind) (upper new addr : ℕ) (size : AddressSize) (row : List ℕ) (more : List (ℕ × List ℕ))
-    → new_upper kind upper addr ≡ Some new
-    → file_rows kind upper size ((addr, row) ∷ more)
+    → new_upper kind upper addr ≡ Some new → file_rows kind upper size ((addr, row) ∷ more)
     ≡ ihex_record 4 0 (two_bytes new) ++ file_rows kind new size ((addr, row) ∷ more)
 rows-upper kind upper new addr size row more is = search (rules, nat_tests, append_assoc)

@@ -82,9 +82,8 @@ first_fault-none size before (s ∷ prefix) on inside =
 -- Lines of data and the end record read as the image of their bytes, if all are inside. What comes after the end record
 -- doesn't matter.
 pub image_of_lines-laid : (size : ℕ) (image : List (Option ℕ)) (places : List (ℕ × ℕ)) (prefix more : List LineResult)
-    → AllGoOn prefix
-    → threaded (Linear 0) (then_end prefix) ≡ places → first_outside size places ≡ None → image_of_pairs size places
-    ≡ image → image_of_lines size (prefix ++ Ok End ∷ more) ≡ Ok (image, Ended)
+    → AllGoOn prefix → threaded (Linear 0) (then_end prefix) ≡ places → first_outside size places ≡ None
+    → image_of_pairs size places ≡ image → image_of_lines size (prefix ++ Ok End ∷ more) ≡ Ok (image, Ended)
 image_of_lines-laid size image places prefix more on follow inside_is laid_is =
     grind (arith, nat_tests, placed-threaded, stops, first_fault-none, ended)
 

@@ -96,8 +96,7 @@ text-upper kind upper new size addr place image found is =
 
 pub text-row : (kind : Kind) (upper : ℕ) (size : AddressSize) (addr place : ℕ) (row : List ℕ)
     (image : List (Option ℕ)) → first_from image addr ≡ Some place → new_upper kind upper place ≡ None
-    → row ≡ take (row_size kind place) (leading_run (drop place image))
-    → text_from kind upper size addr image
+    → row ≡ take (row_size kind place) (leading_run (drop place image)) → text_from kind upper size addr image
     ≡ row_text kind size place row ++ text_from kind upper size (place + length row) image
 text-row kind upper size addr place row image found same is = grind (arith, nat_tests, rows-walk)
 

@@ -31,10 +31,9 @@ Along P (Emit e dialog) = Along (λ emitted r. P (e ∷ emitted) r) dialog
 Along {R = R} P (Ask body answered) = (reading : Reading) → Along P (answered reading)
 
 pub along_bind : {A R : Type 0} (P : List OutputEvent → A → Type 0) (Q : List OutputEvent → R
-    → Type 0) (dialog : Dialog OutputEvent A)
-    (go_on : A → Dialog OutputEvent R)
-    → Along P dialog → ((emitted : List OutputEvent) (a : A) → P emitted a → Along (λ more r. Q (emitted ++ more) r)
-    (go_on a)) → Along Q (dialog >>= go_on)
+    → Type 0) (dialog : Dialog OutputEvent A) (go_on : A → Dialog OutputEvent R) → Along P dialog
+    → ((emitted : List OutputEvent) (a : A) → P emitted a → Along (λ more r. Q (emitted ++ more) r) (go_on a))
+    → Along Q (dialog >>= go_on)
 along_bind P Q (Done a) go_on f g = g [] a f
 along_bind P Q (Emit e dialog) go_on f g =
     along_bind (λ emitted a. P (e ∷ emitted) a) (λ emitted r. Q (e ∷ emitted) r) dialog go_on f (λ emitted a p. g (e

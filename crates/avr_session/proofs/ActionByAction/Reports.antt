@@ -30,8 +30,7 @@ reports_line old new bytes printed is counts only = search (rules, emitted_until
 
 -- a cause that stops the line after a report stops both
 emitted_then : (By : DeskState → DeskState → Cause → List ℕ
-    → Type 0) (old mid new : DeskState) (first more : List OutputEvent)
-    (result : Result (Unit {0}) DeskFault)
+    → Type 0) (old mid new : DeskState) (first more : List OutputEvent) (result : Result (Unit {0}) DeskFault)
     → ((cause : Cause) (notice : List ℕ) → PrintStops mid new cause notice → By old new cause notice)
     → ChangesRecord (after_events first) old mid × HasSameCounts old mid → OutputsOrStops PrintStops mid new more result
     → OutputsOrStops By old new (first ++ more) result
@@ -103,9 +102,8 @@ reported_some old new l result reports = some_reported old new l result reports.
 
 -- a file's fault is reported after the output so far
 pub file_stops : (By : DeskState → DeskState → Cause → List ℕ → Type 0) (old mid new : DeskState)
-    (outputs : List OutputEvent)
-    (file : List ℕ) (trouble : FileTrouble) → OutputsPrefix (FileFailed file trouble) old mid outputs
-    → HasFailedAt File old mid → CountsNeverFall old mid
+    (outputs : List OutputEvent) (file : List ℕ) (trouble : FileTrouble)
+    → OutputsPrefix (FileFailed file trouble) old mid outputs → HasFailedAt File old mid → CountsNeverFall old mid
     → ((notice : List ℕ) → FileStops old new file trouble notice → By old new (FileFailed file trouble) notice)
     → ReportsLine mid new (cause_line (FileFailed file trouble)) → OutputsPrefixAndReports By old new outputs
 file_stops By old mid new outputs file trouble prefix failed first why some = search rules

@@ -166,14 +166,12 @@ performs_as done runs serves =
 module _ (allocates more_allocates : Bool) where
   -- an action at which a session ends
   performs_last : {first : Dialog OutputEvent Standing} {L M : RunAllocationPoints} (more : Dialog OutputEvent Standing)
-      {x y : HostState}
-      {o p : Devices} (end : End) → LacksLater L x.progress [] [] M x.progress
+      {x y : HostState} {o p : Devices} (end : End) → LacksLater L x.progress [] [] M x.progress
       → PerformsOnTerms (before_fault allocates) M first x y o p (standing_after (Err end))
       → PerformsOnTerms (before_fault (allocates || more_allocates)) L (first >>=
       unless_fault more) x y o p (standing_after (Err end))
   performs_last more {o = o} {p = p} ends.Stopped lack done = search (rules, broke_part, none_failed_here)
-  performs_last more end lack done =
-      performs_as done (ran_from (came_part (unless_fault more) done.runs)) done.serves
+  performs_last more end lack done = performs_as done (ran_from (came_part (unless_fault more) done.runs)) done.serves
 
 -- ---- actions that allocate
 
@@ -220,10 +218,8 @@ does_nothing plan host o sound = nothing_performs NoFault host o sound
 
 -- the same action, by the other places that may allocate
 performs_lacking : {terms : Terms} {L M : RunAllocationPoints} {dialog : Dialog OutputEvent Standing} {x y : HostState}
-    {o p : Devices}
-    → LacksLater L x.progress [] [] M x.progress → (result : Result Standing (Unit {0}))
-    → PerformsOnTerms terms M dialog x y o p result
-    → PerformsOnTerms terms L dialog x y o p result
+    {o p : Devices} → LacksLater L x.progress [] [] M x.progress → (result : Result Standing (Unit {0}))
+    → PerformsOnTerms terms M dialog x y o p result → PerformsOnTerms terms L dialog x y o p result
 unfolding came_here
 performs_lacking lack (Ok standing) done = performs_as done done.runs done.serves
 performs_lacking {dialog = dialog} {x = x} {o = o} lack (Err stopped) done = performs_as done
@@ -258,8 +254,7 @@ does_printed plan action {b = b} outcome_output dialog line sound same calls rep
 module _ (plan : Plan) (xs ys : List Action) where
   does_both : {x y : HostState} {o p : Devices} {result : Result Standing (Unit {0})}
       → PerformsOnTerms (before_fault (list_any action_allocates xs || list_any action_allocates ys))
-      (AtAllocation plan.part plan.switches (xs ++ ys))
-      (actions_dialog plan.part plan.switches xs
+      (AtAllocation plan.part plan.switches (xs ++ ys)) (actions_dialog plan.part plan.switches xs
       >>= unless_fault (actions_dialog plan.part plan.switches ys)) x y o p result
       → DoesPlanActions plan (xs ++ ys) x y o p result
   does_both {x = x} {y = y} {o = o} {p = p} {result = result} done =
@@ -299,8 +294,7 @@ given_reported a good part (Err fault) reports stop is =
 
 -- only if bytes were read is there something to save, and they are reported without a fault
 pub read_stops_report : (part : Part) (good : List ℕ → List OutputEvent) (items : List ℕ) → reports_fault (good items)
-    ≡ false
-    → (outcome : Result (Unit {0}) HostFault) (allocates : Bool) (o : LinkState) {d e : DeskState}
+    ≡ false → (outcome : Result (Unit {0}) HostFault) (allocates : Bool) (o : LinkState) {d e : DeskState}
     {notice : Result (Unit {0}) DeskFault}
     → Reports (ReadStops outcome) d e (fault_line_or part good (result_and outcome (Ok items))) notice
     → StopsReport (before_fault allocates) o d e (fault_line_or part good (result_and outcome (Ok items)))
@@ -356,8 +350,7 @@ quietly_performs {old = old} {o = o} {p = p} d sound calls is =
 
 -- after it nothing more goes over the link
 pub quietly_over : {first : Dialog OutputEvent Standing} {L : RunAllocationPoints} {x y : HostState} {o p : Devices}
-    (standing : Standing)
-    → PerformsOnTerms reported_before L first x y o p (Ok standing)
+    (standing : Standing) → PerformsOnTerms reported_before L first x y o p (Ok standing)
     → PerformsOnTerms reported_before L (first >>= λ _. Done Over) x y o p (Ok Over)
 quietly_over {y = y} {p = p} standing done =
     performs_as done (ran_on (came_part (λ _. Done Over) done.runs) (ran_from (came_here (Done Over) y.progress p))) tt

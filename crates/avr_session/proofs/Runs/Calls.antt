@@ -277,8 +277,7 @@ module _ {A R : Type 0} (go_on : A → Dialog OutputEvent R) where
   }
 
   unfoldable pub came_part : {a : Dialog OutputEvent A} {m n : Progress} {o p : Devices} {result : A}
-      → RanWhole a m o p result n
-      → Came (point (a >>= go_on) m o) (point (go_on result) n p)
+      → RanWhole a m o p result n → Came (point (a >>= go_on) m o) (point (go_on result) n p)
   came_part f = came_of f (leads_bind go_on (leads_from f.plays))
 
   pub broke_part : {a : Dialog OutputEvent A} {m : Progress} {o p : Devices} {some all : Terms}
@@ -336,8 +335,7 @@ module _ {R : Type 0} (xs : List OutputEvent) (dialog : Dialog OutputEvent R) (m
   )
 
   pub broke_output : {By : DeskState → DeskState → Cause → List ℕ → Type 0} {terms : Terms} {L : RunAllocationPoints}
-      {d e : DeskState}
-      → StopsReport terms o d e xs By → OutputsPrefixAndReports By d e xs
+      {d e : DeskState} → StopsReport terms o d e xs By → OutputsPrefixAndReports By d e xs
       → BrokeOff (emits xs dialog) m (devices o d) (devices o e) terms L
   broke_output {terms = terms} {d = d} {e = e} why f =
       let prefix = f.prefix in

@@ -14,8 +14,7 @@ use Rattle.avr_session.specs.Runs.{Devices, start}
 use Rattle.avr_session.proofs.ActionByAction.Sequences.{session_played, session_stopped}
 
 pub session_comes : (plan : Plan) {x y : HostState} {o p : Devices} (result : Result (Unit {0}) End)
-    → x.progress ≡ start
-    → PlaysSession plan x y o p (standing_after result) → EndsWithFaultLine plan.part p.desk result
+    → x.progress ≡ start → PlaysSession plan x y o p (standing_after result) → EndsWithFaultLine plan.part p.desk result
     → ComesTo plan o p (outcome_of result)
 session_comes plan (Ok all) first done last = session_played plan NoFault first done
 session_comes plan (Err (ends.Faulty fault)) first done last = (session_played plan Faulty first done, last)

@@ -29,8 +29,7 @@ are_some part [] are = tt
 are_some part (commands ∷ steps) are = search (rules, are_some part steps are.1)
 
 pub steps_climb : (part : Part) (steps : List (List Command)) (m : Memories) (k : ℕ) (before : List ℕ) (p : Programmer)
-    (exchanges : List Exchange)
-    → IsPart part → AreSteps part steps → Settled part m p
+    (exchanges : List Exchange) → IsPart part → AreSteps part steps → Settled part m p
     → Climbs device (λ j. Settled part (memories_after_steps part j steps m)) k steps p exchanges
     (state_after device k (play steps before) p exchanges)
 steps_climb part steps m k before p exchanges sound are s = search (rules, play_climbs, are_some, all_fit)

@@ -87,8 +87,7 @@ module _ (part : Part) (sound : IsPart part) where
       ∙ (search (rules, flash_read_reply, block_length, flash_address_back)))
 
   eeprom_given : (start count : ℕ) (m : Memories) (p : Programmer) → IsBlock part Eeprom start count → FitsPart part m
-      → Ready part m p
-      → joined_reply device (load_eeprom start ∷ read_eeprom_block count ∷ []) [] p
+      → Ready part m p → joined_reply device (load_eeprom start ∷ read_eeprom_block count ∷ []) [] p
       ≡ Data (data_of_step part (load_eeprom start ∷ read_eeprom_block count ∷ []) m)
   eeprom_given start count m p is_block f s =
       let inside = is_block.inside in

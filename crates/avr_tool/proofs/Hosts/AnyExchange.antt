@@ -36,8 +36,7 @@ module _ {P : Type 0} (m : Device P) where
       (at_end : (r : R) (q : P) → After r q → During q × After' r q) where
     led : (d : Dialog E R) (k : ℕ) (p : P) (exchanges : List Exchange)
         → HoldsFrom (over_any_exchange m) (λ bytes q. During q) MayEmit After d p
-        → During (state_after m k d p exchanges).programmer
-        × ((r : R) → (state_after m k d p exchanges).dialog ≡ Done r
+        → During (state_after m k d p exchanges).programmer × ((r : R) → (state_after m k d p exchanges).dialog ≡ Done r
         → After' r (state_after m k d p exchanges).programmer)
     led (Done a) k p exchanges h = search (rules, done_is)
     led (Emit e d) k p exchanges h = led d k p exchanges h.1

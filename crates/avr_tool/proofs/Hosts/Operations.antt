@@ -42,8 +42,7 @@ module _ (part : Part) (sound : IsPart part) where
   -- After a run of steps the memories are those after all of them, with what they give; after a fault, those after some
   -- first ones.
   stepped : (commands : List Command) (steps : List (List Command)) (m : Memories) (before bytes : List ℕ)
-      (o : StepOutcome)
-      (q : Programmer) → bytes ≡ data_of_step part commands m
+      (o : StepOutcome) (q : Programmer) → bytes ≡ data_of_step part commands m
       → AfterSteps part steps (memories_after_step part commands m) (before ++ bytes) o q
       → AfterSteps part (commands ∷ steps) m before o q
   stepped commands steps m before bytes o q is a = search (rules, append_assoc, one_more)

@@ -69,8 +69,7 @@ module _ (True : OutputEvent → Programmer → Type 0) where
   pub prints_reported : {A : Type 0} {During : Spot → Type 0} {After : Result A HostFault → Spot → Type 0}
       {Now : Moment} {Then : End Standing} {d : Dialog ⊥ (Result A HostFault)} {z : Spot}
       (outcome_output : Result A HostFault → List OutputEvent) → Runs device During After d z
-      → ((y : Spot) → During y → Now [] y)
-      → ((r : Result A HostFault) (y : Spot) → After r y
+      → ((y : Spot) → During y → Now [] y) → ((r : Result A HostFault) (y : Spot) → After r y
       → AllTrue True (outcome_output r) y.0 × Then (standing r) (outcome_output r) y)
       → Prints Now Then (reported d outcome_output) z
   prints_reported {A = A} {During = During} {After = After} {Now = Now} {Then = Then} {d = d} {z = z} outcome_output l f
@@ -100,8 +99,7 @@ module _ (True : OutputEvent → Programmer → Type 0) where
       {next : A → Dialog OutputEvent B} {d : Dialog OutputEvent A} {z : Spot}
       → ((emitted : List OutputEvent) (y : Spot) → Now emitted y → Now' emitted y) → Prints Now Between d z
       → ((a : A) (emitted : List OutputEvent) (y : Spot) → Between a emitted y
-      → Prints (λ x. Now' (emitted ++ x)) (λ b x. After b (emitted ++ x)) (next a) y)
-      → Prints Now' After (d >>= next) z
+      → Prints (λ x. Now' (emitted ++ x)) (λ b x. After b (emitted ++ x)) (next a) y) → Prints Now' After (d >>= next) z
   prints_then {Now = Now} {Now' = Now'} {Between = Between} {After = After} {next = next} {d = d} {z = z} f l more =
       record { holds = on_bind Now Now' Between After next f more d z l.holds }
 

@@ -60,9 +60,8 @@ frames_sent (Frame f ∷ events) whole = search (rules, frame_first, frames_sent
 frames_sent (Emitted e ∷ events) whole = frames_sent events whole
 
 pub due_at : {E R : Type 0} (d : Dialog E R) (n : ℕ) (tape : Tape) (bytes : List ℕ) (before after : Transcript)
-    (items : Tape)
-    → InTurnFrom d n tape bytes (before ++ Got items ∷ after) → IsDueToListen d n (tape ++ heard before) (bytes
-    ++ sent before)
+    (items : Tape) → InTurnFrom d n tape bytes (before ++ Got items ∷ after)
+    → IsDueToListen d n (tape ++ heard before) (bytes ++ sent before)
 due_at d n tape bytes [] after items half_duplex = search (rules, append-nil)
 due_at d n tape bytes (Sent more ∷ before) after items half_duplex =
     search (rules, append_assoc, due_at d n tape (bytes ++ more) before after items half_duplex)

@@ -35,9 +35,7 @@ pub record GoesOver {E R P : Type 0} (m : Device P) (d : Dialog E R) (n : ℕ) (
 module _ {P : Type 0} (m : Device P) (answers : RepliesFitFrames m) where
   -- a command whose reply came, by its own exchange
   answered : {E R : Type 0} (bytes : List ℕ) (go_on : Reading → Dialog E R) (n : ℕ) (w : Wire P) (sent : List (List ℕ))
-      (exchanges : List Exchange)
-      → answer n (tape_of m (frame n bytes ∷ sent) w)
-      ≡ Some (
+      (exchanges : List Exchange) → answer n (tape_of m (frame n bytes ∷ sent) w) ≡ Some (
         reading_of_exchange (exchange_of_fate (first_fate w.fates)) (m.answer bytes w.programmer),
         tape_of m sent (wire_after_frame m (frame n bytes) w),
       )
@@ -56,8 +54,7 @@ module _ {P : Type 0} (m : Device P) (answers : RepliesFitFrames m) where
   by_fates bytes go_on n w f sent p fates goes = search rules
 
   pub over_wire : {E R : Type 0} (d : Dialog E R) (n : ℕ) (w : Wire P) (sent more : List (List ℕ)) → SendsValidBodies d
-      → NoneHasNumber n w.late → AreLawful w.fates
-      → frames_in (played d n (tape_of m sent w)).events ≡ sent ++ more
+      → NoneHasNumber n w.late → AreLawful w.fates → frames_in (played d n (tape_of m sent w)).events ≡ sent ++ more
       → GoesOver m d n w sent w.programmer (exchanges_of_fates w.fates)
   over_wire (Done r) n w [] more asks clear lawful e = record {
     programmer = refl;

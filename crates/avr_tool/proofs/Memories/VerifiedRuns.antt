@@ -75,8 +75,7 @@ module _ (plan : Plan) (before after : Memories) (all : All (IsFitted plan.part)
         images = λ mem. (memory_left mem).shows;
         rest_of_flash = λ addr l none. (memory_left Flash).rest addr none
             ∙ flash_erased part due before addr (omega (arith, l, fits.flash));
-        rest_of_eeprom = λ addr l none. (memory_left Eeprom).rest addr none
-            ∙ (search (rules, eeprom_blanked));
+        rest_of_eeprom = λ addr l none. (memory_left Eeprom).rest addr none ∙ (search (rules, eeprom_blanked));
         lfuse = λ none. (memory_left Lfuse).rest 0 none ∙ fuse_kept part (λ m. m.lfuse) due before refl;
         hfuse = λ none. (memory_left Hfuse).rest 0 none ∙ fuse_kept part (λ m. m.hfuse) due before refl;
         efuse = λ none. (memory_left Efuse).rest 0 none ∙ fuse_kept part (λ m. m.efuse) due before refl;

@@ -158,8 +158,7 @@ module _ (part : Part) (s : Switches) where
 
     abbrev pub ActionsTrue : List Action → Memories → Type 0
     ActionsTrue [] m = ⊤
-    ActionsTrue (action ∷ actions) m =
-        ActionTrue action m × ActionsTrue actions (effects part (action_items action) m)
+    ActionsTrue (action ∷ actions) m = ActionTrue action m × ActionsTrue actions (effects part (action_items action) m)
 
 module _ (part : Part) (sound : IsPart part) (s : Switches) (True : OutputEvent → Programmer → Type 0)
     (fault_true : (fault : StepFault) (q : Programmer) → AllTrue True (fault_output part fault) q)

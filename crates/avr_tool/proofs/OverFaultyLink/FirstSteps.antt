@@ -82,8 +82,7 @@ module _ (part : Part) where
   all_changed sound items m fits f = changed_all part (steps_of_items part items) m ∙ items_do part sound items m fits f
 
   pub rests_all : (sound : IsPart part) (items : List Item) (m : Memories) (q : Programmer) → ItemsFit part items
-      → FitsPart part m → HasMemories part (effects part items m) q
-      → Rests part (steps_of_items part items) m q
+      → FitsPart part m → HasMemories part (effects part items m) q → Rests part (steps_of_items part items) m q
   rests_all sound items m q fits f idle = search (rules, all_changed sound items m fits f)
 
   -- all of the first steps and some of more

@@ -151,8 +151,7 @@ module _ (plan : Plan) (sound : IsPart plan.part) (fitted : All (IsFitted plan.p
   ending_prints Over emitted y after = search (rules, with_fault Over emitted y y refl refl after refl)
 
   pub session_prints : ActionTrue part s True OpenSession m → ActionsTrue part s True (work plan) m → (z : Spot)
-      → Comes part s At Fails OpenSession m z
-      → Prints True (AtMoment plan m) (AtEnd plan m Fails) (session plan) z
+      → Comes part s At Fails OpenSession m z → Prints True (AtMoment plan m) (AtEnd plan m Fails) (session plan) z
   unfolding session
   session_prints opening_true work_true z opened =
       prints_then True (λ x y now. now)

@@ -116,10 +116,8 @@ module _ (part : Part) (sound : IsPart part) where
       → Changed part (xs ++ ys) m j q
   changed_first xs ys m j q s = search (rules, size_on, all_on, changed_prefix)
 
-  changed_next : (xs ys : List Item) (m : Memories) (made j : ℕ) (q : Programmer) → ItemsFit part xs
-      → FitsPart part m
-      → made ≡ length (steps_of_items part xs)
-      → Changed part ys (effects part xs m) j q
+  changed_next : (xs ys : List Item) (m : Memories) (made j : ℕ) (q : Programmer) → ItemsFit part xs → FitsPart part m
+      → made ≡ length (steps_of_items part xs) → Changed part ys (effects part xs m) j q
       → Changed part (xs ++ ys) m (made + j) q
   changed_next xs ys m made j q fits f whole s =
       let size = size_on xs ys in
@@ -185,8 +183,7 @@ module _ (part : Part) (sound : IsPart part) where
         (λ k j changed. changed_first xs ys m j (state_after device k d p exchanges).programmer changed) first.tally
 
     tally : Tallies device (d >>= unless_fault next) (then_count device d made after) At p exchanges
-    tally = tallies_bind device d (unless_fault next) made after At p exchanges among
-        goes_on
+    tally = tallies_bind device d (unless_fault next) made after At p exchanges among goes_on
 
     abbrev Ends : ℕ → Dialog OutputEvent Standing → Type 0
     Ends k x = let s = state_after device k d p exchanges in

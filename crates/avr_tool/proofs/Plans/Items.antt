@@ -32,8 +32,7 @@ pub begins : (plan : Plan) → actions_items (erase_actions plan.switches plan.t
 begins plan = search (rules, tasks_write)
 
 pub items_are : (plan : Plan) → items plan ≡ erase_if (has_erase (items plan)) ++ writes plan
-items_are plan =
-    search (rules, items_on, begins)
+items_are plan = search (rules, items_on, begins)
 
 -- ---- by the tasks
 
@@ -59,5 +58,4 @@ module _ (part : Part) where
 pub tasks_agree : (plan : Plan) (m : Memories) → ComparisonsAgree plan m
     → EachComparisonAgrees plan.part (tasks_actions plan.switches plan.tasks)
     (effects plan.part (erase_if (has_erase (items plan))) m)
-tasks_agree plan m agree =
-    search (rules, begins, agree_behind)
+tasks_agree plan m agree = search (rules, begins, agree_behind)

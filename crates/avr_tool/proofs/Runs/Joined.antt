@@ -106,8 +106,7 @@ session_is_run settings plan x between y status made runs =
     either (inr broke) = inr broke
 
 pub is_run : (settings : Settings) (x : Devices) (between : DeskState) (y : Devices) (status : ℕ)
-    → RunsSettings settings x between y status
-    → IsRun settings x y status ⊎ IsStopped settings x y status
+    → RunsSettings settings x between y status → IsRun settings x y status ⊎ IsStopped settings x y status
 is_run settings x between y status (inl runs) = elim runs.runs [
   | inl whole ↦ inl (ran_whole settings runs.plan x y between status runs.made whole)
   | inr broke ↦ inr (

@@ -67,8 +67,7 @@ module _ (part : Part) (sound : IsPart part) where
     brings_one commands m is f = search (rules, sure, step_ready, step_short, data_either)
 
     pub brings_play : (steps : List (List Command)) (m : Memories) (before : List ℕ) → AreSteps part steps
-        → FitsPart part m
-        → Brings Such (Ready part m) (play steps before) (Ok (before ++ data_of_steps part steps m))
+        → FitsPart part m → Brings Such (Ready part m) (play steps before) (Ok (before ++ data_of_steps part steps m))
         (Ready part (memories_after_steps part (length steps) steps m))
     unfolding play
     brings_play [] m before are f = λ z ready such. done ((ap (λ x. Ok x) (sym (append-nil before)), ready), such)

@@ -48,8 +48,7 @@ module _ {P : Type 0} (m : Device P) where
         → Rest (suc (length steps)) t (suc (steps_completed m steps left (state_after m (suc k) (step commands) p
         exchanges).programmer (state_after m (suc k) (step commands) p exchanges).exchanges))
         (steps_completed m (commands ∷ steps) k p exchanges)
-    behind zero k steps commands p exchanges bytes t e n c =
-        search rules
+    behind zero k steps commands p exchanges bytes t e n c = search rules
     behind (suc left) k steps commands p exchanges bytes t e n c =
         search (rules, along_before k left (step commands) p exchanges (Ok bytes) e n)
 
@@ -74,8 +73,7 @@ module _ {P : Type 0} (m : Device P) where
     climbs_from k steps commands p exchanges go_on d e stepped rest = search rules
 
     none_asked : (command : Command) (commands : List Command) (steps : List (List Command)) (before : List ℕ) (p : P)
-        (exchanges : List Exchange) → At 0 p
-        → Climbs m At 0 ((command ∷ commands) ∷ steps) p exchanges
+        (exchanges : List Exchange) → At 0 p → Climbs m At 0 ((command ∷ commands) ∷ steps) p exchanges
         (state_after m 0 (play ((command ∷ commands) ∷ steps) before) p exchanges)
     unfolding play attempts_or_fault attempt exchange
     none_asked command commands steps before p exchanges at = search rules

@@ -178,8 +178,7 @@ module _ (part : Part) (sound : IsPart part) where
       ))
   read_are_steps Eeprom = each_step part (read_step part Eeprom) 0 (read_count part Eeprom)
       (λ i a l. (
-        ReadsEeprom (i * 256) (block_size part.eeprom_size (i * 256)) (block_is Eeprom i (omega (arith, l)))
-            refl,
+        ReadsEeprom (i * 256) (block_size part.eeprom_size (i * 256)) (block_is Eeprom i (omega (arith, l))) refl,
         tt,
       ))
   read_are_steps Lfuse = (ReadsFuse Low refl, tt)

@@ -171,8 +171,7 @@ module _ (part : Part) (sound : IsPart part) where
       let few = is_block.few in
       as_written _ commands e (two_idles part (flash_address part start) (read_flash_block count)
       (address_fits part sound start (omega arith)) (flash_read_fails count (omega arith)))
-  idles commands (ReadsEeprom start count is_block e) =
-      search (rules, as_written, two_idles, eeprom_read_fails)
+  idles commands (ReadsEeprom start count is_block e) = search (rules, as_written, two_idles, eeprom_read_fails)
   idles commands (ReadsFuse f e) = as_written _ commands e (one_idles part (read_fuse f) (fuse_read_fails f))
   idles commands (ReadsLock e) = as_written _ commands e (one_idles part read_lock lock_read_fails)
   idles commands (ReadsSignature place few e) =
@@ -222,6 +221,5 @@ module _ (part : Part) (sound : IsPart part) where
   all_fit [] m are = tt
   all_fit (commands ∷ steps) m are = (
     step_fits commands m are.0,
-    all_fit steps (memories_after_step part commands m)
-        are.1,
+    all_fit steps (memories_after_step part commands m) are.1,
   )

@@ -51,8 +51,7 @@ module _ (part : Part) (sound : IsPart part) (image : Image) where
 
   runs_from : (next : ℕ) (o : Option ℕ) (m : Memories) (old : List ℕ) → are_locked m ≡ false
       → length image ≤ part.eeprom_size → (next % part.eeprom_page ≡ 0) ⊎ (byte_at image next ≡ None)
-      → first_from image next ≡ o
-      → ((end : ℕ) (mid : List ℕ) → next < end → next < part.eeprom_size
+      → first_from image next ≡ o → ((end : ℕ) (mid : List ℕ) → next < end → next < part.eeprom_size
       → (end % part.eeprom_page ≡ 0) ⊎ (byte_at image end ≡ None) → From end m mid) → From next m old
   runs_from next None m old free fits border e others =
       let gap = none_held image next e in
@@ -78,8 +77,7 @@ module _ (part : Part) (sound : IsPart part) (image : Image) where
       (λ mid same. others end mid found.longer (omega (arith, first.after, first.within, fits)) found.border)
 
   runs_free : (fuel next : ℕ) (m : Memories) (old : List ℕ) → are_locked m ≡ false → length image ≤ part.eeprom_size
-      → part.eeprom_size ≤ next + fuel
-      → (next % part.eeprom_page ≡ 0) ⊎ (byte_at image next ≡ None) → From next m old
+      → part.eeprom_size ≤ next + fuel → (next % part.eeprom_page ≡ 0) ⊎ (byte_at image next ≡ None) → From next m old
   runs_free zero next m old free fits enough border = search (rules, runs_from)
   runs_free (suc fuel) next m old free fits enough border =
       runs_from next (first_from image next) m old free fits border refl

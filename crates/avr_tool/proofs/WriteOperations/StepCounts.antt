@@ -18,8 +18,7 @@ abbrev AreWriteOperations : List (List Command) → Type 0
 AreWriteOperations steps = Each IsWriteOperation steps
 
 one_more : (part : Part) (items others : List Item) (steps : List (List Command)) (count : ℕ) (m : Memories)
-    → length items ≡ 1
-    → ((n : Memories) → memories_after_steps part count steps n ≡ effects part (take count others) n)
+    → length items ≡ 1 → ((n : Memories) → memories_after_steps part count steps n ≡ effects part (take count others) n)
     → memories_after_steps part count steps (effects part items m) ≡ effects part (take (suc count) (items ++ others)) m
 one_more part [] others steps count m e rest = absurd (omega arith)
 one_more part items others steps count m e rest = grind (arith, common_steps)
@@ -39,8 +38,7 @@ either_are_write_operations : (b : Bool) (x : List (List Command)) → AreWriteO
 either_are_write_operations b x f = search rules
 
 image_write_operations : (part : Part) (mem : Mem) (image : Image) → AreWriteOperations (write_steps part mem image)
-image_write_operations part Flash image =
-    search (rules, each_of, either_are_write_operations)
+image_write_operations part Flash image = search (rules, each_of, either_are_write_operations)
 image_write_operations part mem image = search (rules, each_of, either_are_write_operations)
 
 pub all_are_write_operations : (part : Part) (items : List Item) → AreWriteOperations (steps_of_items part items)

@@ -133,6 +133,5 @@ module _ (part : Part) where
     step_ready commands m (ReadsFuse f e) = by_commands _ commands m e (fuse_read_fits f m)
     step_ready commands m (ReadsLock e) = by_commands _ commands m e
         (quiet read_lock m (λ p s. subst (Ready part m) (sym (lock_read_after p s.mode)) s))
-    step_ready commands m (ReadsSignature place few e) =
-        by_commands _ commands m e (search (rules, quiet))
+    step_ready commands m (ReadsSignature place few e) = by_commands _ commands m e (search (rules, quiet))
     step_ready commands m (ReadsCalibration e) = grind (arith, common_steps, quiet, calibration_read_after)

@@ -27,18 +27,16 @@ module _ {P : Type 0} (m : Device P) where
 
   -- a step of one command
   pub one_fits : (c : Command) (Before After : P → Type 0) → ((p : P) → Before p → After (m.after (body c) p))
-      → ((p : P) → After p → After (m.after (body c) p))
-      → ((p : P) → Before p → Before (m.reset p)) → ((p : P) → After p → After (m.reset p))
-      → IsRepeatable m (c ∷ []) Before After
+      → ((p : P) → After p → After (m.after (body c) p)) → ((p : P) → Before p → Before (m.reset p))
+      → ((p : P) → After p → After (m.reset p)) → IsRepeatable m (c ∷ []) Before After
   one_fits c Before After does again restart_keeps restart_keeps_after = search (rules, executed_none)
 
   -- a step of two commands
   pub two_fits : (c d : Command) (Before After : P → Type 0) → ((p : P) → Before p → Before (m.after (body c) p))
       → ((p : P) → After p → After (m.after (body c) p))
       → ((p : P) → Before p → After (m.after (body d) (m.after (body c) p)))
-      → ((p : P) → After p → After (m.after (body d) (m.after (body c) p)))
-      → ((p : P) → Before p → Before (m.reset p)) → ((p : P) → After p → After (m.reset p))
-      → IsRepeatable m (c ∷ d ∷ []) Before After
+      → ((p : P) → After p → After (m.after (body d) (m.after (body c) p))) → ((p : P) → Before p → Before (m.reset p))
+      → ((p : P) → After p → After (m.reset p)) → IsRepeatable m (c ∷ d ∷ []) Before After
   two_fits c d Before After first first_again does again restart_keeps restart_keeps_after =
       search (rules, prefixes, agains)
     where

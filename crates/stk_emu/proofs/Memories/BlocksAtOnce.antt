@@ -47,8 +47,7 @@ all_loads wide a i d (b ∷ bs) s =
 
 -- the block was loaded, and the extended address of its last word is sent
 pub block_is_loads : (wide : Bool) (cmd a last : ℕ) (bytes : List ℕ) (s loaded new : chip.ChipState) (done : Bool)
-    → cmd ≡ 0x40 → 0 < length bytes
-    → last ≡ word_at a (length bytes - 1)
+    → cmd ≡ 0x40 → 0 < length bytes → last ≡ word_at a (length bytes - 1)
     → (done, loaded) ≡ load_block (a % 256) bytes s → done ≡ true → new ≡ after_instructions (extension wide last)
     loaded → new ≡ after_instructions (flash_loads wide cmd a 0 bytes) s
 block_is_loads wide cmd a last [] s loaded new done c some l answer is ext = absurd (omega arith)
@@ -67,8 +66,7 @@ all_looks wide a i (suc n) s right few inside =
     search (rules, look_byte, offset_at, look_by, all_looks wide a (suc i) n s right few (omega arith))
 
 looks_again : (wide : Bool) (cmd a n : ℕ) (s new : chip.ChipState) → a < 2147483648 → 0 < n
-    → new ≡ after_instructions (extension wide a) s
-    → flash_reads wide cmd a 0 n new ≡ flash_reads wide cmd a 0 n s
+    → new ≡ after_instructions (extension wide a) s → flash_reads wide cmd a 0 n new ≡ flash_reads wide cmd a 0 n s
 looks_again wide cmd a n s new few some ext = search rules
 
 in_flash : (test : Bool) (bytes whole : List ℕ) → Some bytes ≡ cond test (Some whole) None
@@ -76,9 +74,8 @@ in_flash : (test : Bool) (bytes whole : List ℕ) → Some bytes ≡ cond test (
 in_flash test bytes whole e = search rules
 
 pub block_is_looks : (wide : Bool) (cmd a word n : ℕ) (bytes : List ℕ) (s new : chip.ChipState) → cmd ≡ 0x20
-    → a < 2147483648 → 0 < n → word ≡ a % 65536
-    → new ≡ after_instructions (extension wide a) s → Some bytes ≡ flash_block word n new
-    → flash_reads wide cmd a 0 n s ≡ (bytes, new)
+    → a < 2147483648 → 0 < n → word ≡ a % 65536 → new ≡ after_instructions (extension wide a) s
+    → Some bytes ≡ flash_block word n new → flash_reads wide cmd a 0 n s ≡ (bytes, new)
 block_is_looks wide cmd a word n bytes s new c few some w ext given =
     let got = in_flash (is_in_flash word n new) bytes (read_one_by_one word 0 n new) given in
     let fits : word * 2 + n ≤ 131072 = search rules in

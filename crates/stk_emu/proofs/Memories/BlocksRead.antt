@@ -14,12 +14,11 @@ pub look_by : (x : List ℕ) (s : chip.ChipState) {got : List ℕ × chip.ChipSt
     → read_then x s more ≡ (slice_index got.0 3 ∷ (more got.1).0, (more got.1).1)
 look_by x s more e = ap (λ (z : List ℕ × chip.ChipState). (slice_index z.0 3 ∷ (more z.1).0, (more z.1).1)) e
 
-pub look_byte : (i h lo : ℕ) (s : chip.ChipState) → chip.spi_of (for_half 0x20 i ∷ h ∷ lo ∷ 0 ∷ []) s
-    ≡ (
-      0 ∷ for_half 0x20 i ∷ h ∷ get_or s.flash
-          ((s.extended * 65536 + (h * 256 + lo)) % (s.part.flash_size / 2) * 2 + i % 2) 0 ∷ [],
-      s,
-    )
+pub look_byte : (i h lo : ℕ) (s : chip.ChipState) → chip.spi_of (for_half 0x20 i ∷ h ∷ lo ∷ 0 ∷ []) s ≡ (
+  0 ∷ for_half 0x20 i ∷ h ∷ get_or s.flash
+      ((s.extended * 65536 + (h * 256 + lo)) % (s.part.flash_size / 2) * 2 + i % 2) 0 ∷ [],
+  s,
+)
 look_byte i h lo s = search rules
 
 -- the bytes of a block, and the chip with some extended address
@@ -31,8 +30,7 @@ pub record BytesAndChip (wide : Bool) (j n : ℕ) (s : chip.ChipState) (looked :
 
 -- the place of an address's byte
 flash_place : (wide : Bool) (a i size : ℕ) (s : chip.ChipState) → s.part.flash_size ≡ size → a + i / 2 < 2147483648
-    → a + i / 2 < 16777216 → a + i / 2 < size / 2
-    → (wide ≡ false → (s.extended ≡ 0) × (a + i / 2 < 65536))
+    → a + i / 2 < 16777216 → a + i / 2 < size / 2 → (wide ≡ false → (s.extended ≡ 0) × (a + i / 2 < 65536))
     → (cond wide (word_at a i / 65536 % 256) s.extended * 65536 + (high (word_at a i) * 256 + low (word_at a i))) %
     (s.part.flash_size / 2) * 2 + i % 2 ≡ a * 2 + i
 flash_place wide a i size s is few low_enough inside narrow = search (rules, mod-eq_of_lt)

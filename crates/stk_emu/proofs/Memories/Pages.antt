@@ -48,8 +48,7 @@ pub extended_is : (wide : Bool) (a : ℕ) (s : chip.ChipState)
     → after_instructions (extension wide a) s ≡ record s { extended = cond wide (a / 65536 % 256) s.extended }
 extended_is wide a s = search rules
 
-pub load_byte : (i h lo d : ℕ) (s : chip.ChipState)
-    → (chip.spi_of (for_half 0x40 i ∷ h ∷ lo ∷ d ∷ []) s).1
+pub load_byte : (i h lo d : ℕ) (s : chip.ChipState) → (chip.spi_of (for_half 0x40 i ∷ h ∷ lo ∷ d ∷ []) s).1
     ≡ record s { flash_buffer = set s.flash_buffer (lo % (s.part.flash_page / 2) * 2 + i % 2) d }
 load_byte i h lo d s = search rules
 
@@ -98,8 +97,7 @@ word_whole wide s w few n = search rules
 -- the page is written at the address of its low word
 flash_written : (wide : Bool) (s : chip.ChipState) (a start size page : ℕ) → s.part.flash_page ≡ page
     → s.part.flash_size ≡ size → a < 16777216 → a < size / 2 → (wide ≡ false → (s.extended ≡ 0) × (a < 65536))
-    → a * 2 / page * page ≡ start
-    → after_instructions (flash_writes wide 0x4C a true) s ≡ record s {
+    → a * 2 / page * page ≡ start → after_instructions (flash_writes wide 0x4C a true) s ≡ record s {
       flash = cond (chip.is_locked s) s.flash (map_indexed (byte_and_page start s.flash_buffer) s.flash);
       flash_buffer = blank s.flash_buffer;
       extended = cond wide (a / 65536 % 256) s.extended;

@@ -43,8 +43,7 @@ eeprom_loaded a i off page (d ∷ ds) s e each =
       rules,
       eeprom_loaded a (suc i) (suc off) page ds (record s {
         eeprom_buffer = set s.eeprom_buffer off (Some d);
-      }) e (λ k l. ap (λ j. byte_address a j % 256 % page) (omega arith) ∙
-          (each (suc k) (omega arith) ∙ omega arith)),
+      }) e (λ k l. ap (λ j. byte_address a j % 256 % page) (omega arith) ∙ (each (suc k) (omega arith) ∙ omega arith)),
     )
 
 module _ (part : Part) (sound : IsPart part) where

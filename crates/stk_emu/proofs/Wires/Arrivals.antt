@@ -64,8 +64,7 @@ pub found_frame : (n : ℕ) (bytes : List ℕ) → IsFrameBody bytes
 found_frame n bytes b = grind (arith, common_steps)
 
 reads_frame : (n : ℕ) (prefix bytes : List ℕ) (more : Tape) → Skipped n prefix → length prefix ≤ 3 * LARGEST_FRAME
-    → IsFrameBody bytes
-    → answer n ((on_tape prefix ++ on_tape (frame n bytes)) ++ more) ≡ Some (Answered bytes, more)
+    → IsFrameBody bytes → answer n ((on_tape prefix ++ on_tape (frame n bytes)) ++ more) ≡ Some (Answered bytes, more)
 reads_frame n prefix bytes more skipped short b =
     let found : first_answer n (cut (prefix ++ frame n bytes)) ≡ Some (bytes, length (prefix ++ frame n bytes)) =
     rw (skipped.first (frame n bytes), found_frame n bytes b, length-append prefix (frame n bytes)) refl in
@@ -75,8 +74,7 @@ reads_frame n prefix bytes more skipped short b =
     ∙ answer_found n (prefix ++ frame n bytes) more bytes found few
 
 reads_silence : (n : ℕ) (prefix noise : List ℕ) (more : Tape) → Skipped n prefix → length prefix ≤ 3 * LARGEST_FRAME
-    → IsLawful noise
-    → answer n ((on_tape prefix ++ (on_tape noise ++ Silence ∷ [])) ++ more) ≡ Some (Silent, more)
+    → IsLawful noise → answer n ((on_tape prefix ++ (on_tape noise ++ Silence ∷ [])) ++ more) ≡ Some (Silent, more)
 reads_silence n prefix noise more skipped short lawful =
     let none : first_answer n (cut (prefix ++ noise)) ≡ None =
     skipped.first noise ∙ ap (past_skipped (length prefix)) (none_good n (cut noise) lawful.no_frame) in

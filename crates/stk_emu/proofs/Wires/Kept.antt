@@ -39,7 +39,6 @@ pub keeps_receiving : (old : WiredState) (items : Tape) (p : Programmer) (fates 
 keeps_receiving old items p fates next keeps = search (rules, sent_append, heard_append, append_assoc, take-append-drop)
 
 pub heard_state : (w : WiredState) (transcript : Transcript) (waits items : Tape)
-    → transcript ≡ w.transcript ++ Got items ∷ []
-    → waits ≡ drop (length items) w.waits
+    → transcript ≡ w.transcript ++ Got items ∷ [] → waits ≡ drop (length items) w.waits
     → record w { transcript = transcript; waits = waits } ≡ after_receiving items w
 heard_state w transcript waits items t a = search rules

@@ -43,8 +43,7 @@ noise_next old new noise at used event part is_reported bad stands none =
 
 pub good_next : (old new noise : List ℕ) (at used : ℕ)
     → Fed old (take used (take (length noise - at) (drop at noise))) new (new ∷ []) → is_good new ≡ true
-    → MayHaveBeenFed old (take at noise) → filter is_good (cut (take at noise)) ≡ []
-    → filter is_good (cut noise) ≢ []
+    → MayHaveBeenFed old (take at noise) → filter is_good (cut (take at noise)) ≡ [] → filter is_good (cut noise) ≢ []
 good_next old new noise at used part good stands none e =
     let prefix = take at noise ++ take used (drop at noise) in
     let here : filter is_good (cut prefix) ≡ new ∷ [] =

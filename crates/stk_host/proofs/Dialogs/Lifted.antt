@@ -46,8 +46,7 @@ raised_append (Frame bytes ∷ x) y = ap (λ es. Frame bytes ∷ es) (raised_app
 raised_append (Emitted e ∷ x) y = absurd e
 
 in_turn_lifted : {R : Type 0} (E : Type 0) (dialog : Dialog ⊥ R) (m : Progress) (transcript : Transcript)
-    → InTurn dialog m transcript
-    → InTurn {E = E} (lifted dialog) m transcript
+    → InTurn dialog m transcript → InTurn {E = E} (lifted dialog) m transcript
 in_turn_lifted E dialog m transcript f = search (rules, in_turn_after, played_lifted, bytes_raised)
 
 pub plays_lifted : {E R : Type 0} {dialog : Dialog ⊥ R} {m n : Progress} {transcript : Transcript}

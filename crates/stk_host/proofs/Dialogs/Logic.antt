@@ -122,8 +122,7 @@ module _ {S M : Type 0} (w : World S M) (Asks : List ℕ → S → Type 0) where
 
   -- a fault keeps its condition, and with data the next dialog goes on
   pub on_data : {Then : List ℕ → S → Type 0} {After : StepOutcome → S → Type 0} (go_on : List ℕ → Dialog ⊥ StepOutcome)
-      → ((bytes : List ℕ) (t : S) → Then bytes t → Calls After (go_on bytes) t)
-      → (outcome : StepOutcome) (t : S) → OnOutcome Then After outcome t → Calls After (unless_step_fault go_on outcome)
-      t
+      → ((bytes : List ℕ) (t : S) → Then bytes t → Calls After (go_on bytes) t) → (outcome : StepOutcome) (t : S)
+      → OnOutcome Then After outcome t → Calls After (unless_step_fault go_on outcome) t
   on_data go_on each (Ok bytes) t x = each bytes t x
   on_data go_on each (Err fault) t x = done x

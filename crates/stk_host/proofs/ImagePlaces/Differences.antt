@@ -26,8 +26,7 @@ held_as run = map (λ byte. Some byte) run
 -- ---- a run
 
 pub run_goes_on : (addr i : ℕ) (run found : List ℕ) → i < length run → i < length found
-    → (get_or found i 0 == get_or run i 0) ≡ true
-    → difference_from (addr + i) (held_as (drop i run)) (drop i found)
+    → (get_or found i 0 == get_or run i 0) ≡ true → difference_from (addr + i) (held_as (drop i run)) (drop i found)
     ≡ difference_from (addr + (i + 1)) (held_as (drop (i + 1) run)) (drop (i + 1) found)
 run_goes_on addr i run found within there same = search (rules, drop_at)
 
@@ -94,8 +93,7 @@ pub runs_end : (size : ℕ) (image : List (Option ℕ)) → size ≡ length imag
 runs_end size image is = rw is (all_end (length image) (runs 0 image) (runs_inside image))
 
 pub passes_run : (left more : List (ℕ × List ℕ)) (addr : ℕ) (run bytes : List ℕ) → left ≡ (addr, run) ∷ more
-    → difference_from addr (held_as run) (drop addr bytes) ≡ None
-    → among left bytes ≡ among more bytes
+    → difference_from addr (held_as run) (drop addr bytes) ≡ None → among left bytes ≡ among more bytes
 passes_run left more addr run bytes is none = search rules
 
 pub ends_behind : (size : ℕ) (left more : List (ℕ × List ℕ)) (run : ℕ × List ℕ) → left ≡ run ∷ more → EndBy size left
@@ -103,9 +101,8 @@ pub ends_behind : (size : ℕ) (left more : List (ℕ × List ℕ)) (run : ℕ �
 ends_behind size left more run is ends = let all : EndBy size (run ∷ more) = rw is at ends in all.1
 
 pub error_differs : (mem : Mem) (left more : List (ℕ × List ℕ)) (addr : ℕ) (run bytes : List ℕ) (r : Result ⊤ HostFault)
-    (e : HostFault)
-    → left ≡ (addr, run) ∷ more → r ≡ differs mem (difference_from addr (held_as run) (drop addr bytes)) → r ≡ Err e
-    → r ≡ differs mem (among left bytes)
+    (e : HostFault) → left ≡ (addr, run) ∷ more → r ≡ differs mem (difference_from addr (held_as run) (drop addr bytes))
+    → r ≡ Err e → r ≡ differs mem (among left bytes)
 error_differs mem left more addr run bytes r e left_is is err = search rules
 
 pub whole_is : (image : List (Option ℕ)) (bytes : List ℕ) (size : ℕ) → size ≡ length image → length image ≤ length bytes

@@ -79,9 +79,8 @@ inside_page : (page number addr : ℕ) → 0 < page → number * page < addr →
 inside_page page number addr some from before first = grind (arith, common_steps)
 
 pub next_run : (part : Part) (image : List (Option ℕ)) (next start end : ℕ) → 0 < part.eeprom_page
-    → length image ≤ part.eeprom_size
-    → (next % part.eeprom_page ≡ 0) ⊎ (byte_at image next ≡ None) → IsNextHeld image next start
-    → IsByteRun image start (page_end part.eeprom_page start) end
+    → length image ≤ part.eeprom_size → (next % part.eeprom_page ≡ 0) ⊎ (byte_at image next ≡ None)
+    → IsNextHeld image next start → IsByteRun image start (page_end part.eeprom_page start) end
     → end ≡ run_end image start (page_end part.eeprom_page start) → IsNextRun part image next start end
 next_run part image next start end some fits border held run is =
     let here : part.eeprom_page * (start / part.eeprom_page) + start % part.eeprom_page ≡ start = omega arith in

@@ -34,8 +34,7 @@ exchange_done seq then command {u = u} {v = v} {o = o} {p = p} {q = q} {reading 
     record {
       during = sends.during ++ receives.during;
       events = Frame (frame seq (body command)) ∷ [];
-      grows = grows_on o.transcript p.transcript q.transcript sends.during receives.during sends.grows
-          receives.grows;
+      grows = grows_on o.transcript p.transcript q.transcript sends.during receives.during sends.grows receives.grows;
       plays = rw is (plays_from (leads_ask (body command) (λ r. Done (reply_from_reading command r)) seq u v
           sends.during receives.during reading sends.quiet sends.none_taken sends.bytes_sent receives.waits
           receives.reading_is));
@@ -61,8 +60,7 @@ unfolding exchange
 exchange_unreceived seq command {u = u} {o = o} {p = p} {q = q} sends receives failed = record {
   during = sends.during ++ receives.during;
   shown = Frame (frame seq (body command)) ∷ [];
-  grows = grows_on o.transcript p.transcript q.transcript sends.during receives.during sends.grows
-      receives.grows;
+  grows = grows_on o.transcript p.transcript q.transcript sends.during receives.during sends.grows receives.grows;
   breaks = search (rules, breaks_listening);
   failed = failed;
 }
@@ -90,9 +88,8 @@ by_reply last replies.Data bytes e = played_from (attempt_on last [] [] (Data by
 by_reply last reply bytes e = played_from (attempt_on last [] [] (reply_of reply bytes) e)
 
 pub gets_one : {L : Type 0} {link : Ghosts L} (last : Command) (m n : ConversationState) (o q : L)
-    (result : Result in_code.Reply HostFault)
-    → ReturnsReply link (exchange last) last m n o q result → ReturnsReply link (attempt (last ∷ []) []) last m n o q
-    result
+    (result : Result in_code.Reply HostFault) → ReturnsReply link (exchange last) last m n o q result
+    → ReturnsReply link (attempt (last ∷ []) []) last m n o q result
 gets_one last m n o q (Ok reply) f = search (rules, by_reply)
 gets_one last m n o q (Err fault) f = search (rules, attempt_off)
 

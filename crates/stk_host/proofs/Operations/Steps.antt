@@ -78,9 +78,8 @@ passes m o none = λ steps. rw none (reaches_here (play steps []) m o)
 
 -- after the last place
 pub plays_all : {a : Dialog ⊥ StepOutcome} {k m : Progress} {r o : LinkState} (steps_at : ℕ → List (List Command))
-    (place end : ℕ) {before : List ℕ}
-    → Reaches a k r (play (each_from steps_at place (end - place)) before) m o → end ≤ place
-    → RunsOverLink a k r o (Ok before) m
+    (place end : ℕ) {before : List ℕ} → Reaches a k r (play (each_from steps_at place (end - place)) before) m o
+    → end ≤ place → RunsOverLink a k r o (Ok before) m
 plays_all steps_at place end {before = before} come past = search (rules, play_done)
 
 -- the outcome of an operation, from the outcome of its steps

@@ -13,8 +13,7 @@ use Rattle.stk_host.proofs.Transcripts.InDialogs.{bytes_append}
 
 -- a call that broke off in a frame has sent less than its run sends, unless a failed send took the end
 pub sent_less : {E R : Type 0} {dialog : Dialog E R} {before : Progress} {transcript : Transcript}
-    {shown : List (Event E)}
-    → BreaksSending dialog before transcript shown → NoneTaken transcript
+    {shown : List (Event E)} → BreaksSending dialog before transcript shown → NoneTaken transcript
     → length (sent transcript) < length (bytes_sent (played_over dialog before transcript).events)
 sent_less {dialog = dialog} {before = before} {transcript = transcript} f none =
     let some = f.not_whole none in search (rules, bytes_append, length-append)

@@ -50,8 +50,7 @@ piece_alone heard prefix back fits = search (rules, take-append-le)
 
 -- the room for a piece whose bytes replace the prefix of a buffer
 pub room_of : (prefix buffer : List ℕ) (cut most : ℕ) → most ≡ min cut (length buffer)
-    → length prefix ≡ length (take most buffer)
-    → length prefix ≡ min cut (length (prefix ++ drop most buffer))
+    → length prefix ≡ length (take most buffer) → length prefix ≡ min cut (length (prefix ++ drop most buffer))
 room_of prefix buffer cut most is same = search (rules, length-append, length-drop)
 
 -- the items from a place on, as the code cuts them off

@@ -79,8 +79,7 @@ since b c g = λ start f. of_tape_on start b c f g
 
 -- nothing was received
 quiet_of_tape : (during : Transcript) (b c : TapeState) → heard during ≡ [] → c.left ≡ b.left
-    → c.transcript ≡ b.transcript ++ during
-    → Preserves ConsumesTape b c
+    → c.transcript ≡ b.transcript ++ during → Preserves ConsumesTape b c
 quiet_of_tape during b c quiet left transcript = since b c (search rules)
 
 pub same_of_tape : (b c : TapeState) → c.left ≡ b.left → c.transcript ≡ b.transcript → Preserves ConsumesTape b c

@@ -75,8 +75,7 @@ module _ {E F A B : Type 0} (dialog : Dialog E A) (inner : Dialog F B) (m n : �
   in_turn_shifted x bytes (Got items ∷ transcript) f = search (
     rules,
     append_assoc,
-    in_turn_shifted (x ++ items) bytes transcript
-        (rw (append_assoc inner_tape x items) at f.1),
+    in_turn_shifted (x ++ items) bytes transcript (rw (append_assoc inner_tape x items) at f.1),
   )
 
   -- the same from the start
@@ -174,13 +173,11 @@ leads_emit e dialog m = record { goes_on = λ more. refl; all_sent = refl; none_
 
 -- a result was reached
 pub plays_from : {E R : Type 0} {a : Dialog E R} {m n : Progress} {transcript : Transcript} {events : List (Event E)}
-    {result : R}
-    → TranscriptLeads a m transcript events (Done result) n → Plays a m transcript events result n
+    {result : R} → TranscriptLeads a m transcript events (Done result) n → Plays a m transcript events result n
 plays_from {events = events} f = search rules
 
 pub leads_from : {E R : Type 0} {a : Dialog E R} {m n : Progress} {transcript : Transcript} {events : List (Event E)}
-    {result : R}
-    → Plays a m transcript events result n → TranscriptLeads a m transcript events (Done result) n
+    {result : R} → Plays a m transcript events result n → TranscriptLeads a m transcript events (Done result) n
 leads_from {events = events} f = search rules
 
 -- breaking off

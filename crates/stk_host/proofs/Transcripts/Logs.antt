@@ -18,8 +18,7 @@ drop_prefix (suc n) (x ∷ xs) ys le = drop_prefix n xs ys (omega arith)
 
 -- what the new mark and its bytes add
 pub log_more : (marks : List Mark) (out back more_out more_back : List ℕ) (m : Mark) → sent_count marks ≡ length out
-    → received_count marks ≡ length back
-    → transcript_of (marks ++ m ∷ []) (out ++ more_out) (back ++ more_back)
+    → received_count marks ≡ length back → transcript_of (marks ++ m ∷ []) (out ++ more_out) (back ++ more_back)
     ≡ transcript_of marks out back ++ transcript_of (m ∷ []) more_out more_back
 log_more [] [] [] more_out more_back m o b = refl
 log_more [] (x ∷ out) back more_out more_back m o b = absurd (omega arith)
@@ -37,8 +36,7 @@ log_more (mark.Heard (heard.Bytes n) ∷ marks) out back more_out more_back m o 
       take-append-le,
       drop_prefix,
       length-drop,
-      log_more marks out (drop n back) more_out more_back m o
-          (rw length-drop (omega arith)),
+      log_more marks out (drop n back) more_out more_back m o (rw length-drop (omega arith)),
     )
 log_more (mark.Heard heard.Silence ∷ marks) out back more_out more_back m o b =
     ap (λ t. Got (items_of heard.Silence []) ∷ t) (log_more marks out back more_out more_back m o (omega (arith, b)))

@@ -47,8 +47,7 @@ pub played_from : {R : Type 0} {a : Dialog ⊥ R} {m n : Progress} {o p : LinkSt
 played_from f = search rules
 
 pub broken_bind : {A B : Type 0} {by : HostFault} {a : Dialog ⊥ A} {m : Progress} {o p : LinkState}
-    (go_on : A → Dialog ⊥ B)
-    → BreaksOverLink by a m o p → BreaksOverLink by (a >>= go_on) m o p
+    (go_on : A → Dialog ⊥ B) → BreaksOverLink by a m o p → BreaksOverLink by (a >>= go_on) m o p
 broken_bind {by = by} {a = a} {m = m} go_on f = search (rules, by_bind)
 
 -- a dialog that was run, and what follows it

@@ -50,8 +50,7 @@ module _ {R W : Type 0} (remaining : R → Option (List ℕ)) (contents : W → 
   true_of_taken a b bytes reader failures t = search rules
 
   pub true_of_heard : (a b : StreamState R W) (h : Heard) (buffer : List ℕ) → b.writer ≡ a.writer
-      → b.failures ≡ a.failures
-      → b.transcript ≡ a.transcript ++ Got (items_of h buffer) ∷ []
+      → b.failures ≡ a.failures → b.transcript ≡ a.transcript ++ Got (items_of h buffer) ∷ []
       → ReceivesKnownBytes h buffer (remaining a.reader) (remaining b.reader)
       → TranscriptIsTrueSince remaining contents a b
   true_of_heard a b h buffer writer failures transcript given = search (rules, bytes_of_on_tape)

@@ -29,8 +29,7 @@ entered : {k m n : Progress} {r o p : LinkState} {nothing : List ℕ} {command :
     → Reaches handshake k r entering m o → RunsOverLink (step (command ∷ [])) m o p (Ok nothing) n
     → Reaches handshake k r (play signature_steps []) n p
 unfolding entering
-entered {nothing = nothing} is f g =
-    reaches_on f (goes_on (λ nothing. play signature_steps []) nothing (rw is at g))
+entered {nothing = nothing} is f g = reaches_on f (goes_on (λ nothing. play signature_steps []) nothing (rw is at g))
 
 pub returns-in_err-step : goal.returns-in_err-step
 unfolding handshake

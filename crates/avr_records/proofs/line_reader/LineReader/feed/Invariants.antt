@@ -10,8 +10,7 @@ invariant-loop-line l = record {
   range : InRange l.initial.self.kind l.self.progress.extent;
   room : l.self.progress.extent.lines + length l.rest < 2 ^ 32;
   count : l.self.progress.extent.lines + length l.self.part.items + length l.rest ≤ l.initial.self.progress.extent.lines
-      +
-      length l.initial.self.part.items + length l.piece;
+      + length l.initial.self.part.items + length l.piece;
   carries : Carries l.initial.self.kind (line_state l.initial.self.progress l.initial.self.part.items)
       (line_state l.self.progress l.self.part.items) l.piece l.rest;
 }

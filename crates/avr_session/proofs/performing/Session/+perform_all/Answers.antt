@@ -4,8 +4,7 @@ use Rattle.avr_session.proofs.ActionByAction.Sequences.{does_nothing, does_then,
 use Rattle.avr_session.proofs.performing.Session.+perform_all.Goals as goal
 
 pub returns-in-empty : goal.returns-in-empty
-returns-in-empty g t c =
-    rw (← no_task c.args.tasks.now c.in-empty.len_below) (search (rules, does_nothing))
+returns-in-empty g t c = rw (← no_task c.args.tasks.now c.in-empty.len_below) (search (rules, does_nothing))
 
 pub returns-in_err-perform-in-len1-up : goal.returns-in_err-perform-in-len1-up
 returns-in_err-perform-in-len1-up g t c = search (rules, err_from_is_err_and, first_task, does_last)
