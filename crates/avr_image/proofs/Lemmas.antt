@@ -85,10 +85,6 @@ fits_inside = laid.fits_some
 pub inside_fits : (addr : ℕ) (bytes : List ℕ) (size : ℕ) → addr + length bytes ≤ size → fits addr bytes size ≡ true
 inside_fits = laid.fits_yes
 
--- an empty list fits at each address
-pub none_fit : (addr size : ℕ) → fits addr [] size ≡ true
-none_fit addr size = refl
-
 -- ---- images laid over each other
 
 -- each address has the second's byte, if the second has one, else the first's

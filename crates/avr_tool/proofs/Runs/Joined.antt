@@ -4,7 +4,7 @@ use Rattle.avr_cli.specs.declared.settings.Settings.{Settings}
 use Rattle.avr_desk.specs.Fault.{CountsNeverFall}
 use Rattle.avr_desk.specs.Lines.{memory_line, not_opened_line, not_read_line}
 use Rattle.avr_desk.specs.Record.{DeskState, Record, Bytes, after_err}
-use Rattle.avr_desk.specs.OutputEvents.{OutputEvent, PrintsLine, IsPartOfEvent, IsPrefixOfBytes, ReportsLineAs, after_events}
+use Rattle.avr_desk.specs.OutputEvents.{OutputEvent, PrintsLine, IsPrefixOfBytes, ReportsLineAs, after_events}
 use Rattle.avr_desk.proofs.Stages.Outputs.{kept_append, after_append}
 use Rattle.avr_desk.proofs.Lines.ReportedAs.{follows_on, follows_same, same_on}
 use Rattle.avr_plan.specs.Plan.{Plan}
@@ -14,8 +14,8 @@ use Rattle.avr_desk.specs.Stage.{Produced, StageResult}
 use Rattle.stk_host.specs.Dialog.{Event, Played, Emitted, prepend_events, bytes_sent, outputs}
 use Rattle.stk_host.specs.Transcript.{LinkState, heard, Grows}
 use Rattle.stk_host.specs.Tape.{Tape}
-use Rattle.stk_host.specs.Play.{IsPrefixOfEvents}
 use Rattle.stk_host.proofs.Transcripts.Laws.{grows_none}
+use Rattle.stk_host.proofs.Transcripts.InDialogs.{prefix_behind}
 use Rattle.avr_session.specs.Run.{RunsSession, RunsSettings, StopsSession}
 use Rattle.avr_session.specs.Runs.{Devices, devices, Cause, SendingFailed, ReceivingFailed, FileFailed, PrintingFailed, AllocationFailed, ReportsCause, cause_line}
 use Rattle.avr_session.specs.Session.{session}
@@ -116,16 +116,6 @@ is_run settings x between y status (inl runs) = elim runs.runs [
 ]
 is_run settings x between y status (inr (lacks, same)) = search (rules, refused_whole)
 
-behind_prefix : (output_events : List OutputEvent) {shown events : List (Event OutputEvent)}
-    → IsPrefixOfEvents IsPartOfEvent shown events
-    → IsPrefixOfEvents IsPartOfEvent (map Emitted output_events ++ shown) (map Emitted output_events ++ events)
-behind_prefix output_events f =
-    search (
-      rules,
-      append_assoc (map Emitted output_events) f.whole f.begun,
-      append_assoc (map Emitted output_events) f.whole f.later,
-    )
-
 -- all that the desk did, in planning and then in the session
 shown_kept : (output_events : List OutputEvent) (shown : List (Event OutputEvent)) (notice : Bytes) (r s t : Record)
     → s ≡ after_events output_events r → t ≡ after_err notice (after_events (outputs shown) s)
@@ -171,7 +161,7 @@ stopped_prefix settings x y stopped = record {
   reason = InSession stopped.then_is.cause;
   notice = stopped.then_is.notice;
   reported_part = cause_part _ stopped.then_is.cause stopped.then_is.notice _ y.desk stopped.then_is.stops.is_reported;
-  prefix = search (rules, behind_prefix);
+  prefix = search (rules, prefix_behind);
   in_turn = λ later. subst (λ stage_outcome. IsInTurn stage_outcome stopped.then_is.during)
       (sym (answered (stopped.made.comes later))) stopped.then_is.breaks.in_turn;
   all_sent = emitted_bytes stopped.made.output_events stopped.then_is.shown ∙ stopped.then_is.breaks.all_sent;
