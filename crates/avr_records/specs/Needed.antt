@@ -1,7 +1,7 @@
 -- How large a memory a record file needs: what `needed_size` returns.
 use Rattle.std.specs.Prelude.{ℕ, ◌+◌, ◌-◌, ◌^◌, max, List, [], map, fold, Result}
 use Rattle.avr_records.specs.Lines.{lines}
-use Rattle.avr_records.specs.Reading.{LineResult, line_result, up_to_end, with_lines_before, bytes_of_lines, first_fault, unless_fault}
+use Rattle.avr_records.specs.Reading.{LineResult, line_result, up_to_end, with_lines_before, bytes_of_lines, first_fault, ok_unless}
 use Rattle.avr_records.specs.declared.kind.Kind.{Kind}
 use Rattle.avr_records.specs.declared.fault.RecordFault.{RecordFault}
 
@@ -20,7 +20,7 @@ end_of_bytes = end_after 0
 abbrev pub needed_by : List LineResult → Result ℕ RecordFault
 needed_by meant =
     let taken = up_to_end meant in
-    unless_fault (first_fault largest_memory (with_lines_before [] taken)) (end_of_bytes (bytes_of_lines taken))
+    ok_unless (first_fault largest_memory (with_lines_before [] taken)) (end_of_bytes (bytes_of_lines taken))
 
 -- One more than the file's highest byte address, or the first fault that a read into the largest memory returns.
 abbrev pub size_needed_in_text : Kind → List ℕ → Result ℕ RecordFault

@@ -4,7 +4,7 @@ use Rattle.avr_image.specs.Image.{with_pairs}
 use Rattle.avr_records.specs.Fault.{fault_line_number}
 use Rattle.avr_records.specs.Needed.{end_after}
 use Rattle.avr_records.specs.Progress.{image_size}
-use Rattle.avr_records.specs.Reading.{LineResult, is_end_record, is_data_record, next_base, bytes_under_base, fault_under_base, in_line, line_result, unless_fault}
+use Rattle.avr_records.specs.Reading.{LineResult, is_end_record, is_data_record, next_base, bytes_under_base, fault_under_base, in_line, line_result, ok_unless}
 use Rattle.avr_records.specs.declared.extent.Extent.{Extent}
 use Rattle.avr_records.specs.declared.kind.Kind.{Kind}
 use Rattle.avr_records.specs.declared.kind.Kind.TheVariants.{Ihex, Srec}
@@ -28,7 +28,7 @@ extended e meant = record {
 abbrev pub next_extent : ℕ → Extent → LineResult → Result Extent RecordFault
 next_extent size e meant =
     let fault = option_map (in_line (e.lines + 1)) (fault_under_base size e.base e.data_records meant) in
-    unless_fault fault (extended e meant)
+    ok_unless fault (extended e meant)
 
 abbrev pub with_extent : Progress → LineResult → Result Extent RecordFault → Result Progress RecordFault
 with_extent p meant (Err fault) = Err fault

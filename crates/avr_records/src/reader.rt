@@ -2,7 +2,7 @@
 ghost use Rattle.std.specs.Prelude.{◌≡◌, ◌≢◌, ◌+◌, ◌<◌, ◌≤◌, ◌^◌, ◌++◌, ℕ, List, true, Ok, Err, length, MatchResult, IfOk, OnOk, OnErr, ◌⊎◌};
 ghost use Rattle.avr_records.specs.Closed.{ended_lines_fault};
 ghost use Rattle.avr_records.specs.Reader.{ReaderState, MayHaveRead, IsNewReader, memory_size};
-ghost use Rattle.avr_records.specs.Reading.{image_in_text, unless_fault};
+ghost use Rattle.avr_records.specs.Reading.{image_in_text, ok_unless};
 
 use crate::bytes::ROOM;
 use crate::extent::Extent;
@@ -122,7 +122,7 @@ impl RecordReader {
     pub fn feed(&mut self, piece: &[u8]) -> Result<(), RecordFault>
         requires { self.old.fed + length piece.now < 2 ^ 32 }
         ensures answer { (text : List ℕ) → MayHaveRead self.old text → result
-            ≡ unless_fault (ended_lines_fault self.old.kind (text ++ piece.now) (memory_size self.old)) tt }
+            ≡ ok_unless (ended_lines_fault self.old.kind (text ++ piece.now) (memory_size self.old)) tt }
         ensures stands { OnOk result ((text : List ℕ) → MayHaveRead self.old text
             → MayHaveRead self.new (text ++ piece.now)) }
         ensures fed { OnOk result (self.new.fed ≡ self.old.fed + length piece.now) }

@@ -4,7 +4,7 @@ use Rattle.avr_image.specs.Raw as raw_file
 use Rattle.avr_desk.specs.Record.{Bytes}
 use Rattle.avr_records.proofs.Readers.Fed.{reads-sound}
 use Rattle.avr_records.specs.Closed.{ended_lines_fault}
-use Rattle.avr_records.specs.Reading.{unless_fault}
+use Rattle.avr_records.specs.Reading.{ok_unless}
 use Rattle.avr_records.specs.Reader.{ReaderState, memory_size}
 use Rattle.avr_records.specs.declared.kind.Found.{Found}
 use Rattle.avr_records.specs.declared.kind.Kind.{Kind}
@@ -24,7 +24,7 @@ decides-record kind size fault text is = search (rules, ended_lines_fault-whole,
 -- a line has a fault
 pub record-decides : (found : Found) (size : ℕ) (reader : ReaderState) (fault : RecordFault) (text piece : Bytes)
     → RecordReaderWasFed found size reader text
-    → Err fault ≡ unless_fault (ended_lines_fault reader.kind (text ++ piece) (memory_size reader)) (tt {0})
+    → Err fault ≡ ok_unless (ended_lines_fault reader.kind (text ++ piece) (memory_size reader)) (tt {0})
     → HasCertainFault found size (Record fault) (text ++ piece)
 record-decides found size reader fault text piece takes is =
     let own : ended_lines_fault reader.kind (text ++ piece) size ≡ Some fault =

@@ -12,7 +12,7 @@ use Rattle.avr_records.specs.Closed.{all_but_last, first_fault_among, ended_line
 use Rattle.avr_records.specs.Lines.{lines, is_line_end}
 use Rattle.avr_records.specs.Progress.{image_size}
 use Rattle.avr_records.specs.Reader.{kept_of_line, ReadsLines}
-use Rattle.avr_records.specs.Reading.{line_result, image_of_lines, image_in_text, unless_fault}
+use Rattle.avr_records.specs.Reading.{line_result, image_of_lines, image_in_text, ok_unless}
 use Rattle.avr_records.specs.Meaning.{Nothing}
 use Rattle.avr_records.specs.Record.{longest}
 use Rattle.avr_records.specs.Steps.{next_progress, ending_of, no_lines}
@@ -152,7 +152,7 @@ reads-sound kind p part text r = grind (arith, nat_tests, closed-prefix, append-
 
 pub no_fault_so_far : (kind : Kind) (p : Progress) (size : ℕ) (part text : List ℕ) → image_size p ≡ size
     → ReadsLines kind p part text
-    → Ok tt ≡ unless_fault (ended_lines_fault kind text size) (tt {0})
+    → Ok tt ≡ ok_unless (ended_lines_fault kind text size) (tt {0})
 no_fault_so_far kind p size part text same r = search (rules, reads-sound kind p part text r)
 
 -- ---- the whole text

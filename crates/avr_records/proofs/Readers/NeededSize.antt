@@ -4,7 +4,7 @@ use Rattle.std.proofs.lemmas.Bool.{cases_Bool}
 use Rattle.std.proofs.lemmas.Bool.Decides.{nat_tests}
 use Rattle.avr_records.specs.Lines.{lines}
 use Rattle.avr_records.specs.Needed.{largest_memory, end_after, end_of_bytes, size_needed_in_text}
-use Rattle.avr_records.specs.Reading.{LineResult, up_to_end, with_lines_before, bytes_of_lines, first_fault, fault_of_line, fault_under_base, bytes_of_line, bytes_under_base, first_outside, line_result, file_ending, image_in_text, unless_fault}
+use Rattle.avr_records.specs.Reading.{LineResult, up_to_end, with_lines_before, bytes_of_lines, first_fault, fault_of_line, fault_under_base, bytes_of_line, bytes_under_base, first_outside, line_result, file_ending, image_in_text, ok_unless}
 use Rattle.avr_image.specs.Image.{image_of_pairs}
 use Rattle.avr_records.specs.declared.kind.Kind.{Kind}
 use Rattle.avr_records.specs.declared.kind.Ending.{Ending}
@@ -49,11 +49,11 @@ all-lie size (p ∷ ps) none =
     let parts = or_later-none (length p.0 + 1) (fault_of_line size p) (first_fault size ps) none in
     search (rules, first_outside-append, all-lie size ps parts.1)
 
-sized : (fault : Option RecordFault) (size needed : ℕ) → unless_fault fault size ≡ Ok needed
+sized : (fault : Option RecordFault) (size needed : ℕ) → ok_unless fault size ≡ Ok needed
     → (fault ≡ None) × (size ≡ needed)
 sized fault size needed is = search rules
 
-read-well : (fault : Option RecordFault) (good read : List (Option ℕ) × Ending) → unless_fault fault good ≡ Ok read
+read-well : (fault : Option RecordFault) (good read : List (Option ℕ) × Ending) → ok_unless fault good ≡ Ok read
     → fault ≡ None
 read-well fault good read is = search rules
 

@@ -4,7 +4,7 @@ use Rattle.std.proofs.lemmas.Bool.Decides.{nat_tests}
 use Rattle.std.proofs.Common.{arith, ◌≡◌, ◌∙◌, sym, ap, ℕ, List, [], ◌∷◌, ◌++◌, map, Option, Some, Err}
 use Rattle.std.proofs.lemmas.List.{map-append}
 use Rattle.avr_records.specs.Lines.{lines, is_line_end}
-use Rattle.avr_records.specs.Reading.{LineResult, first_fault, line_result, image_in_text, unless_fault}
+use Rattle.avr_records.specs.Reading.{LineResult, first_fault, line_result, image_in_text, ok_unless}
 use Rattle.avr_records.specs.Closed.{all_but_last, first_fault_among, ended_lines_fault}
 use Rattle.avr_records.specs.Reader.{ReaderState, MayHaveRead, IsNewReader, memory_size}
 use Rattle.avr_records.specs.declared.kind.Kind.{Kind}
@@ -37,14 +37,14 @@ ended_lines-fault kind size text notice is =
     ap (first_fault_among size) meant ∙ among-stands size (map (line_result kind) closed) (line_result kind cut.0
     ∷ []) notice is in search rules
 
-pub none-or : (fault : Option RecordFault) (notice : RecordFault) → Err notice ≡ unless_fault fault (tt {0}) → fault
+pub none-or : (fault : Option RecordFault) (notice : RecordFault) → Err notice ≡ ok_unless fault (tt {0}) → fault
     ≡ Some notice
 none-or fault notice is = search rules
 
 -- the fault that a new reader returns for a whole file
 pub new_reader-fault : (kind : Kind) (size : ℕ) (s : ReaderState) (text : List ℕ) (notice : RecordFault)
     → IsNewReader kind size s → ((before : List ℕ) → MayHaveRead s before
-    → Err notice ≡ unless_fault (ended_lines_fault s.kind (before ++ text) (memory_size s)) (tt {0}))
+    → Err notice ≡ ok_unless (ended_lines_fault s.kind (before ++ text) (memory_size s)) (tt {0}))
     → Err notice ≡ image_in_text kind text size
 new_reader-fault kind size s text notice new is =
     let of_s : ended_lines_fault s.kind text (memory_size s) ≡ Some notice =
