@@ -35,7 +35,7 @@ image_of_pairs size = with_pairs (empty size)
 abbrev pub from_zero : List ℕ → ℕ → List (Option ℕ)
 from_zero bytes size = map (λ byte. Some byte) bytes ++ replicate (size - length bytes) None
 
--- The bytes, the first for `addr`, at the addresses that are held. The others are gaps.
+-- The bytes from `addr` on as an image: a byte at each address that is held, else a gap.
 abbrev pub with_gaps : (ℕ → Bool) → ℕ → List ℕ → List (Option ℕ)
 with_gaps is_held addr [] = []
 with_gaps is_held addr (byte ∷ bytes) = (if is_held addr then Some byte else None) ∷ with_gaps is_held (suc addr) bytes

@@ -26,9 +26,7 @@ fault_line_number (BadType line) = Some line
 fault_line_number (OutOfRange line addr) = Some line
 fault_line_number (LineTooLong line) = Some line
 fault_line_number (BadCount line) = Some line
-fault_line_number Failed = None
-fault_line_number Memory = None
-fault_line_number TooLong = None
+fault_line_number fault = None
 
 -- The byte address outside the memory, of `OutOfRange` alone.
 abbrev pub fault_address : RecordFault → Option ℕ

@@ -60,26 +60,20 @@ impl Extent {
             Ok(Line::Nothing) => Ok(Spans::none()),
             Ok(Line::Data(offset, bytes)) => {
                 let spans = Spans::of_record(self.base, offset, bytes);
-                match spans.end(limit, self.end) {
-                    Ok(end) => {
-                        self.end = end;
-                        self.data_records += 1;
-                        Ok(spans)
-                    }
-                    Err(addr) => Err(RecordFault::OutOfRange(self.lines, addr)),
-                }
+                self.end = spans
+                    .end(limit, self.end)
+                    .map_err(|addr| RecordFault::OutOfRange(self.lines, addr))?;
+                self.data_records += 1;
+                Ok(spans)
             }
             Ok(Line::Rebase(base)) => {
                 self.base = base;
                 Ok(Spans::none())
             }
-            Ok(Line::Counted(n)) => {
-                if n == self.data_records {
-                    Ok(Spans::none())
-                } else {
-                    Err(RecordFault::BadCount(self.lines))
-                }
+            Ok(Line::Counted(n)) if n != self.data_records => {
+                Err(RecordFault::BadCount(self.lines))
             }
+            Ok(Line::Counted(_)) => Ok(Spans::none()),
             Ok(Line::End) => {
                 self.ended = true;
                 Ok(Spans::none())
