@@ -9,7 +9,6 @@ use Rattle.avr_cli.specs.declared.update.Op.TheVariants as op
 use Rattle.avr_cli.specs.declared.update.Update.{Update}
 use Rattle.avr_desk.specs.OutputEvents.{OutputEvent}
 use Rattle.avr_desk.specs.Stage.{Stage, Produced}
-use Rattle.avr_desk.specs.StageRuns.{AllocationPoints}
 use Rattle.avr_desk.specs.declared.record.Opening.{Opening}
 use Rattle.avr_part.specs.Mem.{is_writable}
 use Rattle.avr_part.specs.Part.{Part}
@@ -40,9 +39,10 @@ pub record AtAllocating {A : Type 0} (stage_of : List Update → Stage A) (updat
       ≡ record { output_events = emitted; stage_outcome = Produced made; openings_left = [] }
 
 -- The stage is the plan. Contracts of `plan` give this as the only point of a failed allocation without a file.
-abbrev pub AtAllocatingUpdate : Settings → AllocationPoints
-AtAllocatingUpdate s = AtAllocating (λ done. planned (record s { updates = done })) s.updates
+pub record AtAllocatingUpdate (s : Settings) (passed : List Opening) (emitted : List OutputEvent) : Type 0 where
+  pub point : AtAllocating (λ done. planned (record s { updates = done })) s.updates passed emitted
 
 -- inside: the stage is that of some updates whose tasks follow others
-abbrev pub AtAllocatingTask : Switches → Part → List Task → List Update → AllocationPoints
-AtAllocatingTask switches part tasks updates = AtAllocating (tasks_stage switches part tasks) updates
+pub record AtAllocatingTask (switches : Switches) (part : Part) (tasks : List Task) (updates : List Update)
+    (passed : List Opening) (emitted : List OutputEvent) : Type 0 where
+  pub point : AtAllocating (tasks_stage switches part tasks) updates passed emitted

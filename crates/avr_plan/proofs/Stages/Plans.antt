@@ -49,23 +49,23 @@ at_due : (s : Settings) (old first mid : DeskState) (parts : List Part) (part : 
 at_due s old first mid parts part went found passed emitted due = search (rules, planned_so, before)
   where
     before : Settings
-    before = record s { updates = due.done }
+    before = record s { updates = due.point.done }
 
     made : Stage Plan
-    made = tasks_stage s.switches part [] due.done >>= λ tasks. result_stage (Ok (plan_of s part tasks))
+    made = tasks_stage s.switches part [] due.point.done >>= λ tasks. result_stage (Ok (plan_of s part tasks))
 
     made_so : made passed ≡ record {
       output_events = emitted ++ [];
-      stage_outcome = Produced (plan_of s part due.made);
+      stage_outcome = Produced (plan_of s part due.point.made);
       openings_left = [];
     }
     made_so = ap (λ p. continued_stage p.output_events p.openings_left (λ ts. result_stage (Ok (plan_of s part ts)))
-        p.stage_outcome) due.is_made
+        p.stage_outcome) due.point.is_made
 
     planned_so : planned before (went.passed ++ (found.passed ++ passed))
         ≡ record {
           output_events = went.output_events ++ (found.output_events ++ emitted);
-          stage_outcome = Produced (plan_of s part due.made);
+          stage_outcome = Produced (plan_of s part due.point.made);
           openings_left = [];
         }
     planned_so = search (rules, append-nil)

@@ -64,13 +64,15 @@ module _ (switches : Switches) (part : Part) (tasks : List Task) (u : Update) (u
   at_first : (passed : List Opening) (emitted : List OutputEvent) → OnlyAtStart (op_allocates u u.op) passed emitted
       → AtAllocatingTask switches part tasks (u ∷ updates) passed emitted
   at_first passed emitted allocates = record {
-    done = [];
-    due = u;
-    more = updates;
-    updates_are = refl;
-    allocates = allocates.0;
-    made = tasks;
-    is_made = rw (allocates.1, allocates.2) refl;
+    point = record {
+      done = [];
+      due = u;
+      more = updates;
+      updates_are = refl;
+      allocates = allocates.0;
+      made = tasks;
+      is_made = rw (allocates.1, allocates.2) refl;
+    };
   }
 
   -- or a later update, whose task it is
@@ -79,13 +81,15 @@ module _ (switches : Switches) (part : Part) (tasks : List Task) (u : Update) (u
       → AtAllocatingTask switches part (tasks ++ task ∷ []) updates passed emitted
       → AtAllocatingTask switches part tasks (u ∷ updates) (went.passed ++ passed) (went.output_events ++ emitted)
   at_later old mid task went passed emitted later = record {
-    done = u ∷ later.done;
-    due = later.due;
-    more = later.more;
-    updates_are = ap (λ (us : List Update). u ∷ us) later.updates_are;
-    allocates = later.allocates;
-    made = later.made;
-    is_made = search rules;
+    point = record {
+      done = u ∷ later.point.done;
+      due = later.point.due;
+      more = later.point.more;
+      updates_are = ap (λ (us : List Update). u ∷ us) later.point.updates_are;
+      allocates = later.point.allocates;
+      made = later.point.made;
+      is_made = search rules;
+    };
   }
 
 module _ (switches : Switches) (part : Part) (tasks : List Task) (updates : List Update) (i : ℕ) (u : Update) where
