@@ -117,7 +117,7 @@ def a_verified_run_is_wrong():
 
 
 def without_a_pause_all_is_seen():
-    """Tests the same chip over a link that doesn't pause, and a pause with ordinary contents."""
+    """Without the pause the wrong byte is reported; a pause within other contents does no harm."""
     line = Line(chip_of(made_contents(0xAA, 7)))
     found, _ = line.run("-U", "flash:v:image.hex:i")
     told = lines(SIGNATURE, "error: flash: address 00000000: 55 expected, AA found")
