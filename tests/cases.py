@@ -76,6 +76,12 @@ def table(name):
     return rows
 
 
+def bytes_of(cell):
+    """Returns the bytes that a cell has: digits or 'text', joined by + and with * repeated."""
+    pieces = (it.partition("*") for it in cell.split("+"))
+    return b"".join((it[1:-1].encode() if it[:1] == "'" else bytes.fromhex(it)) * int(times or 1) for it, _, times in pieces)
+
+
 def sampled(what, most, given):
     """Returns all that is given. If SAMPLE has a seed, as in `./test`, returns at most so many, and prints the seed."""
     given, seed = list(given), os.environ.get("SAMPLE")

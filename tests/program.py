@@ -57,8 +57,12 @@ FRAMES = [
 # the row of /proc/net/tcp of a port of 127.0.0.1 at which a process listens (state 0A)
 LISTENS = " 0100007F:{:04X} 00000000:0000 0A "
 
-# the length of the chip file of an ATmega328P
+# the length of the chip file of an ATmega328P, and the first line of its runs
 CHIP_FILE = 33_796
+SIGNATURE = "device signature = 1E 95 0F"
+
+# the options of a session over `emu:`, and over standard streams
+EMULATED, STDIO = "-p m328p -P emu:chip.bin".split(), "-p m328p -P stdio:".split()
 
 
 def has_avrdude():
@@ -81,6 +85,12 @@ class Room:
 
     def put(self, name, content):
         (self.folder / name).write_bytes(content)
+
+    def keep(self, name, content):
+        """Writes a file that `clear` leaves, and returns its name."""
+        self.put(name, content)
+        self.given.add(name)
+        return name
 
     def read(self, name):
         """Returns the content of a file; None if there is none."""
@@ -110,6 +120,17 @@ class Room:
 def lines(*texts):
     """Returns messages as lines, each with the program's name in front."""
     return "".join(f"avrstk: {text}\n" for text in texts).encode()
+
+
+def lines_of(cell):
+    """Returns the messages that a cell of a table has, with a semicolon between two."""
+    return lines(*filter(None, cell.split("; ")))
+
+
+def tracing(*words):
+    """Returns how to start a run whose system calls strace writes to the file `calls`, with these options of strace. (The
+    unproved program's leak detector can't run there.)"""
+    return {"front": ["strace", "-o", "calls", *words], "env": os.environ | {"ASAN_OPTIONS": "detect_leaks=0"}}
 
 
 def frame(number, *body):
