@@ -31,7 +31,6 @@ FOLDED = {"trait": "In contracts", "law": "Law"}
 # what a type is in contracts, and what `{:?}` prints: nothing that a user calls
 HIDDEN = re.compile(r"impl.* (?:Model|fmt::Debug) for ")
 
-
 # the most lines of a definition that follows a contract as a text
 SHORT = 6
 

@@ -12,6 +12,8 @@ import sys
 from pathlib import Path
 from textwrap import wrap
 
+from kept import kept
+
 TOP = Path(__file__).resolve().parent.parent
 MANUAL = [TOP / f"docs/{it}.md" for it in ["USAGE", "EMULATOR", "TROUBLESHOOTING", "BOARDS"]]
 SECTIONS = {"avrstk": 1, "avrstk-serial": 1, "avrstk-serve": 1, "avrstk-emulator": 7}
@@ -27,7 +29,6 @@ SHOWN_WIDTH = 66
 
 # sentences that only apply in the repository
 HERE_ALONE = re.compile(r"\bclone\b|\brepository\b")
-
 
 # characters with a special meaning in roff
 ESCAPES = str.maketrans({"\\": "\\e", "-": "\\-", "'": "\\(aq", "`": "\\(ga", "^": "\\(ha", "~": "\\(ti"})
@@ -213,16 +214,5 @@ def page(name):
     return "\n".join(rows) + "\n"
 
 
-def main():
-    if sys.argv[1:] == ["--write"]:
-        for name, file in PAGES.items():
-            file.write_text(page(name))
-    old = [name for name, file in PAGES.items() if file.read_text() != page(name)]
-    for name in old:
-        print(f"{PAGES[name].name} is out of date: tools/man_pages.py --write")
-    print(f"{len(PAGES) - len(old)} passed, {len(old)} failed")
-    return int(bool(old))
-
-
 if __name__ == "__main__":
-    sys.exit(main())
+    sys.exit(kept({file: page(name) for name, file in PAGES.items()}))

@@ -18,6 +18,7 @@ import sys
 from collections import defaultdict
 from pathlib import Path
 
+from kept import kept
 from reach import FILES
 
 TOP = Path(__file__).resolve().parent.parent
@@ -185,18 +186,11 @@ def long_sentences(name):
 
 
 def main():
-    page = PAGE.read_text()
-    if "--check" in sys.argv:
-        readme = README.read_text()
-        made = {PAGE.name: with_figures(page) == page, README.name: with_sums(readme, page) == readme}
-        wrong = [f"{name} has other figures: tools/measure.py --write" for name, is_so in made.items() if not is_so]
-        wrong += [f"{name} has a sentence over {LONG} words: {it}" for name in documents() for it in long_sentences(name)]
-        print("\n".join([*wrong, f"{int(not wrong)} passed, {len(wrong)} failed"]))
-        sys.exit(int(bool(wrong)))
-    if "--write" in sys.argv:
-        PAGE.write_text(page := with_figures(page))
-        README.write_text(with_sums(README.read_text(), page))
-        return
+    if sys.argv[1:] in (["--check"], ["--write"]):
+        page = with_figures(PAGE.read_text())
+        long = ((name, it) for name in documents() for it in long_sentences(name))
+        wrong = [f"{name} has a sentence over {LONG} words: {it}" for name, it in long]
+        sys.exit(kept({PAGE: page, README: with_sums(README.read_text(), page)}, wrong))
     print("\n\n".join(figures()))
     if "-v" in sys.argv:
         print("\n".join(f"  {name}: {', '.join(where)}" for name, where in sorted(meanings().items())))

@@ -17,6 +17,8 @@ import re
 import sys
 from pathlib import Path
 
+from kept import kept
+
 TOP = Path(__file__).resolve().parent.parent
 PAGE, README = TOP / "docs/PROOFS.md", TOP / "README.md"
 # the documents whose names are looked for
@@ -173,16 +175,9 @@ def lacking():
 
 
 def main(words):
-    if words == ["--write"]:
-        PAGE.write_text(page := with_figures(PAGE.read_text()))
-        return README.write_text(with_lines(README.read_text(), page))
-    if words == ["--check"]:
-        page = PAGE.read_text()
-        is_made = with_figures(page) == page and with_lines(README.read_text(), page) == README.read_text()
-        wrong = [] if is_made else [f"{PAGE.name} or {README.name} has other figures: tools/reach.py --write"]
-        wrong += lacking()
-        print("\n".join([*wrong, f"{int(not wrong)} passed, {len(wrong)} failed"]))
-        return sys.exit(int(bool(wrong)))
+    if words in (["--check"], ["--write"]):
+        page = with_figures(PAGE.read_text())
+        sys.exit(kept({PAGE: page, README: with_lines(README.read_text(), page)}, lacking()))
     roots = [root for it in words if it != "-v" for root in roots_of(it)] or sys.exit(__doc__)
     seen = reached(roots)
     files = sorted({(crate, file) for crate, file, _ in seen})
@@ -190,7 +185,6 @@ def main(words):
     for crate, file in files if "-v" in words else []:
         names = sorted(name for c, f, name in seen if (c, f) == (crate, file))
         print(f"  {crate}/specs/{file}: {', '.join(names)}")
-    return None
 
 
 if __name__ == "__main__":

@@ -13,6 +13,8 @@ import re
 import sys
 from pathlib import Path
 
+from kept import kept
+
 TOP = Path(__file__).resolve().parent.parent
 PAGE = TOP / "tests/README.md"
 # the modules that the scripts share, and the runner
@@ -59,9 +61,4 @@ def page():
 
 
 if __name__ == "__main__":
-    made = page()
-    if sys.argv[1:] == ["--write"]:
-        PAGE.write_text(made)
-    is_made = PAGE.exists() and PAGE.read_text() == made
-    print("" if is_made else "tests/README.md is out of date: tools/tests_page.py --write\n", f"{int(is_made)} passed, {int(not is_made)} failed", sep="")
-    sys.exit(int(not is_made))
+    sys.exit(kept({PAGE: page()}))
