@@ -78,8 +78,8 @@ def table(name):
 
 def bytes_of(cell):
     """Returns the bytes that a cell has: digits or 'text', joined by + and with * repeated."""
-    pieces = (it.partition("*") for it in cell.split("+"))
-    return b"".join((it[1:-1].encode() if it[:1] == "'" else bytes.fromhex(it)) * int(times or 1) for it, _, times in pieces)
+    held = lambda it: it[1:-1].encode() if it.startswith("'") else bytes.fromhex(it)
+    return b"".join(held(it) * int(times or 1) for it, _, times in (it.partition("*") for it in cell.split("+")))
 
 
 def sampled(what, most, given):
@@ -89,6 +89,17 @@ def sampled(what, most, given):
         return given
     print(f"{what}: {most} of {len(given)} are tried, drawn by SAMPLE={seed}", flush=True)
     return [given[at] for at in sorted(random.Random(f"{what} {seed}").sample(range(len(given)), most))]
+
+
+def put_program(path, text):
+    """Writes a file that anybody may run."""
+    path.write_text(text)
+    path.chmod(0o755)
+
+
+def own_environment(**more):
+    """Returns the environment without AVRSTK, and with these variables: a script then runs its own program."""
+    return {name: value for name, value in os.environ.items() if name != "AVRSTK"} | more
 
 
 def named(*functions):

@@ -26,25 +26,20 @@ from pathlib import Path
 
 from cases import PATIENCE, leave_out, named, run_cases, same, sampled, see, wait_until
 from disk import calls_in, power_cuts
-from program import CHIP_FILE, FRAMES, PROGRAM, Room, Server, lines
+from program import CHIP_FILE, EEPROM, EMULATED, FRAMES, LFUSE, PROGRAM, SIGNATURE, Room, Server
+from program import end_of, full_chip, lines, tracing
 from records import hex_of
 
 room = Room()
 FOLDER = os.path.realpath(room.folder)
 CHIP, LOCK_FILE, NEW_FILE = (room.folder / it for it in ["chip.bin", "chip.bin.avrstk-lock", "chip.bin.avrstk-new"])
 
-EMULATED = ["-p", "m328p", "-P", "emu:chip.bin"]
-SIGNATURE = "device signature = 1E 95 0F"
 DONE = (0, lines("done"))
 IN_USE = lines("error: chip.bin: in use by another run")
 UNWRITABLE = lines("error: chip.bin: cannot be written")
 
-# the addresses of the EEPROM and the low fuse in a chip file
-EEPROM, LFUSE = 32_768, 33_792
-
 # a chip with a program, data and fuses of its own, which isn't locked; and a chip of which there is no file yet
-OLD = bytes(place % 241 for place in range(EEPROM)) + bytes(place % 239 for place in range(1024)) + b"\xe2\xd9\xfd\xff"
-FRESH = bytes(b"\xff" * CHIP_FILE)
+OLD, FRESH = full_chip(), b"\xff" * CHIP_FILE
 UMASK = os.umask(0)
 os.umask(UMASK)
 NOBODY = 65534
@@ -85,24 +80,16 @@ def mode_of(path):
     return stat.S_IMODE(path.stat().st_mode)
 
 
-def ended(started):
-    """Returns the status, the output and the messages."""
-    output, messages = started.communicate(timeout=PATIENCE)
-    return started.returncode, output, messages
-
-
 def traced(prepare, words, how=None, meanwhile=None):
     """Returns the status of a run under strace, its messages, and its calls for the chip, its folder or a file beside it.
     strace does this at a call. What is done meanwhile begins with that call, which is held for two seconds."""
     prepare()
     inject = ["-e", f"inject={how}" + (":delay_enter=2000000:when=1" if meanwhile else "")] if how else []
-    front = ["strace", "-y", "-s", "50000", "-o", "calls", "-e", "trace=%file,%desc", *inject]
-    # (the unproved program's leak detector can't run under strace)
-    started = room.start(words, front=front, env=os.environ | {"ASAN_OPTIONS": "detect_leaks=0"})
+    started = room.start(words, **tracing("-y", "-s", "50000", "-e", "trace=%file,%desc", *inject))
     if meanwhile:
         wait_until(lambda: re.search(rf"^{how}\(".encode(), room.read("calls") or b"", re.M))
         meanwhile(started)
-    status, _, messages = ended(started)
+    status, _, messages = end_of(started)
     return status, messages, calls_in((room.read("calls") or b"").decode(), FOLDER)
 
 
@@ -199,7 +186,7 @@ def waiting(words, name="chip.bin", pipe="pipe", last=DONE):
     see("a run that waits", SIGNATURE.encode() in started.stderr.readline())
     yield
     (room.folder / pipe).read_bytes()
-    status, _, messages = ended(started)
+    status, _, messages = end_of(started)
     same(f"{name}: the run that waited", (status, messages.splitlines(True)[-1]), last)
 
 
@@ -295,7 +282,7 @@ def a_full_disk():
     """The chip exceeds the file size limit: the old one stays. The system ends the run, unless SIGXFSZ is ignored."""
     for limit, status in [('trap "" XFSZ; ulimit -f 16', 1), ("ulimit -f 16", -signal.SIGXFSZ)]:
         fresh_room()
-        found = ended(room.start(writes_fuse(0x62), front=["sh", "-c", f'{limit}; exec "$0" "$@"']))
+        found = end_of(room.start(writes_fuse(0x62), front=["sh", "-c", f'{limit}; exec "$0" "$@"']))
         same(f"{limit}: the run", (found[0], found[2].endswith(UNWRITABLE)), (status, status == 1))
         see(f"{limit}: the chip is as it was", room.read("chip.bin") == OLD)
         is_good(f"{limit}: the next run", room.run(writes_fuse(0x62)))
@@ -355,7 +342,7 @@ def what_stays():
             os.chown(CHIP, NOBODY, group) if IS_ROOT else None
             CHIP.chmod(mode)
             room.folder.chmod(folder)
-            found = ended(room.start(writes_fuse(0x62, "link.bin"), **(how if who else {})))
+            found = end_of(room.start(writes_fuse(0x62, "link.bin"), **(how if who else {})))
             room.folder.chmod(0o755)
             what = f"chip {mode:o}, folder {folder:o}, group {group}"
             refused = (1, b"", lines("error: link.bin: cannot be written"))
@@ -390,7 +377,7 @@ def another_user():
         evil = subprocess.Popen(["sh", "-c", WATCH], stdout=subprocess.PIPE, text=True, cwd=room.folder, **other)
         evil.stdout.readline()
         for value in range(20):
-            is_good("a run", ended(room.start(writes_fuse(value), umask=0, **how)))
+            is_good("a run", end_of(room.start(writes_fuse(value), umask=0, **how)))
         room.put("stop", b"")
         same("what the other user opened", evil.communicate(timeout=PATIENCE)[0], "")
         same("the mode of the chip", mode_of(CHIP), 0o600)
@@ -399,7 +386,7 @@ def another_user():
         for his, status in [(LOCK_FILE, 0), (NEW_FILE, 1)]:
             his.touch()
             os.chown(his, 2, 2)
-            same(f"a run beside his {his.name}", ended(room.start(writes_fuse(0x62 + status), **how))[0], status)
+            same(f"a run beside his {his.name}", end_of(room.start(writes_fuse(0x62 + status), **how))[0], status)
             see("the chip", room.read("chip.bin") == with_fuse(OLD, 0x62))
             his.unlink()
 
@@ -420,7 +407,7 @@ def stormy():
         if CHIP.stat().st_size != CHIP_FILE:
             odd.add("the chip isn't whole")
         for run in [it for it in live if it.poll() is not None]:
-            place, (status, _, messages) = live.pop(run), ended(run)
+            place, (status, _, messages) = live.pop(run), end_of(run)
             if status == 0:
                 written.add(place)
             elif status != -signal.SIGKILL and (status, messages) != (1, IN_USE):

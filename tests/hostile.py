@@ -20,10 +20,10 @@ from concurrent.futures import ThreadPoolExecutor
 
 from cases import PATIENCE, bytes_of, named, run_cases, same, see, table
 from line import FrontOfAnswers, Peer, frames_of
-from program import ANSWERS, CHIP_FILE, EMULATED, ENDS, FRAMES, PROGRAM, SIGNATURE, STDIO, Room, Server
-from program import frame, lines, lines_of
+from program import ANSWERS, CHIP_FILE, EMULATED, ENDS, FRAMES, LFUSE, PROGRAM, SIGNATURE, STDIO, Room, Server
+from program import end_of, frame, lines, lines_of
 
-NEW, LFUSE = b"\xff" * CHIP_FILE, 33_792
+NEW = b"\xff" * CHIP_FILE
 ENTER = FRAMES[1][5:-1]
 LEAVE = 0x11
 
@@ -34,14 +34,11 @@ def output_fails():
     """Tests outputs that are full, or that no process reads."""
     read_fuse = [*EMULATED, "-U", "lfuse:r:-:h"]
     for name, target in [("full", "/dev/full"), ("closed pipe", None)]:
-        for words, told in [(STDIO, ["error: link cannot be written"]), (read_fuse, [SIGNATURE, "error: -: cannot be written"])]:
+        unwritten = lines(SIGNATURE, "error: -: cannot be written")
+        for words, told in [(STDIO, lines("error: link cannot be written")), (read_fuse, unwritten)]:
             room.clear()
-            same(f"output {name}: {words}", with_output(words, target), (1, lines(*told)))
+            same(f"output {name}: {words}", with_output(words, target), (1, told))
         same("the chip file after it", len(room.read("chip.bin") or b""), CHIP_FILE)
-    room.clear()
-    started = room.start([*EMULATED, "-U", "lfuse:w:0xE2:m"], stderr=open("/dev/full", "wb"))
-    started.communicate(timeout=PATIENCE)
-    same("messages that can't be printed", started.returncode, 1)
 
 
 def with_output(words, target):
@@ -65,25 +62,26 @@ def input_fails():
     room.clear()
     same("no replies", room.run(STDIO), (1, FRAMES[0], lines("error: link ended")))
     folder = os.open(room.folder, os.O_RDONLY)
-    started = room.start(STDIO, folder)
-    same("a folder for a line", (*started.communicate(timeout=PATIENCE), started.returncode), (FRAMES[0], lines("error: link cannot be read"), 1))
-    started = room.start([*EMULATED, "-U", "flash:w:-"], folder)
-    same("a folder for an image", (started.communicate(timeout=PATIENCE)[1], started.returncode), (lines("error: -: cannot be read"), 1))
+    found = end_of(room.start(STDIO, folder))
+    same("a folder for a line", found, (1, FRAMES[0], lines("error: link cannot be read")))
+    found = end_of(room.start([*EMULATED, "-U", "flash:w:-"], folder))
+    same("a folder for an image", found, (1, b"", lines("error: -: cannot be read")))
     os.close(folder)
     same("no file was made", room.read("chip.bin"), None)
 
 
-def meets(kind, run):
+def meets(kind, run=lambda words, redirected: room.run(words, closed=redirected)):
     """Makes the runs of a kind in the table of streams; `run` takes the options and a shell's redirections."""
     for of, words, redirected, status, output, told in table("streams"):
         if of == kind:
             room.clear()
-            same(f"{words} {redirected}", run(shlex.split(words), redirected), (int(status), bytes_of(output), lines_of(told)))
+            wanted = int(status), bytes_of(output), lines_of(told)
+            same(f"{words} {redirected}", run(shlex.split(words), redirected), wanted)
 
 
 def descriptors_are_closed():
     """Tests standard streams that were closed before the program started."""
-    meets("closed", lambda words, closed: room.run(words, closed=closed))
+    meets("closed")
 
 
 def closed_streams_stay_closed():
@@ -100,15 +98,14 @@ def files_fail():
     """Tests missing files, folders in their place, and files that can't be created or written."""
     (room.folder / "folder").mkdir()
     room.given.add("folder")
-    meets("file", lambda words, _: room.run(words))
+    meets("file")
 
 
 def with_limit(kibibytes, words, redirected=""):
     """Returns the status, output and messages of a run with a file size limit in KiB and SIGXFSZ ignored. (Python ignores
     it for itself, but not for the shell.)"""
-    started = room.start(words, closed=redirected, front=["bash", "-c", f'trap "" XFSZ; ulimit -f {kibibytes}; exec "$0" "$@"'])
-    output, messages = started.communicate(timeout=PATIENCE)
-    return started.returncode, output, messages
+    limited = f'trap "" XFSZ; ulimit -f {kibibytes}; exec "$0" "$@"'
+    return end_of(room.start(words, closed=redirected, front=["bash", "-c", limited]))
 
 
 def files_are_full():
@@ -163,7 +160,8 @@ def callers_are_odd():
             same(f"the reply to {name}", answered, wanted)
     for name, count, verbs in [("at once", 0, ["read", "written"]), ("after a reply", ENDS[0], ["read"])]:
         found, _ = served(lambda caller: resets(caller, count))
-        see(f"a caller that resets {name}", found in [(1, b"", lines(f"error: link cannot be {it}")) for it in verbs], found)
+        wanted = [(1, b"", lines(f"error: link cannot be {it}")) for it in verbs]
+        see(f"a caller that resets {name}", found in wanted, found)
 
 
 def a_second_caller():
@@ -208,7 +206,7 @@ def nothing_is_read():
 
 
 def served(exchange):
-    """Returns how a server ended after this exchange with its caller, and what the exchange returns. Its chip is saved."""
+    """Returns how a server ended after this exchange with its caller, and what the exchange returns."""
     room.clear()
     with Server(room) as server:
         with server.call() as caller:
@@ -293,8 +291,7 @@ def standard_streams_that_block():
     started.stdin.flush()
     see("4,096 other bytes: sent again", started.stdout.read(7) == frame(3, 1))
     started.send_signal(signal.SIGINT)
-    found = (*started.communicate(timeout=PATIENCE), started.returncode)
-    see("Ctrl-C: no line, nothing more is sent", found == (b"", b"", -signal.SIGINT), found)
+    same("Ctrl-C: no line, nothing more is sent", end_of(started), (-signal.SIGINT, b"", b""))
 
 
 def replies_to(caller, *bodies):

@@ -190,9 +190,10 @@ def nobody_else_is_called():
         return leave_out("which connections are made", "strace is not installed")
     peer = FrontOfAnswers(ANSWERS, resets=False)
     named = [("socket", "AF_INET"), ("connect", f"htons({peer.port})"), ("setsockopt", "TCP_NODELAY, [1], 4) = 0")]
-    for words, given, wanted in [(STDIO, ANSWERS, []), (EMULATED, b"", []), ([*PART, "-P", f"net:127.0.0.1:{peer.port}"], b"", named)]:
+    over_net, calls = [*PART, "-P", f"net:127.0.0.1:{peer.port}"], "socket,connect,bind,listen,accept,accept4,setsockopt"
+    for words, given, wanted in [(STDIO, ANSWERS, []), (EMULATED, b"", []), (over_net, b"", named)]:
         room.clear()
-        started = room.start(words, subprocess.PIPE, **tracing("-e", "trace=socket,connect,bind,listen,accept,accept4,setsockopt"))
+        started = room.start(words, subprocess.PIPE, **tracing("-e", f"trace={calls}"))
         same(f"{words}", started.communicate(given, PATIENCE)[1], lines(SIGNATURE, DONE))
         timed = traced(r'SO_(RCV|SND)TIMEO\w*, "\\(\w)\\0')
         same(f"{words}: a read times out after 1 second, a write after 10", timed, [("RCV", "1"), ("SND", "n")] if wanted else [])
@@ -247,7 +248,8 @@ def a_line_is_one_write():
         return leave_out("how lines are written", "strace is not installed")
     for words, count in [([*EMULATED, "-e", "-n", "-U", "lfuse:w:0x62:m"], 4), ([*EMULATED, "-U", f"flash:w:{'x' * 4000}"], 1)]:
         room.clear()
-        messages = room.start(words, **tracing("-e", "trace=write")).communicate(timeout=PATIENCE)[1].splitlines(keepends=True)
+        started = room.start(words, **tracing("-e", "trace=write"))
+        messages = started.communicate(timeout=PATIENCE)[1].splitlines(keepends=True)
         written = traced(r"^write\(2, .* = (\d+)$")
         same(f"the writes of {words[4]}", [int(it) for it in written], [len(it) for it in messages])
         same(f"the lines of {words[4]}", len(messages), count)
@@ -271,9 +273,8 @@ def runs_share_a_log():
 
 def each_line_was_met():
     """Checks that each line of the table of messages was met above, or by another script. So this case is the last."""
-    if len(chosen(CASES)) < len(CASES):
-        for bring_about in (CASES[it] for it in CASES if it not in chosen(CASES)):
-            bring_about()
+    for name in [it for it in CASES if it not in chosen(CASES)]:
+        CASES[name]()
     page = (TOP / "docs/TROUBLESHOOTING.md").read_text()
     table = page[page.index("| Line | When |") :].split("\n\n")[0]
     for row in table.splitlines()[2:]:
@@ -288,15 +289,9 @@ def each_line_was_met():
 
 
 def alternatives(texts):
-    """Returns the lines of a row. A text without its own prefix replaces the end of the line before it."""
-    first = texts[0]
-    whole = [first]
-    for text in texts[1:]:
-        if text.startswith(("error: ", "warning: ")):
-            whole.append(text)
-        else:
-            whole.append(first[: first.rindex(": ") + 2] + text)
-    return whole
+    """Returns the lines of a row. A text without its own prefix replaces the end of the first line."""
+    begin = texts[0][: texts[0].rfind(": ") + 2]
+    return [texts[0], *(it if it.startswith(("error: ", "warning: ")) else begin + it for it in texts[1:])]
 
 
 def pattern(line):

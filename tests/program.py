@@ -57,8 +57,8 @@ FRAMES = [
 # the row of /proc/net/tcp of a port of 127.0.0.1 at which a process listens (state 0A)
 LISTENS = " 0100007F:{:04X} 00000000:0000 0A "
 
-# the length of the chip file of an ATmega328P, and the first line of its runs
-CHIP_FILE = 33_796
+# the length of the chip file of an ATmega328P, the places of its EEPROM and low fuse, and the first line of its runs
+CHIP_FILE, EEPROM, LFUSE = 33_796, 32_768, 33_792
 SIGNATURE = "device signature = 1E 95 0F"
 
 # the options of a session over `emu:`, and over standard streams
@@ -103,18 +103,28 @@ class Room:
             if file.name not in self.given:
                 file.unlink()
 
-    def start(self, words, given=subprocess.DEVNULL, closed="", front=(), **more):
-        """Starts a run with these options. `front` is a command that runs the program."""
+    def start(self, words, given=subprocess.DEVNULL, closed="", front=(), program=(PROGRAM,), **more):
+        """Starts a run of the program with these options. `front` is a command that runs it, and `closed` has shell
+        redirections."""
         how = {"stdin": given, "stdout": subprocess.PIPE, "stderr": subprocess.PIPE, "cwd": self.folder} | more
         shell = ["sh", "-c", f'exec "$0" "$@" {closed}'] if closed else []
         with forks:
-            return subprocess.Popen([*shell, *front, str(PROGRAM), *words], **how)
+            return subprocess.Popen([*shell, *front, *map(str, program), *words], **how)
 
     def run(self, words, given=b"", environment=None, closed=""):
         """Returns the status, the output and the messages of a run. `closed` has shell redirections that close streams."""
-        started = self.start(words, subprocess.PIPE, closed, env=os.environ | (environment or {}))
-        output, messages = started.communicate(given, timeout=PATIENCE)
-        return started.returncode, output, messages
+        return end_of(self.start(words, subprocess.PIPE, closed, env=os.environ | (environment or {})), given)
+
+
+def full_chip(flash=EEPROM, eeprom=LFUSE - EEPROM):
+    """Returns a chip with a program, data and fuses of its own, which isn't locked."""
+    return bytes(place % 241 for place in range(flash)) + bytes(place % 239 for place in range(eeprom)) + b"\xe2\xd9\xfd\xff"
+
+
+def end_of(started, given=None):
+    """Waits until a run has ended. Returns its status, its output and its messages."""
+    output, messages = started.communicate(given, timeout=PATIENCE)
+    return started.returncode, output, messages
 
 
 def lines(*texts):
@@ -128,8 +138,8 @@ def lines_of(cell):
 
 
 def tracing(*words):
-    """Returns how to start a run whose system calls strace writes to the file `calls`, with these options of strace. (The
-    unproved program's leak detector can't run there.)"""
+    """Returns how to start a run whose system calls strace writes to the file `calls`, with these options of strace.
+    (The unproved program's leak detector can't run there.)"""
     return {"front": ["strace", "-o", "calls", *words], "env": os.environ | {"ASAN_OPTIONS": "detect_leaks=0"}}
 
 
@@ -196,9 +206,9 @@ class Server:
 
     def end(self):
         """Returns its status, output and messages, once its caller has gone."""
-        output, messages = self.started.communicate(timeout=PATIENCE)
+        found = end_of(self.started)
         self.kept.close()
-        return self.started.returncode, output, messages
+        return found
 
     def stop(self):
         """Ends it if it still runs."""
