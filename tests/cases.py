@@ -1,19 +1,27 @@
-"""Runs and counts the checks of the scripts beside this one. A case can be run alone by its name; a check is left out if
-its tool isn't installed."""
+"""Runs and counts the checks of the scripts beside this one. A case can be run alone by its name; a check is left out
+if its tool isn't installed."""
 
 import os
 import random
+import re
 import signal
 import sys
 import time
 import traceback
 from pathlib import Path
 
-# A shell's background jobs ignore SIGINT, and jobs under nohup SIGHUP; their children inherit that. The programs run here
-# must not ignore them.
+# A shell's background jobs ignore SIGINT, and jobs under nohup SIGHUP; their children inherit that. The programs run
+# here must not ignore them.
 for number, heeded in [(signal.SIGINT, signal.default_int_handler), (signal.SIGHUP, signal.SIG_DFL)]:
     if signal.getsignal(number) is signal.SIG_IGN:
         signal.signal(number, heeded)
+
+TOP = Path(__file__).resolve().parent.parent
+VERSION = (TOP / "VERSION").read_text().strip()
+# the number in the name of the shared library
+NUMBER = re.match(r"0\.\d+|[1-9]\d*", VERSION)[0]
+# runs a command as a user who can't write to the system's own folders
+SOMEBODY = ["setpriv", "--reuid=65534", "--regid=65534", "--clear-groups"] if os.geteuid() == 0 else []
 
 passed = 0
 failed = 0
@@ -22,8 +30,8 @@ left = 0
 # the status of a script in which only cases failed that measure time: on a busy machine it may be made again
 LATE = 75
 
-# the most seconds that a script waits for an expected event. It ends a hang, and is long enough for a machine that stops
-# for minutes; nothing is measured by it
+# the most seconds that a script waits for an expected event. It ends a hang, and is long enough for a machine that
+# stops for minutes; nothing is measured by it
 PATIENCE = 600
 
 # the most characters printed of a found or a wanted value
@@ -70,7 +78,7 @@ def wait_until(is_there, pause=0.005):
 
 def table(name):
     """Returns the rows of tests/tables/NAME.txt, each a list of as many cells."""
-    text = (Path(__file__).parent / f"tables/{name}.txt").read_text()
+    text = (TOP / f"tests/tables/{name}.txt").read_text()
     rows = [[it.strip() for it in f"{row} ".split(" | ")] for row in text.splitlines() if not row.startswith("#")]
     assert len({len(it) for it in rows}) == 1, f"tables/{name}.txt is empty, or its rows differ in length"
     return rows

@@ -1,14 +1,14 @@
 #!/usr/bin/env python3
-"""Tests that a chip file is whole, and used by one run at a time. Whatever ends a run, the file is the old one or the new
-one.
+"""Tests that a chip file is whole, and used by one run at a time. Whatever ends a run, the file is the old one or the
+new one.
 
 Not proved: What the system's calls on files do, and what a crash of the system leaves.
 
     tests/chips.py [CASE ..]        needs strace, or leaves out what it does at single calls
 
-strace records the calls of a run, and a model of a disk (disk.py) makes each state that a power cut may leave. Each call
-fails, and each ends a run. Runs are started at once with one chip, and beside a run or a served session that holds it.
-"""
+strace records the calls of a run, and a model of a disk (disk.py) makes each state that a power cut may leave. Each
+call fails, and each ends a run. Runs are started at once with one chip, and beside a run or a served session that holds
+it. """
 
 import contextlib
 import itertools
@@ -81,8 +81,8 @@ def mode_of(path):
 
 
 def traced(prepare, words, how=None, meanwhile=None):
-    """Returns the status of a run under strace, its messages, and its calls for the chip, its folder or a file beside it.
-    strace does this at a call. What is done meanwhile begins with that call, which is held for two seconds."""
+    """Returns the status of a run under strace, its messages, and its calls for the chip, its folder or a file beside
+    it. strace does this at a call. What is done meanwhile begins with that call, which is held for two seconds."""
     prepare()
     inject = ["-e", f"inject={how}" + (":delay_enter=2000000:when=1" if meanwhile else "")] if how else []
     started = room.start(words, **tracing("-y", "-s", "50000", "-e", "trace=%file,%desc", *inject))
@@ -103,8 +103,8 @@ def is_safe(what, old, status, calls):
 
 
 def each_power_cut():
-    """After each call of a run a power cut leaves the old chip or the new one, and after status 0 the new one. This holds
-    too if a call fails, or finds no file or no descriptor. It wouldn't hold if one of both syncs were missing."""
+    """After each call of a run a power cut leaves the old chip or the new one, and after status 0 the new one. This
+    holds too if a call fails, or finds no file or no descriptor. It wouldn't hold if one of both syncs were missing."""
     for prepare, old in STARTS:
         new, what = with_fuse(old, 0x62), f"chip {bool(old)}"
         status, _, calls = traced(prepare, writes_fuse(0x62))
@@ -124,8 +124,8 @@ def each_power_cut():
 
 
 def ended_anywhere():
-    """Ends a run at each of its calls in turn. The chip is then the old one or the new one with its permissions, and the
-    next run works as usual."""
+    """Ends a run at each of its calls in turn. The chip is then the old one or the new one with its permissions, and
+    the next run works as usual."""
     for prepare, old in STARTS:
         left = set()
         for call in traced(prepare, writes_fuse(0x62))[2]:
@@ -138,9 +138,10 @@ def ended_anywhere():
 
 
 def others_meanwhile():
-    """While a run syncs its new file, another program changes which file is there. It puts one in the place of the chip or
-    of the new file, or removes one: the run fails, and what is there stays. So does a chip that is put where none was, however late. The old chip isn't
-    open when it is replaced, because some file systems hide an open file before that."""
+    """While a run syncs its new file, another program changes which file is there. It puts one in the place of the chip
+    or of the new file, or removes one: the run fails, and what is there stays. So does a chip that is put where none
+    was, however late. The old chip isn't open when it is replaced, because some file systems hide an open file before
+    that."""
 
     def put(path):
         room.put("put", b"mine")
@@ -222,8 +223,8 @@ def held_by_a_session():
 
 
 def without_a_lock():
-    """The lock file of a waiting run is removed, and another run starts. The one that saves first ends well, and the other
-    one fails: what a run with status 0 saved isn't lost."""
+    """The lock file of a waiting run is removed, and another run starts. The one that saves first ends well, and the
+    other one fails: what a run with status 0 saved isn't lost."""
     for prepare, old in STARTS:
         prepare()
         with waiting(["-U", "lfuse:w:0x11:m"], last=(1, UNWRITABLE)):
@@ -235,9 +236,9 @@ def without_a_lock():
 
 
 def what_is_refused():
-    """These are no chip files, and refused before a frame is sent or the server waits for a caller. They are a link to no
-    file or to itself, a pipe, a device, a folder, a name that is too long, and one in a folder that isn't there. So is a chip
-    whose lock file isn't regular."""
+    """These are no chip files, and refused before a frame is sent or the server waits for a caller. They are a link to
+    no file or to itself, a pipe, a device, a folder, a name that is too long, and one in a folder that isn't there. So
+    is a chip whose lock file isn't regular."""
     for name, make in [
         ("link.bin", lambda it: it.symlink_to("chip.bin")),
         ("loop.bin", lambda it: it.symlink_to("loop.bin")),
@@ -259,8 +260,8 @@ def what_is_refused():
 
 
 def read_into_the_chip():
-    """A read into the chip's own file is refused, by any of its names, and the chip stays whole. A file of the same name in
-    another folder is another file. A name that isn't UTF-8 is as good as any."""
+    """A read into the chip's own file is refused, by any of its names, and the chip stays whole. A file of the same
+    name in another folder is another file. A name that isn't UTF-8 is as good as any."""
     for prepare, old in STARTS:
         for name in ["chip.bin", "./chip.bin", "link.bin", "odd.bin", "name.bin"][: 5 if old else 4]:
             prepare()
@@ -305,8 +306,8 @@ def mounted():
 
 @contextlib.contextmanager
 def as_nobody():
-    """Gives how to start runs of a copy of the program: as the user nobody if this is root, who may write everything. The
-    room and the chip are that user's meanwhile."""
+    """Gives how to start runs of a copy of the program: as the user nobody if this is root, who may write everything.
+    The room and the chip are that user's meanwhile."""
     with tempfile.TemporaryDirectory() as bare:
         copy = shutil.copy(PROGRAM, bare)
         os.chmod(bare, 0o755)
@@ -319,9 +320,9 @@ def as_nobody():
 
 def what_stays():
     """A run is refused if the chip or its folder may not be written; a folder that may be written and not read is no
-    obstacle. A chip keeps its permissions, without setuid, setgid and the sticky bit, and its owner and group if the system
-    allows it; any other group gets what everyone had. A symbolic link to it stays a link. What an ended run of another
-    user's left blocks no run, and what a link of the new file's name leads to stays as it is."""
+    obstacle. A chip keeps its permissions, without setuid, setgid and the sticky bit, and its owner and group if the
+    system allows it; any other group gets what everyone had. A symbolic link to it stays a link. What an ended run of
+    another user's left blocks no run, and what a link of the new file's name leads to stays as it is."""
     # the modes of the chip, of its folder and of the new chip if there is one; the chip's group; who runs
     for mode, folder, kept, group, who in [
         (0o444, 0o755, None, NOBODY, NOBODY),
@@ -365,8 +366,8 @@ if true <"$it"; then echo "$it"; fi; done; done 2>/dev/null"""
 
 
 def another_user():
-    """Another user watches a chip of mode 600 whose owner runs with umask 000. He opens neither it nor the new file. A lock
-    file of his in a sticky folder blocks no run. A new file of his makes the run fail, and the old chip stays."""
+    """Another user watches a chip of mode 600 whose owner runs with umask 000. He opens neither it nor the new file. A
+    lock file of his in a sticky folder blocks no run. A new file of his makes the run fail, and the old chip stays."""
     if not IS_ROOT:
         return leave_out("another user beside a chip", "this isn't root")
     fresh_room()
@@ -392,8 +393,8 @@ def another_user():
 
 
 def stormy():
-    """Six runs at a time over one chip for a while, of which some are killed. Each run with status 0 is in the chip, and
-    each other one was killed or reports that the chip was in use. The chip is whole whenever it is seen."""
+    """Six runs at a time over one chip for a while, of which some are killed. Each run with status 0 is in the chip,
+    and each other one was killed or reports that the chip was in use. The chip is whole whenever it is seen."""
     room.clear()
     room.put("chip.bin", FRESH)
     chance, places, ends = random.Random(7), iter(range(1024)), time.monotonic() + 15

@@ -1,5 +1,5 @@
-"""Runs the built program in a folder of its own, or serves it at a port, for the scripts beside this one. AVRSTK names the
-program; the default is the one that ./avrstk runs: the proved one, or else the one without proofs."""
+"""Runs the built program in a folder of its own, or serves it at a port, for the scripts beside this one. AVRSTK names
+the program; the default is the one that ./avrstk runs: the proved one, or else the one without proofs."""
 
 import operator
 import os
@@ -12,16 +12,16 @@ import threading
 from functools import reduce
 from pathlib import Path
 
-from cases import PATIENCE, wait_until
+from cases import PATIENCE, TOP, wait_until
 
-TOP = Path(__file__).resolve().parent.parent
 NAMED = os.environ.get("AVRSTK")
 # a child that is forked while a terminal is made holds it open until it has become its program
 forks = threading.Lock()
 
 
 def program():
-    """Returns the program to run: the one that AVRSTK names, or else the one that ./avrstk runs, and prints which it is."""
+    """Returns the program to run: the one that AVRSTK names, or else the one that ./avrstk runs, and prints which it
+    is."""
     if NAMED:
         return Path(NAMED).resolve()
     which = subprocess.run([TOP / "avrstk", "--which"], stdout=subprocess.PIPE, text=True)
@@ -112,13 +112,15 @@ class Room:
             return subprocess.Popen([*shell, *front, *map(str, program), *words], **how)
 
     def run(self, words, given=b"", environment=None, closed=""):
-        """Returns the status, the output and the messages of a run. `closed` has shell redirections that close streams."""
+        """Returns the status, the output and the messages of a run. `closed` has shell redirections that close
+        streams."""
         return end_of(self.start(words, subprocess.PIPE, closed, env=os.environ | (environment or {})), given)
 
 
 def full_chip(flash=EEPROM, eeprom=LFUSE - EEPROM):
     """Returns a chip with a program, data and fuses of its own, which isn't locked."""
-    return bytes(place % 241 for place in range(flash)) + bytes(place % 239 for place in range(eeprom)) + b"\xe2\xd9\xfd\xff"
+    program, data = bytes(place % 241 for place in range(flash)), bytes(place % 239 for place in range(eeprom))
+    return program + data + b"\xe2\xd9\xfd\xff"
 
 
 def end_of(started, given=None):
@@ -156,8 +158,9 @@ def xor(held):
 
 
 def kept_port():
-    """Returns a socket that keeps a port of 127.0.0.1 while it is open. The system gives the port to no other process. A
-    process can listen there only if it asks for that number with SO_REUSEADDR, as this program does when it serves."""
+    """Returns a socket that keeps a port of 127.0.0.1 while it is open. The system gives the port to no other process.
+    A process can listen there only if it asks for that number with SO_REUSEADDR, as this program does when it
+    serves."""
     kept = socket.socket()
     kept.setsockopt(socket.SOL_SOCKET, socket.SO_REUSEADDR, 1)
     kept.bind(("127.0.0.1", 0))
@@ -186,8 +189,8 @@ def listens_at(port):
 
 
 class Server:
-    """The program as the emulated programmer of a part, at a port that is kept for it. At the end of a `with` it is ended
-    if it still runs."""
+    """The program as the emulated programmer of a part, at a port that is kept for it. At the end of a `with` it is
+    ended if it still runs."""
 
     def __init__(self, room, chip="served.bin", part="m328p", words=(), waits=True, **more):
         self.kept = kept_port()
