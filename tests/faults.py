@@ -8,8 +8,8 @@ refused.
                                      without one all is left out
 
 The runs over the emulator begin with a chip that isn't empty. Its file must stay whole: each byte is the old one, an
-erased one, or that of an undisturbed run's end. For every run below and every kind of call, the nth call is refused, for
-n from 1 until a run has no nth call. For allocations, the nth and all later ones are refused too.
+erased one, or that of an undisturbed run's end. For every run below and every kind of call, the nth call is refused,
+for n from 1 until a run has no nth call. For allocations, the nth and all later ones are refused too.
 
 A run with a refused call must end in one of two ways. Either it sends and prints a prefix of the undisturbed run, then
 prints the error's line, and ends with status 1. The line names the file that the call was for; if a message couldn't be
@@ -97,7 +97,8 @@ class Sweep:
         return *ran, self.room.read("chip.bin"), self.room.read("out.hex")
 
     def through(self, kind, how):
-        """Refuses each call of a kind in turn, up to the first with a wrong outcome. Returns the count of each outcome."""
+        """Refuses each call of a kind in turn, up to the first with a wrong outcome. Returns the count of each
+        outcome."""
         counts = Counter()
         for number in range(1, 100_000):
             done = self.done(f"{kind} {number} {how}")
@@ -167,7 +168,8 @@ def caller_of(server):
 
 
 def is_front_and_line(said, sound, line, may_stop):
-    """Returns whether these are a prefix of an undisturbed run's messages, then the error line, or part of it if `may_stop`."""
+    """Returns whether these are a prefix of an undisturbed run's messages, then the error line, or part of it if
+    `may_stop`."""
     if may_stop and sound.startswith(said):
         return True
     return any(sound.startswith(said[:end]) and is_front_of_error(said[end:], line.encode(), may_stop) for end in range(len(said) + 1))

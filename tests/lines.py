@@ -1,13 +1,12 @@
 #!/usr/bin/env python3
-"""Makes the built program print each line that a user can meet, and compares it with docs/TROUBLESHOOTING. Checks that no
-line there is left out.
+"""Makes the built program print each line that a user can meet, and compares it with docs/TROUBLESHOOTING. Checks that
+no line there is left out.
 
 Not proved: The text of a line, byte for byte, as a user sees it; how many writes it takes.
 
     tests/lines.py [CASE ..]      needs a built program (program.py)
 """
 
-import os
 import re
 import shlex
 import shutil
@@ -17,7 +16,7 @@ import sys
 
 from cases import PATIENCE, bytes_of, chosen, leave_out, named, run_cases, same, see, table
 from line import FrontOfAnswers, frames_in
-from program import ANSWERS, CHIP_FILE, EMULATED, ENDS, FRAMES, PROGRAM, SIGNATURE, STDIO, TOP, Room, Server
+from program import ANSWERS, CHIP_FILE, EMULATED, ENDS, FRAMES, SIGNATURE, STDIO, TOP, Room, Server
 from program import frame, kept_port, lines, lines_of, port_of, tracing
 
 PART = ["-p", "m328p"]
@@ -86,10 +85,7 @@ def words_are_refused():
         status, output, messages = room.run(words.split())
         same(f"{words}", (status, output), (1, b""))
         see(f"{words}: its line", messages.decode().startswith(told), messages[:80])
-    room.clear()
-    started = subprocess.run([os.fsencode(PROGRAM), b"-p", b"\xff"], cwd=room.folder, capture_output=True, timeout=PATIENCE)
-    same("a word that is not UTF-8", (started.returncode, started.stdout, started.stderr), (1, b"", lines("error: invalid data")))
-    met.add("error: invalid data")
+    run("a word that is not UTF-8", [b"-p", b"\xff"], ["error: invalid data"])
 
 
 # ---- files
@@ -103,8 +99,8 @@ def images_are_refused():
 
 
 def images_are_taken():
-    """Tests images on standard input and at the size limit, which is the system's part. (What is read of an image is proved;
-    tests/rattle/plans.rs has its limits by the byte.)"""
+    """Tests images on standard input and at the size limit, which is the system's part. (What is read of an image is
+    proved; tests/rattle/plans.rs has its limits by the byte.)"""
     blink = (TOP / "examples/blink.hex").read_bytes()
     flash = [*ERASED, "flash: 228 bytes written", "flash: 228 bytes verified", DONE]
     run("detected on standard input", [*EMULATED, "-U", "flash:w:-"], flash, 0, given=blink)
@@ -114,8 +110,8 @@ def images_are_taken():
     rubbish = room.keep("rubbish.hex", b":00000001FF\nrubbish\n")
     run("rubbish after an end record", [*EMULATED, "-U", f"flash:w:{rubbish}"], nothing, 0)
     open_ended = room.keep("open.hex", b":0400000001020304F2\n")
-    warned = [f"warning: {open_ended}: no end record", *ERASED, "flash: 4 bytes written", "flash: 4 bytes verified", DONE]
-    run("no end record", [*EMULATED, "-U", f"flash:w:{open_ended}"], warned, 0)
+    told = [*ERASED, "flash: 4 bytes written", "flash: 4 bytes verified", DONE]
+    run("no end record", [*EMULATED, "-U", f"flash:w:{open_ended}"], [f"warning: {open_ended}: no end record", *told], 0)
 
 
 def part_files():
@@ -131,7 +127,8 @@ def part_files():
     parts(re.sub(r"eeprom_size.*\n", "eeprom_size = 1023\n", good), "p.toml: sizes do not fit")
     parts("#" * (PART_FILE_LIMIT + 1), f"p.toml: longer than {PART_FILE_LIMIT} bytes")
     longest = room.keep("q.toml", (good + "#").ljust(PART_FILE_LIMIT, "x").encode())
-    run("the longest part file", ["-p", name, "-P", "emu:chip.bin", "--parts", longest], ["device signature = 1E 94 06", DONE], 0)
+    told = ["device signature = 1E 94 06", DONE]
+    run("the longest part file", ["-p", name, "-P", "emu:chip.bin", "--parts", longest], told, 0)
     refused("no name", [*EMULATED, "--parts", ""], ": cannot be opened")
     refused("no such part", ["-p", "m328", "-P", "emu:chip.bin"], "no part m328")
 
@@ -146,8 +143,8 @@ def chip_files():
 
 def nothing_is_written():
     """With -n the program reads and compares, but doesn't write or erase."""
-    words = [*EMULATED, "-n", "-e", "-U", "lfuse:w:0xE2:m", "-U", "lfuse:v:0xFF:m", "-U", "lfuse:r:-:h", "-U", "flash:w:empty.bin"]
-    told = ["lfuse: 1 bytes not written", "lfuse: 1 bytes verified", "lfuse: 1 bytes read", "flash: 0 bytes not written"]
+    words = [*EMULATED, *"-n -e -U lfuse:w:0xE2:m -U lfuse:v:0xFF:m -U lfuse:r:-:h -U flash:w:empty.bin".split()]
+    told = [*(f"lfuse: 1 bytes {it}" for it in ["not written", "verified", "read"]), "flash: 0 bytes not written"]
     run("-n", words, [SIGNATURE, "warning: chip not erased because of -n", *told, DONE], 0, b"0xff\n")
     same("-n: the chip is as it was", room.read("chip.bin"), b"\xff" * CHIP_FILE)
     told = [SIGNATURE, "error: lfuse: address 00000000: E2 expected, FF found"]
@@ -190,13 +187,15 @@ def nobody_else_is_called():
         return leave_out("which connections are made", "strace is not installed")
     peer = FrontOfAnswers(ANSWERS, resets=False)
     named = [("socket", "AF_INET"), ("connect", f"htons({peer.port})"), ("setsockopt", "TCP_NODELAY, [1], 4) = 0")]
-    over_net, calls = [*PART, "-P", f"net:127.0.0.1:{peer.port}"], "socket,connect,bind,listen,accept,accept4,setsockopt"
+    over_net = [*PART, "-P", f"net:127.0.0.1:{peer.port}"]
+    calls = "socket,connect,bind,listen,accept,accept4,setsockopt"
     for words, given, wanted in [(STDIO, ANSWERS, []), (EMULATED, b"", []), (over_net, b"", named)]:
         room.clear()
         started = room.start(words, subprocess.PIPE, **tracing("-e", f"trace={calls}"))
         same(f"{words}", started.communicate(given, PATIENCE)[1], lines(SIGNATURE, DONE))
         timed = traced(r'SO_(RCV|SND)TIMEO\w*, "\\(\w)\\0')
-        same(f"{words}: a read times out after 1 second, a write after 10", timed, [("RCV", "1"), ("SND", "n")] if wanted else [])
+        seconds = [("RCV", "1"), ("SND", "n")] if wanted else []
+        same(f"{words}: a read times out after 1 second, a write after 10", timed, seconds)
         found = [it for it in traced(r"^(\w+\(.*)") if "TIMEO" not in it]
         see(f"{words}: its calls", len(found) == len(wanted), found)
         for it, (call, told) in zip(found, wanted):
@@ -246,7 +245,8 @@ def a_line_is_one_write():
     """Each line is one write, in a run that succeeds and in one that is refused for a long name."""
     if not shutil.which("strace"):
         return leave_out("how lines are written", "strace is not installed")
-    for words, count in [([*EMULATED, "-e", "-n", "-U", "lfuse:w:0x62:m"], 4), ([*EMULATED, "-U", f"flash:w:{'x' * 4000}"], 1)]:
+    good, refuses = [*EMULATED, "-e", "-n", "-U", "lfuse:w:0x62:m"], [*EMULATED, "-U", f"flash:w:{'x' * 4000}"]
+    for words, count in [(good, 4), (refuses, 1)]:
         room.clear()
         started = room.start(words, **tracing("-e", "trace=write"))
         messages = started.communicate(timeout=PATIENCE)[1].splitlines(keepends=True)

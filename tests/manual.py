@@ -17,14 +17,13 @@ import sys
 import tempfile
 from pathlib import Path
 
-from cases import leave_out, named, run_cases, same, see, table as rows_of
+from cases import VERSION, leave_out, named, run_cases, same, see, table as rows_of
 from program import PROGRAM, TOP
 
 sys.path.append(str(TOP / "tools"))
 from man_pages import HERE_ALONE, MANUAL, PAGES, SECTIONS, blocks_of, cells, escaped
 
 USAGE = MANUAL[0]
-VERSION = (TOP / "VERSION").read_text().strip()
 
 
 def of_help():
@@ -95,7 +94,8 @@ def differences_hold():
         same("one byte of EEPROM", Path(folder, "read.bin").read_bytes(), b"\xff" * 100 + b"\x2a" + b"\xff" * 923)
 
 
-# the headings of a page, in this order, with others between OPTIONS and ENVIRONMENT; those of a page that is no command's
+# the headings of a page, in this order, with others between OPTIONS and ENVIRONMENT; those of a page that is no
+# command's
 HEADINGS = ["NAME", "SYNOPSIS", "DESCRIPTION", "EXAMPLES", "OPTIONS", "EXIT STATUS", "ENVIRONMENT", "FILES", "SEE ALSO"]
 COMMON = ["NAME", "DESCRIPTION", "EXAMPLES", "FILES", "SEE ALSO"]
 

@@ -1,7 +1,8 @@
 #!/usr/bin/env python3
-"""Tests runs of the built program with an emulated part: the messages, output, files and status, the frames sent, and the
-chip at the end. Each run is made over `emu:`, and again over TCP to the served emulator to see its frames. Then two runs
-are made over bad links. (tests/rattle/runs_over_wires.rs has other faults of a link, and bad_lines.py has drawn ones.)
+"""Tests runs of the built program with an emulated part: the messages, output, files and status, the frames sent, and
+the chip at the end. Each run is made over `emu:`, and again over TCP to the served emulator to see its frames. Then two
+runs are made over bad links. (tests/rattle/runs_over_wires.rs has other faults of a link, and bad_lines.py has drawn
+ones.)
 
 Not proved: That the compiled program does what its proof says, over the system's files and sockets.
 

@@ -1,6 +1,6 @@
 #!/usr/bin/env python3
-"""Tests avrstk-serve: clients in turn, and clients that send nothing, reset the connection or are idle. Also a device in
-place of a port, the log, what fails in a session, and how it ends.
+"""Tests avrstk-serve: clients in turn, and clients that send nothing, reset the connection or are idle. Also a device
+in place of a port, the log, what fails in a session, and how it ends.
 
 Not proved: avrstk-serve is Python over sockets and terminals.
 
@@ -22,7 +22,7 @@ import tempfile
 import time
 from pathlib import Path
 
-from cases import PATIENCE, leave_out, named, run_cases, same, see, table, wait_until
+from cases import PATIENCE, VERSION, leave_out, named, run_cases, same, see, table, wait_until
 from program import ANSWERS, CHIP_FILE, EEPROM, ENDS, FRAMES, LFUSE, NAMED, PROGRAM, SESSION, TOP, Room
 from program import frame, has_avrdude, kept_port, lines, port_of, read_whole
 from records import image_of
@@ -135,8 +135,8 @@ def listens():
 
 
 def clients_that_send_nothing():
-    """A client that only connects starts no run and delays no other client, before, while or after that one is served. It
-    needs few open files for them."""
+    """A client that only connects starts no run and delays no other client, before, while or after that one is served.
+    It needs few open files for them."""
     with Serving(before=lambda: resource.setrlimit(resource.RLIMIT_NOFILE, (20, 20))) as it:
         for _ in range(100):
             it.call().close()
@@ -325,7 +325,7 @@ def installed():
         shown = [ran(["--version"], it, AVRSTK="")[2].splitlines() for it in (SCRIPT, script)]
         stamp = ran(["--stamp-of", PROGRAM], TOP / "avrstk", AVRSTK="")[2].splitlines()
         rows = [it for it in stamp if not it.startswith(("sources", "program"))] or ["not known whether it is proved"]
-        wanted = [f"avrstk {(TOP / 'VERSION').read_text().strip()}", *rows]
+        wanted = [f"avrstk {VERSION}", *rows]
         same("--version, installed", shown[1], wanted)
         same("--version, in the clone", NAMED or shown[0], NAMED or wanted)
         Path(folder, "lib/avrstk/avrstk.stamp").unlink()
@@ -334,7 +334,8 @@ def installed():
 
 
 def status_of_sessions():
-    """Status 0 means that the chip of each session is saved, however the server is ended. Otherwise a line reports it."""
+    """Status 0 means that the chip of each session is saved, however the server is ended. Otherwise a line reports
+    it."""
     for name, acts, told in table("ends"):
         room.clear()
         same("a chip", room.run(["-p", "m328p", "-P", "emu:chip.bin", "-q", "-U", "lfuse:w:0x11:m"])[0], 0)

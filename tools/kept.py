@@ -3,6 +3,8 @@
 import sys
 from pathlib import Path
 
+TOP = Path(__file__).resolve().parent.parent
+
 
 def kept(made, wrong=()):
     """Writes the files with --write; `made` has the text of each. Prints which others are out of date and what else is

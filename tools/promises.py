@@ -1,5 +1,6 @@
 #!/usr/bin/env python3
-"""Writes the tables of docs/PROMISES: laws of the crates that carry the headline, by their comments, and calls of avr_tool.
+"""Writes the tables of docs/PROMISES: laws of the crates that carry the headline, by their comments, and calls of
+avr_tool.
 
     tools/promises.py             fails if the page is out of date
     tools/promises.py --write     writes the tables

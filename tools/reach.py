@@ -7,19 +7,16 @@
     tools/reach.py --check           compares the table of docs/PROOFS with the figures; --write writes them there. It also
                                      looks for each definition (`File.name`) and law that the documents name
 
-A definition reaches the definitions that its text names, in its own file or brought in by `use` lines. Definitions of std,
-of other libraries and of Rust (an enum, a struct) are listed but not counted. A variable with the name of a definition
-counts as that definition, so a figure can be too high, but not too low. Lines are those of the definitions, without
-comments and `use` lines.
-"""
+A definition reaches the definitions that its text names, in its own file or brought in by `use` lines. Definitions of
+std, of other libraries and of Rust (an enum, a struct) are listed but not counted. A variable with the name of a
+definition counts as that definition, so a figure can be too high, but not too low. Lines are those of the definitions,
+without comments and `use` lines. """
 
 import re
 import sys
-from pathlib import Path
 
-from kept import kept
+from kept import TOP, kept
 
-TOP = Path(__file__).resolve().parent.parent
 PAGE, README = TOP / "docs/PROOFS.md", TOP / "README.md"
 # the documents whose names are looked for
 NAMING = ("PROOFS", "PROMISES", "CHECK", "LIBRARY")
@@ -156,8 +153,8 @@ def with_lines(readme, page):
 
 def lacking():
     """Returns the definitions and laws that documents name and that aren't there: `File.name`; a name of several words
-    with capital letters, which may also be a type of Rust (docs/LIBRARY has std's, too); and a name of four words or more,
-    which is a law."""
+    with capital letters, which may also be a type of Rust (docs/LIBRARY has std's, too); and a name of four words or
+    more, which is a law."""
     sources = "\n".join(it.read_text() for it in TOP.glob("crates/*/src/**/*.rt"))
     functions = set(re.findall(r"\bfn (\w+)", sources)) | {it.stem for it in TOP.glob("crates/*/must-fail/*.edit")}
     types = set(re.findall(r"\b(?:struct|enum|trait|type) (\w+)", sources)) | {file for _, file in FILES}

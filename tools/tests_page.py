@@ -11,11 +11,9 @@ name and the first sentence of its text.
 import ast
 import re
 import sys
-from pathlib import Path
 
-from kept import kept
+from kept import TOP, kept
 
-TOP = Path(__file__).resolve().parent.parent
 PAGE = TOP / "tests/README.md"
 # the modules that the scripts share, and the runner
 SHARED = ("all", "cases", "disk", "line", "program", "records")
