@@ -839,12 +839,7 @@ def elf_files():
     linked("none.elf", ".text\n.byte 1\n")
     linked("main.o", ELF, "-c")
     room.put("cut.elf", room.read("main.elf")[:700])
-    for text, why in [
-        ("flash:w:odd.elf", "odd.elf has a section .odd that fits no memory (2 bytes at 00850000)"),
-        ("eeprom:w:none.elf", "none.elf has no byte of eeprom"),
-        ("flash:w:main.o", "main.o is damaged, or no linked ELF file for AVR"),
-        ("flash:w:cut.elf", "cut.elf is damaged, or no linked ELF file for AVR"),
-    ]:
+    for text, why in table("elf"):
         _, _, told, own = run(["-p", "m328p", "-P", "emu:no.bin", "-U", text])
         same(text, (told, own), (b"", [f"{why}: {UNOPENED}"]))
     room.put("both.hex", b"".join(room.read("blink.hex").splitlines(True)[:-1]) + hex_of([(0x810000, b"eeprom")]))
@@ -1019,16 +1014,11 @@ def hints_that_are_followed():
 
 def signals():
     """Tests how it ends at a signal."""
-    for number, reach, wanted in [
-        (signal.SIGINT, 0, "ended by SIGINT: the chip is unchanged"),
-        (signal.SIGINT, 0x13, "ended by SIGINT: the chip is erased or partly written, and may be held in reset: run"),
-        (signal.SIGTERM, 0x13, "ended by SIGTERM: the chip is erased or partly written"),
-        (signal.SIGHUP, 0x13, "ended by SIGHUP: the chip is erased or partly written"),
-    ]:
-        reached = threading.Event()
+    for name, command, wanted in table("signals"):
+        number, reached = signal.Signals[name], threading.Event()
 
         def held(answer):
-            if reach and answer[5] != reach:
+            if answer[5] != int(command, 16):
                 return answer
             reached.set()
             return b""
