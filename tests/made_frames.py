@@ -1,9 +1,9 @@
 #!/usr/bin/env python3
-"""Shows what the theorem doesn't cover. One link forges a frame. It loses, changes and repeats nothing, but pauses
-once inside a reply. That reply carries bytes of the chip that look like replies to the retried commands. The verified run
-ends with status 0, but the chip has another byte than the image. A second link damages one byte, the size of a frame, and
-forges no frame: the programmer takes the following bytes as the rest of that frame, and the run ends with an error. A
-third one brings a reply of an earlier run, and a chip has less flash than its part is said to have.
+"""Shows what the theorem doesn't cover. One link forges a frame. It loses, changes and repeats nothing, but pauses once
+inside a reply. That reply carries bytes of the chip that look like replies to the retried commands. The verified run
+ends with status 0, but the chip has another byte than the image. A second link damages one byte, the size of a frame,
+and forges no frame: the programmer takes the following bytes as the rest of that frame, and the run ends with an error.
+A third one brings a reply of an earlier run, and a chip has less flash than its part is said to have.
 
 Not proved: It shows what the theorem leaves out.
 
@@ -74,10 +74,10 @@ def chip_of(block):
 
 
 def made_contents(first, read):
-    """Returns the first 256 bytes of flash, with `first` at address 0. The reply number `read` to a read of them has, after
-    its 12th byte, what looks like two replies: to the address of the next attempt, and to its read. The second has WANTED
-    at address 0. Its remaining bytes and its XOR come from the rest of this reply and from later replies; one byte of the
-    block is free to make the XOR right."""
+    """Returns the first 256 bytes of flash, with `first` at address 0. The reply number `read` to a read of them has,
+    after its 12th byte, what looks like two replies: to the address of the next attempt, and to its read. The second
+    has WANTED at address 0. Its remaining bytes and its XOR come from the rest of this reply and from later replies;
+    one byte of the block is free to make the XOR right."""
     again, place = read + 1, 20
     block = bytearray(b"\xff" * 256)
     block[0], block[place - 10] = first, 0
@@ -100,8 +100,8 @@ def reply_to_read(number):
 
 
 def a_verified_run_is_wrong():
-    """The chip has another byte than the image or the file. An image is compared; one is written to flash that isn't erased
-    and so can't take the byte; a file is read."""
+    """The chip has another byte than the image or the file. An image is compared; one is written to flash that isn't
+    erased and so can't take the byte; a file is read."""
     for name, first, read, words, told in [
         ("compared", 0xAA, 7, ["-U", "flash:v:image.hex:i"], ["flash: 1 bytes verified"]),
         ("written", 0x50, 9, ["-D", "-U", "flash:w:image.hex:i"], ["flash: 1 bytes written", "flash: 1 bytes verified"]),
@@ -130,7 +130,8 @@ def without_a_pause_all_is_seen():
 
 
 def a_spoiled_size_swallows_frames():
-    """The link damages one byte: the size of one LOAD_ADDRESS. The programmer takes the next three frames as its rest."""
+    """The link damages one byte: the size of one LOAD_ADDRESS. The programmer takes the next three frames as its
+    rest."""
     content = bytes((place * 91 + 3) % 256 for place in range(FLASH))
     line = Line(content + b"\xff" * REST, spoil=lambda number, it: it[:3] + b"\x20" + it[4:] if number == 8 else it)
     room.put("image.bin", content)
@@ -153,9 +154,7 @@ eesave_bit = 3
 
 def with_lfuse(value):
     """Returns an erased ATtiny85 with this low fuse."""
-    chip = bytearray(b"\xff" * (FLASH + REST))
-    chip[LFUSE] = value
-    return bytes(chip)
+    return b"\xff" * LFUSE + bytes([value]) + b"\xff" * (FLASH + REST - LFUSE - 1)
 
 
 class Keeps(Line):

@@ -1,6 +1,6 @@
 #!/usr/bin/env python3
-"""Compares what README and docs/WHY say beside AVRDUDE with runs of both programs: the tables of examples/lossy/compare.py,
-the frames, files that are no firmware, and a programmer that never replies.
+"""Compares what README and docs/WHY say beside AVRDUDE with runs of both programs: the tables of
+examples/lossy/compare.py, the frames, files that are no firmware, and a programmer that never replies.
 
 Not proved: AVRDUDE is a program of others; time.
 

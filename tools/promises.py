@@ -1,5 +1,6 @@
 #!/usr/bin/env python3
-"""Writes the tables of docs/PROMISES: laws of the crates that carry the headline, by their comments, and calls of avr_tool.
+"""Writes the tables of docs/PROMISES: laws of the crates that carry the headline, by their comments, and calls of
+avr_tool.
 
     tools/promises.py             fails if the page is out of date
     tools/promises.py --write     writes the tables
@@ -9,10 +10,10 @@ A law has its first sentence. A call has the statements that its contract names;
 
 import re
 import sys
-from pathlib import Path
 
 from api import TOP, exports
-from reach import FILES, named_in
+from kept import kept
+from reach import named_in
 
 PAGE = TOP / "docs/PROMISES.md"
 CRATES = ("avr_laws", "avr_tool", "avr_session", "avr_plan")
@@ -53,8 +54,4 @@ def page():
 
 
 if __name__ == "__main__":
-    if sys.argv[1:] == ["--write"]:
-        PAGE.write_text(page())
-    is_made = PAGE.read_text() == page()
-    print(f"{PAGE.name} is out of date: tools/promises.py --write\n" * (not is_made) + f"{int(is_made)} passed, {int(not is_made)} failed")
-    sys.exit(int(not is_made))
+    sys.exit(kept({PAGE: page()}))
