@@ -5,7 +5,7 @@ ends with status 0, but the chip has another byte than the image. A second link 
 and forges no frame: the programmer takes the following bytes as the rest of that frame, and the run ends with an error.
 A third one brings a reply of an earlier run, and a chip has less flash than its part is said to have.
 
-Not proved: It shows what the theorem leaves out.
+Not proved: The theorem says nothing about these links.
 
     tests/made_frames.py       needs a built program (program.py)
 """
@@ -117,7 +117,7 @@ def a_verified_run_is_wrong():
 
 
 def without_a_pause_all_is_seen():
-    """Tests the same chip over a link that doesn't pause, and a pause with ordinary contents."""
+    """Without the pause the wrong byte is reported; a pause within other contents does no harm."""
     line = Line(chip_of(made_contents(0xAA, 7)))
     found, _ = line.run("-U", "flash:v:image.hex:i")
     told = lines(SIGNATURE, "error: flash: address 00000000: 55 expected, AA found")
@@ -130,8 +130,7 @@ def without_a_pause_all_is_seen():
 
 
 def a_spoiled_size_swallows_frames():
-    """The link damages one byte: the size of one LOAD_ADDRESS. The programmer takes the next three frames as its
-    rest."""
+    """If the link damages the size of one LOAD_ADDRESS, the programmer takes the next three frames as its rest."""
     content = bytes((place * 91 + 3) % 256 for place in range(FLASH))
     line = Line(content + b"\xff" * REST, spoil=lambda number, it: it[:3] + b"\x20" + it[4:] if number == 8 else it)
     room.put("image.bin", content)
@@ -180,7 +179,7 @@ class Keeps(Line):
 
 
 def a_reply_of_an_earlier_run_is_taken():
-    """Frame 6 reads the fuse. Its reply in the first run says 62, and is late: it comes in the second run."""
+    """A late reply of a first run is taken in the second one. Frame 6 reads the fuse; the reply says 62."""
     told = lines(SIGNATURE, "lfuse: 1 bytes verified", "done")
     first = Keeps(with_lfuse(0x62))
     found, chip = first.run("-U", "lfuse:v:0x62:m")
@@ -190,7 +189,8 @@ def a_reply_of_an_earlier_run_is_taken():
 
 
 def a_part_with_too_much_flash():
-    """A part file gives an ATtiny85 twice its flash. A verified write of two equal halves ends with status 0."""
+    """If a part file gives an ATtiny85 twice its flash, the wrong size goes unnoticed. A verified write of two equal
+    halves ends with status 0."""
     flash = bytes((place * 37 + 11) % 256 for place in range(FLASH))
     room.clear()
     room.put("image.bin", flash + flash)
