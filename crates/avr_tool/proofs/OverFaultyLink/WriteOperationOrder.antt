@@ -167,5 +167,5 @@ module _ (plan : Plan) (sound : IsPart plan.part) (fitted : All (IsFitted plan.p
       (λ k. (search rules))
       (λ k j changed. ap (λ z. memories_of z.programmer.chip) (along_reported device k (session_dialog plan) status_of p
       exchanges) ∙ (changed.stands.memories ∙ items_counted plan.part (items plan) j m))
-      (tallies_bind device all_actions (ending plan.part plan.switches) (operations_completed plan) (λ t. none_completed)
-      At p exchanges makes_actions.tally (λ k s e. ends k s e))
+      (tallies_bind device all_actions (ending plan.part plan.switches) (operations_completed plan)
+      (λ t. none_completed) At p exchanges makes_actions.tally (λ k s e. ends k s e))
