@@ -9,9 +9,9 @@ A law has the first sentence of its comment.
 
 import re
 import sys
-from pathlib import Path
 
 from api import TOP, exports
+from kept import kept
 
 PAGE = TOP / "docs/PROMISES.md"
 CRATES = ("avr_laws", "avr_tool", "avr_session", "avr_plan")
@@ -39,8 +39,4 @@ def page():
 
 
 if __name__ == "__main__":
-    if sys.argv[1:] == ["--write"]:
-        PAGE.write_text(page())
-    is_made = PAGE.read_text() == page()
-    print(f"{PAGE.name} is out of date: tools/promises.py --write\n" * (not is_made) + f"{int(is_made)} passed, {int(not is_made)} failed")
-    sys.exit(int(not is_made))
+    sys.exit(kept({PAGE: page()}))
