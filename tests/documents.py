@@ -38,6 +38,9 @@ def what_check_quotes():
     see("the mutant is of that crate", f"crates/{tried}/must-fail/any_sequence.edit" in files, files)
     words = lambda it: " ".join(it.split())
     quoted = [it for it in page.splitlines() if it.startswith("    ") and not it.startswith(("    $", "    fn "))]
+    # (the drawing quotes nothing)
+    drawn = page[page.index("    the chip holds your images") : page.index("    your board")] + "    your board"
+    quoted = [it for it in quoted if it not in drawn.splitlines()]
     crates = [it for name in ("stk_host", "avr_image") for it in (TOP / "crates" / name).rglob("*") if it.suffix in (".rt", ".antt", ".edit")]
     known = {words(row) for it in crates for row in it.read_text().splitlines()} | {words(PROVED)}
     for row in quoted:
