@@ -1,5 +1,5 @@
 -- The actions of a plan, in order: the only place that decides what switches and tasks lead to.
-use Rattle.std.specs.Prelude.{ℕ, Bool, true, false, ◌&&◌, ◌||◌, not, List, [], ◌∷◌, ◌++◌, Option, flat_map, if◌then◌else◌}
+use Rattle.std.specs.Prelude.{ℕ, Bool, true, false, ◌&&◌, ◌||◌, not, List, [], ◌∷◌, ◌++◌, Option, if◌then◌else◌}
 use Rattle.std.specs.List.{list_any}
 use Rattle.avr_cli.specs.declared.settings.Switches.{Switches}
 use Rattle.avr_cli.specs.declared.update.Format.{Format}
@@ -49,7 +49,8 @@ task_actions s (Verify mem image) = CompareImage mem image ∷ []
 task_actions s (Read mem format file) = SaveMemory mem format file ∷ []
 
 abbrev pub tasks_actions : Switches → List Task → List Action
-tasks_actions s tasks = flat_map (task_actions s) tasks
+tasks_actions s [] = []
+tasks_actions s (task ∷ tasks) = task_actions s task ++ tasks_actions s tasks
 
 -- What a plan does, in order. Its dialog, its commands and its items follow from this list.
 abbrev pub actions : Plan → List Action

@@ -1,5 +1,5 @@
 -- All the steps that a run of a plan may take.
-use Rattle.std.specs.Prelude.{List, [], ◌++◌, flat_map}
+use Rattle.std.specs.Prelude.{List, [], ◌∷◌, ◌++◌}
 use Rattle.avr_part.specs.Part.{Part}
 use Rattle.avr_plan.specs.Plan.{Plan}
 use Rattle.avr_session.specs.Actions.{Action, OpenSession, EraseChip, WriteImage, CompareImage, SaveMemory, actions}
@@ -18,7 +18,8 @@ action_steps part (SaveMemory mem format file) = read_steps part mem
 action_steps part action = []
 
 abbrev pub actions_steps : Part → List Action → List (List Command)
-actions_steps part actions = flat_map (action_steps part) actions
+actions_steps part [] = []
+actions_steps part (action ∷ actions) = action_steps part action ++ actions_steps part actions
 
 -- The steps of all actions in order, and the closing.
 abbrev pub run_steps : Plan → List (List Command)

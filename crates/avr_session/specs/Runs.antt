@@ -77,17 +77,22 @@ pub record StopsInOutput (event : Bytes → OutputEvent) (begun later : List (Ev
   pub part : begun ≡ Emitted (event done) ∷ []
   pub prefix : IsPrefixOfBytes done bytes
 
+-- Nothing was done of the next event, the creation of this file.
+pub record StopsAtCreation (file : Bytes) (begun later : List (Event OutputEvent)) : Type 0 where
+  pub more : List (Event OutputEvent)
+  pub due : later ≡ Emitted (CreatesFile file) ∷ more
+  pub none : begun ≡ []
+
 abbrev pub EndsWithCreation : Bytes → List (Event OutputEvent) → Type 0
 EndsWithCreation file whole = (before : List (Event OutputEvent)) × (whole ≡ before ++ Emitted (CreatesFile file) ∷ [])
 
--- A cause stops a run after the whole events, within the next one. Nothing was done of a creation that failed. Bytes
--- are written to a file that was created just before, or to standard output, whose name is `-`.
+-- A cause stops a run after the whole events, within the next one. Bytes are written to a file that was created just
+-- before, or to standard output, whose name is `-`.
 abbrev pub StopsAt : Cause → Transcript → List (Event OutputEvent) → List (Event OutputEvent)
     → List (Event OutputEvent) → Type 0
 StopsAt SendingFailed during whole begun later = StopsInFrame during begun later
 StopsAt ReceivingFailed during whole begun later = NoneTaken during × (begun ≡ []) × (later ≡ [])
-StopsAt (FileFailed file NotCreated) during whole begun later =
-    (begun ≡ []) × ((more : List (Event OutputEvent)) × (later ≡ Emitted (CreatesFile file) ∷ more))
+StopsAt (FileFailed file NotCreated) during whole begun later = StopsAtCreation file begun later
 StopsAt (FileFailed file NotWritten) during whole begun later =
     (EndsWithCreation file whole × StopsInOutput WritesFile begun later)
     ⊎ ((file ≡ codes "-") × StopsInOutput WritesOutput begun later)

@@ -1,5 +1,5 @@
 -- What a plan does to the memories of a chip.
-use Rattle.std.specs.Prelude.{Bool, true, false, List, [], ◌∷◌, ◌++◌, Option, Some, None, filter_map, flat_map, if◌then◌else◌}
+use Rattle.std.specs.Prelude.{Bool, true, false, List, [], ◌∷◌, ◌++◌, Option, Some, None, filter_map, if◌then◌else◌}
 use Rattle.avr_plan.specs.Plan.{Plan}
 use Rattle.avr_plan.specs.declared.planned.Task.{Task}
 use Rattle.avr_plan.specs.declared.planned.Task.TheVariants as task
@@ -13,7 +13,8 @@ action_items (WriteImage mem image) = Write mem image ∷ []
 action_items action = []
 
 abbrev pub actions_items : List Action → List Item
-actions_items actions = flat_map action_items actions
+actions_items [] = []
+actions_items (action ∷ actions) = action_items action ++ actions_items actions
 
 -- The erase, if due, and the writes, in order.
 abbrev pub items : Plan → List Item

@@ -1,6 +1,6 @@
 -- What the session of a plan did over a link, whatever the link loses, delays and corrupts: first by the exchanges of
 -- its frames, then over a wire to the emulated programmer, by their fates.
-use Rattle.std.specs.Prelude.{ℕ, ◌+◌, ◌*◌, ◌≡◌, ◌≤◌, ◌⊎◌, false, List, [], ◌∷◌, flat_map, map, length}
+use Rattle.std.specs.Prelude.{ℕ, ◌+◌, ◌*◌, ◌≡◌, ◌≤◌, ◌⊎◌, false, List, [], ◌∷◌, ◌++◌, map, length}
 use Rattle.avr_cli.specs.declared.settings.Switches.{Switches}
 use Rattle.avr_desk.specs.Record.{DeskState, ChangesRecord}
 use Rattle.avr_desk.specs.OutputEvents.{OutputEvent, after_events}
@@ -34,7 +34,8 @@ total_weight weight [] = 0
 total_weight weight (first ∷ bodies) = weight first + total_weight weight bodies
 
 abbrev pub bodies_in : List (List Command) → List (List ℕ)
-bodies_in steps = flat_map (map body) steps
+bodies_in [] = []
+bodies_in (commands ∷ steps) = map body commands ++ bodies_in steps
 
 -- No frame goes wrong.
 abbrev pub AllArriveRight : List Exchange → Type 0

@@ -1,5 +1,5 @@
 -- The outline of a session: how many frames it sends, and which pages of flash it writes.
-use Rattle.std.specs.Prelude.{◌≡◌, ◌⊎◌, ◌+◌, ◌-◌, ◌*◌, ◌/◌, ◌^◌, ◌++◌, min, ℕ, zero, suc, List, [], ◌∷◌, Option, Result, Ok, Err, codes, decimal, flat_map, if◌then◌else◌}
+use Rattle.std.specs.Prelude.{◌≡◌, ◌⊎◌, ◌+◌, ◌-◌, ◌*◌, ◌/◌, ◌^◌, ◌++◌, min, ℕ, zero, suc, List, [], ◌∷◌, Option, Result, Ok, Err, codes, decimal, if◌then◌else◌}
 use Rattle.avr_cli.specs.declared.settings.Settings.{Settings}
 use Rattle.avr_desk.specs.Lines.{error, memory_pieces}
 use Rattle.avr_desk.specs.StageRuns.{RunsStage}
@@ -34,10 +34,14 @@ abbrev pub task_text : Part → Task → Bytes
 task_text part (Write Flash image) = pages_text part image 0 (part.flash_size / part.flash_page)
 task_text part task = []
 
+abbrev pub tasks_text : Part → List Task → Bytes
+tasks_text part [] = []
+tasks_text part (task ∷ tasks) = task_text part task ++ tasks_text part tasks
+
 -- The number of frames, at most 2^64 - 1, and the pages of flash that each task writes.
 abbrev pub outline_text : Plan → Bytes
 outline_text plan = codes "frames " ++ number_line (min (2 ^ 64 - 1) (commands_in (run_steps plan))) 10
-    ++ flat_map (task_text plan.part) plan.tasks
+    ++ tasks_text plan.part plan.tasks
 
 -- The text was printed with status 0, or a prefix of it with status 1; or allocation failed, and this was reported.
 abbrev pub PrintsOutline : Bytes → DeskState → DeskState → ℕ → Type 0

@@ -102,7 +102,8 @@ begins_mixed passed emitted (x ∷ done) due more made is allocates planned_so =
 takes_first : (passed : List Opening) (emitted : List OutputEvent) → AtAllocatingUpdate mixed passed emitted
     → (passed ≡ []) × (emitted ≡ [])
 takes_first passed emitted at =
-    let it = at.point in begins_mixed passed emitted it.done it.due it.more it.made it.updates_are it.allocates it.is_made
+    let it = at.point in
+    begins_mixed passed emitted it.done it.due it.more it.made it.updates_are it.allocates it.is_made
 
 -- values alone, and a part file: not before that was opened
 abbrev parted : Settings

@@ -26,7 +26,7 @@ not_created old new file (Err other) fault more is kept = record {
   begun = [];
   later = CreatesFile file ∷ more;
   outputs_are = refl;
-  place = (refl, map Emitted more, refl);
+  place = record { more = map Emitted more; due = refl; none = refl };
   by_desk = tt;
   kept = kept ∙ kept_none old.kept;
 }
