@@ -1,5 +1,5 @@
 #!/usr/bin/env python3
-"""Runs AVRDUDE 7.1 as a client of the programmer that `avrstk --serve` emulates. AVRDUDE's writes, reads and erases must have
+"""Runs AVRDUDE 7.1 as the client of the programmer that this program serves. AVRDUDE's writes, reads and erases must have
 the same results as this program's over `emu:`.
 
 Not proved: AVRDUDE is a program of others.

@@ -1,7 +1,7 @@
 #!/usr/bin/env python3
 """Makes 150 runs to the served programmer, as two processes at the ends of a bad link. The random generators have fixed seeds.
 
-Not proved: No theorem says that two processes and their sockets are such a link, or how often a run succeeds.
+Not proved: That two processes and their sockets are such a link; how often a run succeeds.
 
     tests/bad_lines.py [CASE ..]    needs a built program (program.py)
 
@@ -165,12 +165,12 @@ def holds(name, plan, status, told, is_forged, served, chip):
 
 
 def drawn(rate, kinds):
-    """By chance, at a rate in percent, frames come late, or are cut, lost or changed. Returns what draws the fates of a run."""
+    """At a rate in percent, frames come late or cut, or are lost and changed, too. Returns what draws the fates of a run."""
     return lambda draw: lambda number: draw.choice(kinds) if draw.random() < rate / 100 else ""
 
 
 def lagging(draw):
-    """From a drawn exchange on, each reply comes late. Returns the fates of a run."""
+    """From some exchange on each reply comes late. Returns the fates of a run."""
     first = draw.randint(1, 40)
     return lambda number: "late answer" if number >= first else ""
 
@@ -196,7 +196,7 @@ KINDS = {
 
 
 def runs_over(name, kind):
-    """Makes all runs over one kind of link."""
+    """Makes the runs over a kind of link."""
     plans = [Plan(it, kind.has_flash) for it in range(1 if "losses" in name else 10)]
     with ThreadPoolExecutor(AT_ONCE) as pool:
         draws = [random.Random(f"{name} {it}") for it in range(kind.count)]

@@ -2,7 +2,7 @@
 """Tests that a chip file is whole, and used by one run at a time. Whatever ends a run, the file is the old one or the new
 one.
 
-Not proved: The proofs assume how the system's calls on files behave, also in a crash of the system.
+Not proved: What the system's calls on files do, and what a crash of the system leaves.
 
     tests/chips.py [CASE ..]        needs strace, or leaves out what it does at single calls
 
@@ -221,7 +221,7 @@ def held_by_a_run():
 
 
 def held_by_a_session():
-    """A served session holds the chip; before a client connects, other runs may use it."""
+    """A served session holds the chip; before a caller comes, other runs may use it."""
     fresh_room()
     with Server(room, "chip.bin") as server:
         is_good("a run before a caller comes", room.run(writes_fuse(0x62)))
@@ -248,7 +248,7 @@ def without_a_lock():
 
 
 def what_is_refused():
-    """Files that can be no chip file are refused before a frame is sent or the server waits for a client. They are a link to no
+    """These are no chip files, and refused before a frame is sent or the server waits for a caller. They are a link to no
     file or to itself, a pipe, a device, a folder, a name that is too long, and one in a folder that isn't there. So is a chip
     whose lock file isn't regular."""
     for name, make in [
@@ -405,7 +405,7 @@ def another_user():
 
 
 def stormy():
-    """For a while six runs at a time use one chip, and some are killed. Each run with status 0 is in the chip, and
+    """Six runs at a time over one chip for a while, of which some are killed. Each run with status 0 is in the chip, and
     each other one was killed or reports that the chip was in use. The chip is whole whenever it is seen."""
     room.clear()
     room.put("chip.bin", FRESH)

@@ -1,5 +1,5 @@
 #!/usr/bin/env python3
-"""Compares what docs/CHECK and CONTRIBUTING quote with the sources, and the sum of the logic in documents with the kit's.
+"""Compares what docs/CHECK and CONTRIBUTING quote of sources with these, and the logic that documents name with the kit's.
 
 Not proved: Documents are not code.
 
@@ -28,7 +28,7 @@ def text(name):
 
 
 def what_check_quotes():
-    """docs/CHECK quotes a law, mutants, files and lines of code as they are, and its command tries the mutant."""
+    """The law, mutants, files and lines of code that docs/CHECK quotes are there, and the mutant is tried."""
     page = text("docs/CHECK.md")
     module, law = re.search(r"^    \$ rt check --only (\w+)::(\w+)$", page, re.M).groups()
     source = text(f"crates/avr_laws/src/{module}.rt")

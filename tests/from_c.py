@@ -3,7 +3,7 @@
 exchanges record files with other programs. These are srec_cat, avr-objcopy and python3-intelhex. Without a C compiler all is
 left out. AVR_RECORDS_C may name a folder for the library, which is built there if it has none.
 
-Not proved: C, Python and other programs are outside of the proofs.
+Not proved: The boundary to C and Python; the formats as other programs read and write them.
 
     tests/from_c.py [CASE ..]
 
@@ -137,7 +137,7 @@ def files_come_back(library):
 
 
 def typed_as_shown(library):
-    """The commands of docs/LIBRARY run as typed, over the library that is built already."""
+    """The commands of docs/LIBRARY run as typed; this library's folder is in place of the one that the first one makes."""
     section = (ROOT / "docs/LIBRARY.md").read_text().split("## From C and Python\n")[1].split("\n## ")[0]
     first, *commands = re.findall(r"^    \$ (.*)$", section, re.M)
     same("the first one", first, "examples/c/build.sh out/c")
@@ -272,7 +272,7 @@ def versions_agree(library):
 
 
 def other_names_are_free(library):
-    """A program's own functions may have the names of functions inside the archive, as another Rattle library's do."""
+    """A program may have functions with the names of those inside the archive; another Rattle library has the same."""
     program = library.compiled(ROOT / "tests/own_names.c")
     same("the fault of a good file", subprocess.run([program]).returncode, 0)
 

@@ -2,7 +2,7 @@
 """Runs the built program in a failing environment: closed and full outputs, bad files, programmers that disconnect or are
 slow, callers that send garbage, and signals.
 
-Not proved: No proof covers time and signals, or what the system does with closed, full and broken streams, files and sockets.
+Not proved: What the system does with closed, full and broken streams, files and sockets; time and signals.
 
     tests/hostile.py [CASE ..]      needs a built program (program.py)
 """
@@ -155,7 +155,7 @@ def files_are_full():
 
 
 def no_file_may_grow():
-    """If the file size limit is 0, output to files fails, and other output doesn't."""
+    """The file size limit is 0: streams to files fail, and other streams don't."""
     for words, redirected, wanted in [
         (SESSION, ">out", (1, b"", lines("error: link cannot be written"))),
         (["--help"], ">out", (1, b"", b"")),
@@ -221,7 +221,7 @@ def a_second_caller():
 
 
 def nothing_is_read():
-    """A programmer that sends replies never reads what is sent to it. A write that takes no byte for ten seconds ends the run."""
+    """A programmer replies to each command and never reads. A write that takes no byte for ten seconds ends the run."""
     room.clear()
     room.put("large.bin", bytes(range(1, 129)) * 2_048)
     with socket.socket() as listener:
@@ -284,7 +284,7 @@ class Trickle(Peer):
 
 
 def a_silence_is_a_second_without_a_byte():
-    """While a byte comes each quarter second, the first frame isn't sent again within three seconds."""
+    """A byte comes each quarter second: the first frame isn't sent again within three seconds."""
     peer = Trickle()
     started = room.start(["-p", "m328p", "-P", f"net:127.0.0.1:{peer.port}"])
     started.communicate(timeout=PATIENCE)
@@ -310,8 +310,8 @@ def standard_streams_that_do_not_block():
 
 
 def standard_streams_that_block():
-    """Over standard streams that block, avrstk waits for a reply and retries nothing. A command is retried if it was
-    refused as damaged, or if 4,096 bytes had no reply in them."""
+    """Nothing is retried while there is no reply. A command is retried if it was refused as damaged, or if 4,096 bytes
+    had no reply in them."""
     started = room.start(["-p", "m328p", "-P", "stdio:"], subprocess.PIPE)
     first = started.stdout.read(7)
     try:
@@ -374,8 +374,8 @@ def ended_from_outside():
 
 
 def loaded_for_its_caller():
-    """The server serves the chip that a run over `emu:` saved before the client connected. If the chip is refused at that
-    time, that is reported, and the chip stays as it is."""
+    """A chip that `emu:` saves before a caller comes is the one served. If the chip is refused at that time, that is
+    reported, and the chip stays as it is."""
     room.clear()
     server = Server(room, "chip.bin")
     told = [SIGNATURE, "lfuse: 1 bytes written", "lfuse: 1 bytes verified", "done"]

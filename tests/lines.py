@@ -2,7 +2,7 @@
 """Makes the built program print each line that a user can meet, and compares it with docs/TROUBLESHOOTING. Checks that no
 line there is left out.
 
-Not proved: No proof shows the text of a line, byte for byte, as a user sees it, or how many writes it takes.
+Not proved: The text of a line, byte for byte, as a user sees it; how many writes it takes.
 
     tests/lines.py [CASE ..]      needs a built program (program.py)
 """
@@ -145,7 +145,7 @@ def images_are_refused():
 
 
 def images_are_taken():
-    """Tests images on standard input, and images at the size limit. (What is read of an image is proved;
+    """Tests images on standard input and at the size limit, which is the system's part. (What is read of an image is proved;
     tests/rattle/plans.rs has its limits by the byte.)"""
     blink = (TOP / "examples/blink.hex").read_bytes()
     flash = [*ERASED, "flash: 228 bytes written", "flash: 228 bytes verified", DONE]
@@ -244,7 +244,7 @@ def traced(call):
 
 
 def nobody_else_is_called():
-    """Only `net:` makes a connection, and only one; only `--serve` listens. Bytes are sent without delay."""
+    """Only `net:` makes a connection, and one, and only `--serve` listens. Bytes are sent without delay."""
     if not shutil.which("strace"):
         return leave_out("which connections are made", "strace is not installed")
     peer = FrontOfAnswers(ANSWERS, resets=False)

@@ -5,7 +5,7 @@ ends with status 0, but the chip has another byte than the image. A second link 
 forges no frame: the programmer takes the following bytes as the rest of that frame, and the run ends with an error. A
 third one brings a reply of an earlier run, and a chip has less flash than its part is said to have.
 
-Not proved: The theorem says nothing about these links.
+Not proved: It shows what the theorem leaves out.
 
     tests/made_frames.py       needs a built program (program.py)
 """
@@ -130,7 +130,7 @@ def without_a_pause_all_is_seen():
 
 
 def a_spoiled_size_swallows_frames():
-    """If the link damages the size of one LOAD_ADDRESS, the programmer takes the next three frames as its rest."""
+    """The link damages one byte: the size of one LOAD_ADDRESS. The programmer takes the next three frames as its rest."""
     content = bytes((place * 91 + 3) % 256 for place in range(FLASH))
     line = Line(content + b"\xff" * REST, spoil=lambda number, it: it[:3] + b"\x20" + it[4:] if number == 8 else it)
     room.put("image.bin", content)
@@ -181,7 +181,7 @@ class Keeps(Line):
 
 
 def a_reply_of_an_earlier_run_is_taken():
-    """A late reply of a first run is taken in the second one. Frame 6 reads the fuse; the reply says 62."""
+    """Frame 6 reads the fuse. Its reply in the first run says 62, and is late: it comes in the second run."""
     told = lines(SIGNATURE, "lfuse: 1 bytes verified", "done")
     first = Keeps(with_lfuse(0x62))
     found, chip = first.run("-U", "lfuse:v:0x62:m")
@@ -191,8 +191,7 @@ def a_reply_of_an_earlier_run_is_taken():
 
 
 def a_part_with_too_much_flash():
-    """If a part file gives an ATtiny85 twice its flash, the wrong size goes unnoticed. A verified write of two equal
-    halves ends with status 0."""
+    """A part file gives an ATtiny85 twice its flash. A verified write of two equal halves ends with status 0."""
     flash = bytes((place * 37 + 11) % 256 for place in range(FLASH))
     room.clear()
     room.put("image.bin", flash + flash)

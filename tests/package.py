@@ -3,7 +3,7 @@
 both clones are identical. They contain what install.sh installs and name their sources. They can be installed, run and
 removed.
 
-Not proved: Scripts of the shell and Debian's package tools are not Rattle.
+Not proved: Scripts of the shell, and Debian's package tools.
 
     tests/package.py [CASE ..]
 """
@@ -201,7 +201,7 @@ def unpacked(name, folder):
 
 
 def packages_hold_what_is_installed():
-    """A package contains what install.sh installs, and documents of its own."""
+    """A package contains what install.sh installs, and a package's documents."""
     with tempfile.TemporaryDirectory() as folder:
         prefix = Path(folder, "installed")
         environment = os.environ | {"AVRSTK": str(PROGRAM)}

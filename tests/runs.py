@@ -3,7 +3,7 @@
 chip at the end. Each run is made over `emu:`, and again over TCP to the served emulator to see its frames. Then two runs
 are made over bad links. (tests/rattle/runs_over_wires.rs has other faults of a link, and bad_lines.py has drawn ones.)
 
-Not proved: The compiled program and the system's files and sockets are outside of the proofs.
+Not proved: That the compiled program does what its proof says, over the system's files and sockets.
 
     tests/runs.py [CASE ..]        needs a built program (program.py)
 """

@@ -283,7 +283,7 @@ def reads():
 
 
 def boards_that_reset():
-    """Tests a board that ignores input right after a reset, and soon starts its application."""
+    """Tests a board that is deaf at first, and starts its application soon."""
     flashed()
     longer = ["--wait", "1.5", *FLASH, "-P", "DEVICE"]
     for words, deaf, gone in [([*FLASH, "-P", "DEVICE"], 0.25, 1.2), (longer, 1.4, 3.5)]:
@@ -292,7 +292,7 @@ def boards_that_reset():
 
 
 def parts():
-    """Tests the part file that comes with avrstk-serial."""
+    """Tests the part file that comes with it."""
     wanted = emulated("-e", part="t85")
     status, _, _, own, chip = over(["-p", "attiny85", "-e"], {"part": "t85"})
     see("attiny85", (status, own, chip == wanted) == (0, [], True), own)
@@ -366,7 +366,7 @@ def no_firmware():
 
 
 def ports_of_avrstk():
-    """A run over `net:`, `emu:` or `stdio:` goes to avrstk, with the script's options adapted. -c ? lists the programmers."""
+    """One of avrstk's own ports goes to avrstk, with the script's options adapted. -c ? lists the programmers."""
     wanted = flashed()
     words = ["-C", "x.conf", "-c", "wiring", "-b", "9600", "-p", "atmega328p", "-U", "blink.hex"]
     notes = ["ignored: -C x.conf", "blink.hex is read as Intel HEX (:i)"]
@@ -417,8 +417,7 @@ def devices():
 
 
 def what_is_missing():
-    """avrstk-serial reports what is missing. If no program is named, it runs the one beside it. (tests/build.py has
-    that of a clone.)"""
+    """It says what is missing. If no program is named, it runs the one beside it. (tests/build.py has that of a clone.)"""
     needed = "is not there, or can't be run: avrstk is needed beside this script, or named by AVRSTK"
     line, device = terminal()
     same("no avrstk", run([*FLASH, "-P", device], env={"AVRSTK": "/nowhere/it"})[::3], (1, [f"/nowhere/it {needed}"]))
@@ -526,7 +525,7 @@ def bits_that_do_not_exist():
 
 
 def lists():
-    """Tests the list of devices that -P ? prints. (tests/serve.py has --version.)"""
+    """Tests -P ? (tests/serve.py has --version)."""
     here = sorted(str(it) for kind in ("ACM", "USB") for it in Path("/dev").glob(f"tty{kind}*"))
     status, output, *told = run(["-P", "?"])
     same("-P ?", (status, [it.split()[0] for it in output.decode().splitlines()], told), (0, here or ["there"], [b"", []]))
@@ -566,7 +565,7 @@ def silent(command):
 
 
 def retries():
-    """With --retry the script runs the same command again after no answer, a lost link or a mismatch."""
+    """With --retry the same command is given again after no answer, a lost link or a mismatch."""
     wanted = flashed()
     again = lambda error, *numbers: [f"{error}: the same command again, {it} of 2" for it in numbers]
     wrong = {"answer": lambda it: changes(0x14, bytes([0x14, 0, *bytes(256), 0]))(it) if it[2:4] == b"\1\3" else it}
@@ -599,7 +598,7 @@ def retries():
 
 
 def retries_that_are_refused():
-    """--retry is refused at the beginning for a command that a second run may not repair."""
+    """--retry is refused at the beginning for a command that a second run may not heal."""
     room.put("late.hex", hex_of([(0x4000, b"late")]))
     os.mkfifo(room.folder / "pipe")
     line, device = terminal()
@@ -623,7 +622,7 @@ def retries_that_are_refused():
 
 
 def the_part_of_the_chip():
-    """-p auto reads the signature first, and takes the part that has it."""
+    """-p auto reads the signature first, and takes the one part that has it."""
     wanted = flashed()
     words = ["-p", "auto", "-U", "flash:w:blink.hex:i", "-U", "lock:w:0x3F:m"]
     it = Boards(silent(0x1B), {}, {})
@@ -763,7 +762,7 @@ def warnings():
 
 
 def images_that_are_read_once():
-    """An image may be a pipe: only avrstk opens it, and only once. Only the port is replaced on the command line."""
+    """An image may be a pipe, which only avrstk opens, and once. Only the port is replaced on the command line."""
     wanted, text = flashed(), room.read("blink.hex")
     os.mkfifo(room.folder / "pipe")
     writer = threading.Thread(target=lambda: room.put("pipe", text), daemon=True)
@@ -849,7 +848,7 @@ def renamed(words, given):
 
 
 def another_file(words, case, *_):
-    """Follows a hint: builds or downloads the file again, or makes one image from address 0 on."""
+    """Builds or downloads the file again, or makes one image from address 0 on."""
     case["again"]()
     return words
 
@@ -995,7 +994,7 @@ def without_bits(answer):
 
 
 def hints_over_each_memory():
-    """Whoever follows the hints, for any memory, kind of board and kind of part file, gets the wanted bytes or a failure."""
+    """Hints over each memory, kind of board and kind of part file end at the wanted bytes, or no run ends well."""
     image = flashed()[:228]
     room.put("mine.toml", (TOP / "parts/classic.toml").read_bytes())
     room.put("mega.hex", hex_of([(0, bytes(300))]))
@@ -1091,7 +1090,7 @@ def hints_that_are_followed():
 
 
 def signals():
-    """Tests how avrstk-serial ends at a signal."""
+    """Tests how it ends at a signal."""
     for number, reach, wanted in [
         (signal.SIGINT, 0, "ended by SIGINT: the chip is unchanged"),
         (signal.SIGINT, 0x13, "ended by SIGINT: the chip is erased or partly written, and may be held in reset: run"),
@@ -1336,7 +1335,7 @@ def recipe_of_the_script():
 
 
 def recipe_of_a_plain_bridge():
-    """Tests socat in place of avrstk-serial. It opens the device when the tool calls: too late for a board that resets then."""
+    """Tests socat alone. It opens the device when the tool calls: too late for a board that resets then."""
     if not shutil.which("socat"):
         return leave_out("the recipes with socat", "socat is not installed")
     firmware = flashed()

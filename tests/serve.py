@@ -117,7 +117,7 @@ def begins(client):
 
 
 def listens():
-    """The server prints its port: the given one, or any free one. A second server at the port ends with a line."""
+    """It prints its port: a given one, or any free one. A second server at the port ends with a line."""
     with Serving() as it:
         same("its line", it.said, f"serving at 127.0.0.1:{it.port}\n".encode())
         for value in [0x60, 0x61, 0x62]:
@@ -163,7 +163,7 @@ def clients_that_send_nothing():
 
 
 def one_after_another():
-    """A client waits until the one before has disconnected, and gets the chip that this one left."""
+    """A client waits until the one before it has hung up, and gets the chip that it left."""
     with Serving() as it:
         first = it.call()
         see("the first session", begins(first))
@@ -219,7 +219,7 @@ def a_chip_in_use():
 
 
 def idle_clients():
-    """With --idle the server disconnects an idle client, and saves the chip."""
+    """With --idle the server hangs up on an idle client, and its chip is saved."""
     with Serving("--idle", "0.4") as it:
         with it.call() as silent, it.call() as client:
             see("a session", begins(client))
@@ -251,7 +251,7 @@ def changes_fuse(it, value):
 
 
 def ends_at_a_signal():
-    """At a signal the server ends with status 0, whatever it is doing. Its client's changes are saved, and no run is left."""
+    """At a signal it ends with status 0, whatever it is doing. Its client's changes are saved, and no run is left."""
     # (a terminal sends Ctrl-C to the whole group)
     for number, group in [(signal.SIGTERM, False), (signal.SIGINT, True), (signal.SIGHUP, False)]:
         name = number.name
@@ -280,7 +280,7 @@ def ends_at_a_signal():
 
 
 def refused():
-    """The server reports errors before it listens, and ends with status 1."""
+    """It reports errors before it listens, and ends with status 1."""
     os.mkfifo(room.folder / "pipe")
     taken = kept_port()
     taken.listen()
@@ -319,7 +319,7 @@ def refused():
 
 
 def installed():
-    """An installed server finds the program, the part file and the stamp of the build, as one in a clone does."""
+    """If it is installed, it finds the program, the part file, and the stamp of the build, as in a clone."""
     with tempfile.TemporaryDirectory() as folder:
         subprocess.run([TOP / "install.sh", folder], env=environment(), stdout=subprocess.DEVNULL, check=True)
         script = Path(folder, "bin/avrstk-serve")
@@ -365,7 +365,7 @@ def status_of_sessions():
 
 
 def a_command():
-    """A command after -- is run as the client. Its end ends the server, whose status it is, or 1 if a chip was not saved."""
+    """A command after -- is the client. Its end ends the server, whose status it is, or 1 if a chip was not saved."""
     client = [str(PROGRAM), "-p", "m328p", "-P", "net:{}", "-q", "-U", "lfuse:w:0x60:m"]
     same("a client", ran(["0", *M328P, "--", *client]), (0, "", ""))
     same("its fuse", fuse(), 0x60)
@@ -389,7 +389,7 @@ def a_command():
 
 
 def no_inner_port():
-    """No other process can come between a client and its run, because the run listens at no port."""
+    """Nobody can come between a client and its run: the run has no socket of the network."""
     with Serving() as it:
         client, run = changes_fuse(it, 0x60)
         rows = "".join(Path(f"/proc/net/{name}").read_text() for name in ["tcp", "tcp6", "udp", "udp6"])
@@ -403,7 +403,7 @@ def no_inner_port():
 
 
 def errors_end_one_session():
-    """If a run can't be started, the server disconnects the client and serves the next one."""
+    """If a run can't be started, the client is hung up on, and the next one is served."""
     for it in [PROGRAM, SESSION]:
         shutil.copy(it, room.folder / it.name)
     copy = room.folder / "avrstk_session"
@@ -421,7 +421,7 @@ def errors_end_one_session():
 
 
 def signals_that_are_ignored():
-    """Signals that were ignored when the server began don't end it, or change its status."""
+    """Signals that were ignored when it began change no status, and hold up no end."""
     how = {"cwd": room.folder, "env": environment(), "capture_output": True, "timeout": PATIENCE}
     how["preexec_fn"] = lambda: signal.signal(signal.SIGCHLD, signal.SIG_IGN)
     it = subprocess.run([SCRIPT, "0", "-p", "none", "--chip", "chip.bin"], **how)
@@ -433,7 +433,7 @@ def signals_that_are_ignored():
 
 
 def other_addresses():
-    """With --listen the server serves at another address of this machine, and there alone."""
+    """With --listen it serves at another address of this machine, and there alone."""
     for address, shown in [("127.0.0.2", "127.0.0.2"), ("0.0.0.0", "0.0.0.0"), ("::1", "[::1]"), ("localhost", None)]:
         room.clear()
         with Serving("--listen", address) as it:
@@ -495,7 +495,7 @@ def devices():
 
 
 def avrdudes_in_a_row():
-    """Many runs of AVRDUDE at one device, one right after the other, all end."""
+    """Many runs of AVRDUDE, one right after the other, at one device: each ends."""
     if not has_avrdude():
         return leave_out("AVRDUDE at a device", "AVRDUDE 7.1 is not installed")
     command = 'for _ in $(seq 25); do timeout 60 avrdude -qq -c stk500v2 -p m2560 -P "$0" -U lfuse:v:0xff:m || exit; done'
@@ -550,7 +550,7 @@ def state_of(memory, old):
 
 
 def faults():
-    """Makes each fault of the options; each client gets as far as it can."""
+    """Each fault is made, and each client gets as far as it can."""
     emulated = ["-p", "m328p", "-P", "emu:chip.bin", "-qq", "-U", "flash:w:whole.bin:r", "-U", "eeprom:w:whole.bin:r"]
     clients = [[str(PROGRAM)], ["avrdude", "-c", "stk500v2"] if has_avrdude() else None]
     old = room.read("whole.bin")

@@ -4,7 +4,7 @@ examples/library with a contract of its own. The case `proof`, which runs only i
 link of examples/library, whose ghost members only a proof reads. That takes minutes if no rt ci at work has proved the
 crates below them.
 
-Not proved: Scripts of the shell are not Rattle.
+Not proved: Scripts of the shell.
 
     tests/vendor.py [CASE ..]
 """
