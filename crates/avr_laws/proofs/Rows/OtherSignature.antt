@@ -80,7 +80,7 @@ damaged_run_arrived =
     (from 7, refl, (from 25, refl, (from 37, refl, (from 49, refl, (from 61, refl, ([], refl, refl))))))
 
 -- nothing is skipped behind a reply that is taken
-pub none_skipped : {A : Type 0} → true ≡ false → A
+none_skipped : {A : Type 0} → true ≡ false → A
 none_skipped skipped = absurd (true≢false skipped)
 
 pub damaged_run_brings_replies : BringsReplies device (session (plan true)) 1 come programmer

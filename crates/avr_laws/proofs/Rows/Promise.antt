@@ -1,13 +1,16 @@
 -- Nothing in the promise is empty. First a run that meets all premises of status 0, and what it kept: `-p m328p
 -- -U lfuse:w:0xE2:m` over a fresh chip, on a link that loses nothing. Then for each relation of the law a world that
 -- meets it and one that it refuses; docs/PROOFS.md has the table.
-use Rattle.std.proofs.Common.{◌≡◌, ◌∙◌, ap, sym, subst, refl, inl, inr, arith, rules, ℕ, true, ◌<◌, List, [], ◌∷◌, ◌++◌, length, append-nil, Option, Some, None, Result, Ok, Err}
+use Rattle.std.proofs.Common.{◌≡◌, ◌∙◌, ap, sym, subst, refl, arith, rules, ℕ, true, ◌<◌, List, [], ◌∷◌, ◌++◌, length, append-nil, Option, Some, None, Result, Ok, Err}
+use lib.Utf8.{encode}
 use Rattle.std.proofs.lemmas.List.{length-replicate}
 use Rattle.std.proofs.lemmas.List.Elements.{All-cons, All-nil, All-replicate}
 use Rattle.std.specs.Prelude.{IfSome, codes, get_or}
+use Rattle.std.specs.Str.{chars}
 use Rattle.std.specs.declared.io.Read.{Ghosts as Reads}
 use Rattle.std.specs.declared.io.Write.{Ghosts as Writes}
-use Rattle.clap.specs.Walk.{bundle_met}
+use Rattle.clap.specs.Takes.{flags_pass, walk_passes}
+use Rattle.clap.specs.Walk.{bundle_met, walked}
 use Rattle.clap.specs.Words.{takes}
 use Rattle.avr_cli.specs.Command.{avrstk, file_rules, message_rules, run_rules, settings_from_arguments, target_rules, write_rules}
 use Rattle.avr_cli.specs.declared.settings.Port.TheVariants.{Stdio, Emulated, Network}
@@ -17,7 +20,7 @@ use Rattle.avr_cli.specs.declared.update.Format.TheVariants.{Immediate}
 use Rattle.avr_cli.specs.declared.update.Op.TheVariants as op
 use Rattle.avr_desk.specs.Handles.{IsTrueRecord, IsTrueUse}
 use Rattle.avr_desk.specs.Journal.{SystemCalls, Opens, calls_of_record, no_calls}
-use Rattle.avr_desk.specs.OutputEvents.{OutputEvent, after_events}
+use Rattle.avr_desk.specs.OutputEvents.{after_events}
 use Rattle.avr_desk.specs.Record.{Bytes, DeskState, Record, nothing_kept, showing, with_absent, with_replaced}
 use Rattle.avr_desk.specs.Shown.{IsNewDesk, Shown}
 use Rattle.avr_desk.specs.declared.file_system.FileSystem.{Ghosts}
@@ -66,7 +69,6 @@ use Rattle.avr_laws.proofs.KnownFiles.OneOutcome.{run_more}
 use Rattle.avr_laws.proofs.Lines.Damaged.{brings_no_frame}
 use Rattle.avr_laws.proofs.Outcomes.Kept.{its_none_forged, kept}
 use Rattle.avr_laws.proofs.Rows.Kept.{executed, programmer, reading_plan, worked_came, worked_forges_none}
-use Rattle.avr_laws.proofs.Rows.OtherSignature.{none_skipped}
 use Rattle.avr_laws.proofs.TwoProcesses.PerfectLine.{calls_of, host_in_turn}
 use Rattle.avr_laws.specs.AnyTape.{ReceivedSentFrames, after_received_bytes}
 use Rattle.avr_laws.specs.AskedPlan.{FileGave, GivesText, IsAsked}
@@ -141,22 +143,8 @@ run_is_kept = kept settings plan (devices (state []) empty_desk) (devices (state
 -- ---- its premises hold
 
 fresh_is_sound : (part : Part) → IsPart part → IsSoundChip (fresh_state part)
-fresh_is_sound part is = record {
-  part = is;
-  flash_size = length-replicate part.flash_size 255;
-  eeprom_size = length-replicate part.eeprom_size 255;
-  flash_buffer_size = length-replicate part.flash_page 255;
-  eeprom_buffer_size = length-replicate part.eeprom_page None;
-  flash = All-replicate (λ b. b < 256) part.flash_size 255 (omega arith);
-  eeprom = All-replicate (λ b. b < 256) part.eeprom_size 255 (omega arith);
-  lfuse = omega arith;
-  hfuse = omega arith;
-  efuse = omega arith;
-  lock = omega arith;
-  flash_buffer = All-replicate (λ b. b < 256) part.flash_page 255 (omega arith);
-  eeprom_buffer = All-replicate (λ o. IfSome o (λ b. b < 256)) part.eeprom_page None tt;
-  extended = omega arith;
-}
+fresh_is_sound part is =
+    search (rules, length-replicate, All-replicate (λ b. b < 256), All-replicate (λ o. IfSome o (λ b. b < 256)))
 
 pub chip_is_sound : IsSoundChip (fresh_state m328p)
 chip_is_sound = fresh_is_sound m328p is_part
@@ -186,31 +174,7 @@ its_frames = refl
 
 brings : BringsReplies device (session plan) 1 (arrivals (session plan) 1 programmer) programmer executions []
 unfolding session opening handshake operation closing play attempts_or_fault attempt exchange answer
-brings = (
-  omega arith,
-  (inl (inl refl), none_skipped),
-  (
-    omega arith,
-    (inl (inl refl), none_skipped),
-    (
-      omega arith,
-      (inl (inl refl), none_skipped),
-      (
-        omega arith,
-        (inl (inl refl), none_skipped),
-        (
-          omega arith,
-          (inl (inl refl), none_skipped),
-          (
-            omega arith,
-            (inl (inl refl), none_skipped),
-            (omega arith, (inl (inl refl), none_skipped), (omega arith, (inl (inl refl), none_skipped), tt)),
-          ),
-        ),
-      ),
-    ),
-  ),
-)
+brings = search rules
 
 none_forged : NoneForged device (frames (sent passed)) (heard passed) programmer executions []
 none_forged =
@@ -346,13 +310,7 @@ streams unread taken transcript =
 
 pub all_passed : (during : Transcript) → TranscriptIsTrueSince reads.remaining writes.contents
     (streams (bytes_on_tape (heard during)) [] []) (streams [] (sent during) during)
-all_passed during = record {
-  during = during;
-  grows = refl;
-  gave = sym (append-nil (bytes_on_tape (heard during)));
-  took = refl;
-  counted = omega arith;
-}
+all_passed during = search (rules, append-nil)
 
 pub byte_lost : TranscriptIsTrueSince reads.remaining writes.contents (streams [] [] [])
     (streams [] [] (Sent (0 ∷ []) ∷ [])) → ⊥
@@ -372,20 +330,9 @@ network = record {
   unused = ⊥;
 }
 
-abbrev Connected : ConnectionState
-Connected = IsOverAddress network reads writes (λ side. Unit {0})
-
 pub connected : (during : Transcript)
     → IsOverAddress network reads writes (λ side. Unit {0}) address (Some (state during))
-connected during = record {
-  before = streams (bytes_on_tape (heard during)) [] [];
-  after = streams [] (sent during) during;
-  new = record { reader = refl; writer = refl; fresh = refl; quiet = refl };
-  shows = refl;
-  truly = all_passed during;
-  reader = tt;
-  writer = tt;
-}
+connected during = search (rules, all_passed during)
 
 pub elsewhere : (now : LinkState)
     → IsOverAddress network reads writes (λ side. Unit {0}) (codes "away:1") (Some now) → ⊥
@@ -408,8 +355,8 @@ system = record {
   began = λ name found. ⊥;
 }
 
-abbrev new : Shown SystemCalls (List ℕ) (List ℕ) (List ℕ) ℕ ℕ
-new = record {
+abbrev unused : Shown SystemCalls (List ℕ) (List ℕ) (List ℕ) ℕ ℕ
+unused = record {
   system = no_calls;
   output = 0;
   messages = 0;
@@ -421,10 +368,10 @@ new = record {
   kept = nothing_kept;
 }
 
-pub desk_new : IsNewDesk system new
+pub desk_new : IsNewDesk system unused
 desk_new = record { fresh = refl; unheld = λ name found may. may; opened = refl; hold = refl; kept = refl }
 
-pub desk_used : IsNewDesk system (record new { hold = Some [] }) → ⊥
+pub desk_used : IsNewDesk system (record unused { hold = Some [] }) → ⊥
 desk_used desk = let none : ◌≡◌ {A = Option (List ℕ)} (Some []) None = desk.hold in cc
 
 abbrev absent : FileUse
@@ -437,19 +384,12 @@ abbrev uses : Record
 uses = record nothing_kept { uses = absent ∷ made ∷ [] }
 
 pub record_true : IsTrueRecord system reads writes reads (calls_of_record uses) Nothing None uses
-record_true = record {
-  uses = All-cons (IsTrueUse system reads writes reads) absent (made ∷ []) refl
-      (All-cons (IsTrueUse system reads writes reads) made [] (inr (inr refl))
-      (All-nil (IsTrueUse system reads writes reads)));
-  current = refl;
-  denied = All-nil system.denies;
-  held = tt;
-  has_done = refl;
-  crash = λ name found may. absurd may;
-}
+record_true =
+    search (rules, All-cons (IsTrueUse system reads writes reads), All-nil (IsTrueUse system reads writes reads),
+    All-nil system.denies)
 
-pub call_unrecorded : IsTrueRecord system reads writes reads (record { calls = Opens file ∷ []; holds = 0 }) Nothing None
-    nothing_kept → ⊥
+pub call_unrecorded : IsTrueRecord system reads writes reads (record { calls = Opens file ∷ []; holds = 0 }) Nothing
+    None nothing_kept → ⊥
 call_unrecorded truly =
     let none : 0 ≡ 1 = ap (λ (done : SystemCalls). length done.calls) truly.has_done in omega (arith, none)
 
@@ -459,8 +399,8 @@ pub over_streams : (At : ConnectionState)
     → KeepsPlanAt At Stdio settings (devices (state []) empty_desk) (devices (state passed) reported)
 over_streams At = (plan, (plan_asked (FileGave empty_desk reported), run_is_kept))
 
-pub over_network :
-    KeepsPlanAt Connected (Network address) settings (devices (state []) empty_desk) (devices (state []) reported)
+pub over_network : KeepsPlanAt (IsOverAddress network reads writes (λ side. Unit {0})) (Network address) settings
+    (devices (state []) empty_desk) (devices (state []) reported)
 over_network =
     (state passed, connected passed, (plan, (plan_asked (FileGave empty_desk reported), run_is_kept)))
 
@@ -493,11 +433,12 @@ words = codes "avrstk" ∷ codes "-p" ∷ codes "m328p" ∷ codes "-P" ∷ codes
     ∷ []
 
 words_taken : takes avrstk words ≡ true
-unfolding avrstk target_rules write_rules run_rules message_rules file_rules bundle_met
+unfolding avrstk target_rules write_rules run_rules message_rules file_rules bundle_met walked chars encode
+    walk_passes flags_pass
 words_taken = refl
 
 words_read : settings_from_arguments words ≡ Ok settings
-unfolding avrstk target_rules write_rules run_rules message_rules file_rules bundle_met
+unfolding avrstk target_rules write_rules run_rules message_rules file_rules bundle_met walked chars encode
 words_read = refl
 
 pub line_kept : KeepsCommandLine (λ given. given ≡ words) (λ name seen. ⊥) (devices (state []) empty_desk)
@@ -508,11 +449,12 @@ abbrev other_words : List Bytes
 other_words = codes "avrstk" ∷ codes "-p" ∷ codes "none" ∷ codes "-P" ∷ codes "stdio:" ∷ []
 
 other_taken : takes avrstk other_words ≡ true
-unfolding avrstk target_rules write_rules run_rules message_rules file_rules bundle_met
+unfolding avrstk target_rules write_rules run_rules message_rules file_rules bundle_met walked chars encode
+    walk_passes flags_pass
 other_taken = refl
 
 other_read : settings_from_arguments other_words ≡ Ok unknown
-unfolding avrstk target_rules write_rules run_rules message_rules file_rules bundle_met
+unfolding avrstk target_rules write_rules run_rules message_rules file_rules bundle_met walked chars encode
 other_read = refl
 
 ok_is : (a b : Settings) → ◌≡◌ {A = Result Settings SettingsFault} (Ok a) (Ok b) → a ≡ b
