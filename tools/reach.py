@@ -5,7 +5,8 @@
                                      alone is a law or another function, for all that its clauses name
     tools/reach.py -v ..             also lists them, file by file
     tools/reach.py --check           compares the table of docs/PROOFS with the figures; --write writes them there. It also
-                                     looks for each definition (`File.name`) and law that the documents name
+                                     looks for each definition (`File.name`) and law that the documents name, and for the
+                                     lemmas of PROOFS that show that the promise isn't empty
 
 A definition reaches the definitions that its text names, in its own file or brought in by `use` lines. Definitions of
 std, of other libraries and of Rust (an enum, a struct) are listed but not counted. A variable with the name of a
@@ -21,6 +22,8 @@ PAGE, README = TOP / "docs/PROOFS.md", TOP / "README.md"
 # the documents whose names are looked for
 NAMING = ("PROOFS", "PROMISES", "CHECK", "LIBRARY")
 TABLE = "| Sentence | Definition | Definitions | Lines |"
+WORLDS = "| Definition | Met by | Refuses |"
+PROMISE = "a_program_with_status_0_kept_its_plan"
 
 HEADER = re.compile(r"^\s*(?:(?:abbrev|unfoldable) pub|pub (?:record|data)) (\S+)")
 USE = re.compile(r"^(?:ghost )?use Rattle\.(\w+)\.specs\.(\w+)(?: as (\w+)|\.\{(.*)\})?;?$")
@@ -171,10 +174,27 @@ def lacking():
     return wrong
 
 
+def unshown(page):
+    """Yields what is wrong in the table of worlds. A lemma has to be there and to name the definition of its row; one that
+    refuses a world ends in `→ ⊥`. The promise has to reach the definition."""
+    head = re.compile(r"^(?:pub )?(\w+) :\s(.*?)\n(?=unfolding |\1 )", re.M | re.S)
+    rows = {f"Rows.{it.stem}": dict(head.findall(it.read_text())) for it in TOP.glob("crates/avr_laws/proofs/Rows/*.antt")}
+    promise = reached(roots_of(PROMISE))
+    for row in page.split(WORLDS)[1].split("\n\n")[0].splitlines()[2:]:
+        named, met, refuses, *_ = re.findall("`([^`]*)`", row)
+        if definition(named) not in promise:
+            yield f"{PROMISE} doesn't reach {named}"
+        for lemma, end in ((met, ""), (refuses, "→ ⊥")):
+            file, _, name = lemma.rpartition(".")
+            statement = rows[file or "Rows.Promise"].get(name, "")
+            if named.split(".")[-1] not in WORD.findall(statement) or not statement.endswith(end):
+                yield f"{lemma} shows nothing of {named}"
+
+
 def main(words):
     if words in (["--check"], ["--write"]):
         page = with_figures(PAGE.read_text())
-        sys.exit(kept({PAGE: page, README: with_lines(README.read_text(), page)}, lacking()))
+        sys.exit(kept({PAGE: page, README: with_lines(README.read_text(), page)}, [*lacking(), *unshown(page)]))
     roots = [root for it in words if it != "-v" for root in roots_of(it)] or sys.exit(__doc__)
     seen = reached(roots)
     files = sorted({(crate, file) for crate, file, _ in seen})

@@ -5,3 +5,4 @@ pub mod Runs
 pub mod Kept
 pub mod OtherSignature
 pub mod Served
+pub mod Promise

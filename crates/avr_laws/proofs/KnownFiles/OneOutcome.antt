@@ -56,7 +56,7 @@ ended_more {E = E} {R = R} (Ask body answered) seq t u r n left is =
     by_reading None behind_it found ended = search rules
     by_reading (Some (reading, rest)) behind_it found ended = search (rules, answer_extends)
 
-run_more : (s : Settings) (openings : List Opening) (t u : Tape) (status n : ℕ) (left : Tape)
+pub run_more : (s : Settings) (openings : List Opening) (t u : Tape) (status n : ℕ) (left : Tape)
     → (run s openings t).outcome ≡ Some (status, n, left)
     → run s openings (t ++ u) ≡ record { events = (run s openings t).events; outcome = Some (status, n, left ++ u) }
 run_more s openings t u status n left is = search (rules, ended_more)

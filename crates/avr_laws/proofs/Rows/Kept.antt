@@ -30,7 +30,7 @@ use Rattle.avr_laws.specs.Worked.{worked_frames, fuse_plan, worked_replies}
 abbrev pub programmer : Programmer
 programmer = fresh_programmer (fresh_state m328p)
 
-abbrev executed : List Execution
+abbrev pub executed : List Execution
 executed = Executed ∷ Executed ∷ Executed ∷ Executed ∷ Executed ∷ Executed ∷ []
 
 -- all its frames were received
@@ -150,7 +150,7 @@ worked_forges_none =
 
 -- ---- `-U lfuse:r:fuse:r`: the file has the chip's byte, and no other
 
-abbrev reading_plan : Plan
+abbrev pub reading_plan : Plan
 reading_plan = record fuse_plan { tasks = Read Lfuse Raw (codes "fuse") ∷ [] }
 
 pub the_file_saved : (m : Memories)

@@ -1,0 +1,468 @@
+-- Nothing in the promise is empty. First a run that meets all premises of status 0, and what it kept: `-p m328p
+-- -U lfuse:w:0xE2:m` over a fresh chip, on a link that loses nothing. Then for each relation of the law a world that
+-- meets it and one that it refuses; docs/PROOFS.md has the table.
+use Rattle.std.proofs.Common.{◌≡◌, ◌∙◌, ap, sym, subst, refl, arith, rules, ℕ, true, ◌<◌, List, [], ◌∷◌, ◌++◌, length, append-nil, Option, Some, None, Result, Ok, Err}
+use lib.Utf8.{encode}
+use Rattle.std.proofs.lemmas.List.{length-replicate}
+use Rattle.std.proofs.lemmas.List.Elements.{All-cons, All-nil, All-replicate}
+use Rattle.std.specs.Prelude.{IfSome, codes, get_or}
+use Rattle.std.specs.Str.{chars}
+use Rattle.std.specs.declared.io.Read.{Ghosts as Reads}
+use Rattle.std.specs.declared.io.Write.{Ghosts as Writes}
+use Rattle.clap.specs.Takes.{flags_pass, walk_passes}
+use Rattle.clap.specs.Walk.{bundle_met, walked}
+use Rattle.clap.specs.Words.{takes}
+use Rattle.avr_cli.specs.Command.{avrstk, file_rules, message_rules, run_rules, settings_from_arguments, target_rules, write_rules}
+use Rattle.avr_cli.specs.declared.settings.Port.TheVariants.{Stdio, Emulated, Network}
+use Rattle.avr_cli.specs.declared.settings.Settings.{Settings}
+use Rattle.avr_cli.specs.declared.settings.SettingsFault.{SettingsFault}
+use Rattle.avr_cli.specs.declared.update.Format.TheVariants.{Immediate}
+use Rattle.avr_cli.specs.declared.update.Op.TheVariants as op
+use Rattle.avr_desk.specs.Handles.{IsTrueRecord, IsTrueUse}
+use Rattle.avr_desk.specs.Journal.{SystemCalls, Opens, calls_of_record, no_calls}
+use Rattle.avr_desk.specs.OutputEvents.{after_events}
+use Rattle.avr_desk.specs.Record.{Bytes, DeskState, Record, nothing_kept, showing, with_absent, with_replaced}
+use Rattle.avr_desk.specs.Shown.{IsNewDesk, Shown}
+use Rattle.avr_desk.specs.declared.file_system.FileSystem.{Ghosts}
+use Rattle.avr_desk.specs.declared.record.FileUse.{FileUse}
+use Rattle.avr_desk.specs.declared.record.FileUse.TheVariants.{Opened, Created}
+use Rattle.avr_desk.specs.declared.record.Opening.{Opening}
+use Rattle.avr_desk.specs.declared.record.Opening.TheVariants.{Absent, Found}
+use Rattle.avr_desk.specs.declared.record.Writing.{Writing}
+use Rattle.avr_desk.specs.declared.system.OpenFile.TheVariants.{Nothing}
+use Rattle.avr_part.specs.BuiltIn.{m328p, part_of_id}
+use Rattle.avr_part.specs.ChipFile.{chip_file}
+use Rattle.avr_part.specs.Part.{Part, IsPart}
+use Rattle.avr_part.specs.Sound.{IsSoundChip}
+use Rattle.avr_part.specs.State.{ChipState as Chip, fresh_state}
+use Rattle.avr_part.specs.declared.fault.PartFault.{PartFault}
+use Rattle.avr_part.specs.declared.fault.PartFault.TheVariants.{NoSuchPart}
+use Rattle.avr_part.specs.declared.part.Mem.TheVariants.{Lfuse}
+use Rattle.avr_plan.specs.Plan.{Plan, IsFitted}
+use Rattle.avr_plan.specs.declared.planned.Task.TheVariants.{Write}
+use Rattle.avr_session.specs.FileText.{file_text}
+use Rattle.avr_session.specs.Runs.{Devices, devices}
+use Rattle.avr_session.specs.Session.{session}
+use Rattle.stk_emu.proofs.Answers.BodySizes.{reply_fits_frame}
+use Rattle.stk_emu.specs.Device.{device}
+use Rattle.stk_emu.specs.DialogOverExchanges.{SendsValidBodies}
+use Rattle.stk_emu.specs.Effect.{Memories, memories_of}
+use Rattle.stk_emu.specs.Exchange.{Execution, Executed}
+use Rattle.stk_emu.specs.Programmer.{Programmer}
+use Rattle.stk_frame.specs.Cut.{frames}
+use Rattle.stk_frame.specs.Frame.{frame}
+use Rattle.stk_host.specs.Dialog.{Dialog, Done, Emit, Ask, bytes_sent, frames_in, next, outputs, played}
+use Rattle.stk_host.specs.Links.{StreamState, TranscriptIsTrueSince}
+use Rattle.stk_host.specs.Operations.{handshake, opening, closing, operation}
+use Rattle.stk_host.specs.Steps.{exchange, attempt, attempts_or_fault, play}
+use Rattle.stk_host.specs.Tape.{Answered, Tape, answer, bytes_on_tape, on_tape}
+use Rattle.stk_host.specs.Transcript.{LinkState, Transcript, Sent, Got, heard, sent}
+use Rattle.avr_tool.proofs.OverFaultyLink.FrameSizes.{session_asks}
+use Rattle.avr_tool.specs.ComparisonsAgree.{ComparisonsAgree}
+use Rattle.avr_tool.specs.Headline.{IsRun, run}
+use Rattle.avr_tool.specs.Items.{asked_items}
+use Rattle.avr_tool.specs.Outcome.{IsDone}
+use Rattle.avr_tool.specs.Sockets.{IsOverAddress}
+use Rattle.avr_tool.specs.Written.{IsWritten}
+use Rattle.avr_tool.specs.declared.network.Network.{Ghosts as Networks}
+use Rattle.avr_laws.proofs.KnownFiles.OneOutcome.{run_more}
+use Rattle.avr_laws.proofs.Lines.Damaged.{brings_no_frame}
+use Rattle.avr_laws.proofs.Outcomes.Kept.{its_none_forged, kept}
+use Rattle.avr_laws.proofs.Rows.Kept.{executed, programmer, reading_plan, worked_came, worked_forges_none}
+use Rattle.avr_laws.proofs.TwoProcesses.PerfectLine.{calls_of, host_in_turn}
+use Rattle.avr_laws.specs.AnyTape.{ReceivedSentFrames, after_received_bytes}
+use Rattle.avr_laws.specs.AskedPlan.{FileGave, GivesText, IsAsked}
+use Rattle.avr_laws.specs.ChipFound.{IsChipInFile}
+use Rattle.avr_laws.specs.Damaged.{Arrival, FrameArrives, BringsReplies, tape_of_arrivals}
+use Rattle.avr_laws.specs.Kept.{FilesAreSaved, HasGeometryOf, IsKept, Keeps, KeepsOnPart, NoneForged, saved_files}
+use Rattle.avr_laws.specs.KeptByPort.{ConnectionState, IsKeptInFile, KeepsCommandLine, KeepsPlanAt}
+use Rattle.avr_laws.specs.TwoProcesses.{host_transcript}
+use Rattle.avr_laws.specs.Worked.{fuse_plan, worked_frames, worked_replies, worked_settings}
+
+-- ---- the run
+
+abbrev settings : Settings
+settings = record worked_settings {
+  updates = record { memory = Lfuse; op = op.Write; format = Immediate; file = codes "0xE2" } ∷ [];
+}
+
+abbrev plan : Plan
+plan = record { part = m328p; tasks = Write Lfuse (Some 0xE2 ∷ []) ∷ []; switches = worked_settings.switches }
+
+-- each frame is received and replied to at once
+abbrev passed : Transcript
+passed = host_transcript (calls_of (session plan) 1 programmer)
+
+abbrev executions : List Execution
+executions = Executed ∷ Executed ∷ Executed ∷ Executed ∷ Executed ∷ Executed ∷ Executed ∷ Executed ∷ []
+
+-- it ends with status 0, after eight frames
+pub succeeds : (openings : List Opening) → (run settings openings (heard passed)).outcome ≡ Some (0, 9, [])
+unfolding session opening handshake operation closing play attempts_or_fault attempt exchange answer
+succeeds openings = refl
+
+sends : (openings : List Opening) → bytes_sent (run settings openings (heard passed)).events ≡ sent passed
+unfolding session opening handshake operation closing play attempts_or_fault attempt exchange answer
+sends openings = refl
+
+is_part : IsPart m328p
+is_part = search rules
+
+asks : SendsValidBodies (session plan)
+asks = session_asks plan is_part
+    (All-cons (IsFitted m328p) (Write Lfuse (Some 0xE2 ∷ [])) [] (refl, refl) (All-nil (IsFitted m328p)))
+
+abbrev state : Transcript → LinkState
+state transcript = record { transcript = transcript; failures = 0 }
+
+abbrev empty_desk : DeskState
+empty_desk = showing nothing_kept 0 0
+
+abbrev reported : DeskState
+reported = showing (after_events (outputs (run settings [] (heard passed)).events) nothing_kept) 0 0
+
+abbrev ran : IsRun settings (devices (state []) empty_desk) (devices (state passed) reported) 0
+ran = record {
+  openings = [];
+  during = passed;
+  events = (run settings [] (heard passed)).events;
+  next = 9;
+  left = [];
+  is = λ later more. run_more settings later (heard passed) more 0 9 [] (succeeds later);
+  in_turn = λ later. host_in_turn (session plan) 1 programmer asks;
+  all_sent = sends [];
+  grows = refl;
+  kept = refl;
+  few = omega arith;
+  sound = (refl, (refl, refl));
+}
+
+pub run_is_kept : IsKept plan passed empty_desk reported
+run_is_kept = kept settings plan (devices (state []) empty_desk) (devices (state passed) reported) ran refl refl
+
+-- ---- its premises hold
+
+fresh_is_sound : (part : Part) → IsPart part → IsSoundChip (fresh_state part)
+fresh_is_sound part is =
+    search (rules, length-replicate, All-replicate (λ b. b < 256), All-replicate (λ o. IfSome o (λ b. b < 256)))
+
+pub chip_is_sound : IsSoundChip (fresh_state m328p)
+chip_is_sound = fresh_is_sound m328p is_part
+
+came : ReceivedSentFrames (sent passed) [] (frames (sent passed)) executions
+unfolding session opening handshake operation closing play attempts_or_fault attempt exchange answer
+came = record { good = refl }
+
+-- the replies, one after the other
+abbrev arrivals : {E R : Type 0} → Dialog E R → ℕ → Programmer → List Arrival
+arrivals (Done r) n p = []
+arrivals (Emit e d) n p = arrivals d n p
+arrivals (Ask bytes go_on) n p =
+    FrameArrives (frame n (device.answer bytes p))
+    ∷ arrivals (go_on (Answered (device.answer bytes p))) (next n) (device.after bytes p)
+
+abbrev tape : Tape
+tape = tape_of_arrivals (arrivals (session plan) 1 programmer)
+
+its_tape : tape ≡ heard passed
+unfolding session opening handshake operation closing play attempts_or_fault attempt exchange answer
+its_tape = refl
+
+its_frames : frames_in (played (session plan) 1 tape).events ++ [] ≡ frames (sent passed)
+unfolding session opening handshake operation closing play attempts_or_fault attempt exchange answer
+its_frames = refl
+
+brings : BringsReplies device (session plan) 1 (arrivals (session plan) 1 programmer) programmer executions []
+unfolding session opening handshake operation closing play attempts_or_fault attempt exchange answer
+brings = search rules
+
+none_forged : NoneForged device (frames (sent passed)) (heard passed) programmer executions []
+none_forged =
+    subst (λ (t : Tape). NoneForged device (frames (sent passed)) t programmer executions []) its_tape
+    (subst (λ (fs : List (List ℕ)). NoneForged device fs tape programmer executions []) its_frames
+    (its_none_forged device (session plan) 1 tape programmer executions [] (brings_no_frame device reply_fits_frame
+    (session plan) 1 (arrivals (session plan) 1 programmer) programmer executions [] tt brings)))
+
+-- all at once
+pub premises_hold : IsSoundChip programmer.chip × HasGeometryOf plan.part programmer.chip.part
+    × ReceivedSentFrames (sent passed) [] (frames (sent passed)) executions
+    × NoneForged device (frames (sent passed)) (heard passed) programmer executions []
+premises_hold = (chip_is_sound, refl, came, none_forged)
+
+-- ---- so does what it kept
+
+abbrev fresh : Memories
+fresh = memories_of (fresh_state m328p)
+
+abbrev left : Chip
+left = (after_received_bytes device (sent passed) [] programmer).chip
+
+pub kept_on_part : KeepsOnPart m328p plan fresh (memories_of left) empty_desk reported
+kept_on_part = run_is_kept programmer (sent passed) [] executions chip_is_sound refl came none_forged
+
+pub plan_kept : Keeps plan fresh (memories_of left) empty_desk reported
+plan_kept = kept_on_part.keeps
+
+pub done : IsDone plan fresh (memories_of left)
+done = plan_kept.done
+
+pub compared : ComparisonsAgree plan fresh
+compared = done.agrees
+
+pub fuse_written : IsWritten m328p (asked_items plan) fresh (memories_of left)
+fuse_written = plan_kept.images refl
+
+-- a run that wrote nothing: the frames of `-p m328p`
+pub not_done : IsDone plan fresh fresh → ⊥
+not_done done = let byte : 255 ≡ 0xE2 = ap (λ (m : Memories). m.lfuse) done.memories in omega (arith, byte)
+
+pub another_fuse : (m : Memories) → (m.lfuse ≡ 0xE2 → ⊥) → ComparisonsAgree fuse_plan m → ⊥
+another_fuse m other agrees = other (agrees.1.0 0 0xE2 refl (omega arith))
+
+pub fuse_unwritten : IsWritten m328p (asked_items plan) fresh fresh → ⊥
+fuse_unwritten written = let byte : 255 ≡ 0xE2 = written.images Lfuse 0 0xE2 refl (omega arith) in omega (arith, byte)
+
+pub plan_unkept : (old now : DeskState) → Keeps plan fresh fresh old now → ⊥
+plan_unkept old now keeps = not_done keeps.done
+
+pub write_unsent : (old now : DeskState) → IsKept plan (Sent worked_frames ∷ Got worked_replies ∷ []) old now → ⊥
+write_unsent old now kept =
+    let keeps : KeepsOnPart m328p plan fresh
+    (memories_of (after_received_bytes device worked_frames [] programmer).chip) old now =
+    kept programmer worked_frames [] executed chip_is_sound refl worked_came worked_forges_none in
+    let byte : 255 ≡ 0xE2 = ap (λ (m : Memories). m.lfuse) keeps.keeps.done.memories in omega (arith, byte)
+
+-- a reply that the programmer didn't send
+pub frame_forged : NoneForged device (frame 1 (0x05 ∷ []) ∷ []) (on_tape (frame 1 (0x05 ∷ 0x00 ∷ []))) programmer
+    (Executed ∷ []) [] → ⊥
+unfolding answer
+frame_forged none = search rules
+
+-- ---- files
+
+abbrev used : List FileUse → DeskState
+used uses = showing (record nothing_kept { uses = uses }) 0 0
+
+pub file_saved : (m : Memories) → FilesAreSaved (saved_files reading_plan m) empty_desk
+    (used (Created (record { name = codes "fuse"; bytes = m.lfuse ∷ [] }) ∷ []))
+unfolding file_text
+file_saved m = record { created = refl; output = refl }
+
+pub whole_read : (name text : Bytes) → FileGave empty_desk
+    (used (Opened (Found (record { name = name; bytes = text; ended = true })) ∷ [])) name text
+whole_read name text = (0, omega arith, refl)
+
+pub plan_asked : (Gives : GivesText) → IsAsked settings Gives plan
+plan_asked Gives =
+    record { parts = []; are_parts = refl; part = refl; tasks = ((refl, refl, refl), tt); switches = refl }
+
+pub no_chip_file : IsChipInFile m328p None (fresh_state m328p)
+no_chip_file = refl
+
+pub short_chip_file : (chip : Chip) → IsChipInFile m328p (Some []) chip → ⊥
+short_chip_file chip is = let size : 0 ≡ 33796 = is.0 in omega (arith, size)
+
+-- ---- over the emulator, without a chip file
+
+abbrev file : Bytes
+file = codes "chip"
+
+abbrev loaded : DeskState
+loaded = showing (with_absent file nothing_kept) 0 0
+
+abbrev saved : DeskState
+saved = showing (with_replaced file (chip_file left) (with_absent file nothing_kept)) 0 0
+
+pub chip_saved : IsKeptInFile file plan empty_desk saved
+chip_saved = record {
+  before = [];
+  found = None;
+  chip = fresh_state m328p;
+  left = left;
+  ended = loaded;
+  opened = refl;
+  was = no_chip_file;
+  keeps = record { done = done; images = plan_kept.images; saved = record { created = refl; output = refl } };
+  saved = refl;
+}
+
+not_none : (xs : List Writing) (x : Writing) → xs ++ x ∷ [] ≡ [] → ⊥
+not_none [] x e = cc
+not_none (y ∷ xs) x e = cc
+
+pub chip_unsaved : (name : Bytes) (other : Plan) (old new : DeskState) → new.kept.tried ≡ []
+    → IsKeptInFile name other old new → ⊥
+chip_unsaved name other old new none kept =
+    not_none kept.ended.kept.tried (record { name = name; bytes = chip_file kept.left })
+    (sym (ap (λ (r : Record). r.tried) kept.saved) ∙ none)
+
+-- ---- streams: a side of a socket, or a stream, as the bytes that it will give and those that it took
+
+abbrev reads : Reads (List ℕ)
+reads = record { remaining = λ unread. Some unread }
+
+abbrev writes : Writes (List ℕ)
+writes = record { contents = λ taken. Some taken }
+
+abbrev streams : List ℕ → List ℕ → Transcript → StreamState (List ℕ) (List ℕ)
+streams unread taken transcript =
+    record { reader = unread; writer = taken; failures = 0; last_error = None; transcript = transcript }
+
+pub all_passed : (during : Transcript) → TranscriptIsTrueSince reads.remaining writes.contents
+    (streams (bytes_on_tape (heard during)) [] []) (streams [] (sent during) during)
+all_passed during = search (rules, append-nil)
+
+pub byte_lost : TranscriptIsTrueSince reads.remaining writes.contents (streams [] [] [])
+    (streams [] [] (Sent (0 ∷ []) ∷ [])) → ⊥
+byte_lost truly =
+    let none : 0 ≡ 1 = ap (λ (bytes : List ℕ). length bytes) (truly.took ∙ ap sent (sym truly.grows)) in
+    omega (arith, none)
+
+abbrev address : Bytes
+address = codes "here:1"
+
+abbrev network : Networks ℕ (List ℕ) ℕ
+network = record {
+  reaches = λ side name. name ≡ address;
+  misses = λ name. ⊥;
+  listens = λ listener port. ⊥;
+  is_shut = λ port. ⊥;
+  unused = ⊥;
+}
+
+pub connected : (during : Transcript)
+    → IsOverAddress network reads writes (λ side. Unit {0}) address (Some (state during))
+connected during = search (rules, all_passed during)
+
+pub elsewhere : (now : LinkState)
+    → IsOverAddress network reads writes (λ side. Unit {0}) (codes "away:1") (Some now) → ⊥
+elsewhere now over =
+    let first : 97 ≡ 104 = ap (λ (name : Bytes). get_or name 0 0) over.new.reader in omega (arith, first)
+
+-- ---- the record of a desk: the chip file was absent, and then made
+
+abbrev system : Ghosts SystemCalls (List ℕ) (List ℕ) (List ℕ)
+system = record {
+  has_done = λ done now. done ≡ now;
+  is_input = λ input. ⊥;
+  is_of = λ opened name. ⊥;
+  closed = λ opened. ⊥;
+  lacks = λ name. name ≡ file;
+  holds = λ hold name. ⊥;
+  denies = λ name. ⊥;
+  replaced = λ name bytes. name ≡ file;
+  left = λ now name found. ⊥;
+  began = λ name found. ⊥;
+}
+
+abbrev unused : Shown SystemCalls (List ℕ) (List ℕ) (List ℕ) ℕ ℕ
+unused = record {
+  system = no_calls;
+  output = 0;
+  messages = 0;
+  failures = 0;
+  message_failures = 0;
+  last_error = None;
+  opened = Nothing;
+  hold = None;
+  kept = nothing_kept;
+}
+
+pub desk_new : IsNewDesk system unused
+desk_new = record { fresh = refl; unheld = λ name found may. may; opened = refl; hold = refl; kept = refl }
+
+pub desk_used : IsNewDesk system (record unused { hold = Some [] }) → ⊥
+desk_used desk = let none : ◌≡◌ {A = Option (List ℕ)} (Some []) None = desk.hold in cc
+
+abbrev absent : FileUse
+absent = Opened (Absent file)
+
+abbrev made : FileUse
+made = Created (record { name = file; bytes = 0 ∷ [] })
+
+abbrev uses : Record
+uses = record nothing_kept { uses = absent ∷ made ∷ [] }
+
+pub record_true : IsTrueRecord system reads writes reads (calls_of_record uses) Nothing None uses
+record_true =
+    search (rules, All-cons (IsTrueUse system reads writes reads), All-nil (IsTrueUse system reads writes reads),
+    All-nil system.denies)
+
+pub call_unrecorded : IsTrueRecord system reads writes reads (record { calls = Opens file ∷ []; holds = 0 }) Nothing
+    None nothing_kept → ⊥
+call_unrecorded truly =
+    let none : 0 ≡ 1 = ap (λ (done : SystemCalls). length done.calls) truly.has_done in omega (arith, none)
+
+-- ---- each port
+
+pub over_streams : (At : ConnectionState)
+    → KeepsPlanAt At Stdio settings (devices (state []) empty_desk) (devices (state passed) reported)
+over_streams At = (plan, (plan_asked (FileGave empty_desk reported), run_is_kept))
+
+pub over_network : KeepsPlanAt (IsOverAddress network reads writes (λ side. Unit {0})) (Network address) settings
+    (devices (state []) empty_desk) (devices (state []) reported)
+over_network =
+    (state passed, connected passed, (plan, (plan_asked (FileGave empty_desk reported), run_is_kept)))
+
+pub over_emulator : (At : ConnectionState)
+    → KeepsPlanAt At (Emulated file) settings (devices (state []) empty_desk) (devices (state []) saved)
+over_emulator At = (plan, (plan_asked (FileGave empty_desk saved), chip_saved))
+
+-- a part that nobody knows
+abbrev unknown : Settings
+unknown = record worked_settings { part = codes "none" }
+
+pub part_unknown : (At : ConnectionState) (old new : Devices) → KeepsPlanAt At Stdio unknown old new → ⊥
+part_unknown At old new (other, (asked, keeps)) =
+    let none : ◌≡◌ {A = Result Part PartFault} (Err NoSuchPart) (Ok other.part) =
+    subst (λ (parts : List Part). part_of_id (codes "none") parts ≡ Ok other.part) asked.are_parts asked.part in cc
+
+pub not_connected : (At : ConnectionState) (name : Bytes) (s : Settings) (old new : Devices)
+    → ((link : LinkState) → At name (Some link) → ⊥) → KeepsPlanAt At (Network name) s old new → ⊥
+not_connected At name s old new none (link, over, keeps) = none link over
+
+pub file_unsaved : (At : ConnectionState) (name : Bytes) (s : Settings) (old new : Devices)
+    → new.desk.kept.tried ≡ [] → KeepsPlanAt At (Emulated name) s old new → ⊥
+file_unsaved At name s old new none (other, (asked, keeps)) =
+    chip_unsaved name other old.desk new.desk none keeps
+
+-- ---- the command line
+
+abbrev words : List Bytes
+words = codes "avrstk" ∷ codes "-p" ∷ codes "m328p" ∷ codes "-P" ∷ codes "stdio:" ∷ codes "-U" ∷ codes "lfuse:w:0xE2:m"
+    ∷ []
+
+words_taken : takes avrstk words ≡ true
+unfolding avrstk target_rules write_rules run_rules message_rules file_rules bundle_met walked chars encode
+    walk_passes flags_pass
+words_taken = refl
+
+words_read : settings_from_arguments words ≡ Ok settings
+unfolding avrstk target_rules write_rules run_rules message_rules file_rules bundle_met walked chars encode
+words_read = refl
+
+pub line_kept : KeepsCommandLine (λ given. given ≡ words) (λ name seen. ⊥) (devices (state []) empty_desk)
+    (devices (state passed) reported)
+line_kept = (words, refl, λ taken. (settings, sym words_read, over_streams (λ name seen. ⊥)))
+
+abbrev other_words : List Bytes
+other_words = codes "avrstk" ∷ codes "-p" ∷ codes "none" ∷ codes "-P" ∷ codes "stdio:" ∷ []
+
+other_taken : takes avrstk other_words ≡ true
+unfolding avrstk target_rules write_rules run_rules message_rules file_rules bundle_met walked chars encode
+    walk_passes flags_pass
+other_taken = refl
+
+other_read : settings_from_arguments other_words ≡ Ok unknown
+unfolding avrstk target_rules write_rules run_rules message_rules file_rules bundle_met walked chars encode
+other_read = refl
+
+ok_is : (a b : Settings) → ◌≡◌ {A = Result Settings SettingsFault} (Ok a) (Ok b) → a ≡ b
+ok_is a b e = cc
+
+pub line_unkept : (At : ConnectionState) (old new : Devices)
+    → KeepsCommandLine (λ given. given ≡ other_words) At old new → ⊥
+line_unkept At old new (given, is, keeps) =
+    let k = keeps (ap (takes avrstk) is ∙ other_taken) in
+    part_unknown At old new (subst (λ (s : Settings). KeepsPlanAt At s.port s old new)
+    (ok_is k.0 unknown (k.1 ∙ (ap settings_from_arguments is ∙ other_read))) k.2)
