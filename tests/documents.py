@@ -71,7 +71,7 @@ def the_hint():
 
 # the conditions of the promise, as docs/PROOFS has them
 CONDITIONS = (
-    "every valid frame that arrives was sent in this run", "no command arrives twice or out of order",
+    "every valid frame that arrives was sent by the other side in this run", "no command arrives twice or out of order",
     "no reply comes 256 or more frames late", "of the part that `-p` names", "during the run",
 )
 

@@ -261,7 +261,7 @@ def versions_agree(library):
 
 
 def other_names_are_free(library):
-    """A program's own functions may have the names of functions inside the archive, as another Rattle library's do."""
+    """A program's own functions may have the same names as functions inside the archive."""
     program = library.compiled(TOP / "tests/own_names.c")
     same("the fault of a good file", subprocess.run([program]).returncode, 0)
 

@@ -84,7 +84,7 @@ def frames_are_sent():
 
 
 def bad_files():
-    """Checks what docs/USAGE says of how AVRDUDE 7.1 handles files."""
+    """Checks how AVRDUDE 7.1 handles files, as README and docs/USAGE say."""
     if not has_avrdude():
         return leave_out("AVRDUDE's part", "AVRDUDE 7.1 is not installed")
     hexes, source = ((TOP / f"examples/blink.{it}").read_text() for it in ("hex", "c"))
