@@ -186,7 +186,7 @@ def unshown(page):
             yield f"{PROMISE} doesn't reach {named}"
         for lemma, end in ((met, ""), (refuses, "→ ⊥")):
             file, _, name = lemma.rpartition(".")
-            statement = rows[file or "Rows.Promise"].get(name, "")
+            statement = rows.get(file or "Rows.Promise", {}).get(name, "")
             if named.split(".")[-1] not in WORD.findall(statement) or not statement.endswith(end):
                 yield f"{lemma} shows nothing of {named}"
 

@@ -115,8 +115,8 @@ pub fn an_ended_run_and_one_with_status_0_are_as_one()
 {}
 
 /// States that no session over the emulated link has status 0 with wrong memories or output, changes a chip without a
-/// frame, or sends too many. Wrong are memories that the plan's writes don't leave, and output other than over a perfect
-/// link. Too many are more than four frames for each command, by any weight.
+/// frame, or sends too many. Wrong are memories that the plan's writes don't leave, and output other than over a
+/// perfect link. Too many are more than four frames for each command, by any weight.
 // Proof: `not_all_written`, `output_otherwise`, `touched_in_silence` and `too_much` (Outcomes/Refused).
 pub fn a_wrong_outcome_is_refused()
     ensures memories { (plan : Plan) (w v : WiredState) (d e : DeskState)
