@@ -9,12 +9,11 @@
 
 A script's output is printed when the script has ended. All steps run even if one fails; the status is then 1. If in a
 script only cases failed that measure time, these cases are run once more, alone. Then that run counts, and the summary
-names it; at most two scripts are run again. The summary has each step's status, minutes, processor seconds and last line, the lines that report failures,
-and how the mutants were refused. It lists checks that were left out because a tool isn't installed (`./test --tools`
-installs the tools); with NEED_ALL=1 in the environment these are failures. --all also prints the processor seconds of
-each crate's checks, and of the whole as a ratio to those of stk_frame's first check: this ratio is the same on a slow
-machine. The last line counts passed and failed checks of all steps.
-"""
+names it; at most two scripts are run again. The summary has each step's status, minutes, processor seconds and last
+line, the lines that report failures, and how the mutants were refused. It lists checks that were left out because a
+tool isn't installed (`./test --tools` installs the tools); with NEED_ALL=1 in the environment these are failures. --all
+also prints the processor seconds of each crate's checks, and of the whole as a ratio to those of stk_frame's first
+check: this ratio is the same on a slow machine. The last line counts passed and failed checks of all steps. """
 
 import os
 import random
@@ -29,9 +28,8 @@ from concurrent.futures import ThreadPoolExecutor
 from dataclasses import dataclass
 from pathlib import Path
 
-from cases import LATE
+from cases import LATE, TOP
 
-TOP = Path(__file__).resolve().parent.parent
 UNPROVED = TOP / "out/unproved/avrstk"
 PROVED = TOP / "crates/avrstk/out/avrstk"
 # the crates that are programs
@@ -166,8 +164,8 @@ def script(name, kind="", before=(), **environment):
 
 
 def settled(done):
-    """Returns the outcome of all steps. Of the first scripts that failed only at measuring time, those cases are run again
-    alone."""
+    """Returns the outcome of all steps. Of the first scripts that failed only at measuring time, those cases are run
+    again alone."""
     late = [it for it in done if it.status == LATE and it.again][:MOST_AGAIN]
     for it in late:
         again = it.again()
@@ -191,7 +189,8 @@ NAMED = re.compile(rb"/rattle\0(?:build|check)\0.*?--crate-name\0(\w+)\0", re.S)
 
 
 def look(pid):
-    """Returns the crate that a process of rt ci checks, the folder where, and its processor seconds; None for others."""
+    """Returns the crate that a process of rt ci checks, the folder where, and its processor seconds; None for
+    others."""
     named = NAMED.search(Path(f"/proc/{pid}/cmdline").read_bytes())
     if not named:
         return None
@@ -200,8 +199,8 @@ def look(pid):
 
 
 class Checks(threading.Thread):
-    """The checks so far: the processor seconds of each process, by crate and folder. A crate is proved in its own folder,
-    and each mutant in a folder that rt makes for it."""
+    """The checks so far: the processor seconds of each process, by crate and folder. A crate is proved in its own
+    folder, and each mutant in a folder that rt makes for it."""
 
     def __init__(self):
         super().__init__(daemon=True)
@@ -225,7 +224,8 @@ class Checks(threading.Thread):
         return sums.get(str(TOP / "crates" / crate), 0), mutants
 
     def table(self):
-        """Returns a line for each crate: its first check and its mutants, the first of which proves the crate once more."""
+        """Returns a line for each crate: its first check and its mutants, the first of which proves the crate once
+        more."""
         lines = ["crate          first check   mutants   the slowest after the first"]
         for folder in sorted((TOP / "crates").iterdir()):
             names = sorted(it.stem for it in folder.glob("must-fail/*.edit"))
@@ -250,7 +250,8 @@ class Proving:
             self.changed.notify_all()
 
     def wait_for(self, *crates):
-        """Waits until the crates are proved or rt ci has ended. Returns all crates that are proved, for tests/vendor.py."""
+        """Waits until the crates are proved or rt ci has ended. Returns all crates that are proved, for
+        tests/vendor.py."""
         with self.changed:
             self.changed.wait_for(lambda: self.is_over or set(crates) <= set(self.proved))
             return " ".join(self.proved)
@@ -280,7 +281,8 @@ def over_library(folder, proving):
 
 
 def stamper():
-    """Returns what stamps the programs that rt ci proves from now on, for `./avrstk` and packages. No older ones are left."""
+    """Returns what stamps the programs that rt ci proves from now on, for `./avrstk` and packages. No older ones are
+    left."""
     for name, folder in PROGRAMS.items():
         (folder / name).unlink(missing_ok=True)
     sources = subprocess.run(["./avrstk", "--sources"], cwd=TOP, stdout=subprocess.PIPE, text=True).stdout.strip()
@@ -288,8 +290,8 @@ def stamper():
 
 
 def start_unproved(lanes, over, names, before=()):
-    """Starts in `lanes` the build of the unproved program and the scripts that need no program; in `over` the named ones,
-    which use it."""
+    """Starts in `lanes` the build of the unproved program and the scripts that need no program; in `over` the named
+    ones, which use it."""
     built = lanes.submit(build)
 
     def over_it(name):

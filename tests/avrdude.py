@@ -1,17 +1,17 @@
 #!/usr/bin/env python3
-"""Runs AVRDUDE 7.1 as the client of the programmer that this program serves. AVRDUDE's writes, reads and erases must have
-the same results as this program's over `emu:`.
+"""Runs AVRDUDE 7.1 as a client of the programmer that `avrstk --serve` emulates. AVRDUDE's writes, reads and erases
+must have the same results as this program's over `emu:`.
 
 Not proved: AVRDUDE is a program of others.
 
     tests/avrdude.py [CASE ..]    needs a built program (program.py) and AVRDUDE 7.1; without it all is left out
 
-For an ATmega328P, an ATtiny85 and an ATmega2560, each request is made twice with the same options: by AVRDUDE over `net:`
-to `--serve`, and by this program over `emu:` to a chip file of its own. Flash and EEPROM are filled with random bytes,
-and fuses and the lock are written. All memories are read into files, compared, and erased, with EEPROM kept and not kept.
-Some requests must fail. Both programs end with the same outcome; the server ends with status 0 and prints nothing. The
-chip files are identical, and so are the files read. (What the server does with the frames of a client that is killed is a
-law.)
+For an ATmega328P, an ATtiny85 and an ATmega2560, each request is made twice with the same options: by AVRDUDE over
+`net:` to `--serve`, and by this program over `emu:` to a chip file of its own. Flash and EEPROM are filled with random
+bytes, and fuses and the lock are written. All memories are read into files, compared, and erased, with EEPROM kept and
+not kept. Some requests must fail. Both programs end with the same outcome; the server ends with status 0 and prints
+nothing. The chip files are identical, and so are the files read. (What the server does with the frames of a client that
+is killed is a law.)
 
 This tests one version, three parts and these requests. AVRDUDE sends only the bits of an extended fuse that its
 configuration has, and 0 for the others: the values here have no others.
@@ -139,7 +139,8 @@ class Beside:
         self.chips_are_alike("after all was read")
 
     def refused(self):
-        """Requests that must fail leave the chip unchanged: a different image compared, a part with another signature."""
+        """Requests that must fail leave the chip unchanged: a different image compared, a part with another
+        signature."""
         self.request("another image", updates("eeprom:v:flash.bin:r", "lfuse:w:0x00:m"), status=1)
         other = next(it for it in PARTS if it != self.name)
         (self.room.folder / "served.bin").rename(self.room.folder / "kept.bin")

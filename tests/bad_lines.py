@@ -1,7 +1,8 @@
 #!/usr/bin/env python3
-"""Makes 150 runs to the served programmer, as two processes at the ends of a bad link. The random generators have fixed seeds.
+"""Makes 150 runs to the served programmer, as two processes at the ends of a bad link. The random generators have fixed
+seeds.
 
-Not proved: That two processes and their sockets are such a link; how often a run succeeds.
+Not proved: No theorem says that two processes and their sockets are such a link, or how often a run succeeds.
 
     tests/bad_lines.py [CASE ..]    needs a built program (program.py)
 
@@ -10,11 +11,10 @@ Not proved: That two processes and their sockets are such a link; how often a ru
     lags           from some exchange on, each reply comes late: most runs end there
     losses of N %  1, 5 and 20 % of the exchanges fail: a frame is lost, changed or late
 
-Each run is checked against what is proved of a link that forges no frame. With status 0 the chip has what was written, and
-the messages are those of `emu:`. With any status the chip is the result of a prefix of the plan's writes: the erase, pages
-of flash in order, pages of EEPROM, the fuse. The messages before an error are a prefix of those of `emu:`. A run in which
-changed bytes became a valid frame by chance is counted apart, and its chip isn't judged.
-"""
+Each run is checked against what is proved of a link that forges no frame. With status 0 the chip has what was written,
+and the messages are those of `emu:`. With any status the chip is the result of a prefix of the plan's writes: the
+erase, pages of flash in order, pages of EEPROM, the fuse. The messages before an error are a prefix of those of `emu:`.
+A run in which changed bytes became a valid frame by chance is counted apart, and its chip isn't judged. """
 
 import random
 import sys
@@ -75,8 +75,8 @@ class Plan:
 
 
 class Direction:
-    """What goes to one side of a link, in pieces of at most `most` bytes: what arrived, and the places of the frames that
-    arrived unchanged. `held` comes just before the next frame."""
+    """What goes to one side of a link, in pieces of at most `most` bytes: what arrived, and the places of the frames
+    that arrived unchanged. `held` comes just before the next frame."""
 
     def __init__(self, draw, most):
         self.draw, self.most = draw, most
@@ -141,8 +141,8 @@ class BadLink(Link):
 
 
 def run(plan, seed, most, fate_of):
-    """Makes a run over such a link. Returns its status and lines, whether a frame was forged, the server's outcome, and the
-    chip."""
+    """Makes a run over such a link. Returns its status and lines, whether a frame was forged, the server's outcome, and
+    the chip."""
     room = Room()
     plan.prepare(room, "served.bin")
     link = BadLink(room, seed, most, fate_of)
@@ -165,20 +165,21 @@ def holds(name, plan, status, told, is_forged, served, chip):
 
 
 def drawn(rate, kinds):
-    """At a rate in percent, frames come late or cut, or are lost and changed, too. Returns what draws the fates of a run."""
+    """By chance, at a rate in percent, frames come late, or are cut, lost or changed. Returns what draws the fates of a
+    run."""
     return lambda draw: lambda number: draw.choice(kinds) if draw.random() < rate / 100 else ""
 
 
 def lagging(draw):
-    """From some exchange on each reply comes late. Returns the fates of a run."""
+    """From a drawn exchange on, each reply comes late. Returns the fates of a run."""
     first = draw.randint(1, 40)
     return lambda number: "late answer" if number >= first else ""
 
 
 @dataclass
 class Kind:
-    """Runs over one kind of link: their number, the most bytes of a piece, what draws the fates of exchanges, and how many
-    succeed at least and at most, if that is known."""
+    """Runs over one kind of link: their number, the most bytes of a piece, what draws the fates of exchanges, and how
+    many succeed at least and at most, if that is known."""
 
     count: int
     pieces: list
@@ -196,7 +197,7 @@ KINDS = {
 
 
 def runs_over(name, kind):
-    """Makes the runs over a kind of link."""
+    """Makes all runs over one kind of link."""
     plans = [Plan(it, kind.has_flash) for it in range(1 if "losses" in name else 10)]
     with ThreadPoolExecutor(AT_ONCE) as pool:
         draws = [random.Random(f"{name} {it}") for it in range(kind.count)]

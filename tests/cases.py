@@ -1,19 +1,27 @@
-"""Runs and counts the checks of the scripts beside this one. A case can be run alone by its name; a check is left out if
-its tool isn't installed."""
+"""Runs and counts the checks of the scripts beside this one. A case can be run alone by its name; a check is left out
+if its tool isn't installed."""
 
 import os
 import random
+import re
 import signal
 import sys
 import time
 import traceback
 from pathlib import Path
 
-# A shell's background jobs ignore SIGINT, and jobs under nohup SIGHUP; their children inherit that. The programs run here
-# must not ignore them.
+# A shell's background jobs ignore SIGINT, and jobs under nohup SIGHUP; their children inherit that. The programs run
+# here must not ignore them.
 for number, heeded in [(signal.SIGINT, signal.default_int_handler), (signal.SIGHUP, signal.SIG_DFL)]:
     if signal.getsignal(number) is signal.SIG_IGN:
         signal.signal(number, heeded)
+
+TOP = Path(__file__).resolve().parent.parent
+VERSION = (TOP / "VERSION").read_text().strip()
+# the number in the name of the shared library
+NUMBER = re.match(r"0\.\d+|[1-9]\d*", VERSION)[0]
+# runs a command as a user who can't write to the system's own folders
+SOMEBODY = ["setpriv", "--reuid=65534", "--regid=65534", "--clear-groups"] if os.geteuid() == 0 else []
 
 passed = 0
 failed = 0
@@ -22,8 +30,8 @@ left = 0
 # the status of a script in which only cases failed that measure time: on a busy machine it may be made again
 LATE = 75
 
-# the most seconds that a script waits for an expected event. It ends a hang, and is long enough for a machine that stops
-# for minutes; nothing is measured by it
+# the most seconds that a script waits for an expected event. It ends a hang, and is long enough for a machine that
+# stops for minutes; nothing is measured by it
 PATIENCE = 600
 
 # the most characters printed of a found or a wanted value
@@ -70,10 +78,16 @@ def wait_until(is_there, pause=0.005):
 
 def table(name):
     """Returns the rows of tests/tables/NAME.txt, each a list of as many cells."""
-    text = (Path(__file__).parent / f"tables/{name}.txt").read_text()
+    text = (TOP / f"tests/tables/{name}.txt").read_text()
     rows = [[it.strip() for it in f"{row} ".split(" | ")] for row in text.splitlines() if not row.startswith("#")]
     assert len({len(it) for it in rows}) == 1, f"tables/{name}.txt is empty, or its rows differ in length"
     return rows
+
+
+def bytes_of(cell):
+    """Returns the bytes that a cell has: digits or 'text', joined by + and with * repeated."""
+    held = lambda it: it[1:-1].encode() if it.startswith("'") else bytes.fromhex(it)
+    return b"".join(held(it) * int(times or 1) for it, _, times in (it.partition("*") for it in cell.split("+")))
 
 
 def sampled(what, most, given):
@@ -83,6 +97,17 @@ def sampled(what, most, given):
         return given
     print(f"{what}: {most} of {len(given)} are tried, drawn by SAMPLE={seed}", flush=True)
     return [given[at] for at in sorted(random.Random(f"{what} {seed}").sample(range(len(given)), most))]
+
+
+def put_program(path, text):
+    """Writes a file that anybody may run."""
+    path.write_text(text)
+    path.chmod(0o755)
+
+
+def own_environment(**more):
+    """Returns the environment without AVRSTK, and with these variables: a script then runs its own program."""
+    return {name: value for name, value in os.environ.items() if name != "AVRSTK"} | more
 
 
 def named(*functions):

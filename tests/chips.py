@@ -1,14 +1,14 @@
 #!/usr/bin/env python3
-"""Tests that a chip file is whole, and used by one run at a time. Whatever ends a run, the file is the old one or the new
-one.
+"""Tests that a chip file is whole, and used by one run at a time. Whatever ends a run, the file is the old one or the
+new one.
 
-Not proved: What the system's calls on files do, and what a crash of the system leaves.
+Not proved: The proofs assume how the system's calls on files behave, also in a crash of the system.
 
     tests/chips.py [CASE ..]        needs strace, or leaves out what it does at single calls
 
-strace records the calls of a run, and a model of a disk (disk.py) makes each state that a power cut may leave. Each call
-fails, and each ends a run. Runs are started at once with one chip, and beside a run or a served session that holds it.
-"""
+strace records the calls of a run, and a model of a disk (disk.py) makes each state that a power cut may leave. Each
+call fails, and each ends a run. Runs are started at once with one chip, and beside a run or a served session that holds
+it. """
 
 import contextlib
 import itertools
@@ -26,25 +26,20 @@ from pathlib import Path
 
 from cases import PATIENCE, leave_out, named, run_cases, same, sampled, see, wait_until
 from disk import calls_in, power_cuts
-from program import CHIP_FILE, FRAMES, PROGRAM, Room, Server, lines
+from program import CHIP_FILE, EEPROM, EMULATED, FRAMES, LFUSE, PROGRAM, SIGNATURE, Room, Server
+from program import end_of, full_chip, lines, tracing
 from records import hex_of
 
 room = Room()
 FOLDER = os.path.realpath(room.folder)
 CHIP, LOCK_FILE, NEW_FILE = (room.folder / it for it in ["chip.bin", "chip.bin.avrstk-lock", "chip.bin.avrstk-new"])
 
-EMULATED = ["-p", "m328p", "-P", "emu:chip.bin"]
-SIGNATURE = "device signature = 1E 95 0F"
 DONE = (0, lines("done"))
 IN_USE = lines("error: chip.bin: in use by another run")
 UNWRITABLE = lines("error: chip.bin: cannot be written")
 
-# the addresses of the EEPROM and the low fuse in a chip file
-EEPROM, LFUSE = 32_768, 33_792
-
 # a chip with a program, data and fuses of its own, which isn't locked; and a chip of which there is no file yet
-OLD = bytes(place % 241 for place in range(EEPROM)) + bytes(place % 239 for place in range(1024)) + b"\xe2\xd9\xfd\xff"
-FRESH = bytes(b"\xff" * CHIP_FILE)
+OLD, FRESH = full_chip(), b"\xff" * CHIP_FILE
 UMASK = os.umask(0)
 os.umask(UMASK)
 NOBODY = 65534
@@ -85,24 +80,16 @@ def mode_of(path):
     return stat.S_IMODE(path.stat().st_mode)
 
 
-def ended(started):
-    """Returns the status, the output and the messages."""
-    output, messages = started.communicate(timeout=PATIENCE)
-    return started.returncode, output, messages
-
-
 def traced(prepare, words, how=None, meanwhile=None):
-    """Returns the status of a run under strace, its messages, and its calls for the chip, its folder or a file beside it.
-    strace does this at a call. What is done meanwhile begins with that call, which is held for two seconds."""
+    """Returns the status of a run under strace, its messages, and its calls for the chip, its folder or a file beside
+    it. strace does this at a call. What is done meanwhile begins with that call, which is held for two seconds."""
     prepare()
     inject = ["-e", f"inject={how}" + (":delay_enter=2000000:when=1" if meanwhile else "")] if how else []
-    front = ["strace", "-y", "-s", "50000", "-o", "calls", "-e", "trace=%file,%desc", *inject]
-    # (the unproved program's leak detector can't run under strace)
-    started = room.start(words, front=front, env=os.environ | {"ASAN_OPTIONS": "detect_leaks=0"})
+    started = room.start(words, **tracing("-y", "-s", "50000", "-e", "trace=%file,%desc", *inject))
     if meanwhile:
         wait_until(lambda: re.search(rf"^{how}\(".encode(), room.read("calls") or b"", re.M))
         meanwhile(started)
-    status, _, messages = ended(started)
+    status, _, messages = end_of(started)
     return status, messages, calls_in((room.read("calls") or b"").decode(), FOLDER)
 
 
@@ -116,8 +103,8 @@ def is_safe(what, old, status, calls):
 
 
 def each_power_cut():
-    """After each call of a run a power cut leaves the old chip or the new one, and after status 0 the new one. This holds
-    too if a call fails, or finds no file or no descriptor. It wouldn't hold if one of both syncs were missing."""
+    """After each call of a run a power cut leaves the old chip or the new one, and after status 0 the new one. This
+    holds too if a call fails, or finds no file or no descriptor. It wouldn't hold if one of both syncs were missing."""
     for prepare, old in STARTS:
         new, what = with_fuse(old, 0x62), f"chip {bool(old)}"
         status, _, calls = traced(prepare, writes_fuse(0x62))
@@ -137,8 +124,8 @@ def each_power_cut():
 
 
 def ended_anywhere():
-    """Ends a run at each of its calls in turn. The chip is then the old one or the new one with its permissions, and the
-    next run works as usual."""
+    """Ends a run at each of its calls in turn. The chip is then the old one or the new one with its permissions, and
+    the next run works as usual."""
     for prepare, old in STARTS:
         left = set()
         for call in traced(prepare, writes_fuse(0x62))[2]:
@@ -151,9 +138,10 @@ def ended_anywhere():
 
 
 def others_meanwhile():
-    """While a run syncs its new file, another program changes which file is there. It puts one in the place of the chip or
-    of the new file, or removes one: the run fails, and what is there stays. So does a chip that is put where none was, however late. The old chip isn't
-    open when it is replaced, because some file systems hide an open file before that."""
+    """While a run syncs its new file, another program changes which file is there. It puts one in the place of the chip
+    or of the new file, or removes one: the run fails, and what is there stays. So does a chip that is put where none
+    was, however late. The old chip isn't open when it is replaced, because some file systems hide an open file before
+    that."""
 
     def put(path):
         room.put("put", b"mine")
@@ -199,7 +187,7 @@ def waiting(words, name="chip.bin", pipe="pipe", last=DONE):
     see("a run that waits", SIGNATURE.encode() in started.stderr.readline())
     yield
     (room.folder / pipe).read_bytes()
-    status, _, messages = ended(started)
+    status, _, messages = end_of(started)
     same(f"{name}: the run that waited", (status, messages.splitlines(True)[-1]), last)
 
 
@@ -221,7 +209,7 @@ def held_by_a_run():
 
 
 def held_by_a_session():
-    """A served session holds the chip; before a caller comes, other runs may use it."""
+    """A served session holds the chip; before a client connects, other runs may use it."""
     fresh_room()
     with Server(room, "chip.bin") as server:
         is_good("a run before a caller comes", room.run(writes_fuse(0x62)))
@@ -235,8 +223,8 @@ def held_by_a_session():
 
 
 def without_a_lock():
-    """The lock file of a waiting run is removed, and another run starts. The one that saves first ends well, and the other
-    one fails: what a run with status 0 saved isn't lost."""
+    """The lock file of a waiting run is removed, and another run starts. The one that saves first ends well, and the
+    other one fails: what a run with status 0 saved isn't lost."""
     for prepare, old in STARTS:
         prepare()
         with waiting(["-U", "lfuse:w:0x11:m"], last=(1, UNWRITABLE)):
@@ -248,9 +236,9 @@ def without_a_lock():
 
 
 def what_is_refused():
-    """These are no chip files, and refused before a frame is sent or the server waits for a caller. They are a link to no
-    file or to itself, a pipe, a device, a folder, a name that is too long, and one in a folder that isn't there. So is a chip
-    whose lock file isn't regular."""
+    """Files that can be no chip file are refused before a frame is sent or the server waits for a client. They are a
+    link to no file or to itself, a pipe, a device, a folder, a name that is too long, and one in a folder that isn't
+    there. So is a chip whose lock file isn't regular."""
     for name, make in [
         ("link.bin", lambda it: it.symlink_to("chip.bin")),
         ("loop.bin", lambda it: it.symlink_to("loop.bin")),
@@ -272,8 +260,8 @@ def what_is_refused():
 
 
 def read_into_the_chip():
-    """A read into the chip's own file is refused, by any of its names, and the chip stays whole. A file of the same name in
-    another folder is another file. A name that isn't UTF-8 is as good as any."""
+    """A read into the chip's own file is refused, by any of its names, and the chip stays whole. A file of the same
+    name in another folder is another file. A name that isn't UTF-8 is as good as any."""
     for prepare, old in STARTS:
         for name in ["chip.bin", "./chip.bin", "link.bin", "odd.bin", "name.bin"][: 5 if old else 4]:
             prepare()
@@ -295,7 +283,7 @@ def a_full_disk():
     """The chip exceeds the file size limit: the old one stays. The system ends the run, unless SIGXFSZ is ignored."""
     for limit, status in [('trap "" XFSZ; ulimit -f 16', 1), ("ulimit -f 16", -signal.SIGXFSZ)]:
         fresh_room()
-        found = ended(room.start(writes_fuse(0x62), front=["sh", "-c", f'{limit}; exec "$0" "$@"']))
+        found = end_of(room.start(writes_fuse(0x62), front=["sh", "-c", f'{limit}; exec "$0" "$@"']))
         same(f"{limit}: the run", (found[0], found[2].endswith(UNWRITABLE)), (status, status == 1))
         see(f"{limit}: the chip is as it was", room.read("chip.bin") == OLD)
         is_good(f"{limit}: the next run", room.run(writes_fuse(0x62)))
@@ -318,8 +306,8 @@ def mounted():
 
 @contextlib.contextmanager
 def as_nobody():
-    """Gives how to start runs of a copy of the program: as the user nobody if this is root, who may write everything. The
-    room and the chip are that user's meanwhile."""
+    """Gives how to start runs of a copy of the program: as the user nobody if this is root, who may write everything.
+    The room and the chip are that user's meanwhile."""
     with tempfile.TemporaryDirectory() as bare:
         copy = shutil.copy(PROGRAM, bare)
         os.chmod(bare, 0o755)
@@ -332,9 +320,9 @@ def as_nobody():
 
 def what_stays():
     """A run is refused if the chip or its folder may not be written; a folder that may be written and not read is no
-    obstacle. A chip keeps its permissions, without setuid, setgid and the sticky bit, and its owner and group if the system
-    allows it; any other group gets what everyone had. A symbolic link to it stays a link. What an ended run of another
-    user's left blocks no run, and what a link of the new file's name leads to stays as it is."""
+    obstacle. A chip keeps its permissions, without setuid, setgid and the sticky bit, and its owner and group if the
+    system allows it; any other group gets what everyone had. A symbolic link to it stays a link. What an ended run of
+    another user's left blocks no run, and what a link of the new file's name leads to stays as it is."""
     # the modes of the chip, of its folder and of the new chip if there is one; the chip's group; who runs
     for mode, folder, kept, group, who in [
         (0o444, 0o755, None, NOBODY, NOBODY),
@@ -355,7 +343,7 @@ def what_stays():
             os.chown(CHIP, NOBODY, group) if IS_ROOT else None
             CHIP.chmod(mode)
             room.folder.chmod(folder)
-            found = ended(room.start(writes_fuse(0x62, "link.bin"), **(how if who else {})))
+            found = end_of(room.start(writes_fuse(0x62, "link.bin"), **(how if who else {})))
             room.folder.chmod(0o755)
             what = f"chip {mode:o}, folder {folder:o}, group {group}"
             refused = (1, b"", lines("error: link.bin: cannot be written"))
@@ -378,8 +366,8 @@ if true <"$it"; then echo "$it"; fi; done; done 2>/dev/null"""
 
 
 def another_user():
-    """Another user watches a chip of mode 600 whose owner runs with umask 000. He opens neither it nor the new file. A lock
-    file of his in a sticky folder blocks no run. A new file of his makes the run fail, and the old chip stays."""
+    """Another user watches a chip of mode 600 whose owner runs with umask 000. He opens neither it nor the new file. A
+    lock file of his in a sticky folder blocks no run. A new file of his makes the run fail, and the old chip stays."""
     if not IS_ROOT:
         return leave_out("another user beside a chip", "this isn't root")
     fresh_room()
@@ -390,7 +378,7 @@ def another_user():
         evil = subprocess.Popen(["sh", "-c", WATCH], stdout=subprocess.PIPE, text=True, cwd=room.folder, **other)
         evil.stdout.readline()
         for value in range(20):
-            is_good("a run", ended(room.start(writes_fuse(value), umask=0, **how)))
+            is_good("a run", end_of(room.start(writes_fuse(value), umask=0, **how)))
         room.put("stop", b"")
         same("what the other user opened", evil.communicate(timeout=PATIENCE)[0], "")
         same("the mode of the chip", mode_of(CHIP), 0o600)
@@ -399,14 +387,14 @@ def another_user():
         for his, status in [(LOCK_FILE, 0), (NEW_FILE, 1)]:
             his.touch()
             os.chown(his, 2, 2)
-            same(f"a run beside his {his.name}", ended(room.start(writes_fuse(0x62 + status), **how))[0], status)
+            same(f"a run beside his {his.name}", end_of(room.start(writes_fuse(0x62 + status), **how))[0], status)
             see("the chip", room.read("chip.bin") == with_fuse(OLD, 0x62))
             his.unlink()
 
 
 def stormy():
-    """Six runs at a time over one chip for a while, of which some are killed. Each run with status 0 is in the chip, and
-    each other one was killed or reports that the chip was in use. The chip is whole whenever it is seen."""
+    """For a while six runs at a time use one chip, and some are killed. Each run with status 0 is in the chip, and each
+    other one was killed or reports that the chip was in use. The chip is whole whenever it is seen."""
     room.clear()
     room.put("chip.bin", FRESH)
     chance, places, ends = random.Random(7), iter(range(1024)), time.monotonic() + 15
@@ -420,7 +408,7 @@ def stormy():
         if CHIP.stat().st_size != CHIP_FILE:
             odd.add("the chip isn't whole")
         for run in [it for it in live if it.poll() is not None]:
-            place, (status, _, messages) = live.pop(run), ended(run)
+            place, (status, _, messages) = live.pop(run), end_of(run)
             if status == 0:
                 written.add(place)
             elif status != -signal.SIGKILL and (status, messages) != (1, IN_USE):

@@ -43,8 +43,8 @@ def named(names, changes):
 
 
 class Disk:
-    """The files as calls leave them. Of the changes of names since the folder was synced, a power cut keeps any. Syncs of
-    the path `unsynced` are passed over."""
+    """The files as calls leave them. Of the changes of names since the folder was synced, a power cut keeps any. Syncs
+    of the path `unsynced` are passed over."""
 
     def __init__(self, chip, unsynced):
         self.names = self.synced = {} if chip is None else {"chip.bin": File(chip)}
@@ -90,8 +90,8 @@ class Disk:
 
 
 def power_cuts(calls, chip, unsynced=None):
-    """Returns the chips that power cuts may leave before or after any of these calls, those that they may leave at the end,
-    and the chip at the end. The calls begin with this chip."""
+    """Returns the chips that power cuts may leave before or after any of these calls, those that they may leave at the
+    end, and the chip at the end. The calls begin with this chip."""
     disk = Disk(chip, unsynced)
     seen = disk.chips()
     for call in calls:

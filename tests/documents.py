@@ -1,5 +1,6 @@
 #!/usr/bin/env python3
-"""Compares what docs/CHECK and CONTRIBUTING quote of sources with these, and the logic that documents name with the kit's.
+"""Compares what docs/CHECK and CONTRIBUTING quote with the sources, and the sum of the logic in documents with the
+kit's.
 
 Not proved: Documents are not code.
 
@@ -10,11 +11,8 @@ import re
 import shutil
 import subprocess
 import sys
-from pathlib import Path
 
-from cases import leave_out, named, run_cases, same, see
-
-TOP = Path(__file__).resolve().parent.parent
+from cases import TOP, leave_out, named, run_cases, same, see
 
 # the line at the end of a crate's check, as docs/CHECK has it
 PROVED = (
@@ -28,7 +26,7 @@ def text(name):
 
 
 def what_check_quotes():
-    """The law, mutants, files and lines of code that docs/CHECK quotes are there, and the mutant is tried."""
+    """docs/CHECK quotes a law, mutants, files and lines of code as they are, and its command tries the mutant."""
     page = text("docs/CHECK.md")
     module, law = re.search(r"^    \$ rt check --only (\w+)::(\w+)$", page, re.M).groups()
     source = text(f"crates/avr_laws/src/{module}.rt")
@@ -108,7 +106,7 @@ def the_logic():
     ran = subprocess.run(["rt", "version"], capture_output=True, text=True)
     for page in ("README.md", *(f"docs/{it.name}" for it in sorted(TOP.glob("docs/*.md")))):
         sums = set(re.findall(r"logic\s+([0-9a-f]{16})", text(page)))
-        if sums or page in ("README.md", "docs/CHECK.md", "docs/LIBRARY.md"):
+        if sums or page in ("README.md", "docs/CHECK.md"):
             see(f"the logic that {page} names", sums and sums <= set(ran.stdout.split()), (sums, ran.stdout))
 
 

@@ -1,15 +1,15 @@
 #!/usr/bin/env python3
 """Makes each system call of the built program fail in turn: allocations, reads, writes, opens and socket calls.
 
-Not proved: That a refused call of the system reaches the program, and that memory is only said to lack if it was
-refused.
+Not proved: No proof shows that the failure of a system call reaches the program, or that `out of memory` is reported
+only after one.
 
     tests/faults.py [CASE ..]        needs a built program (program.py) and a C compiler (tests/refuse.c);
                                      without one all is left out
 
 The runs over the emulator begin with a chip that isn't empty. Its file must stay whole: each byte is the old one, an
-erased one, or that of an undisturbed run's end. For every run below and every kind of call, the nth call is refused, for
-n from 1 until a run has no nth call. For allocations, the nth and all later ones are refused too.
+erased one, or that of an undisturbed run's end. For every run below and every kind of call, the nth call is refused,
+for n from 1 until a run has no nth call. For allocations, the nth and all later ones are refused too.
 
 A run with a refused call must end in one of two ways. Either it sends and prints a prefix of the undisturbed run, then
 prints the error's line, and ends with status 1. The line names the file that the call was for; if a message couldn't be
@@ -28,22 +28,14 @@ from pathlib import Path
 
 from cases import leave_out, run_cases, same, see
 from line import BadLine
-from program import ANSWERS, CHIP_FILE, ENDS, FRAMES, TOP, Room, Server
-
-EMULATED = ["-p", "m328p", "-P", "emu:chip.bin"]
-
-
-def full_chip(flash, eeprom):
-    """Returns a chip with a program, data and fuses of its own, which isn't locked."""
-    return bytes(place % 241 for place in range(flash)) + bytes(place % 239 for place in range(eeprom)) + b"\xe2\xd9\xfd\xff"
-
+from program import ANSWERS, CHIP_FILE, EMULATED, ENDS, FRAMES, STDIO, TOP, Room, Server, full_chip
 
 # the chip files that the runs begin with, by the part's name
-CHIPS = {"m328p": full_chip(32_768, 1024), "m2560": full_chip(262_144, 4096)}
+CHIPS = {"m328p": full_chip(), "m2560": full_chip(262_144, 4096)}
 
-# the program's options, and its standard input
+# the program's options, its standard input, and its status if that isn't 0
 RUNS = {
-    "a session opened and closed": (["-p", "m328p", "-P", "stdio:"], ANSWERS),
+    "a session opened and closed": (STDIO, ANSWERS),
     "an empty file as flash": ([*EMULATED, "-U", "flash:w:empty.bin"], b""),
     "a fuse written and read": ([*EMULATED, "-U", "lfuse:w:0xE2:m", "-U", "lfuse:r:-:h"], b""),
     "the whole EEPROM": ([*EMULATED, "-V", "-U", "eeprom:w:whole.bin:r"], b""),
@@ -51,13 +43,9 @@ RUNS = {
     "a firmware of 256 kB, and read back": (["-p", "m2560", "-P", "emu:chip.bin", "-U", "flash:w:large.bin:r", "-U", "flash:r:out.hex:i"], b""),
     "an image on standard input": ([*EMULATED, "-U", "flash:w:-:r"], bytes(range(1, 251)) * 20),
     "a part file": ([*EMULATED, "--parts", "parts.toml"], b""),
-}
-
-# options that start no session, and their status
-REFUSED = {
-    "a request for help": (["--help"], 0),
-    "an option that isn't known": (["-p", "m328p", "--nonsense"], 1),
-    "no part": (["-P", "stdio:"], 1),
+    "a request for help": (["--help"], b""),
+    "an option that isn't known": (["-p", "m328p", "--nonsense"], b"", 1),
+    "no part": (["-P", "stdio:"], b"", 1),
 }
 
 # (before a file is created, the run looks whether it is the held chip)
@@ -109,7 +97,8 @@ class Sweep:
         return *ran, self.room.read("chip.bin"), self.room.read("out.hex")
 
     def through(self, kind, how):
-        """Refuses each call of a kind in turn, up to the first with a wrong outcome. Returns the count of each outcome."""
+        """Refuses each call of a kind in turn, up to the first with a wrong outcome. Returns the count of each
+        outcome."""
         counts = Counter()
         for number in range(1, 100_000):
             done = self.done(f"{kind} {number} {how}")
@@ -179,7 +168,8 @@ def caller_of(server):
 
 
 def is_front_and_line(said, sound, line, may_stop):
-    """Returns whether these are a prefix of an undisturbed run's messages, then the error line, or part of it if `may_stop`."""
+    """Returns whether these are a prefix of an undisturbed run's messages, then the error line, or part of it if
+    `may_stop`."""
     if may_stop and sound.startswith(said):
         return True
     return any(sound.startswith(said[:end]) and is_front_of_error(said[end:], line.encode(), may_stop) for end in range(len(said) + 1))
@@ -247,8 +237,6 @@ def while_serving(room, shim, label):
 def cases_of(room, shim):
     """Returns the cases by their names."""
     cases = {label: lambda label=label, it=it: swept(Sweep(room, shim, label, *it), ALL) for label, it in RUNS.items()}
-    for label, (words, status) in REFUSED.items():
-        cases[label] = lambda it=(label, words, b"", status): swept(Sweep(room, shim, *it), ALL)
     for label, look in [
         ("the whole EEPROM over a line with a late answer", over_late_line),
         ("a session served at a port", while_serving),

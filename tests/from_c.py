@@ -1,15 +1,14 @@
 #!/usr/bin/env python3
 """Tests the library for C: runs examples/c and examples/python on files, random images with gaps and damaged files, and
-exchanges record files with other programs. These are srec_cat, avr-objcopy and python3-intelhex. Without a C compiler all is
-left out. AVR_RECORDS_C may name a folder for the library, which is built there if it has none.
+exchanges record files with other programs. These are srec_cat, avr-objcopy and python3-intelhex. Without a C compiler
+all is left out. AVR_RECORDS_C may name a folder for the library, which is built there if it has none.
 
-Not proved: The boundary to C and Python; the formats as other programs read and write them.
+Not proved: C, Python and other programs are outside of the proofs.
 
     tests/from_c.py [CASE ..]
 
-Images are drawn from fixed seeds. This project writes them as Intel HEX and S-records, and each other program reads them and
-writes them again for this project. Every byte must be at its address, and there must be no other byte.
-"""
+Images are drawn from fixed seeds. This project writes them as Intel HEX and S-records, and each other program reads
+them and writes them again for this project. Every byte must be at its address, and there must be no other byte. """
 
 import functools
 import importlib.util
@@ -24,7 +23,7 @@ import tempfile
 import time
 from pathlib import Path
 
-from cases import leave_out, named, run_cases, same, see
+from cases import NUMBER, TOP, VERSION, bytes_of, leave_out, named, run_cases, same, see, table
 from records import drawn, hex_of, image_of, runs_of
 from vendor import lend
 
@@ -35,14 +34,12 @@ try:
 except ImportError:
     IntelHex = None
 
-ROOT = Path(__file__).resolve().parent.parent
 IMAGES = 60
 SECONDS = 20
 USAGE = "records FILE SIZE ihex|srec [ROOM]"
 # the functions that the header declares, and the faults with a text of their own
 CALLS = [f"avr_records_{it}" for it in ("detect", "fault_text", "length", "read", "version", "write")]
 FAULTS = [*range(9), 10, 11, 12]
-VERSION = (ROOT / "VERSION").read_text().strip()
 
 
 def small_images():
@@ -61,10 +58,10 @@ def shown(image):
 def build(folder):
     """Builds the library there, in a copy of its crates, because `rt lib` waits while an rt ci is at work on these."""
     copy = folder / "copy"
-    shutil.copytree(ROOT / "examples/c", copy / "examples/c", dirs_exist_ok=True)
-    shutil.copy(ROOT / "VERSION", copy)
+    shutil.copytree(TOP / "examples/c", copy / "examples/c", dirs_exist_ok=True)
+    shutil.copy(TOP / "VERSION", copy)
     run = functools.partial(subprocess.run, check=True, stdout=subprocess.DEVNULL)
-    run([ROOT / "tools/vendor.sh", "avr_records_c", copy])
+    run([TOP / "tools/vendor.sh", "avr_records_c", copy])
     lend(copy)
     run([copy / "examples/c/build.sh", folder])
 
@@ -76,12 +73,12 @@ class Library:
         if not (built / "libavr_records.a").exists():
             build(built)
         shutil.copytree(built, folder, symlinks=True, dirs_exist_ok=True, ignore=shutil.ignore_patterns("copy"))
-        self.program = self.compiled(ROOT / "examples/c/records.c")
+        self.program = self.compiled(TOP / "examples/c/records.c")
 
     def compiled(self, source):
         """Compiles a source file and links it with the archive. Returns the program."""
         program = self.folder / source.stem
-        words = [os.environ.get("CC", "cc"), "-std=c99", "-Wall", "-Wextra", "-Werror", "-O2", f"-I{ROOT / 'include'}"]
+        words = [os.environ.get("CC", "cc"), "-std=c99", "-Wall", "-Wextra", "-Werror", "-O2", f"-I{TOP / 'include'}"]
         subprocess.run([*words, source, self.folder / "libavr_records.a", "-o", program], check=True)
         return program
 
@@ -103,7 +100,7 @@ class Library:
 
     def in_python(self):
         """Returns examples/python/records.py as a module, and the library as it loads it."""
-        spec = importlib.util.spec_from_file_location("records", ROOT / "examples/python/records.py")
+        spec = importlib.util.spec_from_file_location("records", TOP / "examples/python/records.py")
         records = importlib.util.module_from_spec(spec)
         spec.loader.exec_module(records)
         os.environ["AVR_RECORDS_LIBRARY"] = str(self.folder / "libavr_records.so")
@@ -111,7 +108,7 @@ class Library:
 
     def by_python(self, *words, check=False):
         environment = os.environ | {"AVR_RECORDS_LIBRARY": str(self.folder / "libavr_records.so")}
-        words = [sys.executable, ROOT / "examples/python/records.py", *words]
+        words = [sys.executable, TOP / "examples/python/records.py", *words]
         return subprocess.run(words, capture_output=True, check=check, env=environment)
 
 
@@ -127,7 +124,7 @@ def comes_back(library, file, image, size):
 
 def files_come_back(library):
     for name in ("blink.hex", "blink.srec", "eeprom.hex"):
-        file = ROOT / "examples" / name
+        file = TOP / "examples" / name
         image = image_of(file.read_bytes())
         comes_back(library, file, image, 32_768)
         same(f"{name} printed", library.printed(file, 32_768), shown(image))
@@ -137,17 +134,17 @@ def files_come_back(library):
 
 
 def typed_as_shown(library):
-    """The commands of docs/LIBRARY run as typed; this library's folder is in place of the one that the first one makes."""
-    section = (ROOT / "docs/LIBRARY.md").read_text().split("## From C and Python\n")[1].split("\n## ")[0]
+    """The commands of docs/LIBRARY run as typed, over the library that is built already."""
+    section = (TOP / "docs/LIBRARY.md").read_text().split("## From C and Python\n")[1].split("\n## ")[0]
     first, *commands = re.findall(r"^    \$ (.*)$", section, re.M)
     same("the first one", first, "examples/c/build.sh out/c")
     commands = [it.replace("out/c", shlex.quote(str(library.folder))) for it in commands]
-    printed = [subprocess.run(["sh", "-c", it], cwd=ROOT, capture_output=True, check=True).stdout for it in commands]
-    image = image_of((ROOT / "examples/blink.hex").read_bytes())
+    printed = [subprocess.run(["sh", "-c", it], cwd=TOP, capture_output=True, check=True).stdout for it in commands]
+    image = image_of((TOP / "examples/blink.hex").read_bytes())
     same("C's", (printed[0], image_of(printed[1])), (b"", image))
     same("Python's", printed[2].decode().splitlines(), shown(image))
     without = os.environ | {"AVR_RECORDS_LIBRARY": "/nowhere"}
-    ran = subprocess.run(["sh", "-c", commands[2].partition(" ")[2]], cwd=ROOT, capture_output=True, text=True, env=without)
+    ran = subprocess.run(["sh", "-c", commands[2].partition(" ")[2]], cwd=TOP, capture_output=True, text=True, env=without)
     told = ran.stderr.endswith(": examples/c/build.sh builds the library, and ./install.sh --with-c installs it\n")
     same("without a library", (ran.returncode, ran.stderr.count("\n"), told), (1, 1, True))
 
@@ -201,7 +198,8 @@ def time_is_linear(library):
 
 
 def cursors_are_judged(library):
-    """A cursor's fields are where the header has them: a number that no call leaves is refused, with the cursor unchanged."""
+    """A cursor's fields are where the header has them: a number that no call leaves is refused, with the cursor
+    unchanged."""
     records, loaded = library.in_python()
     for kind, size, ended, fault in [(1, 5, 0, 0), (1, 0, 2, 11), (2, 5, 0, 11), (2, 4, 1, 0), (2, 3, 2, 11)]:
         lent = [it for held in (b"\x0a", b"\x01") for it in records.lent(bytearray(held))]
@@ -213,25 +211,17 @@ def cursors_are_judged(library):
 
 def faults_are_told(library):
     file = library.folder / "damaged"
-    for text, size, told in (
-        (b":0400000001020304F3\n", 4, "line 1: bad checksum"),
-        (b"\n:0400000001020304F2\n:01000000zzFF\n", 4, "line 3: bad digit"),
-        (b":020000040001F9\n:0100000055AA\n", 4, "line 2: address out of range: 00010000"),
-        (b":0400000001020304F2\n", 3, "line 1: address out of range: 00000003"),
-        (b":0400000001020304F2\n:02000009AABB90\n", 4, "line 2: bad record type"),
-        (b"S107000001020304EE\nS5030009F3\n", 4, "line 2: bad record count"),
-        (b"no record", 4, f"{file}: no record file"),
-        (b"\x7fELF\1\1\1", 4, f"{file}: no record file"),
-    ):
-        file.write_bytes(text)
+    for text, size, told in table("damaged"):
+        told = told.replace("FILE", str(file))
+        file.write_bytes(bytes_of(text))
         same(f"{text} in {size} bytes", library.fault(file, size), told)
         told = told.removeprefix(f"{file}: ")
-        by_python = library.by_python(file, str(size))
+        by_python = library.by_python(file, size)
         same(f"{text} in {size} bytes by Python", (by_python.returncode, by_python.stderr.decode().strip()), (1, told))
 
 
 def sizes_are_judged(library):
-    file = ROOT / "examples/blink.hex"
+    file = TOP / "examples/blink.hex"
     for size in ("", "-1", " 5", "5x", "4294967296", "18446744073709551616"):
         same(f"size '{size}'", library.refused(file, size, "ihex"), (2, "", f"usage: {USAGE}\n"))
 
@@ -256,14 +246,13 @@ def versions_agree(library):
     """The header, the library, pkg-config's file and the Python program have the version in VERSION."""
     major, minor, patch = map(int, VERSION.split("."))
     number = 10_000 * major + 100 * minor + patch
-    told = subprocess.run([library.compiled(ROOT / "tests/versions.c")], capture_output=True, check=True, text=True).stdout
+    told = subprocess.run([library.compiled(TOP / "tests/versions.c")], capture_output=True, check=True, text=True).stdout
     same("the header and the archive", told, f"{VERSION} {VERSION} {number} {number}\n")
     records, loaded = library.in_python()
     same("Python and the shared library", (records.VERSION, loaded.avr_records_version()), (number, number))
     config = (library.folder / "avr_records.pc").read_text()
     same("pkg-config's file", f"\nVersion: {VERSION}\n" in config, True)
-    # the number in the shared library's name
-    name = f"libavr_records.so.{major or f'0.{minor}'}"
+    name = f"libavr_records.so.{NUMBER}"
     shared = library.folder / "libavr_records.so"
     same("what the link leads to", os.readlink(shared), name)
     same("the name that Python looks for", records.SONAME, name)
@@ -272,14 +261,14 @@ def versions_agree(library):
 
 
 def other_names_are_free(library):
-    """A program may have functions with the names of those inside the archive; another Rattle library has the same."""
-    program = library.compiled(ROOT / "tests/own_names.c")
+    """A program's own functions may have the names of functions inside the archive, as another Rattle library's do."""
+    program = library.compiled(TOP / "tests/own_names.c")
     same("the fault of a good file", subprocess.run([program]).returncode, 0)
 
 
 def only_its_calls_are_seen(library):
     """The archive and the shared library export exactly what the header declares."""
-    header = (ROOT / "include/avr_records.h").read_text()
+    header = (TOP / "include/avr_records.h").read_text()
     same("what is declared", sorted(re.findall(r"^[a-z].* \**(avr_records_\w+)\(", header, re.MULTILINE)), CALLS)
     for words in (["-g", "libavr_records.a"], ["-D", "libavr_records.so"]):
         words = ["nm", "--defined-only", *words]

@@ -1,14 +1,16 @@
 #!/usr/bin/env python3
-"""Runs the built program in a failing environment: closed and full outputs, bad files, programmers that disconnect or are
-slow, callers that send garbage, and signals.
+"""Runs the built program in a failing environment: closed and full outputs, bad files, programmers that disconnect or
+are slow, callers that send garbage, and signals.
 
-Not proved: What the system does with closed, full and broken streams, files and sockets; time and signals.
+Not proved: No proof covers time and signals, or what the system does with closed, full and broken streams, files and
+sockets.
 
     tests/hostile.py [CASE ..]      needs a built program (program.py)
 """
 
 import fcntl
 import os
+import shlex
 import signal
 import socket
 import struct
@@ -17,14 +19,12 @@ import sys
 import time
 from concurrent.futures import ThreadPoolExecutor
 
-from cases import PATIENCE, named, run_cases, same, see
+from cases import PATIENCE, bytes_of, named, run_cases, same, see, table
 from line import FrontOfAnswers, Peer, frames_of
-from program import ANSWERS, CHIP_FILE, ENDS, FRAMES, PROGRAM, Room, Server, frame, lines
+from program import ANSWERS, CHIP_FILE, EMULATED, ENDS, FRAMES, LFUSE, PROGRAM, SIGNATURE, STDIO, Room, Server
+from program import end_of, frame, lines, lines_of
 
-SIGNATURE = "device signature = 1E 95 0F"
-EMULATED = ["-p", "m328p", "-P", "emu:chip.bin"]
-SESSION = ["-p", "m328p", "-P", "stdio:"]
-NEW, LFUSE = b"\xff" * CHIP_FILE, 33_792
+NEW = b"\xff" * CHIP_FILE
 ENTER = FRAMES[1][5:-1]
 LEAVE = 0x11
 
@@ -35,14 +35,11 @@ def output_fails():
     """Tests outputs that are full, or that no process reads."""
     read_fuse = [*EMULATED, "-U", "lfuse:r:-:h"]
     for name, target in [("full", "/dev/full"), ("closed pipe", None)]:
-        for words, told in [(SESSION, ["error: link cannot be written"]), (read_fuse, [SIGNATURE, "error: -: cannot be written"])]:
+        unwritten = lines(SIGNATURE, "error: -: cannot be written")
+        for words, told in [(STDIO, lines("error: link cannot be written")), (read_fuse, unwritten)]:
             room.clear()
-            same(f"output {name}: {words}", with_output(words, target), (1, lines(*told)))
+            same(f"output {name}: {words}", with_output(words, target), (1, told))
         same("the chip file after it", len(room.read("chip.bin") or b""), CHIP_FILE)
-    room.clear()
-    started = room.start([*EMULATED, "-U", "lfuse:w:0xE2:m"], stderr=open("/dev/full", "wb"))
-    started.communicate(timeout=PATIENCE)
-    same("messages that can't be printed", started.returncode, 1)
 
 
 def with_output(words, target):
@@ -64,28 +61,28 @@ def with_output(words, target):
 def input_fails():
     """Tests a standard input that is empty, or a folder."""
     room.clear()
-    same("no replies", room.run(SESSION), (1, FRAMES[0], lines("error: link ended")))
+    same("no replies", room.run(STDIO), (1, FRAMES[0], lines("error: link ended")))
     folder = os.open(room.folder, os.O_RDONLY)
-    started = room.start(SESSION, folder)
-    same("a folder for a line", (*started.communicate(timeout=PATIENCE), started.returncode), (FRAMES[0], lines("error: link cannot be read"), 1))
-    started = room.start([*EMULATED, "-U", "flash:w:-"], folder)
-    same("a folder for an image", (started.communicate(timeout=PATIENCE)[1], started.returncode), (lines("error: -: cannot be read"), 1))
+    found = end_of(room.start(STDIO, folder))
+    same("a folder for a line", found, (1, FRAMES[0], lines("error: link cannot be read")))
+    found = end_of(room.start([*EMULATED, "-U", "flash:w:-"], folder))
+    same("a folder for an image", found, (1, b"", lines("error: -: cannot be read")))
     os.close(folder)
     same("no file was made", room.read("chip.bin"), None)
 
 
+def meets(kind, run=lambda words, redirected: room.run(words, closed=redirected)):
+    """Makes the runs of a kind in the table of streams; `run` takes the options and a shell's redirections."""
+    for of, words, redirected, status, output, told in table("streams"):
+        if of == kind:
+            room.clear()
+            wanted = int(status), bytes_of(output), lines_of(told)
+            same(f"{words} {redirected}", run(shlex.split(words), redirected), wanted)
+
+
 def descriptors_are_closed():
     """Tests standard streams that were closed before the program started."""
-    read_fuse = [*EMULATED, "-q", "-U", "lfuse:r:-:h"]
-    for closed, words, wanted in [
-        ("0<&-", SESSION, (1, FRAMES[0], lines("error: link cannot be read"))),
-        ("1>&-", SESSION, (1, b"", lines("error: link cannot be written"))),
-        ("1>&-", read_fuse, (1, b"", lines("error: -: cannot be written"))),
-        ("2>&-", read_fuse, (0, b"0xff\n", b"")),
-        ("2>&-", [*EMULATED, "-e"], (1, b"", b"")),
-    ]:
-        room.clear()
-        same(f"{closed}: {words}", room.run(words, closed=closed), wanted)
+    meets("closed")
 
 
 def closed_streams_stay_closed():
@@ -102,84 +99,50 @@ def files_fail():
     """Tests missing files, folders in their place, and files that can't be created or written."""
     (room.folder / "folder").mkdir()
     room.given.add("folder")
-    for words, told in [
-        ([*EMULATED, "-U", "flash:w:folder"], ["error: folder: cannot be read"]),
-        ([*EMULATED, "--parts", "missing.toml"], ["error: missing.toml: cannot be opened"]),
-        ([*EMULATED, "-U", "flash:r:folder"], [SIGNATURE, "error: folder: cannot be created"]),
-        ([*EMULATED, "-U", "eeprom:r:/dev/full"], [SIGNATURE, "error: /dev/full: cannot be written"]),
-        (["-p", "m328p", "-P", "net:no such host:1"], ["error: port net:no such host:1 cannot be opened"]),
-    ]:
-        room.clear()
-        same(f"{words}", room.run(words), (1, b"", lines(*told)))
+    meets("file")
 
 
 def with_limit(kibibytes, words, redirected=""):
-    """Returns the status, output and messages of a run with a file size limit in KiB and SIGXFSZ ignored. (Python ignores
-    it for itself, but not for the shell.)"""
-    started = room.start(words, closed=redirected, front=["bash", "-c", f'trap "" XFSZ; ulimit -f {kibibytes}; exec "$0" "$@"'])
-    output, messages = started.communicate(timeout=PATIENCE)
-    return started.returncode, output, messages
+    """Returns the status, output and messages of a run with a file size limit in KiB and SIGXFSZ ignored. (Python
+    ignores it for itself, but not for the shell.)"""
+    limited = f'trap "" XFSZ; ulimit -f {kibibytes}; exec "$0" "$@"'
+    return end_of(room.start(words, closed=redirected, front=["bash", "-c", limited]))
 
 
 def files_are_full():
     """A file reaches its size limit (`ulimit -f`): the write fails."""
     chip = bytes(place % 255 for place in range(32_768)) + b"\xff" * 1_028
-    limit = 36 * 1_024
-    whole = (0, b"", lines(SIGNATURE, "flash: 32768 bytes read", "done"))
-    unsaid = (1, b"", b"")
-
-    def cut(name):
-        return 1, b"", lines(SIGNATURE, f"error: {name}: cannot be written")
-
-    for update, redirected, before, wanted, length in [
-        *((f"flash:r:out:{form}", "", 0, cut("out"), limit) for form in "isdhob"),
-        ("flash:r:out:r", "", 0, whole, 32_768),
-        ("flash:r:-:r", ">>out", limit - 32_768, whole, limit),
-        ("flash:r:-:r", ">>out", limit - 32_767, cut("-"), limit),
-        ("flash:r:-:i", ">out", 0, cut("-"), limit),
-        ("flash:r:-:i", ">>out", limit, cut("-"), limit),
-        ("flash:r:-:i", ">>out 2>&1", 20_000, unsaid, limit),
-        ("flash:r:-:i", ">>out 2>>out", 20_000, unsaid, limit),
-        ("flash:r:/dev/stdout:i", ">out", 0, cut("/dev/stdout"), limit),
-        ("lfuse:r:-:h", "2>>out", limit - 14, unsaid, limit),
-        ("lfuse:r:-:h", "2>>out", limit, unsaid, limit),
-    ]:
+    for update, redirected, before, after, status, told in table("full"):
         room.clear()
         room.put("chip.bin", chip)
-        room.put("out", bytes(before))
+        room.put("out", bytes(int(before)))
         # (a log that is write-only)
         (room.folder / "out").chmod(0o200)
-        same(f"{update} {redirected}", with_limit(36, [*EMULATED, "-U", update], redirected), wanted)
-        same(f"{update} {redirected}: its length", (room.folder / "out").stat().st_size, length)
+        found = with_limit(36, [*EMULATED, "-U", update], redirected)
+        same(f"{update} {redirected}", found, (int(status), b"", lines_of(told)))
+        same(f"{update} {redirected}: its length", (room.folder / "out").stat().st_size, int(after))
         see(f"{update} {redirected}: the chip is as it was", room.read("chip.bin") == chip)
 
 
 def no_file_may_grow():
-    """The file size limit is 0: streams to files fail, and other streams don't."""
-    for words, redirected, wanted in [
-        (SESSION, ">out", (1, b"", lines("error: link cannot be written"))),
-        (["--help"], ">out", (1, b"", b"")),
-        (["--help"], ">/dev/null", (0, b"", b"")),
-        ([*EMULATED, "-e"], "2>out", (1, b"", b"")),
-        (["-p", "m328p", "-P", "emu:new.bin"], "", (1, b"", lines(SIGNATURE, "done", "error: new.bin: cannot be written"))),
-    ]:
-        room.clear()
-        same(f"{words} {redirected}", with_limit(0, words, redirected), wanted)
+    """If the file size limit is 0, output to files fails, and other output doesn't."""
+    meets("no file may grow", lambda words, redirected: with_limit(0, words, redirected))
 
 
 def answers_are_cut():
-    """A programmer closes or resets the connection after any number of reply bytes. If a reset comes during the call, or
-    before the socket's options are set, the port cannot be opened; both outcomes are right."""
+    """A programmer closes or resets the connection after any number of reply bytes. If a reset comes during the call,
+    or before the socket's options are set, the port cannot be opened; both outcomes are right."""
     for count in range(len(ANSWERS)):
         whole = sum(end <= count for end in ENDS)
         said = [SIGNATURE] if whole >= 5 else []
         peer = FrontOfAnswers(ANSWERS[:count], resets=False)
         found = room.run(["-p", "m328p", "-P", f"net:127.0.0.1:{peer.port}"])
-        same(f"{count} bytes and the end", (*found, peer.end()), (1, b"", lines(*said, "error: link ended"), FRAMES[: whole + 1]))
+        told = lines(*said, "error: link ended")
+        same(f"{count} bytes and the end", (*found, peer.end()), (1, b"", told, FRAMES[: whole + 1]))
         peer = FrontOfAnswers(ANSWERS[:count], resets=True)
         status, _, messages = room.run(["-p", "m328p", "-P", f"net:127.0.0.1:{peer.port}"])
         peer.end()
-        faults = [lines(*said[:known], f"error: link cannot be {verb}") for known in (0, 1) for verb in ("read", "written")]
+        faults = [lines(*it, f"error: link cannot be {verb}") for it in ([], said) for verb in ("read", "written")]
         faults.append(lines(f"error: port net:127.0.0.1:{peer.port} cannot be opened"))
         see(f"{count} bytes and a reset", status == 1 and messages in faults, f"{status}, {messages}")
 
@@ -194,12 +157,13 @@ def callers_are_odd():
         ("a frame that is spoiled and one of an unknown command", command, bytes.fromhex("1B0900020E05C9D2")),
     ]:
         found, answered = served(lambda caller: exchanged(caller, sent))
-        same(f"a caller with {name}", found, (0, b""))
+        same(f"a caller with {name}", found, (0, b"", b""))
         if wanted is not None:
             same(f"the reply to {name}", answered, wanted)
-    (status, messages), _ = served(reset)
-    faults = [lines(f"error: link cannot be {verb}") for verb in ("read", "written")]
-    see("a caller that resets", status == 1 and messages in faults, f"{status}, {messages}")
+    for name, count, verbs in [("at once", 0, ["read", "written"]), ("after a reply", ENDS[0], ["read"])]:
+        found, _ = served(lambda caller: resets(caller, count))
+        wanted = [(1, b"", lines(f"error: link cannot be {it}")) for it in verbs]
+        see(f"a caller that resets {name}", found in wanted, found)
 
 
 def a_second_caller():
@@ -221,7 +185,8 @@ def a_second_caller():
 
 
 def nothing_is_read():
-    """A programmer replies to each command and never reads. A write that takes no byte for ten seconds ends the run."""
+    """A programmer that sends replies never reads what is sent to it. A write that takes no byte for ten seconds ends
+    the run."""
     room.clear()
     room.put("large.bin", bytes(range(1, 129)) * 2_048)
     with socket.socket() as listener:
@@ -249,13 +214,15 @@ def served(exchange):
     with Server(room) as server:
         with server.call() as caller:
             answered = exchange(caller)
-        status, _, messages = server.end()
-    same("the chip after it", room.read("served.bin"), b"\xff" * CHIP_FILE)
-    return (status, messages), answered
+        found = server.end()
+    same("the chip after it", room.read("served.bin"), NEW)
+    return found, answered
 
 
-def reset(caller):
+def resets(caller, count):
+    """Sends SIGN_ON, waits for so many bytes of the reply, and resets the connection."""
     caller.sendall(FRAMES[0])
+    same("the reply so far", caller.recv(count, socket.MSG_WAITALL) if count else b"", ANSWERS[:count])
     caller.setsockopt(socket.SOL_SOCKET, socket.SO_LINGER, struct.pack("ii", 1, 0))
 
 
@@ -284,7 +251,7 @@ class Trickle(Peer):
 
 
 def a_silence_is_a_second_without_a_byte():
-    """A byte comes each quarter second: the first frame isn't sent again within three seconds."""
+    """While a byte comes each quarter second, the first frame isn't sent again within three seconds."""
     peer = Trickle()
     started = room.start(["-p", "m328p", "-P", f"net:127.0.0.1:{peer.port}"])
     started.communicate(timeout=PATIENCE)
@@ -310,8 +277,8 @@ def standard_streams_that_do_not_block():
 
 
 def standard_streams_that_block():
-    """Nothing is retried while there is no reply. A command is retried if it was refused as damaged, or if 4,096 bytes
-    had no reply in them."""
+    """Over standard streams that block, avrstk waits for a reply and retries nothing. A command is retried if it was
+    refused as damaged, or if 4,096 bytes had no reply in them."""
     started = room.start(["-p", "m328p", "-P", "stdio:"], subprocess.PIPE)
     first = started.stdout.read(7)
     try:
@@ -327,42 +294,27 @@ def standard_streams_that_block():
     started.stdin.flush()
     see("4,096 other bytes: sent again", started.stdout.read(7) == frame(3, 1))
     started.send_signal(signal.SIGINT)
-    found = (*started.communicate(timeout=PATIENCE), started.returncode)
-    see("Ctrl-C: no line, nothing more is sent", found == (b"", b"", -signal.SIGINT), found)
+    same("Ctrl-C: no line, nothing more is sent", end_of(started), (-signal.SIGINT, b"", b""))
 
 
-def serving():
-    """Returns a program that serves a new chip, and a connection to it."""
-    room.clear()
-    server = Server(room, "chip.bin")
-    return server, server.call()
+def replies_to(caller, *bodies):
+    """Sends frames with these bodies, numbered from 1. Returns the body of each one's reply."""
+    answers = frames_of(caller)
+    for number, body in enumerate(bodies, 1):
+        caller.sendall(frame(number, body))
+        reply = next(answers)
+        same(f"the number of reply {number}", reply[1], number)
+        yield reply[5:-1]
 
 
 def ended_from_outside():
     """A chip is saved only if a run comes to its end."""
-    server, caller = serving()
-    with caller:
-        answers = frames_of(caller)
-        for number, body in enumerate([ENTER, bytes.fromhex("17 AC A0 00 E2")], 1):
-            caller.sendall(frame(number, body))
-            next(answers)
+    room.clear()
+    with Server(room, "chip.bin") as server, server.call() as caller:
+        same("a fuse is written", [*replies_to(caller, ENTER, bytes.fromhex("17ACA000E2"))], [b"\x10\0", b"\x17\0\0"])
         server.started.send_signal(signal.SIGTERM)
         server.end()
     see("--serve that is ended saves nothing", room.read("chip.bin") is None)
-    server, caller = serving()
-    with caller:
-        pass
-    found = server.end()
-    see("--serve: status 0 once the caller has gone", found == (0, b"", b""), found)
-    see("and the chip is saved", room.read("chip.bin") == NEW)
-    server, caller = serving()
-    caller.sendall(frame(1, 1))
-    next(frames_of(caller))
-    caller.setsockopt(socket.SOL_SOCKET, socket.SO_LINGER, struct.pack("ii", 1, 0))
-    caller.close()
-    found = server.end()
-    see("--serve: status 1 if a caller resets", found == (1, b"", lines("error: link cannot be read")), found)
-    see("the chip is saved all the same", room.read("chip.bin") == NEW)
     room.clear()
     os.mkfifo(room.folder / "pipe")
     started = room.start([*EMULATED, "-U", "lfuse:w:0xE2:m", "-U", "lfuse:r:pipe:h"])
@@ -374,35 +326,29 @@ def ended_from_outside():
 
 
 def loaded_for_its_caller():
-    """A chip that `emu:` saves before a caller comes is the one served. If the chip is refused at that time, that is
-    reported, and the chip stays as it is."""
+    """The server serves the chip that a run over `emu:` saved before the client connected. If the chip is refused at
+    that time, that is reported, and the chip stays as it is."""
     room.clear()
-    server = Server(room, "chip.bin")
-    told = [SIGNATURE, "lfuse: 1 bytes written", "lfuse: 1 bytes verified", "done"]
-    found = room.run([*EMULATED, "-U", "lfuse:w:0xE2:m"])
-    see("a run before a caller comes", found == (0, b"", lines(*told)), found)
-    with server.call() as caller:
-        answers = frames_of(caller)
-        for number, (body, wanted) in enumerate([(ENTER, "10 00"), (bytes.fromhex("18 04 50 00 00 00"), "18 00 E2 00")], 1):
-            caller.sendall(frame(number, body))
-            found = next(answers)
-            see(f"frame {number} gets a reply", found == frame(number, bytes.fromhex(wanted)), found.hex(" "))
-    found = server.end()
-    see("the caller has gone", found == (0, b"", b""), found)
+    with Server(room, "chip.bin") as server:
+        told = [SIGNATURE, "lfuse: 1 bytes written", "lfuse: 1 bytes verified", "done"]
+        same("a run before a caller comes", room.run([*EMULATED, "-U", "lfuse:w:0xE2:m"]), (0, b"", lines(*told)))
+        with server.call() as caller:
+            found = [*replies_to(caller, ENTER, bytes.fromhex("180450000000"))]
+            same("its fuse is served", found, [b"\x10\0", b"\x18\0\xe2\0"])
+        same("the caller has gone", server.end(), (0, b"", b""))
     see("and the fuse is kept", room.read("chip.bin") == NEW[:LFUSE] + b"\xe2" + NEW[LFUSE + 1 :])
     room.clear()
-    server = Server(room, "chip.bin")
-    room.put("chip.bin", b"abc")
-    with server.call() as caller:
-        see("a bad chip by then: the connection is closed", caller.recv(1) == b"")
-    found = server.end()
-    wanted = f"error: chip.bin: 3 bytes, {CHIP_FILE} expected"
-    see("and it is reported", found == (1, b"", lines(wanted)), found)
+    with Server(room, "chip.bin") as server:
+        room.put("chip.bin", b"abc")
+        with server.call() as caller:
+            see("a bad chip by then: the connection is closed", caller.recv(1) == b"")
+        wanted = f"error: chip.bin: 3 bytes, {CHIP_FILE} expected"
+        same("and it is reported", server.end(), (1, b"", lines(wanted)))
     see("the file is left as it is", room.read("chip.bin") == b"abc")
 
 
-
-TIMED = named(nothing_is_read, a_silence_is_a_second_without_a_byte, standard_streams_that_do_not_block, standard_streams_that_block)
+TIMED = named(nothing_is_read, a_silence_is_a_second_without_a_byte)
+TIMED |= named(standard_streams_that_do_not_block, standard_streams_that_block)
 CASES = TIMED | named(
     *(output_fails, input_fails, descriptors_are_closed, closed_streams_stay_closed, files_fail, files_are_full),
     *(no_file_may_grow, answers_are_cut, callers_are_odd, a_second_caller, ended_from_outside, loaded_for_its_caller),

@@ -1,4 +1,5 @@
-"""Programmers at a TCP port of 127.0.0.1: one that sends a prefix of a session's replies, and links to an emulated one."""
+"""Programmers at a TCP port of 127.0.0.1: one that sends a prefix of a session's replies, and links to an emulated
+one."""
 
 import socket
 import struct
@@ -115,8 +116,8 @@ class FrontOfAnswers(Peer):
 
 
 class BadLine(Link):
-    """A link to a programmer that the tool serves. `fates` maps frame numbers, from 1, to what goes wrong: a `lost command`
-    never arrives, a `lost answer` drops the reply, and a `late answer` sends it just before the next reply."""
+    """A link to a programmer that the tool serves. `fates` maps frame numbers, from 1, to what goes wrong: a `lost
+    command` never arrives, a `lost answer` drops the reply, and a `late answer` sends it just before the next reply."""
 
     def __init__(self, room, fates, part="m328p"):
         self.fates = fates

@@ -1,11 +1,11 @@
 #!/usr/bin/env python3
-"""Shows what the theorem doesn't cover. One link forges a frame. It loses, changes and repeats nothing, but pauses
-once inside a reply. That reply carries bytes of the chip that look like replies to the retried commands. The verified run
-ends with status 0, but the chip has another byte than the image. A second link damages one byte, the size of a frame, and
-forges no frame: the programmer takes the following bytes as the rest of that frame, and the run ends with an error. A
-third one brings a reply of an earlier run, and a chip has less flash than its part is said to have.
+"""Shows what the theorem doesn't cover. One link forges a frame. It loses, changes and repeats nothing, but pauses once
+inside a reply. That reply carries bytes of the chip that look like replies to the retried commands. The verified run
+ends with status 0, but the chip has another byte than the image. A second link damages one byte, the size of a frame,
+and forges no frame: the programmer takes the following bytes as the rest of that frame, and the run ends with an error.
+A third one brings a reply of an earlier run, and a chip has less flash than its part is said to have.
 
-Not proved: It shows what the theorem leaves out.
+Not proved: The theorem says nothing about these links.
 
     tests/made_frames.py       needs a built program (program.py)
 """
@@ -74,10 +74,10 @@ def chip_of(block):
 
 
 def made_contents(first, read):
-    """Returns the first 256 bytes of flash, with `first` at address 0. The reply number `read` to a read of them has, after
-    its 12th byte, what looks like two replies: to the address of the next attempt, and to its read. The second has WANTED
-    at address 0. Its remaining bytes and its XOR come from the rest of this reply and from later replies; one byte of the
-    block is free to make the XOR right."""
+    """Returns the first 256 bytes of flash, with `first` at address 0. The reply number `read` to a read of them has,
+    after its 12th byte, what looks like two replies: to the address of the next attempt, and to its read. The second
+    has WANTED at address 0. Its remaining bytes and its XOR come from the rest of this reply and from later replies;
+    one byte of the block is free to make the XOR right."""
     again, place = read + 1, 20
     block = bytearray(b"\xff" * 256)
     block[0], block[place - 10] = first, 0
@@ -100,8 +100,8 @@ def reply_to_read(number):
 
 
 def a_verified_run_is_wrong():
-    """The chip has another byte than the image or the file. An image is compared; one is written to flash that isn't erased
-    and so can't take the byte; a file is read."""
+    """The chip has another byte than the image or the file. An image is compared; one is written to flash that isn't
+    erased and so can't take the byte; a file is read."""
     for name, first, read, words, told in [
         ("compared", 0xAA, 7, ["-U", "flash:v:image.hex:i"], ["flash: 1 bytes verified"]),
         ("written", 0x50, 9, ["-D", "-U", "flash:w:image.hex:i"], ["flash: 1 bytes written", "flash: 1 bytes verified"]),
@@ -117,7 +117,7 @@ def a_verified_run_is_wrong():
 
 
 def without_a_pause_all_is_seen():
-    """Tests the same chip over a link that doesn't pause, and a pause with ordinary contents."""
+    """Without the pause the wrong byte is reported; a pause within other contents does no harm."""
     line = Line(chip_of(made_contents(0xAA, 7)))
     found, _ = line.run("-U", "flash:v:image.hex:i")
     told = lines(SIGNATURE, "error: flash: address 00000000: 55 expected, AA found")
@@ -130,7 +130,7 @@ def without_a_pause_all_is_seen():
 
 
 def a_spoiled_size_swallows_frames():
-    """The link damages one byte: the size of one LOAD_ADDRESS. The programmer takes the next three frames as its rest."""
+    """If the link damages the size of one LOAD_ADDRESS, the programmer takes the next three frames as its rest."""
     content = bytes((place * 91 + 3) % 256 for place in range(FLASH))
     line = Line(content + b"\xff" * REST, spoil=lambda number, it: it[:3] + b"\x20" + it[4:] if number == 8 else it)
     room.put("image.bin", content)
@@ -153,9 +153,7 @@ eesave_bit = 3
 
 def with_lfuse(value):
     """Returns an erased ATtiny85 with this low fuse."""
-    chip = bytearray(b"\xff" * (FLASH + REST))
-    chip[LFUSE] = value
-    return bytes(chip)
+    return b"\xff" * LFUSE + bytes([value]) + b"\xff" * (FLASH + REST - LFUSE - 1)
 
 
 class Keeps(Line):
@@ -181,7 +179,7 @@ class Keeps(Line):
 
 
 def a_reply_of_an_earlier_run_is_taken():
-    """Frame 6 reads the fuse. Its reply in the first run says 62, and is late: it comes in the second run."""
+    """A late reply of a first run is taken in the second one. Frame 6 reads the fuse; the reply says 62."""
     told = lines(SIGNATURE, "lfuse: 1 bytes verified", "done")
     first = Keeps(with_lfuse(0x62))
     found, chip = first.run("-U", "lfuse:v:0x62:m")
@@ -191,7 +189,8 @@ def a_reply_of_an_earlier_run_is_taken():
 
 
 def a_part_with_too_much_flash():
-    """A part file gives an ATtiny85 twice its flash. A verified write of two equal halves ends with status 0."""
+    """If a part file gives an ATtiny85 twice its flash, the wrong size goes unnoticed. A verified write of two equal
+    halves ends with status 0."""
     flash = bytes((place * 37 + 11) % 256 for place in range(FLASH))
     room.clear()
     room.put("image.bin", flash + flash)

@@ -17,14 +17,13 @@ import sys
 import tempfile
 from pathlib import Path
 
-from cases import leave_out, named, run_cases, same, see
+from cases import VERSION, leave_out, named, run_cases, same, see, table as rows_of
 from program import PROGRAM, TOP
 
 sys.path.append(str(TOP / "tools"))
 from man_pages import HERE_ALONE, MANUAL, PAGES, SECTIONS, blocks_of, cells, escaped
 
 USAGE = MANUAL[0]
-VERSION = (TOP / "VERSION").read_text().strip()
 
 
 def of_help():
@@ -67,16 +66,15 @@ def shown_runs(file):
             printed = ran.stdout.splitlines()
             # (tests/recipes.py runs the commands without shown output)
             if wanted:
-                yield f"{file}: {row}: {printed}", not ran.returncode and wanted == printed
+                see(f"{file}: {row}", not ran.returncode and wanted == printed, printed)
 
 
-def differences():
-    """Yields USAGE's differences from AVRDUDE that single runs can show, each with the outcome and whether it is right.
-    (tests/lines.py has the lines of -C, a device and ELF.)"""
+def differences_hold():
+    """USAGE's differences from AVRDUDE that single runs can show are so. (tests/lines.py has the lines of -C, a device
+    and ELF.)"""
     usage = USAGE.read_text()
     table = re.search(r"^ +\$ cat parts.toml\n((?: +.*\n)+?) +\$ avrstk", usage, re.M)[1]
     byte, end = re.search(r"`(:0100.*?)` and\s+then\s+`(:.*?)`", usage).groups()
-    emulated = ["-p", "m328p", "-P", "emu:chip.bin"]
     files = {
         "parts.toml": "".join(it.strip() + "\n" for it in table.splitlines()),
         "byte.hex": f"{byte}\n{end}\n",
@@ -85,33 +83,19 @@ def differences():
         "empty.hex": "",
         "a:b.hex": f"{byte}\n{end}\n",
     }
-    glued = "--parts parts.toml -patmega328p -cstk500v2 -b115200 -Pemu:chip.bin -Uflash:w:byte.hex:i".split()
-    runs = [
-        (glued, 0, "flash: 1 bytes verified"),
-        ([*emulated, "-U", "eeprom:w:byte.hex"], 0, "eeprom: 1 bytes verified"),
-        ([*emulated, "-U", "eeprom:v:byte.hex", "-U", "eeprom:r:read.bin:r"], 0, "eeprom: 1 bytes verified"),
-        ([*emulated, "-q", "-U", "flash:w:cut.hex"], 0, "warning: cut.hex: no end record"),
-        ([*emulated, "-qq", "-U", "flash:w:cut.hex"], 0, ""),
-        ([*emulated, "-U", "flash:w:empty.hex:i"], 0, "warning: empty.hex: no end record"),
-        ([*emulated, "-U", "lfuse:w:empty.hex"], 0, "lfuse: 0 bytes written"),
-        ([*emulated, "-n", "-U", "flash:w:noted.hex"], 0, f"flash: {len(files['noted.hex'])} bytes not written"),
-        ([*emulated, "-U", "flash:w:noted.hex:i"], 1, "error: noted.hex: line 1: no record mark"),
-        ([*emulated, "-U", "a:b.hex"], 1, "error: update 1: no such memory"),
-        ([*emulated, "-U", "eeprom:w:a:b.hex:a"], 0, "eeprom: 1 bytes verified"),
-        ([*emulated, "-B", "10"], 1, "'-B'"),
-    ]
     with tempfile.TemporaryDirectory() as folder:
         for name, text in files.items():
             Path(folder, name).write_text(text)
-        for words, status, told in runs:
-            ran = subprocess.run([PROGRAM, *words], cwd=folder, capture_output=True, text=True)
+        for words, status, told in rows_of("differences"):
+            ran = subprocess.run([PROGRAM, *words.split()], cwd=folder, capture_output=True, text=True)
+            told = told.replace("LENGTH", str(len(files["noted.hex"])))
             is_told = told in ran.stderr if told else not ran.stderr
-            yield f"{' '.join(words)}: {ran.returncode}, {ran.stderr}", ran.returncode == status and is_told
-        eeprom = Path(folder, "read.bin").read_bytes()
-        yield f"one byte of EEPROM: {eeprom.hex()}", eeprom == b"\xff" * 100 + b"\x2a" + b"\xff" * 923
+            see(words, ran.returncode == int(status) and is_told, ran)
+        same("one byte of EEPROM", Path(folder, "read.bin").read_bytes(), b"\xff" * 100 + b"\x2a" + b"\xff" * 923)
 
 
-# the headings of a page, in this order, with others between OPTIONS and ENVIRONMENT; those of a page that is no command's
+# the headings of a page, in this order, with others between OPTIONS and ENVIRONMENT; those of a page that is no
+# command's
 HEADINGS = ["NAME", "SYNOPSIS", "DESCRIPTION", "EXAMPLES", "OPTIONS", "EXIT STATUS", "ENVIRONMENT", "FILES", "SEE ALSO"]
 COMMON = ["NAME", "DESCRIPTION", "EXAMPLES", "FILES", "SEE ALSO"]
 
@@ -223,18 +207,12 @@ def version_agrees():
 
 
 def runs_of_readme():
-    for what, holds in shown_runs("README.md"):
-        see(what, holds)
+    shown_runs("README.md")
 
 
 def runs_of_manual():
-    for what, holds in (it for file in MANUAL for it in shown_runs(file.relative_to(TOP))):
-        see(what, holds)
-
-
-def differences_hold():
-    for what, holds in differences():
-        see(what, holds)
+    for file in MANUAL:
+        shown_runs(file.relative_to(TOP))
 
 
 PAGES_HOLD = [pages_are_whole, pages_have_the_options, pages_are_clean, examples_run]

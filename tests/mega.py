@@ -2,7 +2,7 @@
 """Tests a programmer that is not this project's own: the Arduino Mega 2560's bootloader from Debian's package, on an
 ATmega2560 simulated by simavr (mega.c), behind `net:`.
 
-Not proved: A bootloader of others, in a simulator of others.
+Not proved: The bootloader and the simulator are programs of others.
 
     tests/mega.py [CASE ..]    needs a built program (program.py); cc, and the Debian packages
                                libsimavr-dev and arduino-core-avr; without them all is left out
@@ -114,7 +114,8 @@ def written_and_read():
 
 
 def another_image():
-    """A failed comparison reports the address, and a failed run doesn't change the flash. The application ran before."""
+    """A failed comparison reports the address, and a failed run doesn't change the flash. The application ran
+    before."""
     image = drawn("small", 1_000)
     with Board(image) as board:
         board.room.put("other.bin", image[:700] + bytes([image[700] ^ 1]) + image[701:])
@@ -150,8 +151,8 @@ def reset_by_the_connection():
 
 
 def erased_from_the_front():
-    """With each page write, the bootloader erases the next page from address 0 on, whichever page is written. So an image
-    with a higher start erases the bytes at the front, and a retried page erases the page after it."""
+    """With each page write, the bootloader erases the next page from address 0 on, whichever page is written. So an
+    image with a higher start erases the bytes at the front, and a retried page erases the page after it."""
     image, old = drawn("small", 1_024), bytes(0x2000)
     with Board(old) as board:
         board.room.put("further.hex", hex_of([(0x1000, image)]))
@@ -167,8 +168,8 @@ def erased_from_the_front():
 
 
 def eeprom():
-    """The first 256 bytes of EEPROM can be verified. Above, the bootloader reads the wrong bytes, because it takes a byte
-    address as a word address."""
+    """The first 256 bytes of EEPROM can be verified. Above, the bootloader reads the wrong bytes, because it takes a
+    byte address as a word address."""
     with Board() as board:
         board.room.put("short.bin", drawn("short", 256))
         ended = board.run(["-D", *updates("eeprom:w:short.bin:r")])

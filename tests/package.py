@@ -1,9 +1,9 @@
 #!/usr/bin/env python3
-"""Makes the packages of tools/package.sh in two clones of this repository, with a script in place of `rt`. The packages of
-both clones are identical. They contain what install.sh installs and name their sources. They can be installed, run and
-removed.
+"""Makes the packages of tools/package.sh in two clones of this repository, with a script in place of `rt`. The packages
+of both clones are identical. They contain what install.sh installs and name their sources. They can be installed, run
+and removed.
 
-Not proved: Scripts of the shell, and Debian's package tools.
+Not proved: Scripts of the shell and Debian's package tools are not Rattle.
 
     tests/package.py [CASE ..]
 """
@@ -19,14 +19,10 @@ import tempfile
 import time
 from pathlib import Path
 
-from cases import PATIENCE, leave_out, named, run_cases, same, see
+from cases import NUMBER, PATIENCE, SOMEBODY, VERSION, leave_out, named, own_environment, run_cases, same, see, table
 from program import PROGRAM, TOP
 from recipes import Clone, blocks
 
-VERSION = (TOP / "VERSION").read_text().strip()
-MAJOR, MINOR, _ = VERSION.split(".")
-# the number in the shared library's name
-NUMBER = MAJOR if MAJOR != "0" else f"0.{MINOR}"
 KIT = "rattle-kit-stand-in logic 0123456789abcdef"
 NEEDED = ["git", "dpkg-deb", "dpkg-shlibdeps", "strip", "xz", "gcc", "ar", "ld", "objcopy"]
 
@@ -48,12 +44,7 @@ DOCUMENTS = ["BOARDS", "EMULATOR", "FORMATS", "PART", "PARTS", "PROTOCOL", "READ
 UNPROVED = "UNPROVED: this build was compiled without its proofs"
 PROVED = "Its behaviour is proved"
 PROGRAMS_PROVED = "The behaviour of avrstk and avrstk_session is proved. The scripts avrstk-serial and avrstk-serve are tested. Proved"
-DEVELOPMENT = [
-    "usr/include/avr_records.h",
-    "usr/lib/libavr_records.a",
-    "usr/lib/libavr_records.so",
-    "usr/lib/pkgconfig/avr_records.pc",
-]
+DEVELOPMENT = [f"usr/{it}" for it, in table("library") if "NUMBER" not in it]
 
 
 class Packager(Clone):
@@ -78,12 +69,14 @@ class Packager(Clone):
         subprocess.run(["chown", "-R", user, *written], check=True)
 
     def start(self, *words, front=(), **more):
-        """Starts packaging the built program, or the one that AVRSTK names. `front` is a command that runs the script."""
-        kept = {name: it for name, it in os.environ.items() if name not in ("AVRSTK", "SOURCE_DATE_EPOCH")}
+        """Starts packaging the built program, or the one that AVRSTK names. `front` is a command that runs the
+        script."""
         own = {"PATH": f"{self.folder}/bin:{os.environ['PATH']}", "HOME": str(self.folder / "home")}
+        environment = own_environment(**own | more)
+        environment.pop("SOURCE_DATE_EPOCH", None)
         how = {"stdout": subprocess.PIPE, "stderr": subprocess.STDOUT, "text": True}
         command = [*front, self.top / "tools/package.sh", *words, self.made.name]
-        return subprocess.Popen(command, env=kept | own | more, cwd=self.folder, **how)
+        return subprocess.Popen(command, env=environment, cwd=self.folder, **how)
 
     def commit(self):
         return self.git("rev-parse", "HEAD").strip()
@@ -108,8 +101,6 @@ def files(folder):
 
 
 ROOM = tempfile.TemporaryDirectory()
-# a user who is not root, if this is root
-NOBODY = ["setpriv", "--reuid=65534", "--regid=65534", "--clear-groups"] if os.geteuid() == 0 else []
 
 
 @functools.cache
@@ -117,14 +108,14 @@ def made():
     """Makes the packages in two clones at the same time, as two users with different settings."""
     os.chmod(ROOM.name, 0o755)
     clones = [Packager(ROOM.name, it) for it in ["one", "two"]]
-    if NOBODY:
+    if SOMEBODY:
         clones[1].give_to("65534:65534")
     private = ["sh", "-c", 'umask 077 && exec "$0" "$@"']
     # (CDPATH makes `cd` print the folder's name)
     started = [clones[0].start("--with-c", TZ="Asia/Tokyo", XZ_DEFAULTS="--check=none", CDPATH=".")]
     # (so the files of the two clones have different times)
     time.sleep(1.1)
-    started.append(clones[1].start("--with-c", front=[*NOBODY, *private], LC_ALL="C.UTF-8"))
+    started.append(clones[1].start("--with-c", front=[*SOMEBODY, *private], LC_ALL="C.UTF-8"))
     for status, told in [ended(it) for it in started]:
         if status:
             raise SystemExit(f"tools/package.sh ends with {status}: {told}")
@@ -168,7 +159,8 @@ def packages_say_what_they_are():
 
 
 def a_proved_program_is_not_marked():
-    """The proved program of a clone is packaged as proved. If there are changes since the commit, the package states that."""
+    """The proved program of a clone is packaged as proved. If there are changes since the commit, the package states
+    that."""
     clone = made()[0]
     shutil.rmtree(clone.made)
     for name in [it.name for it in (clone.top / "crates").glob("avrstk*")]:
@@ -201,7 +193,7 @@ def unpacked(name, folder):
 
 
 def packages_hold_what_is_installed():
-    """A package contains what install.sh installs, and a package's documents."""
+    """A package contains what install.sh installs, and documents of its own."""
     with tempfile.TemporaryDirectory() as folder:
         prefix = Path(folder, "installed")
         environment = os.environ | {"AVRSTK": str(PROGRAM)}
@@ -233,15 +225,14 @@ def packages_hold_what_is_installed():
 
 def runs(prefix, folder):
     """The installed program runs from its prefix."""
-    how = {"cwd": folder, "capture_output": True, "text": True, "timeout": PATIENCE}
-    environment = {it: text for it, text in os.environ.items() if it != "AVRSTK"}
+    how = {"cwd": folder, "env": own_environment(), "capture_output": True, "text": True, "timeout": PATIENCE}
     words = ["-p", "m328p", "-P", "emu:chip.bin", "-U", f"flash:w:{TOP}/examples/blink.hex:i"]
-    ran = subprocess.run([prefix / "bin/avrstk", *words], **how, env=environment)
+    ran = subprocess.run([prefix / "bin/avrstk", *words], **how)
     same("avrstk", (ran.returncode, ran.stderr.splitlines()[-1:]), (0, ["avrstk: done"]))
     for script in sorted(it.name for it in (prefix / "bin").iterdir() if it.name != "avrstk"):
-        ran = subprocess.run([prefix / "bin" / script, "--help"], **how, env=environment)
+        ran = subprocess.run([prefix / "bin" / script, "--help"], **how)
         see(f"{script} --help", ran.returncode == 0 and script in ran.stdout, ran)
-    ran = subprocess.run([prefix / "bin/avrstk-serial", "-p", "?"], **how, env=environment)
+    ran = subprocess.run([prefix / "bin/avrstk-serial", "-p", "?"], **how)
     see("avrstk-serial finds the part file", "ATmega32U4" in ran.stdout, ran)
 
 

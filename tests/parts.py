@@ -1,9 +1,9 @@
 #!/usr/bin/env python3
-"""Compares parts/classic.toml with two sources: the configuration of an installed AVRDUDE, and the headers of avr-libc. The
-file has exactly the parts that both describe alike and that the program describes fully, each with both its names. The
-program loads each name. AVRDUDE writes flash, EEPROM and fuses of a dozen parts by `--serve`; the chip must be the same
-as after the program's own run over `emu:`. Holds the two other files of parts/ to their sources: bits.txt to AVRDUDE's
-configuration, and unsupported.txt to docs/PARTS.
+"""Compares parts/classic.toml with two sources: the configuration of an installed AVRDUDE, and the headers of avr-libc.
+The file has exactly the parts that both describe alike and that the program describes fully, each with both its names.
+The program loads each name. AVRDUDE writes flash, EEPROM and fuses of a dozen parts by `--serve`; the chip must be the
+same as after the program's own run over `emu:`. Holds the two other files of parts/ to their sources: bits.txt to
+AVRDUDE's configuration, and unsupported.txt to docs/PARTS.
 
 Not proved: The part files are made from sources of others.
 
@@ -77,40 +77,38 @@ def fits(text, sent):
     return len(letters) == 32 and all(it in (bit, "x", "a", "i", "o") for it, bit in zip(letters, wanted))
 
 
-def number(memory, name):
-    return int(memory.get(name) or "0", 0)
+def number(part, memory, name):
+    """Returns a property of a part's memory; 0 if it has none."""
+    return int(part.get(memory, {}).get(name) or "0", 0)
+
+
+def has_instructions(part):
+    is_large = number(part, "flash", "size") > 131_072
+    has_all = all(fits(part[memory].get(name), sent) for (memory, name), sent in SENT.items())
+    return has_all and (not is_large or fits(part["flash"].get("load_ext_addr"), [0x4D, 0]))
 
 
 def lacking(part):
     """Returns the first property of a part that the program doesn't support, by AVRDUDE's configuration, or None."""
-    flash, eeprom = part.get("flash", {}), part.get("eeprom", {})
-    if flash.get("paged") != "yes":
-        return "no flash pages"
-    if number(eeprom, "size") > 4096:
-        return "8,192 bytes of EEPROM"
-    if not eeprom.get("writepage", "NULL").strip("NUL") or number(eeprom, "mode") != 0x41:
-        return "EEPROM by the byte"
-    if "efuse" not in part or "fuse" in part:
-        return "no extended fuse"
-    if number(part.get("calibration", {}), "size") != 1:
-        return "another number of calibration bytes"
-    if not fits(part["lock"].get("write"), SENT["lock", "write"]):
-        return "another instruction for the lock"
-    if not all(fits(part[memory].get(name), sent) for (memory, name), sent in SENT.items()):
-        return "other instructions"
-    if number(flash, "size") > 131_072 and not fits(flash.get("load_ext_addr"), [0x4D, 0]):
-        return "other instructions"
-    if number(flash, "mode") != 0x41:
-        return "flash without polling"
-    if int(part[""]["chip_erase_delay"]) > 9000:
-        return "an erase above 9 ms"
-    return None
+    has_eeprom_pages = part.get("eeprom", {}).get("writepage", "NULL").strip("NUL")
+    reasons = {
+        "no flash pages": lambda: part.get("flash", {}).get("paged") != "yes",
+        "8,192 bytes of EEPROM": lambda: number(part, "eeprom", "size") > 4096,
+        "EEPROM by the byte": lambda: not has_eeprom_pages or number(part, "eeprom", "mode") != 0x41,
+        "no extended fuse": lambda: "efuse" not in part or "fuse" in part,
+        "another number of calibration bytes": lambda: number(part, "calibration", "size") != 1,
+        "another instruction for the lock": lambda: not fits(part["lock"].get("write"), SENT["lock", "write"]),
+        "other instructions": lambda: not has_instructions(part),
+        "flash without polling": lambda: number(part, "flash", "mode") != 0x41,
+        "an erase above 9 ms": lambda: int(part[""]["chip_erase_delay"]) > 9000,
+    }
+    return next((why for why, holds in reasons.items() if holds()), None)
 
 
 def by_avrdude(part):
     """Returns a part's fields from the configuration, except the EESAVE bit, which isn't in it."""
     signature = "".join(f"{int(it, 0):02X}" for it in part[""]["signature"].split())
-    sizes = [number(part[memory], name) for memory in ("flash", "eeprom") for name in ("size", "page_size")]
+    sizes = [number(part, memory, name) for memory in ("flash", "eeprom") for name in ("size", "page_size")]
     return dict(zip(FIELDS, [signature, *sizes]))
 
 

@@ -1,5 +1,5 @@
-"""Runs the built program in a folder of its own, or serves it at a port, for the scripts beside this one. AVRSTK names the
-program; the default is the one that ./avrstk runs: the proved one, or else the one without proofs."""
+"""Runs the built program in a folder of its own, or serves it at a port, for the scripts beside this one. AVRSTK names
+the program; the default is the one that ./avrstk runs: the proved one, or else the one without proofs."""
 
 import operator
 import os
@@ -12,16 +12,16 @@ import threading
 from functools import reduce
 from pathlib import Path
 
-from cases import PATIENCE, wait_until
+from cases import PATIENCE, TOP, wait_until
 
-TOP = Path(__file__).resolve().parent.parent
 NAMED = os.environ.get("AVRSTK")
 # a child that is forked while a terminal is made holds it open until it has become its program
 forks = threading.Lock()
 
 
 def program():
-    """Returns the program to run: the one that AVRSTK names, or else the one that ./avrstk runs, and prints which it is."""
+    """Returns the program to run: the one that AVRSTK names, or else the one that ./avrstk runs, and prints which it
+    is."""
     if NAMED:
         return Path(NAMED).resolve()
     which = subprocess.run([TOP / "avrstk", "--which"], stdout=subprocess.PIPE, text=True)
@@ -57,8 +57,12 @@ FRAMES = [
 # the row of /proc/net/tcp of a port of 127.0.0.1 at which a process listens (state 0A)
 LISTENS = " 0100007F:{:04X} 00000000:0000 0A "
 
-# the length of the chip file of an ATmega328P
-CHIP_FILE = 33_796
+# the length of the chip file of an ATmega328P, the places of its EEPROM and low fuse, and the first line of its runs
+CHIP_FILE, EEPROM, LFUSE = 33_796, 32_768, 33_792
+SIGNATURE = "device signature = 1E 95 0F"
+
+# the options of a session over `emu:`, and over standard streams
+EMULATED, STDIO = "-p m328p -P emu:chip.bin".split(), "-p m328p -P stdio:".split()
 
 
 def has_avrdude():
@@ -82,6 +86,12 @@ class Room:
     def put(self, name, content):
         (self.folder / name).write_bytes(content)
 
+    def keep(self, name, content):
+        """Writes a file that `clear` leaves, and returns its name."""
+        self.put(name, content)
+        self.given.add(name)
+        return name
+
     def read(self, name):
         """Returns the content of a file; None if there is none."""
         file = self.folder / name
@@ -93,23 +103,46 @@ class Room:
             if file.name not in self.given:
                 file.unlink()
 
-    def start(self, words, given=subprocess.DEVNULL, closed="", front=(), **more):
-        """Starts a run with these options. `front` is a command that runs the program."""
+    def start(self, words, given=subprocess.DEVNULL, closed="", front=(), program=(PROGRAM,), **more):
+        """Starts a run of the program with these options. `front` is a command that runs it, and `closed` has shell
+        redirections."""
         how = {"stdin": given, "stdout": subprocess.PIPE, "stderr": subprocess.PIPE, "cwd": self.folder} | more
         shell = ["sh", "-c", f'exec "$0" "$@" {closed}'] if closed else []
         with forks:
-            return subprocess.Popen([*shell, *front, str(PROGRAM), *words], **how)
+            return subprocess.Popen([*shell, *front, *map(str, program), *words], **how)
 
     def run(self, words, given=b"", environment=None, closed=""):
-        """Returns the status, the output and the messages of a run. `closed` has shell redirections that close streams."""
-        started = self.start(words, subprocess.PIPE, closed, env=os.environ | (environment or {}))
-        output, messages = started.communicate(given, timeout=PATIENCE)
-        return started.returncode, output, messages
+        """Returns the status, the output and the messages of a run. `closed` has shell redirections that close
+        streams."""
+        return end_of(self.start(words, subprocess.PIPE, closed, env=os.environ | (environment or {})), given)
+
+
+def full_chip(flash=EEPROM, eeprom=LFUSE - EEPROM):
+    """Returns a chip with a program, data and fuses of its own, which isn't locked."""
+    program, data = bytes(place % 241 for place in range(flash)), bytes(place % 239 for place in range(eeprom))
+    return program + data + b"\xe2\xd9\xfd\xff"
+
+
+def end_of(started, given=None):
+    """Waits until a run has ended. Returns its status, its output and its messages."""
+    output, messages = started.communicate(given, timeout=PATIENCE)
+    return started.returncode, output, messages
 
 
 def lines(*texts):
     """Returns messages as lines, each with the program's name in front."""
     return "".join(f"avrstk: {text}\n" for text in texts).encode()
+
+
+def lines_of(cell):
+    """Returns the messages that a cell of a table has, with a semicolon between two."""
+    return lines(*filter(None, cell.split("; ")))
+
+
+def tracing(*words):
+    """Returns how to start a run whose system calls strace writes to the file `calls`, with these options of strace.
+    (The unproved program's leak detector can't run there.)"""
+    return {"front": ["strace", "-o", "calls", *words], "env": os.environ | {"ASAN_OPTIONS": "detect_leaks=0"}}
 
 
 def frame(number, *body):
@@ -125,8 +158,9 @@ def xor(held):
 
 
 def kept_port():
-    """Returns a socket that keeps a port of 127.0.0.1 while it is open. The system gives the port to no other process. A
-    process can listen there only if it asks for that number with SO_REUSEADDR, as this program does when it serves."""
+    """Returns a socket that keeps a port of 127.0.0.1 while it is open. The system gives the port to no other process.
+    A process can listen there only if it asks for that number with SO_REUSEADDR, as this program does when it
+    serves."""
     kept = socket.socket()
     kept.setsockopt(socket.SOL_SOCKET, socket.SO_REUSEADDR, 1)
     kept.bind(("127.0.0.1", 0))
@@ -155,8 +189,8 @@ def listens_at(port):
 
 
 class Server:
-    """The program as the emulated programmer of a part, at a port that is kept for it. At the end of a `with` it is ended
-    if it still runs."""
+    """The program as the emulated programmer of a part, at a port that is kept for it. At the end of a `with` it is
+    ended if it still runs."""
 
     def __init__(self, room, chip="served.bin", part="m328p", words=(), waits=True, **more):
         self.kept = kept_port()
@@ -175,9 +209,9 @@ class Server:
 
     def end(self):
         """Returns its status, output and messages, once its caller has gone."""
-        output, messages = self.started.communicate(timeout=PATIENCE)
+        found = end_of(self.started)
         self.kept.close()
-        return self.started.returncode, output, messages
+        return found
 
     def stop(self):
         """Ends it if it still runs."""

@@ -2,14 +2,13 @@
 """Runs the commands of README and of the manual as typed, in a fresh clone after README's first command. Each ends with
 status 0, none starts a build, and git sees no file that they made.
 
-Not proved: Commands are typed as the documents show them.
+Not proved: Documents and the shell are not Rattle.
 
     tests/recipes.py [CASE ..]      needs a built program (program.py), used as the clone's unproved program; commands with
                                     AVRDUDE are left out without AVRDUDE 7.1, and those with srec_cmp without srecord
 
-Only the user's own things differ: the port, the home folder, the firmware, and the board. The board is a pseudo terminal
-with the emulated programmer behind it.
-"""
+Only the user's own things differ: the port, the home folder, the firmware, and the board. The board is a pseudo
+terminal with the emulated programmer behind it. """
 
 import os
 import re
@@ -21,7 +20,7 @@ import tempfile
 import textwrap
 from pathlib import Path
 
-from cases import PATIENCE, leave_out, named, run_cases, same, see
+from cases import PATIENCE, leave_out, named, own_environment, put_program, run_cases, same, see
 from program import LISTENS, PROGRAM, SESSION, TOP, has_avrdude, kept_port, port_of
 from serial import Board
 
@@ -62,8 +61,7 @@ class Clone:
             shutil.copyfile(found, self.top / "out/unproved" / name)
             (self.top / "out/unproved" / name).chmod(0o755)
         self.stamp("unproved")
-        (self.folder / "bin/rt").write_text(RT)
-        (self.folder / "bin/rt").chmod(0o755)
+        put_program(self.folder / "bin/rt", RT)
 
     def stamp(self, kind):
         """Stamps the programs there as built from the clone's sources."""
@@ -85,8 +83,7 @@ class Clone:
         kept = kept_port()
         port = port_of(kept)
         path = f"{self.folder}/bin:{self.folder}/home/.local/bin:{os.environ['PATH']}"
-        own = {"PATH": path, "HOME": str(self.folder / "home"), "NOTED": str(self.noted)}
-        environment = {name: it for name, it in (os.environ | own).items() if name != "AVRSTK"}
+        environment = own_environment(PATH=path, HOME=str(self.folder / "home"), NOTED=str(self.noted))
         typed = [f"{it} || echo 'FAILED here'" for it in commands]
         text = WAITS.format(LISTENS.format(port)) + "\n".join(typed).replace("5000", str(port))
         how = {"stdin": subprocess.DEVNULL, "stdout": subprocess.PIPE, "stderr": subprocess.STDOUT, "text": True}
@@ -189,7 +186,8 @@ def in_place_of_avrdude(clone):
 
 
 def jobs(clone):
-    """The recipes for jobs: GitLab's and GitHub's steps, after the installation, and pytest's fixture."""
+    """Runs the recipes for jobs of docs/EMULATOR: GitLab's and GitHub's steps, after the installation, and pytest's
+    fixture."""
     clone.types(["./install.sh ~/.local"])
     text = (TOP / "docs/EMULATOR.md").read_text().split("### Recipes for jobs")[1]
     gitlab, github, fixture = [textwrap.dedent(it) for it in re.findall(r"(?:^(?:    (?!\$ ).*)?\n)+", text, re.M) if it.strip()]
@@ -209,17 +207,7 @@ def jobs(clone):
         (clone.folder / "chip.bin").unlink()
 
 
-def somebody_else(clone):
-    """Another user of the clone runs the built program, and builds nothing."""
-    if os.geteuid() != 0:
-        leave_out("another user", "this isn't root")
-        return
-    clone.folder.chmod(0o755)
-    printed = clone.types(["setpriv --reuid=65534 --regid=65534 --clear-groups ./avrstk --help"])
-    see("it runs", "Usage: " in printed and "FAILED" not in printed, printed)
-
-
-CASES = named(*map(in_a_clone, [readme, usage, in_place_of_avrdude, jobs, somebody_else]))
+CASES = named(*map(in_a_clone, [readme, usage, in_place_of_avrdude, jobs]))
 
 if __name__ == "__main__":
     sys.exit(run_cases(CASES, __doc__))

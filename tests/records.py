@@ -16,7 +16,8 @@ def hex_of(runs, most=16):
 
 
 def image_of(text):
-    """Returns the byte at each address of a file in either format. (srec_cat writes no end record without a start address.)"""
+    """Returns the byte at each address of a file in either format. (srec_cat writes no end record without a start
+    address.)"""
     image, base, wraps = {}, 0, False
     for line in text.decode().split():
         if line[0] == ":":
@@ -41,7 +42,8 @@ def image_of(text):
 
 
 def runs_of(image, draw=None):
-    """Returns the runs of an image: the address and the bytes of each. With `draw` rows end at random places, and within 64 kB."""
+    """Returns the runs of an image: the address and the bytes of each. With `draw` rows end at random places, and
+    within 64 kB."""
     runs = []
     for at in sorted(image):
         if runs and runs[-1][0] + len(runs[-1][1]) == at and not (draw and (at % 65_536 == 0 or draw.random() < 0.05)):
@@ -52,7 +54,8 @@ def runs_of(image, draw=None):
 
 
 def drawn(seed):
-    """Returns an image with gaps, the size of a memory that holds it, and the file of its bytes in rows of any length."""
+    """Returns an image with gaps, the size of a memory that holds it, and the file of its bytes in rows of any
+    length."""
     draw = random.Random(seed)
     size = draw.choice([1, 7, 8, 9, 64, 512, 4096, 32_768, 65_537, 131_072, 262_144, (1 << 24) + 4096])
     image = {}

@@ -1,8 +1,8 @@
 #!/usr/bin/env python3
 """Tests avrstk-serial over pseudo terminals with an emulated programmer behind them. Covers each AVRDUDE option that it
 takes, ignores or refuses, and each hint after a failed run. Covers boards that are deaf after a reset, disappear, don't
-reply or send other data, and signals. Runs the recipes of docs/USAGE for a serial link as they are printed there (recipes.py
-has those with a `$`).
+reply or send other data, and signals. Runs the recipes of docs/USAGE for a serial link as they are printed there
+(recipes.py has those with a `$`).
 
 Not proved: avrstk-serial is Python over serial devices.
 
@@ -32,16 +32,18 @@ from concurrent.futures import ThreadPoolExecutor
 from functools import lru_cache
 from pathlib import Path
 
-from cases import PATIENCE, leave_out, named, run_cases, same, sampled, see, table, wait_until
+from cases import PATIENCE, bytes_of, leave_out, named, own_environment, put_program
+from cases import run_cases, same, sampled, see, table, wait_until
 from line import frames_in, frames_of
-from program import PROGRAM, SESSION, TOP, Room, Server, forks, frame, has_avrdude, kept_port, lines, listens_at, port_of, read_whole
+from program import CHIP_FILE, PROGRAM, SESSION, SIGNATURE, TOP, Room, Server, forks, frame
+from program import end_of, has_avrdude, kept_port, lines, listens_at, port_of, read_whole
 from records import hex_of
 
 SCRIPT, SHARED = TOP / "avrstk-serial", TOP / "lib"
 PYTHON = shutil.which("python3", path="/usr/bin:/bin") or sys.executable
-SIGNATURE = "device signature = 1E 95 0F"
 FIRMWARE = [SIGNATURE, "chip erased", "flash: 228 bytes written", "flash: 228 bytes verified", "done"]
 FLASH = ["-p", "m328p", "-U", "flash:w:blink.hex:i"]
+CLASSIC = ["--parts", str(TOP / "parts/classic.toml")]
 CALL = "avrstk -p m328p -P net:127.0.0.1:5000 -U flash:w:firmware.hex:i"
 # how nobody is started, if this is root, who may do everything
 ANYONE = {"user": 65534, "group": 65534, "extra_groups": []} if os.geteuid() == 0 else {}
@@ -57,8 +59,8 @@ def is_open(line):
 
 
 class Board:
-    """An emulated programmer behind a pseudo terminal, like a board that resets when its device is opened. It ignores the
-    bytes of its first `deaf` seconds, and all later ones if none came until second `gone`. With `talk` it has no
+    """An emulated programmer behind a pseudo terminal, like a board that resets when its device is opened. It ignores
+    the bytes of its first `deaf` seconds, and all later ones if none came until second `gone`. With `talk` it has no
     programmer and sends this text all the time. The device disappears after `vanish` replies. `answer` changes the
     bytes of each reply."""
 
@@ -162,11 +164,8 @@ class Bootloader:
 
 def start(words, closed="", **more):
     """Starts avrstk-serial with these options, in the room. `closed` has shell redirections."""
-    how = {"cwd": room.folder, "stdin": subprocess.DEVNULL, "stdout": subprocess.PIPE, "stderr": subprocess.PIPE} | more
-    how["env"] = os.environ | {"AVRSTK": str(PROGRAM)} | how.get("env", {})
-    shell = ["sh", "-c", f'exec "$0" "$@" {closed}'] if closed else []
-    with forks:
-        return subprocess.Popen([*shell, sys.executable, str(SCRIPT), *words], **how)
+    environment = os.environ | {"AVRSTK": str(PROGRAM)} | more.pop("env", {})
+    return room.start(words, closed=closed, program=[sys.executable, SCRIPT], env=environment, **more)
 
 
 def run(words, **more):
@@ -211,12 +210,12 @@ def terminal():
 
 
 def stand_in(text, folder=None):
-    """Writes a Python program to run in place of avrstk; the script's port is its `port`. Returns the environment for it."""
+    """Writes a Python program to run in place of avrstk; the script's port is its `port`. Returns the environment for
+    it."""
     file = (folder or room.folder) / "stand-in"
     begin = f"#!{PYTHON}\nimport os, socket, sys, time\n"
     port = "port = int(sys.argv[sys.argv.index('-P') + 1].rpartition(':')[2])\n"
-    file.write_text(begin + port + text)
-    file.chmod(0o755)
+    put_program(file, begin + port + text)
     return {"AVRSTK": str(file)}
 
 
@@ -249,26 +248,8 @@ def flashes(words, **board):
 def words_of_avrdude():
     """Tests options in AVRDUDE's forms."""
     flashed()
-    long = "ATmega328P"
-    recipe = ["-C/etc/avrdude.conf", "-v", "-patmega328p", "-cwiring", "-PDEVICE", "-b115200", "-Uflash:w:blink.hex:i"]
     room.put("blink.HEX", room.read("blink.hex"))
-    named = "blink.hex is read as Intel HEX (:i)"
-    cases = [
-        ([*FLASH, "-P", "DEVICE", "-b", "115200"], []),
-        ([*FLASH, "-P", "DEVICE"], []),
-        *(([*FLASH, "-P", "DEVICE", "-c", it], []) for it in ["wiring", "stk500v2", "avrispv2", "stk500", "STK500"]),
-        ([*FLASH, "-cstk500v2", "-PDEVICE", "-b115200"], []),
-        *(([f"-p{it}", "-PDEVICE", "-Uflash:w:blink.hex:i"], []) for it in [long, long.lower()]),
-        (recipe, ["ignored: -C /etc/avrdude.conf"]),
-        ([*FLASH, "-us", "-P", "DEVICE"], ["ignored: -u, -s"]),
-        (["--wait", "0", *FLASH, "-P", "DEVICE"], []),
-        *(([f"--wait={it}", *FLASH, "-P", "DEVICE"], []) for it in ["2.5", "3"]),
-        *(([*FLASH, "-P", "DEVICE", "-b", it], []) for it in ["9600", "1000000"]),
-        (["-p", "m328p", "-P", "DEVICE", "-U", "flash:w:blink.hex"], [named]),
-        (["-p", "m328p", "-P", "DEVICE", "-U", "flash:w:blink.hex:a"], []),
-        (["-p", "m328p", "-P", "DEVICE", "-U", "flash:w:blink.HEX"], ["blink.HEX is read as Intel HEX (:i)"]),
-        (["-p", "m328p", "-P", "DEVICE", "-U", "blink.srec"], ["blink.srec is read as S-records (:s)"]),
-    ]
+    cases = [(words.split(), list(filter(None, [own]))) for words, own in table("accepted")]
     for (words, own), found in zip(cases, side_by_side(lambda it: flashes(it[0]), cases)):
         same(" ".join(words), found, (0, lines(*FIRMWARE), True, own))
 
@@ -283,7 +264,7 @@ def reads():
 
 
 def boards_that_reset():
-    """Tests a board that is deaf at first, and starts its application soon."""
+    """Tests a board that ignores input right after a reset, and soon starts its application."""
     flashed()
     longer = ["--wait", "1.5", *FLASH, "-P", "DEVICE"]
     for words, deaf, gone in [([*FLASH, "-P", "DEVICE"], 0.25, 1.2), (longer, 1.4, 3.5)]:
@@ -292,12 +273,11 @@ def boards_that_reset():
 
 
 def parts():
-    """Tests the part file that comes with it."""
+    """Tests the part file that comes with avrstk-serial."""
     wanted = emulated("-e", part="t85")
     status, _, _, own, chip = over(["-p", "attiny85", "-e"], {"part": "t85"})
     see("attiny85", (status, own, chip == wanted) == (0, [], True), own)
-    classic = ["--parts", str(TOP / "parts/classic.toml")]
-    same("m32u4", over(["-p", "m32u4", "-e"], {"part": "m32u4", "words": classic})[::3][:2], (0, []))
+    same("m32u4", over(["-p", "m32u4", "-e"], board_of("part m32u4"))[::3][:2], (0, []))
     status, _, told, own, _ = over(["--parts", "parts.toml", "-p", "atmega32u4", "-e"])
     see("a given part file counts alone", (status, b"no part atmega32u4" in told, own[0][-len(UNOPENED) :]) == (1, True, UNOPENED), told)
     status, output, told, own = run(["-p", "?"])
@@ -366,7 +346,8 @@ def no_firmware():
 
 
 def ports_of_avrstk():
-    """One of avrstk's own ports goes to avrstk, with the script's options adapted. -c ? lists the programmers."""
+    """A run over `net:`, `emu:` or `stdio:` goes to avrstk, with the script's options adapted. -c ? lists the
+    programmers."""
     wanted = flashed()
     words = ["-C", "x.conf", "-c", "wiring", "-b", "9600", "-p", "atmega328p", "-U", "blink.hex"]
     notes = ["ignored: -C x.conf", "blink.hex is read as Intel HEX (:i)"]
@@ -417,12 +398,12 @@ def devices():
 
 
 def what_is_missing():
-    """It says what is missing. If no program is named, it runs the one beside it. (tests/build.py has that of a clone.)"""
+    """avrstk-serial reports what is missing. If no program is named, it runs the one beside it. (tests/build.py has
+    that of a clone.)"""
     needed = "is not there, or can't be run: avrstk is needed beside this script, or named by AVRSTK"
     line, device = terminal()
     same("no avrstk", run([*FLASH, "-P", device], env={"AVRSTK": "/nowhere/it"})[::3], (1, [f"/nowhere/it {needed}"]))
     os.close(line)
-    environment = {name: value for name, value in os.environ.items() if name != "AVRSTK"}
     with tempfile.TemporaryDirectory() as folder:
         front, link = Path(folder, "bin/avrstk"), Path(folder, "a link")
         front.parent.mkdir()
@@ -432,15 +413,14 @@ def what_is_missing():
 
         def ran(*words, part="m328p"):
             command = [sys.executable, str(link), *words, "-p", part, "-P", "emu:x"]
-            it = subprocess.run(command, capture_output=True, text=True, env=environment, timeout=PATIENCE)
+            it = subprocess.run(command, capture_output=True, text=True, env=own_environment(), timeout=PATIENCE)
             return it.returncode, it.stdout, it.stderr
 
         modules = "avrstk_serial is not there: its modules are in lib/avrstk, here or beside this folder"
         same("no modules", ran(), (1, "", f"avrstk-serial: {modules}\n"))
         shutil.copytree(SHARED, Path(folder, "lib"))
         same("no program", ran(), (1, "", f"avrstk-serial: {front} {needed}\n"))
-        front.write_text("#!/bin/sh\necho $0 $1\n")
-        front.chmod(0o755)
+        put_program(front, "#!/bin/sh\necho $0 $1\n")
         same("the one beside it", ran(), (0, f"{front} -P\n", ""))
         same("--unproved", ran("--unproved"), (0, f"{front} --unproved\n", ""))
         no_file = "the part file classic.toml is not there (install.sh puts it under share/avrstk)"
@@ -451,23 +431,6 @@ def what_is_missing():
         status, output, told, own = run(words, env={"PYTHONOPTIMIZE": level})
         begins = output.startswith(b"Runs avrstk with a programmer")
         same(f"{words}, {level}", (status, told, own, begins), (0, b"", [], True))
-
-
-def failing(cases):
-    """Makes runs that fail. Each has a name, options, a part of its one hint, a line of avrstk, and a board. Returns the
-    chips."""
-    def ran(case):
-        _, words, _, _, board = case
-        it, begun = Board(**board), time.monotonic()
-        status, _, others, own = run([*words, "-P", it.device])
-        return status, others, own, it.end(), time.monotonic() - begun
-
-    found = side_by_side(ran, cases)
-    for (name, _, wanted, told, _), (status, others, own, _, seconds) in zip(cases, found):
-        see(f"{name}: it ends by itself soon", seconds < 40, seconds)
-        is_right = (status, len(own)) == (1, 1) and wanted in own[0] and told.encode() in others
-        see(f"{name}: {wanted}: {told}", is_right, (status, others, own))
-    return [it[3] for it in found]
 
 
 def patched(text, words):
@@ -525,7 +488,7 @@ def bits_that_do_not_exist():
 
 
 def lists():
-    """Tests -P ? (tests/serve.py has --version)."""
+    """Tests the list of devices that -P ? prints. (tests/serve.py has --version.)"""
     here = sorted(str(it) for kind in ("ACM", "USB") for it in Path("/dev").glob(f"tty{kind}*"))
     status, output, *told = run(["-P", "?"])
     same("-P ?", (status, [it.split()[0] for it in output.decode().splitlines()], told), (0, here or ["there"], [b"", []]))
@@ -565,40 +528,25 @@ def silent(command):
 
 
 def retries():
-    """With --retry the same command is given again after no answer, a lost link or a mismatch."""
+    """With --retry the script runs the same command again after no answer, a lost link or a mismatch."""
     wanted = flashed()
-    again = lambda error, *numbers: [f"{error}: the same command again, {it} of 2" for it in numbers]
-    wrong = {"answer": lambda it: changes(0x14, bytes([0x14, 0, *bytes(256), 0]))(it) if it[2:4] == b"\1\3" else it}
-    compared = "flash: address 00000000: 0C expected, 00 found"
-    partly = "the chip is erased or partly written, and may be held in reset: run the same command again"
-    stopped = f"the programmer stopped replying: check the cable and the power; {partly}"
-    cases = [
-        ([silent(0x13), {}], again("no answer", 1), None),
-        ([silent(0x01), silent(0x12), {}], again("no answer", 1, 2), None),
-        ([wrong, {}], again(compared, 1), None),
-        ([{"vanish": 8}, {}], again("link ended", 1), None),
-        ([silent(0x13)] * 3, again("no answer", 1, 2), stopped),
-        ([silent(0x13), silent(0x01), silent(0x01)], again("no answer", 1, 2), partly),
-        ([silent(0x13), {"answer": changes(0x10, b"\x10\xc0")}], again("no answer", 1), partly),
-        ([{}], [], None),
-    ]
 
     def ran(case):
-        each, _, _ = case
-        it = Boards(*each)
+        it = Boards(*(board_of(each.strip()) for each in case[0].split(",")))
         status, _, _, own = run([*FLASH, "--retry", "2", "-P", str(it.device)])
         return status, own, it.end() == wanted
 
-    for case, (status, own, is_flashed) in zip(cases, side_by_side(ran, cases)):
-        _, lines_wanted, hint = case
+    cases = table("attempts")
+    for (each, count, error, hint), (status, own, is_flashed) in zip(cases, side_by_side(ran, cases)):
+        again = [f"{error}: the same command again, {it} of 2" for it in range(1, int(count) + 1)]
         # (whichever byte differs first)
         found = (status, [re.sub(r"address .*? expected", "address 00000000: 0C expected", it) for it in own])
-        same(f"{lines_wanted} {hint}", found, (int(hint is not None), lines_wanted + [hint] * (hint is not None)))
-        see("the chip", is_flashed == (hint is None), own)
+        same(f"{each}: {hint}", found, (int(hint != ""), again + [hint] * (hint != "")))
+        see(f"{each}: the chip", is_flashed == (hint == ""), own)
 
 
 def retries_that_are_refused():
-    """--retry is refused at the beginning for a command that a second run may not heal."""
+    """--retry is refused at the beginning for a command that a second run may not repair."""
     room.put("late.hex", hex_of([(0x4000, b"late")]))
     os.mkfifo(room.folder / "pipe")
     line, device = terminal()
@@ -622,7 +570,7 @@ def retries_that_are_refused():
 
 
 def the_part_of_the_chip():
-    """-p auto reads the signature first, and takes the one part that has it."""
+    """-p auto reads the signature first, and takes the part that has it."""
     wanted = flashed()
     words = ["-p", "auto", "-U", "flash:w:blink.hex:i", "-U", "lock:w:0x3F:m"]
     it = Boards(silent(0x1B), {}, {})
@@ -631,20 +579,11 @@ def the_part_of_the_chip():
     same("its lines", (status, own), (0, [again, "the chip is m328p (1E 95 0F)", note]))
     see("the run's own lines alone", told.startswith(lines(SIGNATURE, "chip erased")), told)
     same("the chip", it.end(), wanted)
-    classic = ["--parts", str(TOP / "parts/classic.toml")]
-    none = "-p auto: the programmer finds no chip: check the wires and the power; nothing was written"
-    given = {"part": "m88p", "words": classic}
-    two = "several parts have: give one of them by -p: m88p, m88pa; nothing was written"
-    for board, hint in [
-        ({"answer": changes(0x1B, b"\x1b\0\0\0")}, none),
-        ({"answer": changes(0x1B, b"\x1b\0\x12\0")}, "-p auto: the chip has the signature 12 12 12, which no part here has"),
-        (given, f"-p auto: the chip has the signature 1E 93 0F, which {two}"),
-        (silent(0x01), "no reply; the chip is unchanged. Check: the speed"),
-    ]:
-        status, _, told, own, chip = over(words, board)
+    for board, hint in table("auto"):
+        status, _, told, own, chip = over(words, board_of(board))
         see(hint, (status, len(own)) == (1, 1) and own[0].startswith(hint), (status, told, own))
         see(f"{hint}: the chip", set(chip) == {0xFF}, chip[-4:])
-    for more in [["-P", "emu:chip.bin"], ["--parts", classic[1], "-P", os.devnull]]:
+    for more in [["-P", "emu:chip.bin"], [*CLASSIC, "-P", os.devnull]]:
         status, _, told, own = run([*words, *more])
         see(f"{more}", (status, told) == (1, b"") and own[-1].startswith("-p auto is for a device"), own)
 
@@ -742,27 +681,18 @@ def backups():
 
 
 def warnings():
-    """Fuses that can make a chip unreachable are warned of before the device is opened. So is an image that leaves out a
-    bootloader's pages."""
-    for part, update, wanted in table("warnings"):
-        own = run(["-p", part, "-P", "emu:no.bin", "-n", "-U", update])[3]
-        room.clear()
-        see(f"{part} {update}", (not own and not wanted) or wanted and own[0].startswith(wanted), own)
-    leaves_out = "warning: a bootloader erases pages from 0 on, other ones than this image writes: give one image that"
-    for file, words, is_warned in [
-        ("blink.hex", ["-c", "wiring", "-D"], False),
-        ("gap.hex", ["-c", "wiring", "-D"], True),
-        ("late.hex", ["-c", "wiring", "-D"], True),
-        ("late.hex", ["-D"], False),
-    ]:
+    """Fuses that can make a chip unreachable are warned of before the device is opened. So is an image that leaves out
+    a bootloader's pages."""
+    for part, words, wanted in table("warnings"):
         room.put("gap.hex", hex_of([(0, b"x"), (256, b"x")]))
         room.put("late.hex", hex_of([(0x4000, b"late")]))
-        own = run(["-p", "m328p", "-P", "emu:no.bin", "-U", f"flash:w:{file}:i", *words])[3]
-        see(f"{file} {words}", bool(own) == is_warned and all(it.startswith(leaves_out) for it in own), own)
+        own = run(["-p", part, "-P", "emu:no.bin", *words.split()])[3]
+        room.clear()
+        see(f"{part} {words}", bool(own) == bool(wanted) and all(it.startswith(wanted) for it in own), own)
 
 
 def images_that_are_read_once():
-    """An image may be a pipe, which only avrstk opens, and once. Only the port is replaced on the command line."""
+    """An image may be a pipe: only avrstk opens it, and only once. Only the port is replaced on the command line."""
     wanted, text = flashed(), room.read("blink.hex")
     os.mkfifo(room.folder / "pipe")
     writer = threading.Thread(target=lambda: room.put("pipe", text), daemon=True)
@@ -796,37 +726,36 @@ def changes(command, body):
     return change
 
 
+def board_of(cell):
+    """Returns the board of a cell of tests/tables/failures.txt, which says what each word means. It may have a part."""
+    kind, _, what = cell.partition(" ")
+    if kind == "part":
+        return {"part": what, "words": CLASSIC}
+    if kind == "reply":
+        command, body = what.split()
+        return {"answer": changes(int(command, 16), bytes_of(body))}
+    if kind == "silent":
+        return silent(int(what, 16))
+    known = {"deaf": int, "vanish": int, "talk": bytes_of}
+    return {kind: known[kind](what)} if kind else {}
+
+
 def hints():
     """Tests the hint after each error."""
-    instead = lambda command, *body: {"answer": changes(command, bytes([command, *body]))}
-    whole, partly = "the chip is unchanged", "the chip is erased or partly written, and may be held in reset: run the"
-    stopped = "the programmer stopped replying: check the cable and the power"
-    nobit, found = "only bits differ that the part", "expected, 00 found"
-    reading = ["-p", "m328p", "-U"]
+    def ran(case):
+        _, words, *_, board = case
+        it, begun = Board(**board_of(board)), time.monotonic()
+        status, _, others, own = run([*words.split(), "-P", it.device])
+        return status, others, own, it.end(), time.monotonic() - begun
+
+    cases = table("failures")
+    for (name, _, wanted, told, _), (status, others, own, chip, seconds) in zip(cases, side_by_side(ran, cases)):
+        see(f"{name}: it ends by itself soon", seconds < 40, seconds)
+        is_right = (status, len(own)) == (1, 1) and wanted in own[0] and told.encode() in others
+        see(f"{name}: {wanted}: {told}", is_right, (status, others, own))
+        same(f"{name}: the chip", chip, b"\xff" * CHIP_FILE) if name == "silent" else None
+    status, _, told, own, _ = over(["-p", "m328p", "-U", "lfuse:r:-:h"], closed=">&-")
     stays = "everything reported above was done. The chip stays in programming mode: power-cycle the board"
-    cases = [
-        ("silent", FLASH, f"no reply; {whole}. Check: the speed (-b 115200)", "error: no answer", {"deaf": 1000}),
-        ("signature 00", FLASH, "the programmer finds no chip", "error: signature is", instead(0x1B, 0, 0, 0)),
-        ("signature FF", FLASH, "the programmer finds no chip", "error: signature is", instead(0x1B, 0, 0xFF, 0)),
-        ("signature 12", FLASH, "another part (12 12 12), which is not known", "error: sig", instead(0x1B, 0, 0x12, 0)),
-        ("command 10", FLASH, "the programmer can't reach the chip, which is unch", "command 10", instead(0x10, 0xC0)),
-        # (here the erase was done: the hint may not say that the chip is unchanged)
-        ("command 12", FLASH, "a bootloader can't erase the chip: use -D", "command 12 refused", instead(0x12, 0xC0)),
-        ("command 13", FLASH, f"the programmer refused the command: {partly}", "command 13", instead(0x13, 0xC0)),
-        ("no bit", [*reading, "efuse:w:0xFD:m"], nobit, "expected, 05 found", instead(0x18, 0, 0x05, 0)),
-        ("flash", FLASH, "run the same command again; if it always", found, instead(0x14, 0, *bytes(256), 0)),
-        ("a bad answer", FLASH, "something else sends data", "command 12: bad answer", instead(0x12, 0, 0)),
-        ("a full disk", [*reading, "lfuse:r:/dev/full:h"], f"check the folder and free space; {stays}", "/dev/full", {}),
-        ("leaving", FLASH, "everything above was done; only the last", "flash: 228 bytes verified", silent(0x11)),
-        ("silent later", FLASH, f"{stopped}; {partly}", "error: no answer", silent(0x13)),
-        ("silent early", FLASH, f"{stopped}; {whole}", "error: no answer", silent(0x1B)),
-        ("vanished", FLASH, f"the device is gone: check the cable; {partly}", "link ended", {"vanish": 8}),
-        ("vanished early", FLASH, f"the device is gone: check the cable; {whole}", "link ended", {"vanish": 1}),
-        ("talks", FLASH, "the device sends data, but no valid reply", "", {"talk": b"temp=21.5 hum=40\r\n"}),
-    ]
-    chips = failing(cases)
-    same("the chip of the silent one", chips[0], b"\xff" * 33_796)
-    status, _, told, own, _ = over([*reading, "lfuse:r:-:h"], closed=">&-")
     wanted = [f"standard output is closed or full; {stays}"]
     same("a closed output", (status, b"-: cannot be written" in told, own), (1, True, wanted))
 
@@ -848,7 +777,7 @@ def renamed(words, given):
 
 
 def another_file(words, case, *_):
-    """Builds or downloads the file again, or makes one image from address 0 on."""
+    """Follows a hint: builds or downloads the file again, or makes one image from address 0 on."""
     case["again"]()
     return words
 
@@ -911,12 +840,7 @@ def elf_files():
     linked("none.elf", ".text\n.byte 1\n")
     linked("main.o", ELF, "-c")
     room.put("cut.elf", room.read("main.elf")[:700])
-    for text, why in [
-        ("flash:w:odd.elf", "odd.elf has a section .odd that fits no memory (2 bytes at 00850000)"),
-        ("eeprom:w:none.elf", "none.elf has no byte of eeprom"),
-        ("flash:w:main.o", "main.o is damaged, or no linked ELF file for AVR"),
-        ("flash:w:cut.elf", "cut.elf is damaged, or no linked ELF file for AVR"),
-    ]:
+    for text, why in table("elf"):
         _, _, told, own = run(["-p", "m328p", "-P", "emu:no.bin", "-U", text])
         same(text, (told, own), (b"", [f"{why}: {UNOPENED}"]))
     room.put("both.hex", b"".join(room.read("blink.hex").splitlines(True)[:-1]) + hex_of([(0x810000, b"eeprom")]))
@@ -925,8 +849,8 @@ def elf_files():
         walk(memory, ["-p", "m328p", "-U", f"{memory}:w:both.hex"], there)
 
 
-# What a reader does after a hint: the words that he finds in it, and the next command with the files of its case. After a
-# hint without a next command the walk ends.
+# What a reader does after a hint: the words that he finds in it, and the next command with the files of its case. After
+# a hint without a next command the walk ends.
 FOLLOWED = [
     (r"damaged or cut short: build or download it again", another_file),
     (r"if it is a comment, else build or download the file again", another_file),
@@ -950,8 +874,8 @@ FOLLOWED = [
 
 
 def followed(name, words, board=None, **case):
-    """Follows each hint until a run ends well, or a hint gives no command. Returns the last status, the hints and the chip.
-    No hint names a format that takes each text for bytes."""
+    """Follows each hint until a run ends well, or a hint gives no command. Returns the last status, the hints and the
+    chip. No hint names a format that takes each text for bytes."""
     hints, chip = [], f"walk{next(boards)}.bin"
     if "chip" in case:
         room.put(chip, case["chip"])
@@ -994,7 +918,8 @@ def without_bits(answer):
 
 
 def hints_over_each_memory():
-    """Hints over each memory, kind of board and kind of part file end at the wanted bytes, or no run ends well."""
+    """Whoever follows the hints, for any memory, kind of board and kind of part file, gets the wanted bytes or a
+    failure."""
     image = flashed()[:228]
     room.put("mine.toml", (TOP / "parts/classic.toml").read_bytes())
     room.put("mega.hex", hex_of([(0, bytes(300))]))
@@ -1090,17 +1015,12 @@ def hints_that_are_followed():
 
 
 def signals():
-    """Tests how it ends at a signal."""
-    for number, reach, wanted in [
-        (signal.SIGINT, 0, "ended by SIGINT: the chip is unchanged"),
-        (signal.SIGINT, 0x13, "ended by SIGINT: the chip is erased or partly written, and may be held in reset: run"),
-        (signal.SIGTERM, 0x13, "ended by SIGTERM: the chip is erased or partly written"),
-        (signal.SIGHUP, 0x13, "ended by SIGHUP: the chip is erased or partly written"),
-    ]:
-        reached = threading.Event()
+    """Tests how avrstk-serial ends at a signal."""
+    for name, command, wanted in table("signals"):
+        number, reached = signal.Signals[name], threading.Event()
 
         def held(answer):
-            if reach and answer[5] != reach:
+            if answer[5] != int(command, 16):
                 return answer
             reached.set()
             return b""
@@ -1121,8 +1041,7 @@ def signals():
 def cut_lines():
     """If a signal cuts a line of avrstk, the script ends that line before its own."""
     halts = room.folder / "halts"
-    halts.write_text("#!/bin/sh\nprintf 'avrstk: error: ' >&2\n: >told\nexec sleep 60\n")
-    halts.chmod(0o700)
+    put_program(halts, "#!/bin/sh\nprintf 'avrstk: error: ' >&2\n: >told\nexec sleep 60\n")
     line, device = terminal()
     started = start([*FLASH, "-P", device], env={"AVRSTK": str(halts)})
     wait_until((room.folder / "told").exists)
@@ -1193,7 +1112,8 @@ def messages_that_nobody_reads():
 
 
 def one_run_at_a_time():
-    """A second run over a device is refused and doesn't change its settings, also for root. Runs in turn are accepted."""
+    """A second run over a device is refused and doesn't change its settings, also for root. Runs in turn are
+    accepted."""
     line, device = terminal()
     fake = stand_in(CALLS)
     first = start([*FLASH, "-P", device, "-b", "57600", "--wait", "0"], env=fake)
@@ -1243,10 +1163,10 @@ def devices_that_go():
     """Tests a device that disappears while the script waits for its board."""
     line, device = terminal()
     # (avrstk sends SIGN_ON once a second: not when the wait ends)
-    started = start([*FLASH, "-P", device, "-b", "57600", "--wait", "0.5"])
+    started = start([*FLASH, "-P", device, "-b", "57600", "--wait", "2.5"])
     wait_until(lambda: speed(line) == (57_600, 57_600))
     # (it reads its settings back before it waits)
-    time.sleep(0.1)
+    time.sleep(1)
     os.close(line)
     _, told = started.communicate(timeout=PATIENCE)
     told = told.decode().splitlines()
@@ -1301,8 +1221,7 @@ def names_and_interrupts():
         same(f"the name {device}", (started.returncode, told), (1, wanted))
     for name in ["avrstk_serial", "avrstk_common", "glob"]:
         started = start(["-p", "?"], env={"PYTHONPATH": str(room.folder), "SENDS_AT": name})
-        found = (*started.communicate(timeout=PATIENCE), started.returncode)
-        same(f"Ctrl-C before {name} is loaded", found, (b"", b"", -signal.SIGINT))
+        same(f"Ctrl-C before {name} is loaded", end_of(started), (-signal.SIGINT, b"", b""))
 
 
 def recipe(begin):
@@ -1319,23 +1238,23 @@ def typed(command, device, port=0):
     return subprocess.Popen(["bash", "-c", f"exec {here}"], **how)
 
 
-def ended(started):
+def without_socat(started):
     """Returns the status and the tool's own messages of a run."""
-    _, messages = started.communicate(timeout=PATIENCE)
-    told = b"".join(it for it in messages.splitlines(True) if not re.match(rb"\d{4}/\d\d/\d\d .* socat\[", it))
-    return started.returncode, told
+    status, _, messages = end_of(started)
+    return status, b"".join(it for it in messages.splitlines(True) if not re.match(rb"\d{4}/\d\d/\d\d .* socat\[", it))
 
 
 def recipe_of_the_script():
     for begin, part, more in [("avrstk-serial -p m328p -P /dev/", "m328p", []), ("avrstk-serial -C/etc", "m2560", ["-D"])]:
         firmware = emulated(*more, *FLASH[2:], part=part)
         it = Board(part=part)
-        status, _ = ended(typed(recipe(begin), it.device))
+        status, _ = without_socat(typed(recipe(begin), it.device))
         same(begin, (status, it.end() == firmware), (0, True))
 
 
 def recipe_of_a_plain_bridge():
-    """Tests socat alone. It opens the device when the tool calls: too late for a board that resets then."""
+    """Tests socat in place of avrstk-serial. It opens the device when the tool calls: too late for a board that resets
+    then."""
     if not shutil.which("socat"):
         return leave_out("the recipes with socat", "socat is not installed")
     firmware = flashed()
@@ -1348,12 +1267,12 @@ def recipe_of_a_plain_bridge():
         port = port_of(kept)
         bridge = typed(recipe("socat TCP-LISTEN:5000,bind=127.0.0.1,reuseaddr FILE"), it.device, port)
         wait_until(lambda: listens_at(port))
-        found = ended(typed(recipe(CALL), it.device, port))
+        found = without_socat(typed(recipe(CALL), it.device, port))
         bridge.communicate(timeout=PATIENCE)
         same("a plain bridge", (*found, it.end() == firmware), wanted)
         kept.close()
     it = Board()
-    found = ended(typed(recipe("socat EXEC"), it.device))
+    found = without_socat(typed(recipe("socat EXEC"), it.device))
     same("stdio:", (*found, it.end() == firmware), (0, lines(*FIRMWARE), True))
 
 
@@ -1369,7 +1288,7 @@ def recipe_of_ser2net():
     server = subprocess.Popen(["ser2net", "-n", "-c", room.folder / "ser2net.yaml"], stderr=subprocess.DEVNULL)
     try:
         wait_until(lambda: listens_at(port))
-        found = ended(typed(recipe(CALL), it.device, port))
+        found = without_socat(typed(recipe(CALL), it.device, port))
         same("ser2net", (*found, it.end() == firmware), (0, lines(*FIRMWARE), True))
     finally:
         server.terminate()

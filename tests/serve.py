@@ -1,6 +1,6 @@
 #!/usr/bin/env python3
-"""Tests avrstk-serve: clients in turn, and clients that send nothing, reset the connection or are idle. Also a device in
-place of a port, the log, what fails in a session, and how it ends.
+"""Tests avrstk-serve: clients in turn, and clients that send nothing, reset the connection or are idle. Also a device
+in place of a port, the log, what fails in a session, and how it ends.
 
 Not proved: avrstk-serve is Python over sockets and terminals.
 
@@ -22,21 +22,20 @@ import tempfile
 import time
 from pathlib import Path
 
-from cases import PATIENCE, leave_out, named, run_cases, same, see, table, wait_until
-from program import ANSWERS, CHIP_FILE, ENDS, FRAMES, NAMED, PROGRAM, SESSION, TOP, Room
+from cases import PATIENCE, VERSION, leave_out, named, run_cases, same, see, table, wait_until
+from program import ANSWERS, CHIP_FILE, EEPROM, ENDS, FRAMES, LFUSE, NAMED, PROGRAM, SESSION, TOP, Room
 from program import frame, has_avrdude, kept_port, lines, port_of, read_whole
 from records import image_of
 
 SCRIPT = TOP / "avrstk-serve"
 M328P = ["-p", "m328p", "--chip", "chip.bin"]
-LFUSE = 33_792
 room = Room()
 
 
-def ran(words, script=SCRIPT, **own):
+def ran(words, script=SCRIPT, before=None, **own):
     """Returns the status, the messages and the output of the script. `own` are variables of its environment."""
-    how = {"cwd": room.folder, "env": environment() | own, "capture_output": True, "text": True, "timeout": PATIENCE}
-    it = subprocess.run([script, *words], **how)
+    how = {"cwd": room.folder, "env": environment() | own, "preexec_fn": before, "timeout": PATIENCE}
+    it = subprocess.run([script, *words], **how, capture_output=True, text=True)
     return it.returncode, it.stderr, it.stdout
 
 
@@ -48,9 +47,8 @@ class Serving:
         with self.messages.open("wb") as messages:
             how = {"stdin": subprocess.DEVNULL, "stdout": subprocess.PIPE, "stderr": messages, "cwd": room.folder}
             # (a process group of its own, as from a shell)
-            command = [SCRIPT, *([port] if port else []), *chip, *words]
             how |= {"env": environment(program), "start_new_session": True, "preexec_fn": before}
-            self.started = subprocess.Popen(command, **how)
+            self.started = subprocess.Popen([SCRIPT, *([port] if port else []), *chip, *words], **how)
         self.said = self.started.stdout.readline()
         self.port = int(self.said.rpartition(b":")[2] or 0) if port and b" at " in self.said else None
 
@@ -117,7 +115,7 @@ def begins(client):
 
 
 def listens():
-    """It prints its port: a given one, or any free one. A second server at the port ends with a line."""
+    """The server prints its port: the given one, or any free one. A second server at the port ends with a line."""
     with Serving() as it:
         same("its line", it.said, f"serving at 127.0.0.1:{it.port}\n".encode())
         for value in [0x60, 0x61, 0x62]:
@@ -137,8 +135,8 @@ def listens():
 
 
 def clients_that_send_nothing():
-    """A client that only connects starts no run and delays no other client, before, while or after that one is served. It
-    needs few open files for them."""
+    """A client that only connects starts no run and delays no other client, before, while or after that one is served.
+    It needs few open files for them."""
     with Serving(before=lambda: resource.setrlimit(resource.RLIMIT_NOFILE, (20, 20))) as it:
         for _ in range(100):
             it.call().close()
@@ -163,7 +161,7 @@ def clients_that_send_nothing():
 
 
 def one_after_another():
-    """A client waits until the one before it has hung up, and gets the chip that it left."""
+    """A client waits until the one before has disconnected, and gets the chip that this one left."""
     with Serving() as it:
         first = it.call()
         see("the first session", begins(first))
@@ -219,18 +217,18 @@ def a_chip_in_use():
 
 
 def idle_clients():
-    """With --idle the server hangs up on an idle client, and its chip is saved."""
-    with Serving("--idle", "0.4") as it:
+    """With --idle the server disconnects an idle client, and saves the chip."""
+    with Serving("--idle", "1.5") as it:
         with it.call() as silent, it.call() as client:
             see("a session", begins(client))
-            for _ in range(4):
-                time.sleep(0.2)
+            for _ in range(5):
+                time.sleep(0.4)
                 see("one that isn't idle is served on", begins(client))
             same("the connection of an idle one is closed", client.recv(1), b"")
             same("and one that has sent nothing", silent.recv(1), b"")
         see("the chip is saved", len(room.read("chip.bin") or b"") == CHIP_FILE)
         same("the next client", it.writes_fuse(0x60), 0)
-        same("the messages", it.end(), (0, "avrstk-serve: a client sent nothing for 0.4 seconds: hung up\n"))
+        same("the messages", it.end(), (0, "avrstk-serve: a client sent nothing for 1.5 seconds: hung up\n"))
     with Serving() as it, it.call() as client:
         see("a session", begins(client))
         time.sleep(1)
@@ -251,7 +249,8 @@ def changes_fuse(it, value):
 
 
 def ends_at_a_signal():
-    """At a signal it ends with status 0, whatever it is doing. Its client's changes are saved, and no run is left."""
+    """At a signal the server ends with status 0, whatever it is doing. Its client's changes are saved, and no run is
+    left."""
     # (a terminal sends Ctrl-C to the whole group)
     for number, group in [(signal.SIGTERM, False), (signal.SIGINT, True), (signal.SIGHUP, False)]:
         name = number.name
@@ -280,7 +279,7 @@ def ends_at_a_signal():
 
 
 def refused():
-    """It reports errors before it listens, and ends with status 1."""
+    """The server reports errors before it listens, and ends with status 1."""
     os.mkfifo(room.folder / "pipe")
     taken = kept_port()
     taken.listen()
@@ -306,9 +305,8 @@ def refused():
     # (Python keeps no docstrings then)
     see("--help without docstrings", "avrstk-serve PORT" in ran(["--help"], PYTHONOPTIMIZE="2")[2])
     for closed, status in [(">&-", 1), (">/dev/full", 1), ("<&- 2>&-", 0)]:
-        text = f'exec "$0" 0 -p m328p --chip chip.bin {closed}'
-        how = {"cwd": room.folder, "env": environment(), "stdout": subprocess.PIPE, "stderr": subprocess.DEVNULL}
-        started = subprocess.Popen(["sh", "-c", text, SCRIPT], **how)
+        how = {"program": [SCRIPT], "env": environment(), "stderr": subprocess.DEVNULL}
+        started = room.start(["0", *M328P], closed=closed, **how)
         if status == 0:
             see(f"{closed}: it serves", started.stdout.readline().startswith(b"serving at "))
             started.terminate()
@@ -319,7 +317,7 @@ def refused():
 
 
 def installed():
-    """If it is installed, it finds the program, the part file, and the stamp of the build, as in a clone."""
+    """An installed server finds the program, the part file and the stamp of the build, as one in a clone does."""
     with tempfile.TemporaryDirectory() as folder:
         subprocess.run([TOP / "install.sh", folder], env=environment(), stdout=subprocess.DEVNULL, check=True)
         script = Path(folder, "bin/avrstk-serve")
@@ -328,7 +326,7 @@ def installed():
         shown = [ran(["--version"], it, AVRSTK="")[2].splitlines() for it in (SCRIPT, script)]
         stamp = ran(["--stamp-of", PROGRAM], TOP / "avrstk", AVRSTK="")[2].splitlines()
         rows = [it for it in stamp if not it.startswith(("sources", "program"))] or ["not known whether it is proved"]
-        wanted = [f"avrstk {(TOP / 'VERSION').read_text().strip()}", *rows]
+        wanted = [f"avrstk {VERSION}", *rows]
         same("--version, installed", shown[1], wanted)
         same("--version, in the clone", NAMED or shown[0], NAMED or wanted)
         Path(folder, "lib/avrstk/avrstk.stamp").unlink()
@@ -337,35 +335,27 @@ def installed():
 
 
 def status_of_sessions():
-    """Status 0 means that the chip of each session is saved, however the server is ended. Otherwise a line reports it."""
-    term, hold, on, kill = signal.SIGTERM, signal.SIGSTOP, signal.SIGCONT, signal.SIGKILL
-    # (what is sent to the server or its run, and the seconds after it)
-    rows = [
-        ("one SIGTERM", [("server", term, 0)], 0, ""),
-        ("SIGTERM to each process of a service", [("run", term, 0), ("server", term, 0)], 0, ""),
-        ("two, 4 ms apart", [("server", term, 0.004), ("server", term, 0)], 0, ""),
-        ("two, and a slow run", [("run", hold, 0), *[("server", term, 0.3)] * 2, ("run", on, 0)], 0, ""),
-        ("the run is killed", [("run", kill, 0.2), ("server", term, 0)], 1, failed("ended by signal 9")),
-        ("a run that doesn't end", [("run", hold, 0), ("server", term, 0)], 1, failed("ended by signal 9")),
-    ]
-    for name, acts, status, told in rows:
+    """Status 0 means that the chip of each session is saved, however the server is ended. Otherwise a line reports
+    it."""
+    for name, acts, told in table("ends"):
         room.clear()
         same("a chip", room.run(["-p", "m328p", "-P", "emu:chip.bin", "-q", "-U", "lfuse:w:0x11:m"])[0], 0)
         with Serving() as it:
             client, run = changes_fuse(it, 0x22)
-            for whom, number, pause in acts:
-                os.kill(run if whom == "run" else it.started.pid, number)
-                time.sleep(pause)
+            for whom, number, pause in map(str.split, acts.split(", ")):
+                os.kill(run if whom == "run" else it.started.pid, signal.Signals[f"SIG{number}"])
+                time.sleep(float(pause))
             same(f"{name}: its client is hung up on", client.recv(1), b"")
-            same(f"{name}: the status", it.started.wait(timeout=PATIENCE), status)
+            same(f"{name}: the status", it.started.wait(timeout=PATIENCE), int(told != ""))
             client.close()
-        same(f"{name}: its messages", it.messages.read_text(), told)
-        same(f"{name}: the fuse", fuse(), 0x11 if status else 0x22)
+        same(f"{name}: its messages", it.messages.read_text(), failed(told) if told else "")
+        same(f"{name}: the fuse", fuse(), 0x11 if told else 0x22)
         same(f"{name}: no run is left", runs(), [])
 
 
 def a_command():
-    """A command after -- is the client. Its end ends the server, whose status it is, or 1 if a chip was not saved."""
+    """A command after -- is run as the client. Its end ends the server, whose status it is, or 1 if a chip was not
+    saved."""
     client = [str(PROGRAM), "-p", "m328p", "-P", "net:{}", "-q", "-U", "lfuse:w:0x60:m"]
     same("a client", ran(["0", *M328P, "--", *client]), (0, "", ""))
     same("its fuse", fuse(), 0x60)
@@ -389,7 +379,7 @@ def a_command():
 
 
 def no_inner_port():
-    """Nobody can come between a client and its run: the run has no socket of the network."""
+    """No other process can come between a client and its run, because the run listens at no port."""
     with Serving() as it:
         client, run = changes_fuse(it, 0x60)
         rows = "".join(Path(f"/proc/net/{name}").read_text() for name in ["tcp", "tcp6", "udp", "udp6"])
@@ -403,7 +393,7 @@ def no_inner_port():
 
 
 def errors_end_one_session():
-    """If a run can't be started, the client is hung up on, and the next one is served."""
+    """If a run can't be started, the server disconnects the client and serves the next one."""
     for it in [PROGRAM, SESSION]:
         shutil.copy(it, room.folder / it.name)
     copy = room.folder / "avrstk_session"
@@ -421,11 +411,9 @@ def errors_end_one_session():
 
 
 def signals_that_are_ignored():
-    """Signals that were ignored when it began change no status, and hold up no end."""
-    how = {"cwd": room.folder, "env": environment(), "capture_output": True, "timeout": PATIENCE}
-    how["preexec_fn"] = lambda: signal.signal(signal.SIGCHLD, signal.SIG_IGN)
-    it = subprocess.run([SCRIPT, "0", "-p", "none", "--chip", "chip.bin"], **how)
-    same("SIGCHLD", (it.returncode, it.stderr), (1, lines("error: no part none")))
+    """Signals that were ignored when the server began don't end it, or change its status."""
+    found = ran(["0", "-p", "none", "--chip", "chip.bin"], before=lambda: signal.signal(signal.SIGCHLD, signal.SIG_IGN))
+    same("SIGCHLD", found, (1, lines("error: no part none").decode(), ""))
     with Serving(before=lambda: signal.signal(signal.SIGTERM, signal.SIG_IGN)) as it:
         it.started.terminate()
         same("SIGTERM", it.writes_fuse(0x60), 0)
@@ -433,7 +421,7 @@ def signals_that_are_ignored():
 
 
 def other_addresses():
-    """With --listen it serves at another address of this machine, and there alone."""
+    """With --listen the server serves at another address of this machine, and there alone."""
     for address, shown in [("127.0.0.2", "127.0.0.2"), ("0.0.0.0", "0.0.0.0"), ("::1", "[::1]"), ("localhost", None)]:
         room.clear()
         with Serving("--listen", address) as it:
@@ -457,11 +445,10 @@ def devices():
     with Serving("--pty", "device", "--idle", "3", port=None) as it:
         same("its line", it.said, b"serving at device\n")
         os.close(os.open(link, os.O_RDWR | os.O_NOCTTY))
-        words = [TOP / "avrstk-serial", "-p", "m328p", "-P", link, "--wait", "0", "-q"]
+        words = ["-p", "m328p", "-P", link, "--wait", "0", "-q"]
         for name in ["blink.hex:i", "whole.bin:r"]:
-            how = {"cwd": room.folder, "env": environment(), "capture_output": True, "timeout": PATIENCE}
-            ran = subprocess.run([*words, "-U", f"flash:w:{name}"], **how)
-            same(f"{name}: a client", (ran.returncode, ran.stderr), (0, b""))
+            found = ran([*words, "-U", f"flash:w:{name}"], TOP / "avrstk-serial")
+            same(f"{name}: a client", found, (0, "", ""))
             wait_until(lambda: not runs() and link.is_symlink())
         same("the chip", room.read("chip.bin")[:1024], room.read("whole.bin"))
         idle = os.open(link, os.O_RDWR | os.O_NOCTTY)
@@ -495,12 +482,19 @@ def devices():
 
 
 def avrdudes_in_a_row():
-    """Many runs of AVRDUDE, one right after the other, at one device: each ends."""
+    """Many runs of AVRDUDE at one device, one right after the other, all end."""
     if not has_avrdude():
         return leave_out("AVRDUDE at a device", "AVRDUDE 7.1 is not installed")
     command = 'for _ in $(seq 25); do timeout 60 avrdude -qq -c stk500v2 -p m2560 -P "$0" -U lfuse:v:0xff:m || exit; done'
     chip = ["-p", "m2560", "--chip", "chip.bin"]
     same("all end", ran([*chip, "--pty", "device", "--", "bash", "-c", command, "{}"])[0], 0)
+
+
+def has_read_all_of(client):
+    """Returns whether the server has read all that a client sent."""
+    ends = [f"0100007F:{port:04X}" for port in (client.getpeername()[1], client.getsockname()[1])]
+    rows = map(str.split, Path("/proc/net/tcp").read_text().splitlines())
+    return next(row[4] for row in rows if row[1:3] == ends).endswith(":00000000")
 
 
 def marks():
@@ -526,20 +520,11 @@ def logged():
             (run,) = runs()
             os.kill(run, signal.SIGSTOP)
             client.sendall(FRAMES[1])
-            time.sleep(0.2)
+            wait_until(lambda: has_read_all_of(client))
             os.kill(run, signal.SIGKILL)
             same("it is hung up on", client.recv(1), b"")
         it.end()
-    wanted = [
-        "1, 1: SIGN_ON 01",
-        "1, 2: ENTER_PROGMODE 10 c8 64 19 20 00 53 03 ac 53 00 00",
-        "1, 3: CHIP_ERASE 12 09 00 ac 80 00 00: refused (b0 c1)",
-        "1, 4: CHIP_ERASE 12: refused (12 c0)",
-        "2, 1: SIGN_ON 01",
-        "3, 1: SIGN_ON 01",
-        "3, 2: ENTER_PROGMODE 10 c8 64 19 20 00 53 03 ac 53 00 00: no reply",
-    ]
-    same("its lines", marks(), wanted)
+    same("its lines", marks(), [row for row, in table("log")])
 
 
 def state_of(memory, old):
@@ -550,7 +535,7 @@ def state_of(memory, old):
 
 
 def faults():
-    """Each fault is made, and each client gets as far as it can."""
+    """Makes each fault of the options; each client gets as far as it can."""
     emulated = ["-p", "m328p", "-P", "emu:chip.bin", "-qq", "-U", "flash:w:whole.bin:r", "-U", "eeprom:w:whole.bin:r"]
     clients = [[str(PROGRAM)], ["avrdude", "-c", "stk500v2"] if has_avrdude() else None]
     old = room.read("whole.bin")
@@ -564,7 +549,7 @@ def faults():
             words = [*client, "-p", "m328p", "-P", "net:{}", "-qq", *(["-D"] if "-D" in options else []), "-U", "flash:w:blink.hex:i"]
             status, told, _ = ran(["0", *M328P, "--log", "log", *own, "--", *words])
             chip = room.read("chip.bin")
-            found = f"{status}, {state_of(chip[:1024], old)}, {state_of(chip[32_768:LFUSE], old)}"
+            found = f"{status}, {state_of(chip[:1024], old)}, {state_of(chip[EEPROM:LFUSE], old)}"
             same(f"{options}: {client[0]}: status, flash, EEPROM", found, wanted)
             see(f"{options}: {client[0]}: the log", any(mark in row for row in marks()), marks())
             see(f"{options}: the seed is printed", ("--seed 7 makes the same faults again" in told) == ("%" in options), told)

@@ -1,10 +1,10 @@
 #!/usr/bin/env python3
 """Copies crates into other repositories by tools/vendor.sh, and builds a crate there that uses them: an example of
-examples/library with a contract of its own. The case `proof`, which runs only if named, proves it there. It also proves the
-link of examples/library, whose ghost members only a proof reads. That takes minutes if no rt ci at work has proved the
-crates below them.
+examples/library with a contract of its own. The case `proof`, which runs only if named, proves it there. It also proves
+the link of examples/library, whose ghost members only a proof reads. That takes minutes if no rt ci at work has proved
+the crates below them.
 
-Not proved: Scripts of the shell.
+Not proved: Scripts of the shell are not Rattle.
 
     tests/vendor.py [CASE ..]
 """
@@ -18,9 +18,8 @@ import tempfile
 from contextlib import contextmanager
 from pathlib import Path
 
-from cases import named, run_cases, same, see
+from cases import TOP, named, run_cases, same, see
 
-TOP = Path(__file__).resolve().parent.parent
 PARTS = ("src", "specs", "proofs", "README.md")
 FOREIGN = "patch_serial_number"
 EXAMPLE = "a_link_of_ones_own"
@@ -41,9 +40,8 @@ mod tests {
 }
 """
 
-
-# Writes rt's stamps into the copy below this folder: rt takes a library for built if its stamp is the sum of its sources. No
-# command of rt writes one for what rt ci built, so this is the one place that knows the kit's own files.
+# Writes rt's stamps into the copy below this folder: rt takes a library for built if its stamp is the sum of its
+# sources. No command of rt writes one for what rt ci built, so this is the one place that knows the kit's own files.
 STAMPS = """
 import importlib.machinery, importlib.util, os, sys
 kit, names = sys.argv[1], sys.argv[2:]
@@ -88,10 +86,14 @@ def repository():
         yield top
 
 
+def ran(words, folder=TOP):
+    """Runs a command in a folder, and returns its status and output."""
+    it = subprocess.run(words, cwd=folder, stdout=subprocess.PIPE, stderr=subprocess.STDOUT, text=True)
+    return it.returncode, it.stdout
+
+
 def vendor(*words):
-    """Runs the script and returns its status and output."""
-    ran = subprocess.run([TOP / "tools/vendor.sh", *words], stdout=subprocess.PIPE, stderr=subprocess.STDOUT, text=True)
-    return ran.returncode, ran.stdout
+    return ran([TOP / "tools/vendor.sh", *words])
 
 
 def files(top):
@@ -163,11 +165,6 @@ def refusals():
         same("another line", vendor("avr_image", top), (1, f"vendor.sh: error: {line.format(top)}\n"))
 
 
-def rt(words, folder):
-    ran = subprocess.run(["rt", *words], cwd=folder, stdout=subprocess.PIPE, stderr=subprocess.STDOUT, text=True)
-    return ran.returncode, ran.stdout
-
-
 def add_example(name, top):
     """Adds an example as a library, without its `main`, which tests/rattle.py runs."""
     source = (TOP / f"examples/library/{name}.rs").read_text()
@@ -179,7 +176,7 @@ def add_example(name, top):
     (crate / "src/lib.rt").write_text(source.partition("\nfn main(")[0])
     with (top / "crates.txt").open("a") as lines:
         lines.write(f"{name}: {needs}\n")
-    same("the example's layout", rt(["fmt"], crate)[0], 0)
+    same("the example's layout", ran(["rt", "fmt"], crate)[0], 0)
 
 
 @contextmanager
@@ -199,7 +196,7 @@ def build():
         (tests / "lib.rt").write_text(TEST)
         with (top / "crates.txt").open("a") as lines:
             lines.write(f"tests: avr_image {FOREIGN}\n")
-        status, text = rt(["try", "--test"], tests.parent)
+        status, text = ran(["rt", "try", "--test"], tests.parent)
         see("its tests pass", status == 0 and "1 passed" in text, text[-600:])
 
 
@@ -207,7 +204,7 @@ def proof():
     with foreign(FOREIGN, EXAMPLE) as top:
         lend(top)
         for name in (FOREIGN, EXAMPLE):
-            status, text = rt(["check"], top / "crates" / name)
+            status, text = ran(["rt", "check"], top / "crates" / name)
             see(f"{name} is proved", status == 0 and "logic=proved" in text.splitlines()[-1], text[-600:])
 
 

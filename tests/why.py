@@ -1,8 +1,8 @@
 #!/usr/bin/env python3
-"""Compares what README and docs/WHY say beside AVRDUDE with runs of both programs: the tables of examples/lossy/compare.py,
-the frames, files that are no firmware, and a programmer that never replies.
+"""Compares what README and docs/WHY say beside AVRDUDE with runs of both programs: the tables of
+examples/lossy/compare.py, the frames, files that are no firmware, and a programmer that never replies.
 
-Not proved: AVRDUDE is a program of others; time.
+Not proved: AVRDUDE is a program of others, and no proof covers time.
 
     tests/why.py        needs a built program (program.py); rows and frames of AVRDUDE 7.1 are left out without it
 """
@@ -84,7 +84,7 @@ def frames_are_sent():
 
 
 def bad_files():
-    """How AVRDUDE 7.1 handles files, over the served programmer."""
+    """Checks what docs/USAGE says of how AVRDUDE 7.1 handles files."""
     if not has_avrdude():
         return leave_out("AVRDUDE's part", "AVRDUDE 7.1 is not installed")
     hexes, source = ((TOP / f"examples/blink.{it}").read_text() for it in ("hex", "c"))
@@ -113,7 +113,7 @@ def bad_files():
 
 
 def no_answer():
-    """README: how long avrstk and AVRDUDE try to reach a programmer that never replies."""
+    """Checks how long avrstk and AVRDUDE try to reach a programmer that never replies, as README says."""
     row = re.search(r"^\| a programmer that never replies \|.*", (TOP / "README.md").read_text(), re.M)[0]
     patient, first, last = map(int, re.findall(r"(\d+) s", row))
     room.clear()

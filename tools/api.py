@@ -2,10 +2,9 @@
 signatures of their sources.
 
 A page has the crate's own text, a table of its exports, and then each type, trait and call: its signature without ghost
-members and private fields, its text, and its contract, folded. The definitions that a contract names follow it: as links,
-and as a text if they are short. Laws (functions with an empty body) come last. An export of a crate without a page is
-here, too; one of another page is a link. Sources are read as `rt fmt` leaves them.
-"""
+members and private fields, its text, and its contract, folded. The definitions that a contract names follow it: as
+links, and as a text if they are short. Laws (functions with an empty body) come last. An export of a crate without a
+page is here, too; one of another page is a link. Sources are read as `rt fmt` leaves them. """
 
 import re
 import sys
@@ -18,7 +17,8 @@ from reach import FILES, File, named_in
 
 CRATES = "avr_image avr_records avr_part stk_frame stk_host stk_emu avr_desk avr_cli avr_plan avr_session avr_tool".split()
 
-# an item at the left margin, with its comment and attributes: all of a type or an impl, of a function what precedes its body
+# an item at the left margin, with its comment and attributes: all of a type or an impl, of a function what precedes its
+# body
 ITEM = re.compile(
     r"((?:^///[^\n]*\n)*)((?:^(?:#\[|// )[^\n]*\n)*)^((?:pub |final )?(?:"
     r"(?:struct|enum|trait|impl)\b(?:[^\n]*(?:;|\{\})$|.*?^\}$)"
@@ -30,7 +30,6 @@ LINK = re.compile(r"\[`([\w:]+)`\](?:\([\w:]*\))?")
 FOLDED = {"trait": "In contracts", "law": "Law"}
 # what a type is in contracts, and what `{:?}` prints: nothing that a user calls
 HIDDEN = re.compile(r"impl.* (?:Model|fmt::Debug) for ")
-
 
 # the most lines of a definition that follows a contract as a text
 SHORT = 6
@@ -68,7 +67,8 @@ def items(source, place):
 
 
 def exports(crate):
-    """Returns the items that a crate exports, in the order of its root, and the names of other crates that have a page."""
+    """Returns the items that a crate exports, in the order of its root, and the names of other crates that have a
+    page."""
     source = TOP / "crates" / crate / "src"
     files = {}
     for path in sorted(source.glob("*.rt")):
@@ -106,7 +106,8 @@ def link(name, crate):
 
 
 def text(doc, crate):
-    """Returns a comment as a page has it: `# Errors` begins a paragraph, a name in brackets is a link if a page has it."""
+    """Returns a comment as a page has it: `# Errors` begins a paragraph, a name in brackets is a link if a page has
+    it."""
     joined = re.sub(r"^# (\w+)\n+", r"**\1:** ", "\n".join(doc), flags=re.M).replace("```text", "```rust")
     return LINK.sub(lambda it: link(it[1].removeprefix("crate::"), crate), joined)
 

@@ -1,6 +1,6 @@
 #!/usr/bin/env python3
-"""Writes the parts of the man pages (docs/*.1 and *.7) that come from the manual (docs/USAGE, EMULATOR, TROUBLESHOOTING,
-BOARDS).
+"""Writes the parts of the man pages (docs/*.1 and *.7) that come from the manual (docs/USAGE, EMULATOR,
+TROUBLESHOOTING, BOARDS).
 
     tools/man_pages.py             fails if a page is out of date
     tools/man_pages.py --write     writes these parts: each is between a comment with its page, its section (and the kind of
@@ -9,10 +9,10 @@ BOARDS).
 
 import re
 import sys
-from pathlib import Path
 from textwrap import wrap
 
-TOP = Path(__file__).resolve().parent.parent
+from kept import TOP, kept
+
 MANUAL = [TOP / f"docs/{it}.md" for it in ["USAGE", "EMULATOR", "TROUBLESHOOTING", "BOARDS"]]
 SECTIONS = {"avrstk": 1, "avrstk-serial": 1, "avrstk-serve": 1, "avrstk-emulator": 7}
 PAGES = {name: TOP / f"docs/{name}.{section}" for name, section in SECTIONS.items()}
@@ -27,7 +27,6 @@ SHOWN_WIDTH = 66
 
 # sentences that only apply in the repository
 HERE_ALONE = re.compile(r"\bclone\b|\brepository\b")
-
 
 # characters with a special meaning in roff
 ESCAPES = str.maketrans({"\\": "\\e", "-": "\\-", "'": "\\(aq", "`": "\\(ga", "^": "\\(ha", "~": "\\(ti"})
@@ -163,7 +162,8 @@ def places():
 
 
 def for_page(text, page, places):
-    """Returns a text of the manual for a man page: without references to the repository, and with the page's own headings."""
+    """Returns a text of the manual for a man page: without references to the repository, and with the page's own
+    headings."""
     text = re.sub(r"; docs/[A-Z]+(?=\))| \((?:docs/|CHANGELOG)[^()]*\)", "", text)
     text = re.sub(r"; \[[A-Z]+\]\([^()]*\)(?=\))|\s\(\[[A-Z]+\]\([^()]*\)\)", "", text)
     text = re.sub(r"\(\[([^]]+)\]\([A-Z]*(?:\.md)?#[^()]*\)\)", r'("\1")', text)
@@ -213,16 +213,5 @@ def page(name):
     return "\n".join(rows) + "\n"
 
 
-def main():
-    if sys.argv[1:] == ["--write"]:
-        for name, file in PAGES.items():
-            file.write_text(page(name))
-    old = [name for name, file in PAGES.items() if file.read_text() != page(name)]
-    for name in old:
-        print(f"{PAGES[name].name} is out of date: tools/man_pages.py --write")
-    print(f"{len(PAGES) - len(old)} passed, {len(old)} failed")
-    return int(bool(old))
-
-
 if __name__ == "__main__":
-    sys.exit(main())
+    sys.exit(kept({file: page(name) for name, file in PAGES.items()}))

@@ -7,10 +7,9 @@
     tools/measure.py --check    fails if one of them is out of date, or if a document has a sentence over 30 words
 
 Only files known to git are read. Code is counted in src/, without tests and contracts. Contracts are the clauses of
-functions, definitions are in specs/, and proofs in proofs/. Blank lines, comments and `use` lines are never counted. Wide
-lines have more than 120 columns, except imports. A clause is one `requires` or `ensures`; the mean is over public
-functions. The program's row is the sum of the crates of the programs (`avrstk` ..) and of all below them.
-"""
+functions, definitions are in specs/, and proofs in proofs/. Blank lines, comments and `use` lines are never counted.
+Wide lines have more than 120 columns, except imports. A clause is one `requires` or `ensures`; the mean is over public
+functions. The program's row is the sum of the crates of the programs (`avrstk` ..) and of all below them. """
 
 import re
 import subprocess
@@ -18,9 +17,9 @@ import sys
 from collections import defaultdict
 from pathlib import Path
 
+from kept import TOP, kept
 from reach import FILES
 
-TOP = Path(__file__).resolve().parent.parent
 PAGE, README = TOP / "docs/ARCHITECTURE.md", TOP / "README.md"
 WIDEST = 120
 SHARED = "Types of data that several crates have under one name: "
@@ -67,7 +66,8 @@ def depth(line):
 
 
 def clauses_in(name):
-    """Returns the lines of clauses in a file of src/, and for each function whether it is public and its number of clauses."""
+    """Returns the lines of clauses in a file of src/, and for each function whether it is public and its number of
+    clauses."""
     contract, functions, open_braces = [], [], 0
     for line in lines_of(name):
         function = FUNCTION.match(line)
@@ -115,8 +115,8 @@ def meanings():
 
 
 def types():
-    """Returns the names of types that several crates have, in sources or definitions, with these crates. If a crate has a
-    type and a definition of one name, they count as one."""
+    """Returns the names of types that several crates have, in sources or definitions, with these crates. If a crate has
+    a type and a definition of one name, they count as one."""
     places = defaultdict(set)
     for name, files in CRATES.items():
         for file in files:
@@ -160,7 +160,8 @@ def with_figures(page):
 
 
 def with_sums(readme, page):
-    """Returns README with the sums of code and proofs of this page's table, rounded to hundreds, and the count of mutants."""
+    """Returns README with the sums of code and proofs of this page's table, rounded to hundreds, and the count of
+    mutants."""
     code, proofs = (round(int(it), -2) for it in re.search(r"^\| in all \| (\d+) \| \d+ \| \d+ \| (\d+) ", page, re.M).groups())
     told = f"About {code:,} lines of code, with {proofs:,} of proofs; {len(list(TOP.glob('crates/*/must-fail/*.edit')))} mutants"
     return re.sub(r"About [\d,]+ lines of code, with [\d,]+ of proofs; \d+ mutants", told, readme)
@@ -182,18 +183,11 @@ def long_sentences(name):
 
 
 def main():
-    page = PAGE.read_text()
-    if "--check" in sys.argv:
-        readme = README.read_text()
-        made = {PAGE.name: with_figures(page) == page, README.name: with_sums(readme, page) == readme}
-        wrong = [f"{name} has other figures: tools/measure.py --write" for name, is_so in made.items() if not is_so]
-        wrong += [f"{name} has a sentence over {LONG} words: {it}" for name in documents() for it in long_sentences(name)]
-        print("\n".join([*wrong, f"{int(not wrong)} passed, {len(wrong)} failed"]))
-        sys.exit(int(bool(wrong)))
-    if "--write" in sys.argv:
-        PAGE.write_text(page := with_figures(page))
-        README.write_text(with_sums(README.read_text(), page))
-        return
+    if sys.argv[1:] in (["--check"], ["--write"]):
+        page = with_figures(PAGE.read_text())
+        long = ((name, it) for name in documents() for it in long_sentences(name))
+        wrong = [f"{name} has a sentence over {LONG} words: {it}" for name, it in long]
+        sys.exit(kept({PAGE: page, README: with_sums(README.read_text(), page)}, wrong))
     print("\n\n".join(figures()))
     if "-v" in sys.argv:
         print("\n".join(f"  {name}: {', '.join(where)}" for name, where in sorted(meanings().items())))

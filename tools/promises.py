@@ -1,23 +1,21 @@
 #!/usr/bin/env python3
-"""Writes the tables of docs/PROMISES: laws of the crates that carry the headline, by their comments, and calls of avr_tool.
+"""Writes the table of docs/PROMISES: laws of the crates that carry the headline, by their comments.
 
     tools/promises.py             fails if the page is out of date
-    tools/promises.py --write     writes the tables
+    tools/promises.py --write     writes the table
 
-A law has its first sentence. A call has the statements that its contract names; if it names none, the functions.
+A law has the first sentence of its comment.
 """
 
 import re
 import sys
-from pathlib import Path
 
 from api import TOP, exports
-from reach import FILES, named_in
+from kept import kept
 
 PAGE = TOP / "docs/PROMISES.md"
 CRATES = ("avr_laws", "avr_tool", "avr_session", "avr_plan")
-CALLS = "avr_tool"
-MADE = re.compile(r"(<!-- made: (\w+) -->\n).*?(<!-- end -->\n)", re.S)
+MADE = re.compile(r"(?<=<!-- made: laws -->\n).*?(?=<!-- end -->\n)", re.S)
 
 
 def begun(doc):
@@ -36,25 +34,9 @@ def laws():
                 yield f"| `{it.name}`{'' if crate == 'avr_laws' else f' of {crate}'} | {begun(it.doc)} |"
 
 
-def calls():
-    """Yields the rows of the calls. The name of a statement begins with a capital letter."""
-    yield from ["| Call | Its contract names |", "| --- | --- |"]
-    for it in exports(CALLS)[0]:
-        named = {place for place in named_in(*it.place, "\n".join(it.contract)) if place} if it.kind == "fn" else ()
-        own = [(file, name) for of, file, name in sorted(named) if of == CALLS]
-        if own:
-            shown = [f"`{file}.{name}`" for file, name in [at for at in own if at[1][0].isupper()] or own]
-            yield f"| `{it.name}` | {', '.join(shown)} |"
-
-
 def page():
-    made = {"laws": laws, "calls": calls}
-    return MADE.sub(lambda it: f"{it[1]}{''.join(f'{row}{chr(10)}' for row in made[it[2]]())}{it[3]}", PAGE.read_text())
+    return MADE.sub(lambda _: "".join(f"{row}\n" for row in laws()), PAGE.read_text())
 
 
 if __name__ == "__main__":
-    if sys.argv[1:] == ["--write"]:
-        PAGE.write_text(page())
-    is_made = PAGE.read_text() == page()
-    print(f"{PAGE.name} is out of date: tools/promises.py --write\n" * (not is_made) + f"{int(is_made)} passed, {int(not is_made)} failed")
-    sys.exit(int(not is_made))
+    sys.exit(kept({PAGE: page()}))

@@ -8,17 +8,16 @@
                                      looks for each definition (`File.name`) and law that the documents name, and for the
                                      lemmas of PROOFS that show that the promise isn't empty
 
-A definition reaches the definitions that its text names, in its own file or brought in by `use` lines. Definitions of std,
-of other libraries and of Rust (an enum, a struct) are listed but not counted. A variable with the name of a definition
-counts as that definition, so a figure can be too high, but not too low. Lines are those of the definitions, without
-comments and `use` lines.
-"""
+A definition reaches the definitions that its text names, in its own file or brought in by `use` lines. Definitions of
+std, of other libraries and of Rust (an enum, a struct) are listed but not counted. A variable with the name of a
+definition counts as that definition, so a figure can be too high, but not too low. Lines are those of the definitions,
+without comments and `use` lines. """
 
 import re
 import sys
-from pathlib import Path
 
-TOP = Path(__file__).resolve().parent.parent
+from kept import TOP, kept
+
 PAGE, README = TOP / "docs/PROOFS.md", TOP / "README.md"
 # the documents whose names are looked for
 NAMING = ("PROOFS", "PROMISES", "CHECK", "LIBRARY")
@@ -157,8 +156,8 @@ def with_lines(readme, page):
 
 def lacking():
     """Returns the definitions and laws that documents name and that aren't there: `File.name`; a name of several words
-    with capital letters, which may also be a type of Rust (docs/LIBRARY has std's, too); and a name of four words or more,
-    which is a law."""
+    with capital letters, which may also be a type of Rust (docs/LIBRARY has std's, too); and a name of four words or
+    more, which is a law."""
     sources = "\n".join(it.read_text() for it in TOP.glob("crates/*/src/**/*.rt"))
     functions = set(re.findall(r"\bfn (\w+)", sources)) | {it.stem for it in TOP.glob("crates/*/must-fail/*.edit")}
     types = set(re.findall(r"\b(?:struct|enum|trait|type) (\w+)", sources)) | {file for _, file in FILES}
@@ -176,8 +175,8 @@ def lacking():
 
 
 def unshown(page):
-    """Yields what is wrong in the table of worlds. A lemma has to be there and to name the definition of its row; one that
-    refuses a world ends in `→ ⊥`. The promise has to reach the definition."""
+    """Yields what is wrong in the table of worlds. The promise has to reach each definition. Each lemma has to be there,
+    and its statement to name the definition of its row. A statement that refuses a world ends in `→ ⊥`."""
     lemma = re.compile(r"^(?:pub )?(\w+) :\s(.*?)\n(?=unfolding |\1 )", re.M | re.S)
     rows = {f"Rows.{it.stem}": dict(lemma.findall(it.read_text())) for it in TOP.glob("crates/avr_laws/proofs/Rows/*.antt")}
     promise = reached(roots_of(PROMISE))
@@ -192,16 +191,9 @@ def unshown(page):
 
 
 def main(words):
-    if words == ["--write"]:
-        PAGE.write_text(page := with_figures(PAGE.read_text()))
-        return README.write_text(with_lines(README.read_text(), page))
-    if words == ["--check"]:
-        page = PAGE.read_text()
-        is_made = with_figures(page) == page and with_lines(README.read_text(), page) == README.read_text()
-        wrong = [] if is_made else [f"{PAGE.name} or {README.name} has other figures: tools/reach.py --write"]
-        wrong += [*lacking(), *unshown(page)]
-        print("\n".join([*wrong, f"{int(not wrong)} passed, {len(wrong)} failed"]))
-        return sys.exit(int(bool(wrong)))
+    if words in (["--check"], ["--write"]):
+        page = with_figures(PAGE.read_text())
+        sys.exit(kept({PAGE: page, README: with_lines(README.read_text(), page)}, [*lacking(), *unshown(page)]))
     roots = [root for it in words if it != "-v" for root in roots_of(it)] or sys.exit(__doc__)
     seen = reached(roots)
     files = sorted({(crate, file) for crate, file, _ in seen})
@@ -209,7 +201,6 @@ def main(words):
     for crate, file in files if "-v" in words else []:
         names = sorted(name for c, f, name in seen if (c, f) == (crate, file))
         print(f"  {crate}/specs/{file}: {', '.join(names)}")
-    return None
 
 
 if __name__ == "__main__":

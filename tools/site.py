@@ -95,8 +95,8 @@ def definitions(crate):
 
 
 def blocks(path, named):
-    """Yields the blocks of a file of definitions, without its `use` lines, each in a fence behind the anchors of what it
-    defines."""
+    """Yields the blocks of a file of definitions, without its `use` lines, each in a fence behind the anchors of what
+    it defines."""
     text = "\n".join(it for it in path.read_text().splitlines() if not USE.match(it))
     for block in filter(None, re.split(r"\n{2,}", text.strip())):
         names = re.findall(r"^(?:(?:abbrev|unfoldable) pub|pub (?:record|data)) (\S+)", block, re.M)

@@ -11,9 +11,9 @@ name and the first sentence of its text.
 import ast
 import re
 import sys
-from pathlib import Path
 
-TOP = Path(__file__).resolve().parent.parent
+from kept import TOP, kept
+
 PAGE = TOP / "tests/README.md"
 # the modules that the scripts share, and the runner
 SHARED = ("all", "cases", "disk", "line", "program", "records")
@@ -59,9 +59,4 @@ def page():
 
 
 if __name__ == "__main__":
-    made = page()
-    if sys.argv[1:] == ["--write"]:
-        PAGE.write_text(made)
-    is_made = PAGE.exists() and PAGE.read_text() == made
-    print("" if is_made else "tests/README.md is out of date: tools/tests_page.py --write\n", f"{int(is_made)} passed, {int(not is_made)} failed", sep="")
-    sys.exit(int(not is_made))
+    sys.exit(kept({PAGE: page()}))

@@ -26,7 +26,7 @@ abbrev pub image_file : Bytes → Format → List Bytes
 image_file file Immediate = []
 image_file file format = file ∷ []
 
--- The file of an update that writes or compares; none if the memory can't be written.
+-- The file of an update that writes or compares. A write to a read-only memory reads none.
 abbrev pub file_of_op : Update → Op → List Bytes
 file_of_op u op.Write = if is_writable u.memory then image_file u.file u.format else []
 file_of_op u op.Verify = image_file u.file u.format

@@ -8,7 +8,7 @@ use Rattle.stk_emu.specs.Effect.{Image, Memories, effects, memory_in}
 use Rattle.stk_emu.specs.StepData.{HoldsImage}
 use Rattle.avr_tool.specs.Items.{action_items}
 
--- The memory holds the image's byte at every address of the image.
+-- At each address of the memory at which the image has a byte, the memory has that byte.
 abbrev pub MemoryHoldsImage : Part → Mem → Image → Memories → Type 0
 MemoryHoldsImage part mem image m = HoldsImage image (memory_in part mem m)
 

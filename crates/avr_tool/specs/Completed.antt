@@ -29,22 +29,23 @@ steps_completed m [] k p exchanges = 0
 steps_completed m (commands ∷ steps) k p exchanges = let s = state_after m k (step commands) p exchanges in
     step_count s.dialog (steps_completed m steps s.left s.programmer s.exchanges)
 
-abbrev pub none_made : Count Programmer
-none_made k p exchanges = 0
+abbrev pub none_completed : Count Programmer
+none_completed k p exchanges = 0
 
--- An action makes the write operations of its items; opening, comparing and saving make none.
-abbrev pub action_made : Part → Action → Count Programmer
-action_made part action = steps_completed device (steps_of_items part (action_items action))
+-- An action's write operations are those of its items; opening, comparing and saving have none.
+abbrev pub action_completed : Part → Action → Count Programmer
+action_completed part action = steps_completed device (steps_of_items part (action_items action))
 
-abbrev pub made_unless_fault : Count Programmer → Standing → Count Programmer
-made_unless_fault next NoFault = next
-made_unless_fault next _ = none_made
+abbrev pub completed_unless_fault : Count Programmer → Standing → Count Programmer
+completed_unless_fault next NoFault = next
+completed_unless_fault next _ = none_completed
 
-abbrev pub actions_made : Part → Switches → List Action → Count Programmer
-actions_made part s [] = none_made
-actions_made part s (action ∷ actions) = then_count device (action_dialog part s action) (action_made part action)
-    (made_unless_fault (actions_made part s actions))
+abbrev pub actions_completed : Part → Switches → List Action → Count Programmer
+actions_completed part s [] = none_completed
+actions_completed part s (action ∷ actions) =
+    then_count device (action_dialog part s action) (action_completed part action)
+    (completed_unless_fault (actions_completed part s actions))
 
--- The end of a session makes none.
+-- The number of the plan's write operations completed after `k` commands along the link. The end of a session has none.
 abbrev pub operations_completed : Plan → Count Programmer
-operations_completed plan = actions_made plan.part plan.switches (actions plan)
+operations_completed plan = actions_completed plan.part plan.switches (actions plan)

@@ -10,6 +10,7 @@ pub record Device (P : Type 0) : Type 0 where
   pub after : List ℕ → P → P
   pub reset : P → P
 
+-- The emulated programmer as a device.
 abbrev pub device : Device Programmer
 device = record {
   answer = λ bytes p. (execute bytes p).0;
@@ -17,6 +18,7 @@ device = record {
   reset = restarted_programmer;
 }
 
+-- The body of the reply to a damaged frame.
 abbrev pub refusal : List ℕ
 refusal = 0xB0 ∷ 0xC1 ∷ []
 

@@ -24,6 +24,7 @@ memories_of s =
 abbrev pub Image : Type 0
 Image = List (Option ℕ)
 
+-- A change of the memories: an erase of the chip, or the write of an image to one.
 pub data Item : Type 0 where
   Erase : Item
   Write : Mem → Image → Item

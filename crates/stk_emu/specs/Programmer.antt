@@ -12,7 +12,9 @@ use Rattle.stk_frame.specs.Decoding.{command_of}
 use Rattle.stk_emu.specs.declared.flash.Block.{Block}
 use Rattle.stk_emu.specs.declared.programmer.TheConstants.{LARGEST_READ}
 
+-- The state of the emulated programmer.
 pub record Programmer : Type 0 where
+  -- whether it is in programming mode
   pub mode : Bool
   -- 31 bits
   pub address : ℕ
@@ -21,6 +23,7 @@ pub record Programmer : Type 0 where
   pub parameters : List ℕ
   pub chip : ChipState
 
+-- At power-on it is outside programming mode, and its address and parameters are 0.
 abbrev pub fresh_programmer : ChipState → Programmer
 fresh_programmer chip = record { mode = false; address = 0; wide = false; parameters = replicate 256 0; chip = chip }
 
@@ -68,7 +71,7 @@ at_address cmd address byte = cmd ∷ high address ∷ low address ∷ byte ∷ 
 abbrev pub extension : Bool → ℕ → List (List ℕ)
 extension wide address = if wide then (0x4D ∷ 0 ∷ (address / 65536 % 256) ∷ 0 ∷ []) ∷ [] else []
 
--- The instruction for the low or the high byte of a word.
+-- The first byte of the instruction for byte `i` of a block: bit 3 is set for the high byte of a word.
 abbrev pub for_half : ℕ → ℕ → ℕ
 for_half cmd i = if i % 2 == 0 then cmd else bit_or cmd 8
 

@@ -9,14 +9,15 @@ use Rattle.stk_emu.specs.Effect.{Memories, memories_of}
 abbrev pub NeedsNoExtendedAddress : Part → Type 0
 NeedsNoExtendedAddress part = part.flash_size ≤ 131072
 
--- A programmer in any mode, with a chip of this part that has these memories.
+-- A programmer in any mode, with a chip of this part that has these memories and page buffers of the part's sizes.
 pub record HasMemories (part : Part) (m : Memories) (p : Programmer) : Type 0 where
   pub memories : memories_of p.chip ≡ m
   pub part_is : p.chip.part ≡ part
   pub flash_buffer : length p.chip.flash_buffer ≡ part.flash_page
   pub eeprom_buffer : length p.chip.eeprom_buffer ≡ part.eeprom_page
 
--- A settled programmer in programming mode.
+-- A programmer in programming mode, with a chip of this part that has these memories and empty page buffers. Its
+-- extended address is 0 if the part needs none.
 pub record Ready (part : Part) (m : Memories) (p : Programmer) : Type 0 where
   pub memories : memories_of p.chip ≡ m
   pub part_is : p.chip.part ≡ part

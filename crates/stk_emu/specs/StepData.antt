@@ -34,6 +34,6 @@ data_of_steps part [] m = []
 data_of_steps part (commands ∷ steps) m = data_of_step part commands m
     ++ data_of_steps part steps (memories_after_step part commands m)
 
--- The memory has the image's byte at each address that the image holds.
+-- At each address of the memory at which the image has a byte, the memory has that byte.
 abbrev pub HoldsImage : Image → List ℕ → Type 0
 HoldsImage image bytes = (i b : ℕ) → byte_at image i ≡ Some b → i < length bytes → slice_index bytes i ≡ b

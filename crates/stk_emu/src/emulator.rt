@@ -66,7 +66,7 @@ fn reply_to_event(reader: &FrameReader, event: Event, programmer: &mut Programme
 /// ```text
 /// let chip = Chip::fresh(alloc, Parts::none().find("t85")?)?;
 /// let mut emulator = Emulator::new(chip);
-/// let mut answer = ArrayVec::new();
+/// let mut reply = ArrayVec::new();
 /// let used = emulator.feed(b"\x1B\x01\x00\x01\x0E\x01\x14", &mut reply);
 /// assert_eq!(rt; used, 7);
 /// assert!(rt; reply.as_slice() == b"\x1B\x01\x00\x0B\x0E\x01\x00\x08STK500_2\x02".as_slice());
@@ -136,7 +136,7 @@ impl Emulator {
     /// ```text
     /// let chip = Chip::fresh(alloc, Parts::none().find("t85")?)?;
     /// let mut emulator = Emulator::new(chip);
-    /// let mut answer = ArrayVec::new();
+    /// let mut reply = ArrayVec::new();
     /// let spoiled = b"\x1B\x01\x00\x01\x0E\x01\x15";
     /// assert_eq!(rt; emulator.feed(spoiled, &mut reply), 7);
     /// assert!(rt; reply.as_slice() == b"\x1B\x01\x00\x02\x0E\xB0\xC1\x67".as_slice());

@@ -27,9 +27,9 @@ use stk_frame::LARGEST_FRAME;
 /// let chip = Chip::fresh(alloc, Parts::none().find("t85")?)?;
 /// let mut port = EmulatedPort::new(alloc, Emulator::new(chip));
 /// port.write_all(b"\x1B\x01\x00\x01\x0E\x01\x15")?;
-/// let mut answer = [0; 281];
+/// let mut reply = [0; 281];
 /// assert_eq!(rt; port.read(&mut reply)?, 8);
-/// assert!(rt; &answer[..8] == b"\x1B\x01\x00\x02\x0E\xB0\xC1\x67".as_slice());
+/// assert!(rt; &reply[..8] == b"\x1B\x01\x00\x02\x0E\xB0\xC1\x67".as_slice());
 /// ```
 #[derive(Debug, Drop)]
 pub struct EmulatedPort {

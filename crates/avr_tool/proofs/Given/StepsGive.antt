@@ -7,12 +7,12 @@ use Rattle.avr_part.specs.Part.{Part, IsPart}
 use Rattle.stk_frame.specs.declared.command.Command.{Command}
 use Rattle.stk_frame.specs.declared.host_command.Fuse.{Fuse}
 use Rattle.stk_frame.specs.Commands.{body}
-use Rattle.stk_frame.specs.HostCommands.{program_page, program_eeprom_block, program_fuse, read_flash_block, read_eeprom_block, read_fuse, read_lock, read_signature, read_calibration}
+use Rattle.stk_frame.specs.HostCommands.{program_page, program_eeprom_block, program_fuse, read_flash_block, read_eeprom_block, read_lock, read_signature, read_calibration}
 use Rattle.stk_host.specs.Tape.{Answered}
 use Rattle.stk_host.specs.Places.{flash_address, load_flash, load_eeprom}
 use Rattle.stk_host.specs.Steps.{Data, reply_from_reading}
 use Rattle.stk_host.proofs.ImagePlaces.PagesAndRuns.{page_most}
-use Rattle.stk_emu.specs.Programmer.{Programmer, execute_command, flash_reads, eeprom_reads}
+use Rattle.stk_emu.specs.Programmer.{Programmer, flash_reads, eeprom_reads}
 use Rattle.stk_emu.specs.Programmer as programmer
 use Rattle.stk_emu.specs.Device.{Device, device}
 use Rattle.stk_emu.specs.Effect.{Memories, effect, effects, Item}

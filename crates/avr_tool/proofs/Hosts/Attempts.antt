@@ -1,7 +1,6 @@
 -- Dialogs along a link: attempts and steps.
-use Rattle.std.proofs.Common.{◌≡◌, ℕ, zero, suc, List, refl, ◌⊎◌, Ok, Err}
+use Rattle.std.proofs.Common.{◌≡◌, ℕ, zero, suc, List, refl, ◌⊎◌, Ok}
 use Rattle.stk_frame.specs.declared.command.Command.{Command}
-use Rattle.stk_host.specs.declared.fault.StepFault.{StepFault}
 use Rattle.stk_host.specs.Dialog.{Dialog, Done, Emit, Ask, ◌>>=◌}
 use Rattle.stk_host.specs.Steps.{StepOutcome, step}
 use Rattle.stk_emu.specs.Exchange.{Exchange, later_exchanges}

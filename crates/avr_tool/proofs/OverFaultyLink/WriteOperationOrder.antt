@@ -26,7 +26,7 @@ use Rattle.avr_session.specs.Actions.{Action, OpenSession, EraseChip, WriteImage
 use Rattle.avr_session.specs.PlanSteps.{action_steps}
 use Rattle.avr_session.specs.Session.{reported, closing_output, action_dialog, actions_dialog, ending, session_dialog, status_of, session}
 use Rattle.avr_tool.specs.Items.{action_items, actions_items, items}
-use Rattle.avr_tool.specs.Completed.{none_made, action_made, actions_made, operations_completed}
+use Rattle.avr_tool.specs.Completed.{none_completed, action_completed, actions_completed, operations_completed}
 use Rattle.avr_tool.specs.Outcome.{write_operations}
 use Rattle.avr_tool.proofs.Plans.Fits.{FitsAction, AllFitActions, work, work_fits, action_items_fit}
 use Rattle.avr_tool.proofs.OverFaultyLink.FirstSteps.{Rests, rests_here, effects_sizes}
@@ -67,16 +67,16 @@ module _ (part : Part) (sound : IsPart part) (s : Switches) where
 
   makes_written : (action : Action) (m : Memories) → FitsAction part action → FitsPart part m
       → action_steps part action ≡ steps_of_items part (action_items action)
-      → Strikes part m (action_items action) (action_made part action) (action_dialog part s action)
+      → Strikes part m (action_items action) (action_completed part action) (action_dialog part s action)
   makes_written action m fits f same p exchanges settled =
       let o = is_operation part s sound m f action fits in
-      subst (λ d. Makes part m (action_items action) d (action_made part action) p exchanges)
+      subst (λ d. Makes part m (action_items action) d (action_completed part action) p exchanges)
       (search (rules, dialog_is))
       (makes_items part sound m (action_items action) o.judge (outcome_output part s action) p exchanges
       (subst (AreSteps part) same o.are) settled)
 
   makes_action : (action : Action) (m : Memories) → FitsAction part action → FitsPart part m
-      → Strikes part m (action_items action) (action_made part action) (action_dialog part s action)
+      → Strikes part m (action_items action) (action_completed part action) (action_dialog part s action)
   makes_action EraseChip m fits f = makes_written EraseChip m fits f refl
   makes_action (WriteImage mem image) m fits f = search (rules, makes_written)
   makes_action action m fits f = λ p exchanges settled.
@@ -85,7 +85,7 @@ module _ (part : Part) (sound : IsPart part) (s : Switches) where
       (action_leads action m p exchanges tt f (operation_comes part sound s action m fits f p settled))
 
   makes_each_action : (actions : List Action) (m : Memories) → AllFitActions part actions → FitsPart part m
-      → Strikes part m (actions_items actions) (actions_made part s actions) (actions_dialog part s actions)
+      → Strikes part m (actions_items actions) (actions_completed part s actions) (actions_dialog part s actions)
   makes_each_action [] m fits f p exchanges settled =
       makes_none part m (Done NoFault) p exchanges (λ at q. ⊤)
       (record { during = λ k. rests_here part [] m p (settled_idle part m p settled); after = λ k at e. tt })
@@ -93,7 +93,7 @@ module _ (part : Part) (sound : IsPart part) (s : Switches) where
       let items = action_items action in
       let left = effects part items m in
       makes_then part sound m items (actions_items actions) (action_dialog part s action)
-      (actions_dialog part s actions) (action_made part action) (actions_made part s actions) p exchanges
+      (actions_dialog part s actions) (action_completed part action) (actions_completed part s actions) p exchanges
       (action_items_fit part action fits.0) f
       (search (rules, action_leads, action_items_fit, operation_comes))
       (makes_action action m fits.0 f p exchanges settled)
@@ -128,8 +128,8 @@ module _ (plan : Plan) (sound : IsPart plan.part) (fitted : All (IsFitted plan.p
       let s = plan.switches in
       let opened = action_dialog part s OpenSession in
       let opens = action_leads part sound s OpenSession m p exchanges tt f (opening_comes part sound s m f p idle) in
-      makes_then part sound m [] (actions_items (work plan)) opened (actions_dialog part s (work plan)) none_made
-      (actions_made part s (work plan)) p exchanges tt f
+      makes_then part sound m [] (actions_items (work plan)) opened (actions_dialog part s (work plan)) none_completed
+      (actions_completed part s (work plan)) p exchanges tt f
       opens (makes_none part m opened p exchanges (λ at q. at ≡ NoFault → Settled part m q) opens)
       (λ q fs there. makes_each_action part sound s (work plan) m (work_fits plan fitted) f q fs there)
 
@@ -138,7 +138,7 @@ module _ (plan : Plan) (sound : IsPart plan.part) (fitted : All (IsFitted plan.p
 
   ends : (k : ℕ) (s : Standing) → (state_after device k all_actions p exchanges).dialog ≡ Done s
       → GoesOn device At (state_after device k all_actions p exchanges) (makes_actions.tally.count k)
-      (operations_completed plan (k - 1) p exchanges) (ending plan.part plan.switches s) none_made
+      (operations_completed plan (k - 1) p exchanges) (ending plan.part plan.switches s) none_completed
   ends k s e =
       let part = plan.part in
       let z = state_after device k all_actions p exchanges in
@@ -162,10 +162,10 @@ module _ (plan : Plan) (sound : IsPart plan.part) (fitted : All (IsFitted plan.p
   unfolding session
   session_makes =
       tallies_as device (session_dialog plan) (session_dialog plan >>= (λ t. Done (status_of t)))
-      (then_count device all_actions (operations_completed plan) (λ t. none_made)) (operations_completed plan) At
+      (then_count device all_actions (operations_completed plan) (λ t. none_completed)) (operations_completed plan) At
       (λ j q. memories_of q.chip ≡ effects plan.part (take j (write_operations plan)) m) p exchanges
       (λ k. (search rules))
       (λ k j changed. ap (λ z. memories_of z.programmer.chip) (along_reported device k (session_dialog plan) status_of p
       exchanges) ∙ (changed.stands.memories ∙ items_counted plan.part (items plan) j m))
-      (tallies_bind device all_actions (ending plan.part plan.switches) (operations_completed plan) (λ t. none_made) At
-      p exchanges makes_actions.tally (λ k s e. ends k s e))
+      (tallies_bind device all_actions (ending plan.part plan.switches) (operations_completed plan)
+      (λ t. none_completed) At p exchanges makes_actions.tally (λ k s e. ends k s e))

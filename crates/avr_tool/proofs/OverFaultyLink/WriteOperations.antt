@@ -28,7 +28,7 @@ use Rattle.stk_emu.proofs.Answers.Commands.{settled_idle}
 use Rattle.avr_tool.proofs.WriteOperations.Counts.{tallies_none, tallies_as, tallies_bind, steps_all, tallies_play, none_left}
 use Rattle.avr_session.specs.Standing.{Standing, NoFault}
 use Rattle.avr_session.specs.Session.{reported, unless_fault}
-use Rattle.avr_tool.specs.Completed.{none_made, made_unless_fault, steps_completed}
+use Rattle.avr_tool.specs.Completed.{none_completed, completed_unless_fault, steps_completed}
 use Rattle.avr_tool.proofs.OverFaultyLink.FirstSteps.{Rests, changed_min, changed_prefix, changed_behind, all_on, all_changed}
 use Rattle.avr_tool.proofs.OverFaultyLink.Calls.{reported_programmer, reported_fine}
 
@@ -48,7 +48,7 @@ pub record Makes (part : Part) (m : Memories) (items : List Item) (d : Dialog Ou
 -- nothing is made if the memories stay
 pub makes_none : (part : Part) (m : Memories) (d : Dialog OutputEvent Standing) (p : Programmer)
     (exchanges : List Exchange) (After : Standing → Programmer → Type 0)
-    → Leads device d p exchanges (Rests part [] m) After → Makes part m [] d none_made p exchanges
+    → Leads device d p exchanges (Rests part [] m) After → Makes part m [] d none_completed p exchanges
 makes_none part m d p exchanges After l = record {
   tally = tallies_none device d (Changed part [] m) p exchanges (λ k.
       let r = l.during k in
@@ -134,7 +134,7 @@ module _ (part : Part) (sound : IsPart part) where
       (more : (q : Programmer) (fs : List Exchange) → Settled part (effects part xs m) q
       → Makes part (effects part xs m) ys next later q fs) where
     abbrev after : Standing → Count Programmer
-    after = made_unless_fault later
+    after = completed_unless_fault later
 
     abbrev At : ℕ → Programmer → Type 0
     At = Changed part (xs ++ ys) m

@@ -58,7 +58,7 @@ appends_one old new used out before after a is = grind (arith, common_steps)
 pub appends_on : (bytes : List ℕ) (n used : ℕ) (old mid new : EmulatorState) (a b c : List ℕ)
     → AppendsReplies old (take n bytes) mid a b → AppendsReplies mid (take used (drop n bytes)) new b c
     → AppendsReplies old (take (n + used) bytes) new a c
-appends_on bytes n used old mid new a b c first then = search (rules, take-add, append_assoc, replies_append, after_more)
+appends_on bytes n used old mid new a b c f then = search (rules, take-add, append_assoc, replies_append, after_more)
 
 -- a prefix of the bytes, after which some are left
 pub appends_prefix : (bytes : List ℕ) (n : ℕ) (old new : EmulatorState) (a b : List ℕ)
