@@ -1,6 +1,6 @@
--- Nothing in the promise is empty. First a run that meets all its premises, and what this run kept: `-p m328p -U
--- lfuse:w:0xE2:m` over a fresh chip, on a link that loses nothing. Then, for relations of the law, worlds that meet them
--- and worlds that they refuse. docs/PROOFS.md has the table.
+-- Nothing in the promise is empty. First a run that meets all its premises, and what this run kept. It is `-p m328p
+-- -U lfuse:w:0xE2:m` over a fresh chip, on a link that loses nothing. Then worlds that meet relations of the law, and
+-- worlds that these refuse. docs/PROOFS.md has the table.
 use Rattle.std.proofs.Common.{◌≡◌, ◌∙◌, ap, sym, subst, refl, arith, rules, ℕ, true, ◌<◌, List, [], ◌∷◌, ◌++◌, length, append-nil, Option, Some, None, Result, Ok, Err}
 use lib.Utf8.{encode}
 use Rattle.std.proofs.lemmas.List.{length-replicate}
