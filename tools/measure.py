@@ -1,9 +1,9 @@
 #!/usr/bin/env python3
 """Counts how large the sources are and how they read.
 
-    tools/measure.py            prints the table that docs/ARCHITECTURE has, and how many names have several meanings
+    tools/measure.py            prints a table of all crates, and how many names have several meanings
     tools/measure.py -v         also lists these names, and lines over 120 columns
-    tools/measure.py --write    writes the table into docs/ARCHITECTURE, and the rounded sums into README
+    tools/measure.py --write    writes the sums into docs/ARCHITECTURE, and rounded into README
     tools/measure.py --check    fails if one of them is out of date, or if a document has a sentence over 30 words
 
 Only files known to git are read. Code is counted in src/, without tests and contracts. Contracts are the clauses of
@@ -154,9 +154,10 @@ def figures():
 
 
 def with_figures(page):
-    """Returns the page with the current table."""
+    """Returns the page with the current table, of which it has the titles and the sums."""
     head, rest = page.split("| Crate | Code |", 1)
-    return f"{head}{figures()[0]}\n\n" + rest.split("\n\n", 1)[1]
+    rows = figures()[0].splitlines()
+    return f"{head}{chr(10).join(rows[:2] + rows[-2:])}\n\n" + rest.split("\n\n", 1)[1]
 
 
 def with_sums(readme, page):

@@ -175,19 +175,20 @@ def lacking():
 
 
 def unshown(page):
-    """Yields what is wrong in the table of worlds. The promise has to reach each definition. Each lemma has to be there,
-    and its statement to name the definition of its row. A statement that refuses a world ends in `→ ⊥`."""
-    lemma = re.compile(r"^(?:pub )?(\w+) :\s(.*?)\n(?=unfolding |\1 )", re.M | re.S)
-    rows = {f"Rows.{it.stem}": dict(lemma.findall(it.read_text())) for it in TOP.glob("crates/avr_laws/proofs/Rows/*.antt")}
+    """Yields what is wrong in the table of worlds. A lemma has to be there and to name the definition of its row; one that
+    refuses a world ends in `→ ⊥`. The promise has to reach the definition."""
+    head = re.compile(r"^(?:pub )?(\w+) :\s(.*?)\n(?=unfolding |\1 )", re.M | re.S)
+    rows = {f"Rows.{it.stem}": dict(head.findall(it.read_text())) for it in TOP.glob("crates/avr_laws/proofs/Rows/*.antt")}
     promise = reached(roots_of(PROMISE))
     for row in page.split(WORLDS)[1].split("\n\n")[0].splitlines()[2:]:
         named, met, refuses, *_ = re.findall("`([^`]*)`", row)
         if definition(named) not in promise:
             yield f"{PROMISE} doesn't reach {named}"
-        for file, name, end in ((*met.rsplit(".", 1), ""), (*refuses.rsplit(".", 1), "→ ⊥")):
-            statement = rows.get(file, {}).get(name, "")
+        for lemma, end in ((met, ""), (refuses, "→ ⊥")):
+            file, _, name = lemma.rpartition(".")
+            statement = rows[file or "Rows.Promise"].get(name, "")
             if named.split(".")[-1] not in WORD.findall(statement) or not statement.endswith(end):
-                yield f"{file}.{name} shows nothing of {named}"
+                yield f"{lemma} shows nothing of {named}"
 
 
 def main(words):
