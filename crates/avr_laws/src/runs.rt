@@ -114,9 +114,9 @@ pub fn an_ended_run_and_one_with_status_0_are_as_one()
         (written_to p.chip.part mem (asked_items plan)) (memories_of (after_received_bytes device over more q).chip)) }
 {}
 
-/// States that no session over the emulated link has one of four wrong outcomes. With status 0: memories that the
-/// plan's writes don't leave, or output other than over a perfect link. With any status: a chip that changed though no
-/// frame was sent, or more than four frames for each command, by any weight.
+/// States that no session over the emulated link has status 0 with wrong memories or output, changes a chip without a
+/// frame, or sends too many. Wrong are memories that the plan's writes don't leave, and output other than over a perfect
+/// link. Too many are more than four frames for each command, by any weight.
 // Proof: `not_all_written`, `output_otherwise`, `touched_in_silence` and `too_much` (Outcomes/Refused).
 pub fn a_wrong_outcome_is_refused()
     ensures memories { (plan : Plan) (w v : WiredState) (d e : DeskState)

@@ -385,8 +385,12 @@ uses = record nothing_kept { uses = absent ∷ made ∷ [] }
 
 pub record_true : IsTrueRecord system reads writes reads (calls_of_record uses) Nothing None uses
 record_true =
-    search (rules, All-cons (IsTrueUse system reads writes reads), All-nil (IsTrueUse system reads writes reads),
-    All-nil system.denies)
+    search (
+      rules,
+      All-cons (IsTrueUse system reads writes reads),
+      All-nil (IsTrueUse system reads writes reads),
+      All-nil system.denies,
+    )
 
 pub call_unrecorded : IsTrueRecord system reads writes reads (record { calls = Opens file ∷ []; holds = 0 }) Nothing
     None nothing_kept → ⊥
