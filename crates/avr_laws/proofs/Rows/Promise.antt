@@ -1,6 +1,6 @@
--- Nothing in the promise is empty. First a run that meets all premises of status 0, and what it kept: `-p m328p
--- -U lfuse:w:0xE2:m` over a fresh chip, on a link that loses nothing. Then for each relation of the law a world that
--- meets it and one that it refuses; docs/PROOFS.md has the table.
+-- Nothing in the promise is empty. First a run that meets all its premises, and what this run kept. It is `-p m328p
+-- -U lfuse:w:0xE2:m` over a fresh chip, on a link that loses nothing. Then worlds that meet relations of the law, and
+-- worlds that these refuse. docs/PROOFS.md has the table.
 use Rattle.std.proofs.Common.{◌≡◌, ◌∙◌, ap, sym, subst, refl, arith, rules, ℕ, true, ◌<◌, List, [], ◌∷◌, ◌++◌, length, append-nil, Option, Some, None, Result, Ok, Err}
 use lib.Utf8.{encode}
 use Rattle.std.proofs.lemmas.List.{length-replicate}
@@ -436,7 +436,8 @@ abbrev words : List Bytes
 words = codes "avrstk" ∷ codes "-p" ∷ codes "m328p" ∷ codes "-P" ∷ codes "stdio:" ∷ codes "-U" ∷ codes "lfuse:w:0xE2:m"
     ∷ []
 
-words_taken : takes avrstk words ≡ true
+-- a run, and no request for help
+pub words_taken : takes avrstk words ≡ true
 unfolding avrstk target_rules write_rules run_rules message_rules file_rules bundle_met walked chars encode
     walk_passes flags_pass
 words_taken = refl
