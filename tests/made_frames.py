@@ -130,7 +130,8 @@ def without_a_pause_all_is_seen():
 
 
 def a_spoiled_size_swallows_frames():
-    """If the link damages the size of one LOAD_ADDRESS, the programmer takes the next three frames as its rest."""
+    """If the link damages the size of one LOAD_ADDRESS, the programmer takes the next two frames, and five bytes
+    of the third, as its rest."""
     content = bytes((place * 91 + 3) % 256 for place in range(FLASH))
     line = Line(content + b"\xff" * REST, spoil=lambda number, it: it[:3] + b"\x20" + it[4:] if number == 8 else it)
     room.put("image.bin", content)

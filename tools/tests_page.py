@@ -22,8 +22,8 @@ HEAD = """# What is tried where
 
 Made by `tools/tests_page.py --write` from the heads of the scripts. `./test` runs the quick scripts, with samples of
 long lists of cases. It prints the seed of the samples, and `SAMPLE=SEED` draws the same again. `./test NAME ..` runs the
-named scripts, `./test --all` all scripts with all cases. `tests/NAME.py CASE ..` runs cases of one script.
-[tests/rattle](rattle/README.md) tries the crates' own calls.
+named scripts, `./test --all` all scripts with all cases. `tests/NAME.py CASE ..` runs cases of one script; the
+lists below also have functions that make cases. [tests/rattle](rattle/README.md) tries the crates' own calls.
 
 | Script | What it tries | Why that is not proved |
 | --- | --- | --- |
@@ -36,7 +36,7 @@ def sentence(text):
 
 
 def cases(tree):
-    """Yields the functions that a script lists as its cases, with their texts."""
+    """Returns the functions that a script lists as its cases, or that make them, with their texts."""
     texts = {it.name: ast.get_docstring(it) for it in tree.body if isinstance(it, ast.FunctionDef)}
     lists = [it for it in tree.body if isinstance(it, (ast.Assign, ast.AugAssign, ast.If))]
     named = [it.id for part in lists for it in ast.walk(part) if isinstance(it, ast.Name) and it.id in texts]
