@@ -13,7 +13,7 @@ names it; at most two scripts are run again. The summary has each step's status,
 line, the lines that report failures, and how the mutants were refused. It lists checks that were left out because a
 tool isn't installed (`./test --tools` installs the tools); with NEED_ALL=1 in the environment these are failures. --all
 also prints the processor seconds of each crate's checks, and of the whole as a ratio to those of stk_frame's first
-check: this ratio is the same on a slow machine. The last line counts passed and failed checks of all steps. """
+check: this ratio is the same on a slow machine. The last line counts passed and failed checks of all steps."""
 
 import os
 import random

@@ -14,7 +14,7 @@ Not proved: No theorem says that two processes and their sockets are such a link
 Each run is checked against what is proved of a link that forges no frame. With status 0 the chip has what was written,
 and the messages are those of `emu:`. With any status the chip is the result of a prefix of the plan's writes: the
 erase, pages of flash in order, pages of EEPROM, the fuse. The messages before an error are a prefix of those of `emu:`.
-A run in which changed bytes became a valid frame by chance is counted apart, and its chip isn't judged. """
+A run in which changed bytes became a valid frame by chance is counted apart, and its chip isn't judged."""
 
 import random
 import sys

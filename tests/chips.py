@@ -8,7 +8,7 @@ Not proved: The proofs assume how the system's calls on files behave, also in a 
 
 strace records the calls of a run, and a model of a disk (disk.py) makes each state that a power cut may leave. Each
 call fails, and each ends a run. Runs are started at once with one chip, and beside a run or a served session that holds
-it. """
+it."""
 
 import contextlib
 import itertools

@@ -8,7 +8,7 @@ Not proved: C, Python and other programs are outside of the proofs.
     tests/from_c.py [CASE ..]
 
 Images are drawn from fixed seeds. This project writes them as Intel HEX and S-records, and each other program reads
-them and writes them again for this project. Every byte must be at its address, and there must be no other byte. """
+them and writes them again for this project. Every byte must be at its address, and there must be no other byte."""
 
 import functools
 import importlib.util

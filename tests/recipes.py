@@ -8,7 +8,7 @@ Not proved: Documents and the shell are not Rattle.
                                     AVRDUDE are left out without AVRDUDE 7.1, and those with srec_cmp without srecord
 
 Only the user's own things differ: the port, the home folder, the firmware, and the board. The board is a pseudo
-terminal with the emulated programmer behind it. """
+terminal with the emulated programmer behind it."""
 
 import os
 import re

@@ -4,7 +4,7 @@ signatures of their sources.
 A page has the crate's own text, a table of its exports, and then each type, trait and call: its signature without ghost
 members and private fields, its text, and its contract, folded. The definitions that a contract names follow it: as
 links, and as a text if they are short. Laws (functions with an empty body) come last. An export of a crate without a
-page is here, too; one of another page is a link. Sources are read as `rt fmt` leaves them. """
+page is here, too; one of another page is a link. Sources are read as `rt fmt` leaves them."""
 
 import re
 import sys

@@ -9,7 +9,7 @@
 Only files known to git are read. Code is counted in src/, without tests and contracts. Contracts are the clauses of
 functions, definitions are in specs/, and proofs in proofs/. Blank lines, comments and `use` lines are never counted.
 Wide lines have more than 120 columns, except imports. A clause is one `requires` or `ensures`; the mean is over public
-functions. The program's row is the sum of the crates of the programs (`avrstk` ..) and of all below them. """
+functions. The program's row is the sum of the crates of the programs (`avrstk` ..) and of all below them."""
 
 import re
 import subprocess

@@ -11,7 +11,7 @@
 A definition reaches the definitions that its text names, in its own file or brought in by `use` lines. Definitions of
 std, of other libraries and of Rust (an enum, a struct) are listed but not counted. A variable with the name of a
 definition counts as that definition, so a figure can be too high, but not too low. Lines are those of the definitions,
-without comments and `use` lines. """
+without comments and `use` lines."""
 
 import re
 import sys

@@ -5,8 +5,8 @@
 //! The expected output was worked out by hand from AVR068. The good frame asks for the programmer's name. The reply to
 //! the corrupted one is ANSWER_CKSUM_ERROR with STATUS_CKSUM_ERROR. All bytes of a frame have the XOR 00.
 //= 1B 01 00 0B 0E 01 00 08 53 54 4B 35 30 30 5F 32 02 1B 02 00 02 0E B0 C1 64
-//= answer 1 is good
-//= answer 2: not good
+//= reply 1 is good
+//= reply 2: not good
 #![tactic(auto)]
 
 use anyhow::Result;
@@ -21,15 +21,15 @@ const SENT: &[u8] = b"\x00\x1B\x01\x00\x01\x0E\x01\x14\x1B\x02\x00\x01\x0E\x01\x
 fn main(rt: HostRuntime) -> Result<()> {
     let chip = Chip::fresh(rt.alloc(), Parts::none().find("m328p")?)?;
     let mut emulator = Emulator::new(chip);
-    let mut answers = Vec::new(rt.alloc());
-    emulator.reply_to_all(SENT, &mut answers)?;
+    let mut replies = Vec::new(rt.alloc());
+    emulator.reply_to_all(SENT, &mut replies)?;
     let mut out = io::writer(&rt);
-    print_bytes(answers.as_slice(), &mut out)?;
-    read_answers(answers.as_slice(), &mut out)
+    print_bytes(replies.as_slice(), &mut out)?;
+    read_replies(replies.as_slice(), &mut out)
 }
 
 /// Reads these bytes as the client does, and prints for each frame whether it is a good reply to SIGN_ON.
-fn read_answers<W: Write>(bytes: &[u8], out: &mut W) -> Result<()> {
+fn read_replies<W: Write>(bytes: &[u8], out: &mut W) -> Result<()> {
     let mut reader = FrameReader::new();
     let mut used = 0;
     while used < bytes.len() {
@@ -37,8 +37,8 @@ fn read_answers<W: Write>(bytes: &[u8], out: &mut W) -> Result<()> {
         used += count;
         if event == Event::Frame {
             match Answer::read(&Command::SignOn, reader.body()) {
-                Ok(_) => writeln!(out, "answer {} is good", reader.seq())?,
-                Err(_) => writeln!(out, "answer {}: not good", reader.seq())?,
+                Ok(_) => writeln!(out, "reply {} is good", reader.seq())?,
+                Err(_) => writeln!(out, "reply {}: not good", reader.seq())?,
             }
         }
     }
