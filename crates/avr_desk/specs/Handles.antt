@@ -52,7 +52,8 @@ IsTrueOpen system reads writes input (ToWrite now) current =
 IsTrueOpen system reads writes input Output current =
     (writing : Writing) × (current ≡ is.ToWrite writing) × (is_dash writing.name ≡ true)
 
--- The same for a finished use. A written file was closed as it was then, and `-` is the output.
+-- The same for a finished use: the name was absent, or the file gave these bytes. A written file took these bytes and
+-- was closed, or was replaced by them; `-` is the output.
 abbrev pub IsTrueUse : {S F I H : Type 0} → Ghosts S F I H → Reads F → Writes F → Reads I → FileUse → Type 0
 IsTrueUse system reads writes input (Opened (Absent name)) = system.lacks name
 IsTrueUse {F = F} {I = I} system reads writes input (Opened (Found reading)) =
@@ -61,6 +62,7 @@ IsTrueUse {F = F} system reads writes input (Created writing) =
     (is_dash writing.name ≡ true) ⊎ ((now : F) × system.closed now × TookFile system writes now writing)
     ⊎ system.replaced writing.name writing.bytes
 
+-- the handle holds the file of this name, or there is neither
 abbrev pub IsHeldBy : {S F I H : Type 0} → Ghosts S F I H → Option H → Option Bytes → Type 0
 IsHeldBy system None None = Unit {0}
 IsHeldBy system (Some hold) (Some name) = system.holds hold name

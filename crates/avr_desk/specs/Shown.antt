@@ -67,6 +67,7 @@ abbrev pub writes_to_output_after_open : Result (Unit {0}) DeskFault → Bool �
 writes_to_output_after_open (Err Failed) before = before
 writes_to_output_after_open result before = false
 
+-- one of these files is `-`
 abbrev pub has_dash : List Writing → Bool
 has_dash = list_any (λ file. is_dash file.name)
 

@@ -38,6 +38,7 @@ pub data Arrival : Type 0 where
   PauseArrives : Arrival
   EndArrives : Arrival
 
+-- What arrives, byte by byte.
 abbrev pub tape_of_arrivals : List Arrival → Tape
 tape_of_arrivals [] = []
 tape_of_arrivals (FrameArrives piece ∷ more) = on_tape piece ++ tape_of_arrivals more
@@ -78,6 +79,7 @@ first_reading n (FrameArrives piece ∷ more) =
 first_reading n (PauseArrives ∷ more) = Some (Silent, more)
 first_reading n (EndArrives ∷ more) = Some (Ended, more)
 
+-- A reply that hasn't come meets any claim; one that was read must meet this claim.
 abbrev pub IfRead : (Reading → List Arrival → Type 0) → Option (Reading × List Arrival) → Type 0
 IfRead Claim None = Unit {0}
 IfRead Claim (Some (reading, more)) = Claim reading more

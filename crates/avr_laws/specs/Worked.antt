@@ -75,9 +75,11 @@ worked_outcome = record {
 abbrev pub absent_settings : Settings
 absent_settings = record worked_settings { parts = Some (codes "parts.toml") }
 
+-- A desk with an empty standard input and no files.
 abbrev pub no_stock : Stock
 no_stock = record { input = []; files = [] }
 
+-- What a run with a missing part file leaves: its line, and status 1.
 abbrev pub absent_outcome : RunOutcome
 absent_outcome = record {
   status = 1;

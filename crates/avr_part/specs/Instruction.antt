@@ -16,6 +16,7 @@ decode_write b d =
     else if b == 0xE0 then WriteLock d
     else Nothing
 
+-- the instruction of four bytes; any others are `Nothing`
 abbrev pub decode_bytes : ℕ → ℕ → ℕ → ℕ → Instruction
 decode_bytes a b c d =
     if a == 0xAC then decode_write b d

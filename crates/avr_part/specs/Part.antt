@@ -24,6 +24,7 @@ is_id_byte b = is_between 65 90 b || is_between 97 122 b || is_between 48 57 b |
 abbrev pub is_id : List ℕ → Bool
 is_id text = is_between 1 31 (length text) && list_all is_id_byte text
 
+-- the text, if it is a valid id
 abbrev pub id_of : List ℕ → Option (List ℕ)
 id_of text = if is_id text then Some text else None
 
@@ -45,6 +46,7 @@ pub record IsPart (p : Part) : Type 0 where
   pub eeprom_most : p.eeprom_size ≤ 4096
   pub eesave_bit : p.eesave_bit < 8
 
+-- the size of a memory in bytes
 abbrev pub size_of : Mem → Part → ℕ
 size_of Flash p = p.flash_size
 size_of Eeprom p = p.eeprom_size

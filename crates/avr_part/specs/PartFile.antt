@@ -26,6 +26,7 @@ abbrev pub ◌>>=◌ : {A B E : Type 0} → Result A E → (A → Result B E) �
 Ok x >>= f = f x
 Err e >>= f = Err e
 
+-- a field that is a number from `least` to `most`
 abbrev pub number_field : Field → ℕ → ℕ → Option Data → Result ℕ PartFault
 number_field f least most d = do
   value ← ok_or d (Missing f)
@@ -36,6 +37,7 @@ number_field f least most d = do
 abbrev pub page_field : Field → ℕ → Option Data → Result ℕ PartFault
 page_field f least d = number_field f least 256 d >>= (λ n. if is_power_of_two n then Ok n else Err (BadValue f))
 
+-- a field that is three bytes in hexadecimal digits
 abbrev pub signature_field : Option Data → Result Bytes PartFault
 signature_field d = do
   value ← ok_or d (Missing field.Signature)
@@ -69,9 +71,11 @@ pub record NamedFault : Type 0 where
   pub part : Option Bytes
   pub fault : PartFault
 
+-- a fault of the whole file
 abbrev pub of_file : PartFault → NamedFault
 of_file fault = record { part = None; fault = fault }
 
+-- a part, or its fault with its id
 abbrev pub in_part : Bytes → Result Part PartFault → Result Part NamedFault
 in_part key = result_map_both (λ part. part) (λ fault. record { part = id_of key; fault = fault })
 
@@ -83,12 +87,14 @@ parts_in (member key d rest) = do
   parts ← parts_in rest
   Ok (part ∷ parts)
 
+-- the parts in the document's table `parts`
 abbrev pub document_parts : Members → Result (List Part) NamedFault
 document_parts ms = do
   parts ← ok_or (get_member (codes "parts") ms) (of_file (Missing field.Parts))
   members ← ok_or (as_table parts) (of_file (BadValue field.Parts))
   parts_in members
 
+-- how many lines a text has, the last one perhaps empty
 abbrev pub line_count : Bytes → ℕ
 line_count text = count_by (λ byte. byte == 10) text + 1
 
@@ -112,15 +118,19 @@ abbrev pub IsPlaced : Bytes → FaultWithLine → Type 0
 IsPlaced text f =
     MatchOption f.line (f.why.fault ≢ NotToml) (λ line. (f.why.fault ≡ NotToml) × (1 ≤ line) × (line ≤ line_count text))
 
+-- the result without the fault's line
 abbrev pub unplaced : {T : Type 0} → Result T FaultWithLine → Result T NamedFault
 unplaced = result_map_both (λ t. t) (λ f. f.why)
 
+-- the result without the id of the part at fault
 abbrev pub unnamed : {T : Type 0} → Result T NamedFault → Result T PartFault
 unnamed = result_map_both (λ t. t) (λ f. f.fault)
 
+-- the bytes, if they are a text in UTF-8
 abbrev pub utf8_text : Bytes → Option Bytes
 utf8_text bytes = if is_utf8 bytes then Some bytes else None
 
+-- the parts of a part file with these bytes, or why it is refused
 abbrev pub parts_of : Bytes → Result (List Part) NamedFault
 parts_of bytes = do
   text ← ok_or (utf8_text bytes) (of_file NotToml)

@@ -18,6 +18,7 @@ informs quiet pieces = if nat_lt 0 quiet then [] else PrintsLine (information pi
 abbrev pub warns : ℕ → List Bytes → List OutputEvent
 warns quiet pieces = if nat_lt 1 quiet then [] else PrintsLine (warning pieces) ∷ []
 
+-- The signature found, and the part's.
 abbrev pub other_signature : Part → Bytes → List Bytes
 other_signature part found =
     codes "signature is " ∷ spaced_digits found ∷ codes ", " ∷ part.id ∷ codes " has " ∷ spaced_digits part.signature

@@ -14,6 +14,7 @@ use Rattle.avr_session.specs.Runs.{Devices, RunAllocationPoints, Terms, before_f
 use Rattle.avr_session.specs.Session.{actions_dialog, ending, session_dialog}
 use Rattle.avr_session.specs.AllocationPoints.{AtStartOnly, AtAllocation}
 
+-- A fault was reported.
 abbrev pub has_fault : Standing → Bool
 has_fault NoFault = false
 has_fault standing = true
@@ -48,6 +49,7 @@ abbrev pub EndsSession : Plan → Standing → Performing
 EndsSession plan standing = PerformsOnTerms (record { allocates = false; has_reported = has_fault standing })
     (AtStartOnly false) (ending plan.part plan.switches standing)
 
+-- The whole session of a plan.
 abbrev pub PlaysSession : Plan → Performing
 PlaysSession plan =
     PerformsOnTerms (before_fault (plan_allocates plan)) (AtAllocation plan.part plan.switches (actions plan))

@@ -29,6 +29,7 @@ steps_completed m [] k p exchanges = 0
 steps_completed m (commands ∷ steps) k p exchanges = let s = state_after m k (step commands) p exchanges in
     step_count s.dialog (steps_completed m steps s.left s.programmer s.exchanges)
 
+-- None was completed.
 abbrev pub none_completed : Count Programmer
 none_completed k p exchanges = 0
 
@@ -36,10 +37,12 @@ none_completed k p exchanges = 0
 abbrev pub action_completed : Part → Action → Count Programmer
 action_completed part action = steps_completed device (steps_of_items part (action_items action))
 
+-- The count of the actions that follow. After a fault none follow.
 abbrev pub completed_unless_fault : Count Programmer → Standing → Count Programmer
 completed_unless_fault next NoFault = next
 completed_unless_fault next _ = none_completed
 
+-- The number of write operations of these actions that were completed.
 abbrev pub actions_completed : Part → Switches → List Action → Count Programmer
 actions_completed part s [] = none_completed
 actions_completed part s (action ∷ actions) =

@@ -29,10 +29,12 @@ use Rattle.avr_tool.specs.Written.{IsWritten, comparing}
 abbrev pub Weight : Type 0
 Weight = List ℕ → ℕ
 
+-- The weight of all bodies together.
 abbrev pub total_weight : Weight → List (List ℕ) → ℕ
 total_weight weight [] = 0
 total_weight weight (first ∷ bodies) = weight first + total_weight weight bodies
 
+-- The bodies of all commands of these steps.
 abbrev pub bodies_in : List (List Command) → List (List ℕ)
 bodies_in [] = []
 bodies_in (commands ∷ steps) = map body commands ++ bodies_in steps

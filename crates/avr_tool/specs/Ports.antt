@@ -21,6 +21,7 @@ HasChip (Emulated file) = Unit {0}
 HasChip (Served port chip) = Unit {0}
 HasChip port = ⊥
 
+-- The chip file of a port, if it has one.
 abbrev pub chip_file_of : Port → List ℕ
 chip_file_of (Emulated file) = file
 chip_file_of (Served port chip) = chip

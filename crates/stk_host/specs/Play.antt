@@ -101,7 +101,7 @@ BreaksBy SendFailed dialog before transcript shown = BreaksSending dialog before
 BreaksBy RecvFailed dialog before transcript shown = BreaksListening dialog before transcript shown
 BreaksBy fault dialog before transcript shown = ⊥
 
--- For dialogs without output events.
+-- For dialogs without output events: none can be done in part.
 abbrev pub NoPart : ⊥ → ⊥ → Type 0
 NoPart part whole = ⊥
 
