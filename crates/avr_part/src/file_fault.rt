@@ -10,6 +10,7 @@ use std::error::Error;
 use std::fmt;
 use std::marker::Model;
 
+/// A fault, with the id of the part at fault if it has one.
 #[derive(Drop)]
 pub(crate) struct NamedFault {
     part: Option<ArrayString<31>>,

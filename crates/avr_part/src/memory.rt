@@ -56,6 +56,7 @@ fn and_bytes(bytes: &mut [u8], start: usize, page: &[u8])
     }
 }
 
+/// The bytes of flash or EEPROM, or of the flash page buffer.
 #[derive(Drop)]
 pub struct Memory {
     bytes: Vec<u8>,

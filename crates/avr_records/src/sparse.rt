@@ -17,6 +17,7 @@ use avr_image::Image;
 /// assert_eq!(rt; image.row_at(8, 32).len(), 2);
 /// ```
 pub trait Sparse {
+    /// The memory: for each address an optional byte.
     ghost held: { Self → List (Option ℕ) };
 
     /// Returns the least byte address from `addr` on that holds a byte.
@@ -32,6 +33,7 @@ pub trait Sparse {
         ensures few { length result.now ≤ most };
 }
 
+/// Returns the address after the row that begins at `place` and has at most `most` bytes.
 fn row_end(image: &Image, place: u32, most: usize) -> u32
     ensures { result ≡ place + min most (length (leading_run (drop place image.now))) }
 {

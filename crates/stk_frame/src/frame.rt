@@ -5,6 +5,7 @@ use crate::protocol::{HEADER_SIZE, LARGEST_BODY, LARGEST_FRAME, MESSAGE_START, T
 use arrayvec::ArrayVec;
 use byteorder::{BigEndian, ByteOrder};
 
+/// Returns the XOR of all bytes.
 // (not inlined: in a comparison with 0 the compiler would not vectorize the fold)
 #[inline(never)]
 pub(crate) fn xor_of(bytes: &[u8]) -> u8
