@@ -18,6 +18,7 @@ pub record SystemCalls : Type 0 where
   pub calls : List FileCall
   pub holds : ℕ
 
+-- what a new system has done
 abbrev pub no_calls : SystemCalls
 no_calls = record { calls = []; holds = 0 }
 

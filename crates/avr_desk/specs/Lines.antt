@@ -32,6 +32,7 @@ text_of (Number number) = decimal number
 abbrev pub line : Bytes → List Bytes → Bytes
 line mark pieces = mark ++ (concat pieces ++ 10 ∷ [])
 
+-- a line of information; below, a warning and an error
 abbrev pub information : List Bytes → Bytes
 information pieces = line (codes "avrstk: ") pieces
 

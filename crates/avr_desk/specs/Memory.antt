@@ -31,6 +31,7 @@ pub record Stock : Type 0 where
   pub input : Bytes
   pub files : List Writing
 
+-- what this desk began with
 abbrev pub stock_of : MemDeskState → Stock
 stock_of m = record { input = m.input; files = m.stored }
 

@@ -31,6 +31,7 @@ pub record DeskState : Type 0 where
   pub failures : ℕ
   pub message_failures : ℕ
 
+-- a state of a desk
 abbrev pub showing : Record → ℕ → ℕ → DeskState
 showing kept failures message_failures =
     record { kept = kept; failures = failures; message_failures = message_failures }
@@ -55,6 +56,7 @@ use_of Closed = []
 use_of (ToRead x) = Opened (Found x) ∷ []
 use_of (ToWrite x) = Created x ∷ []
 
+-- the openings among these uses; below, the files created or replaced
 abbrev pub openings_among : List FileUse → List Opening
 openings_among [] = []
 openings_among (Opened opening ∷ uses) = opening ∷ openings_among uses

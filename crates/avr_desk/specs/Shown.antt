@@ -31,6 +31,7 @@ pub record Shown (S F H I O E : Type 0) : Type 0 where
   pub hold : Option H
   pub kept : Record
 
+-- what contracts see of any desk
 abbrev pub system_desk_view : {S F H I O E : Type 0} → Shown S F H I O E → DeskState
 system_desk_view d = showing d.kept d.failures d.message_failures
 

@@ -29,6 +29,7 @@ events_with_refusal output_events NotReadToEnd = output_events
 abbrev pub all_events_of : {A : Type 0} → StageResult A → List OutputEvent
 all_events_of p = events_with_refusal p.output_events p.stage_outcome
 
+-- A stage is a function of what opening files gives.
 abbrev pub Stage : Type 0 → Type 0
 Stage A = List Opening → StageResult A
 

@@ -5,6 +5,7 @@ use Rattle.std.specs.Fmt.{digits}
 use Rattle.avr_image.specs.declared.list.Base.{Base}
 use Rattle.avr_image.specs.declared.list.Base.TheVariants.{Dec, Hex, Oct, Bin}
 
+-- How many digits a base has.
 abbrev pub radix : Base → ℕ
 radix Dec = 10
 radix Hex = 16

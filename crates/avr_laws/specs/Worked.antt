@@ -15,6 +15,7 @@ use Rattle.stk_frame.specs.Frame.{frame}
 use Rattle.stk_host.specs.Tape.{Tape, on_tape}
 use Rattle.avr_laws.specs.InMemory.{RunOutcome}
 
+-- The settings of `-p m328p -P stdio:`.
 abbrev pub worked_settings : Settings
 worked_settings = record {
   part = codes "m328p";

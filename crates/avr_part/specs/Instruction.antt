@@ -39,5 +39,6 @@ decode_bytes a b c d =
     else if a == 0x58 && b == 0x00 then ReadLock
     else Nothing
 
+-- the instruction of a list of four bytes
 abbrev pub instruction_of : List ℕ → Instruction
 instruction_of x = decode_bytes (slice_index x 0) (slice_index x 1) (slice_index x 2) (slice_index x 3)

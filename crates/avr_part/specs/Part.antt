@@ -21,6 +21,7 @@ is_between low high n = nat_le low n && nat_le n high
 abbrev pub is_id_byte : ℕ → Bool
 is_id_byte b = is_between 65 90 b || is_between 97 122 b || is_between 48 57 b || b == 95 || b == 45
 
+-- 1 to 31 such bytes
 abbrev pub is_id : List ℕ → Bool
 is_id text = is_between 1 31 (length text) && list_all is_id_byte text
 

@@ -21,6 +21,7 @@ use Rattle.avr_part.specs.declared.fault.PartFault.TheVariants.{NotToml, Missing
 abbrev pub Bytes : Type 0
 Bytes = List ℕ
 
+-- goes on with a result, unless it is a fault
 infixl 10 ◌>>=◌
 abbrev pub ◌>>=◌ : {A B E : Type 0} → Result A E → (A → Result B E) → Result B E
 Ok x >>= f = f x
@@ -107,6 +108,7 @@ pub record FaultWithLine : Type 0 where
   pub why : NamedFault
   pub line : Option ℕ
 
+-- the fault of a text that stops being TOML at this line; below, any other fault
 abbrev pub not_toml_at : ℕ → FaultWithLine
 not_toml_at line = record { why = of_file NotToml; line = Some line }
 
@@ -141,13 +143,14 @@ parts_of bytes = do
 abbrev pub GivesPartUnlessOutOfMemory : {T : Type 0} → Result T PartFault → Result T PartFault → Type 0
 GivesPartUnlessOutOfMemory want got = (got ≡ want) ⊎ (got ≡ Err Memory)
 
+-- the same for calls that read a part file
 abbrev pub ReadsUnlessOutOfMemory : {T : Type 0} → Result T NamedFault → Result T NamedFault → Type 0
 ReadsUnlessOutOfMemory want got = (got ≡ want) ⊎ (got ≡ Err (of_file Memory))
 
 abbrev pub listed_items : Result (Vec Part) NamedFault → Result (List Part) NamedFault
 listed_items = result_map_both (λ v. v.items) (λ e. e)
 
--- the document, or allocation failed
+-- the document of a text, or why there is none: it isn't TOML, or allocation failed
 abbrev pub ReadsDocument : Option Members → Result (BTreeMap (String Global) Value) FaultWithLine → Type 0
 ReadsDocument want (Ok t) = want ≡ Some (table_view t)
 ReadsDocument want (Err e) = (e.why ≡ of_file Memory) ⊎ ((e.why ≡ of_file NotToml) × (want ≡ None))

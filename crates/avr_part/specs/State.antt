@@ -111,6 +111,7 @@ with_fuse fuse.Extended byte s = record s { efuse = if is_locked s then s.efuse 
 abbrev pub with_lock : ℕ → ChipState → ChipState
 with_lock byte s = record s { lock = bit_and s.lock byte }
 
+-- a byte of flash, by its word and half
 abbrev pub flash_byte : Half → ℕ → ChipState → ℕ
 flash_byte h word s = slice_index s.flash (word_address s word + half_offset h)
 

@@ -46,6 +46,7 @@ abbrev pub write_actions : Switches → Mem → List (Option ℕ) → List Actio
 write_actions s mem image =
     if s.dry then SkipAction (SkippedWrite mem image) ∷ [] else WriteImage mem image ∷ read_back_actions s mem image
 
+-- The actions of one task; below, of tasks in order.
 abbrev pub task_actions : Switches → Task → List Action
 task_actions s (Write mem image) = write_actions s mem image
 task_actions s (Verify mem image) = CompareImage mem image ∷ []
@@ -65,5 +66,6 @@ action_allocates (CompareImage mem image) = true
 action_allocates (SaveMemory mem format file) = true
 action_allocates action = false
 
+-- The session of this plan allocates.
 abbrev pub plan_allocates : Plan → Bool
 plan_allocates plan = list_any action_allocates (actions plan)

@@ -43,6 +43,7 @@ unsent_pieces = codes "link cannot be written" ∷ []
 abbrev pub unreceived_pieces : List Bytes
 unreceived_pieces = codes "link cannot be read" ∷ []
 
+-- The message of each fault of the host.
 abbrev pub fault_pieces : Part → HostFault → List Bytes
 fault_pieces part NoAnswer = codes "no answer" ∷ []
 fault_pieces part LinkEnded = codes "link ended" ∷ []

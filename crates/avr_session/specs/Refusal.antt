@@ -26,6 +26,7 @@ abbrev pub port_pieces : Option Bytes → List Bytes
 port_pieces None = codes "no port given (-P)" ∷ []
 port_pieces (Some text) = unknown_pieces (codes "port ") text
 
+-- The message of each fault of the settings.
 abbrev pub refusal_pieces : SettingsFault → List Bytes
 refusal_pieces NoPart = codes "no part given (-p)" ∷ []
 refusal_pieces (BadProgrammer name) = unknown_pieces (codes "programmer ") name

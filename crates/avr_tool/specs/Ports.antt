@@ -3,6 +3,7 @@ use Rattle.std.specs.Prelude.{ℕ, List, []}
 use Rattle.avr_cli.specs.declared.settings.Port.{Port}
 use Rattle.avr_cli.specs.declared.settings.Port.TheVariants.{Emulated, Network, Served}
 
+-- The port is the emulator; below, a connection and a service.
 abbrev pub IsEmulated : Port → Type 0
 IsEmulated (Emulated file) = Unit {0}
 IsEmulated port = ⊥

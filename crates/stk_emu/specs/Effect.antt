@@ -8,6 +8,7 @@ use Rattle.avr_part.specs.Part.{Part}
 use Rattle.avr_part.specs.Memory.{blank}
 use Rattle.avr_part.specs.State.{ChipState}
 
+-- The memories that can be written.
 pub record Memories : Type 0 where
   pub flash : List ℕ
   pub eeprom : List ℕ
@@ -16,6 +17,7 @@ pub record Memories : Type 0 where
   pub efuse : ℕ
   pub lock : ℕ
 
+-- The memories of a chip.
 abbrev pub memories_of : ChipState → Memories
 memories_of s =
     record { flash = s.flash; eeprom = s.eeprom; lfuse = s.lfuse; hfuse = s.hfuse; efuse = s.efuse; lock = s.lock }
@@ -73,6 +75,7 @@ effect part Erase m = record m {
 }
 effect part (Write mem image) m = write_effect mem image m
 
+-- What items do, in order.
 abbrev pub effects : Part → List Item → Memories → Memories
 effects part [] m = m
 effects part (item ∷ items) m = effects part items (effect part item m)

@@ -212,6 +212,7 @@ eeprom_reads cmd address i (suc n) chip =
 abbrev pub block_response : ℕ → BytesAndChip → Programmer → Response
 block_response code bytes_and_chip p = (code ∷ 0 ∷ (bytes_and_chip.0 ++ 0 ∷ []), record p { chip = bytes_and_chip.1 })
 
+-- Reads a block of flash. A count that is 0, odd or too large fails.
 abbrev pub read_flash : ReadBlock → Programmer → Response
 read_flash f p =
     if_programming 0x14 p
@@ -219,6 +220,7 @@ read_flash f p =
     then block_response 0x14 (flash_reads p.wide f.cmd1 p.address 0 f.count p.chip) (with_address_moved (f.count / 2) p)
     else fail 0x14 p)
 
+-- Reads a block of EEPROM. A count that is 0 or too large fails.
 abbrev pub read_eeprom : ReadBlock → Programmer → Response
 read_eeprom f p =
     if_programming 0x16 p

@@ -120,6 +120,7 @@ data_count Name = 0
 data_count (Bytes n) = n
 data_count (Closed n) = n
 
+-- The shape fixes how many bytes a reply brings.
 abbrev pub IsSizedShape : Shape → Type 0
 IsSizedShape Name = ⊥
 IsSizedShape _ = Unit {0}

@@ -46,6 +46,7 @@ pub record Plays {E R : Type 0} (dialog : Dialog E R) (before : Progress) (trans
   pub none_taken : NoneTaken transcript
   pub in_turn : InTurn dialog before transcript
 
+-- These bytes are the first of those.
 abbrev pub IsBytePrefixOf : List ℕ → List ℕ → Type 0
 IsBytePrefixOf prefix bytes = (back : List ℕ) × (prefix ++ back ≡ bytes)
 

@@ -41,6 +41,7 @@ read_command_at part Lock number = read_lock
 read_command_at part Signature number = read_signature number
 read_command_at part Calibration number = read_calibration
 
+-- The step of this number.
 abbrev pub read_step : Part → Mem → ℕ → List (List Command)
 read_step part mem number = commands_by (load_command_at part mem number) (read_command_at part mem number) ∷ []
 
