@@ -39,7 +39,7 @@ TookFile {F = F} system writes now writing =
     (first : F) × system.is_of first writing.name
     × Appends (writes.contents first) (writes.contents now) writing.bytes
 
--- The open handle gave or took what the record says.
+-- The open handle gave or took what the record has.
 abbrev pub IsTrueOpen : {S F I H : Type 0} → Ghosts S F I H → Reads F → Writes F → Reads I → OpenFile F I
     → Open → Type 0
 IsTrueOpen system reads writes input Nothing current = current ≡ is.Closed
@@ -75,7 +75,7 @@ CrashLeaves system now tried = (name : Bytes) (found : Option Bytes) → system.
     ⊎ ((bytes : Bytes) × (found ≡ Some bytes) × Contains tried (record { name = name; bytes = bytes }))
 
 -- The record of files and standard input is what the system returned for the names asked. The system did nothing else:
--- its calls are those of the uses in order, and it holds what the record says. A crash leaves only bytes of a held
+-- its calls are those of the uses in order, and it holds what the record has. A crash leaves only bytes of a held
 -- file that the record has.
 pub record IsTrueRecord {S F I H : Type 0} (system : Ghosts S F I H) (reads : Reads F) (writes : Writes F)
     (input : Reads I) (now : S) (opened : OpenFile F I) (hold : Option H) (kept : Record) : Type 0 where

@@ -8,8 +8,8 @@ use Rattle.avr_desk.specs.declared.record.Opening.TheVariants.{Absent, Found}
 use Rattle.avr_desk.specs.declared.record.Open.TheVariants.{ToRead, ToWrite}
 use Rattle.avr_desk.specs.declared.stream.Stream.TheVariants.{File, Messages}
 
--- A file is opened, with what it gives; a line is printed to the messages; a file of this name is created; bytes are
--- written to it; or bytes are written to standard output.
+-- A file is opened, with what it gives; a line is printed to the messages; or a file of this name is created. Or bytes
+-- are written to that file, or to standard output.
 pub data OutputEvent : Type 0 where
   Opens : Opening → OutputEvent
   PrintsLine : Bytes → OutputEvent

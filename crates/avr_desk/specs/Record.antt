@@ -13,14 +13,19 @@ use Rattle.avr_desk.specs.declared.record.Open.TheVariants.{Closed, ToRead, ToWr
 abbrev pub Bytes : Type 0
 Bytes = List ℕ
 
--- In order: the finished uses of files; the open file; the held file; the files that were held already (`denied`);
--- all replacements, also failed ones (`tried`); how many releases were asked for; output and messages.
+-- What a desk was asked to do, and what it gave.
 pub record Record : Type 0 where
+  -- the finished uses of files, in order
   pub uses : List FileUse
+  -- the open file
   pub current : Open
+  -- the held file
   pub held : Option Bytes
+  -- the files that couldn't be held, because they were held already
   pub denied : List Bytes
+  -- all replacements, also failed ones
   pub tried : List Writing
+  -- how many releases were asked for
   pub releases : ℕ
   pub output : Bytes
   pub messages : Bytes

@@ -1,4 +1,4 @@
--- The state of a program's desk, and what its record says of writers and files.
+-- The state of a program's desk, and how its record agrees with writers and files.
 use Rattle.std.specs.Prelude.{◌≡◌, ◌++◌, ℕ, Bool, false, ◌≤◌, length, List, Option, None, IsSome, Result, Ok, Err, take}
 use Rattle.std.specs.Io.KnownBytes.{Appends}
 use Rattle.std.specs.List.{list_any}

@@ -6,8 +6,8 @@ use Rattle.avr_desk.specs.declared.record.Opening.TheVariants.{Absent, Found}
 use Rattle.avr_desk.specs.Lines.{not_opened_line}
 use Rattle.avr_desk.specs.OutputEvents.{OutputEvent, Opens, PrintsLine}
 
--- How a stage ends: with a result; with a refusal, whose line this is; or without a result, because a file was not
--- read to its end or past its limit.
+-- How a stage ends: with a result, or with a refusal, whose line this is. Or it ends without a result, because a file
+-- was not read to its end or past its limit.
 pub data StageOutcome (A : Type 0) : Type 0 where
   Produced : A → StageOutcome A
   Refused : Bytes → StageOutcome A

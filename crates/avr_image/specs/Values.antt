@@ -47,7 +47,7 @@ fitting size addr (Some value) =
     else if not (nat_lt addr size) then Err (OutOfRange addr)
     else Ok value
 
--- The byte of a value, which has the address before it, or its fault.
+-- The byte of a value with its address, or the value's fault.
 abbrev pub byte_of_value : ℕ → ℕ × List ℕ → Result ℕ ImageFault
 byte_of_value size piece = fitting size piece.0 (value_of piece.1)
 

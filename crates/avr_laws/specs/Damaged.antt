@@ -16,7 +16,7 @@ DifferInOne [] came = ⊥
 DifferInOne (a ∷ sent) [] = ⊥
 DifferInOne (a ∷ sent) (b ∷ came) = ((a ≢ b) × (sent ≡ came)) ⊎ ((a ≡ b) × DifferInOne sent came)
 
--- The frame arrived with one byte changed, but with its own start, size and token. These say how long it is.
+-- The frame arrived with one byte changed, but with its own start, size and token, so with its own length.
 abbrev pub IsDamaged : List ℕ → List ℕ → Type 0
 IsDamaged (start ∷ seq ∷ high ∷ low ∷ token ∷ more) came =
     (other : ℕ) × (rest : List ℕ) × (came ≡ start ∷ other ∷ high ∷ low ∷ token ∷ rest)

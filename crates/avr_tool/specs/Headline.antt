@@ -106,8 +106,8 @@ opened_at (InPlanning (NoMemoryForFile reading)) = Opens (Found reading) ∷ []
 opened_at reason = []
 
 -- What a stopped run did is a prefix of the run over what was received; only the last event may be incomplete. At the
--- desk this was done, then perhaps a part of the next file was read, then the line of the reason was reported, or a
--- prefix of it; and nothing else.
+-- desk this was done, and then perhaps a part of the next file was read. Then the line of the reason was reported, or a
+-- prefix of it, and nothing else.
 pub record IsPrefixOfRun (settings : Settings) (before now : Devices) : Type 0 where
   pub openings : List Opening
   pub during : Transcript

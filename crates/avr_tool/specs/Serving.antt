@@ -17,7 +17,7 @@ HasNoEnd [] = Unit {0}
 HasNoEnd (End ∷ tape) = ⊥
 HasNoEnd (item ∷ tape) = HasNoEnd tape
 
--- How often something was received.
+-- How many reads there were: of pieces, timeouts and ends.
 abbrev pub reads : Transcript → ℕ
 reads [] = 0
 reads (Got tape ∷ transcript) = reads transcript + 1

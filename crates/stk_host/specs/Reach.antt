@@ -1,5 +1,4 @@
--- How far a call has come in a dialog: for contracts of private functions, and of code that sends and listens
--- without a host.
+-- How far a call has come in a dialog: for contracts of private functions, and of code without a host.
 use Rattle.std.specs.Prelude.{ℕ, List, [], ◌∷◌, ◌++◌, ◌+◌, ◌≡◌, ◌<◌, ◌≤◌, length, Some, None, Result, OnOk, OnErr}
 use Rattle.stk_host.specs.Tape.{Tape, Reading, on_tape, answer, reply_byte_limit}
 use Rattle.stk_host.specs.Transcript.{Transcript, LinkState, Sent, Taken, Got, NoneTaken, sent, heard, Grows, LinkCounts}

@@ -13,8 +13,8 @@ use std::marker::Model;
 
 /// A link that gives the items of a tape in order, and keeps the transcript.
 ///
-/// `send` takes at most `cut` bytes, and `recv` gives at most `cut`. A timeout or an end comes alone.
-/// After the last item every `recv` gives an end. The link fails only if allocation for the transcript fails.
+/// `send` takes at most `cut` bytes, and `recv` gives at most `cut`. A timeout or an end comes alone. After the last
+/// item every `recv` gives an end. The link fails only if allocation for the transcript fails.
 ///
 /// ```text
 /// let mut link = TapeLink::new(alloc, vec![in alloc; Item::Silence; 1]?, 281);
