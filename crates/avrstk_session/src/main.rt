@@ -1,8 +1,8 @@
 //! Serves an emulated programmer with an emulated part to one client, over standard input and output.
 //!
 //! It takes avrstk's options `-p`, `--parts` and `-P emu:CHIPFILE`. With `-n` it only checks that this part and chip
-//! file can be served, and writes nothing. With `-P stdio:` it reads the files of a whole command line, for callers that
-//! draw progress. It prints how many frames the session sends, and which pages of flash it writes.
+//! file can be served, and writes nothing. With `-P stdio:` it reads the files of a whole command line, for callers
+//! that draw progress. It prints how many frames the session sends, and which pages of flash it writes.
 #![tactic(auto)]
 
 ghost use Rattle.std.specs.Prelude.{◌≡◌, map, string_bytes};
