@@ -60,7 +60,8 @@ IsReplyOfFirst (suc k) (first ∷ sent) piece = (piece ≡ first) ⊎ (IsDamaged
 abbrev pub IsSomeRefusal : List ℕ → Type 0
 IsSomeRefusal piece = (n : ℕ) × ((piece ≡ frame n refusal) ⊎ IsDamaged (frame n refusal) piece)
 
--- Each piece up to the reply to frame `n` is a refusal, or the reply to one of the last 256 frames, perhaps damaged.
+-- Each piece up to the reply to frame `n` is a refusal, or the reply to one of the last 256 frames sent, perhaps
+-- damaged.
 abbrev pub AreRecentReplies : ℕ → List (List ℕ) → List (List ℕ) → Type 0
 AreRecentReplies n sent [] = Unit {0}
 AreRecentReplies n sent (piece ∷ pieces) =
@@ -84,8 +85,8 @@ abbrev pub IfRead : (Reading → List Arrival → Type 0) → Option (Reading ×
 IfRead Claim None = Unit {0}
 IfRead Claim (Some (reading, more)) = Claim reading more
 
--- AT EACH COMMAND of this dialog the link brings refusals and replies to the last 256 frames, in any order and number.
--- Each is whole or has one byte changed. Up to the awaited reply they have fewer than 4,096 bytes.
+-- AT EACH COMMAND of this dialog the link brings refusals and replies to the last 256 frames sent, in any order and
+-- number. Each is whole or has one byte changed. Up to the awaited reply they have fewer than 4,096 bytes.
 abbrev pub BringsReplies : {E R P : Type 0} → Device P → Dialog E R → ℕ → List Arrival → P → List Execution
     → List (List ℕ) → Type 0
 BringsReplies m (Done r) n come p executions before = Unit {0}

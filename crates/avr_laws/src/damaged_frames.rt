@@ -26,7 +26,7 @@ ghost use Rattle.avr_laws.specs.NoForgedFrame.{ForgesNoFrame};
 /// one byte of each. That byte isn't of the start, the size or the token, so the XOR is wrong.
 ///
 /// `programmer`: the good frames that arrive are those that arrived whole. `host`: at each command what comes are
-/// replies to the last 256 frames and refusals, damaged or not, of fewer than 4,096 bytes up to the awaited reply.
+/// replies to the last 256 frames sent and refusals, damaged or not, of fewer than 4,096 bytes up to the awaited reply.
 // Proof: `arrived_came` and `brings_no_frame` (Lines/Damaged).
 pub fn a_link_that_damages_one_byte_forges_no_frame<E, R>()
     ensures programmer { (sent : List (List ℕ)) (through : List Bool) (got : List ℕ) → All IsPiece sent

@@ -24,7 +24,7 @@ pub trait Sparse {
     fn next_held(&self, addr: u64) -> Option<u32>
         ensures next { result ≡ first_from (held self.now) addr }
 
-        // The list alone doesn't show that its values are bytes, and at most 2 to the power 32.
+        // The list alone doesn't show that its values are bytes, nor that there are at most 2 to the power 32.
         ensures memory { IsMemory (held self.now) };
 
     /// Returns the bytes from the byte address `addr` on up to the next gap, but at most `most`.

@@ -6,7 +6,7 @@ use arrayvec::ArrayVec;
 use byteorder::{BigEndian, ByteOrder};
 
 /// Returns the XOR of all bytes.
-// (not inlined: in a comparison with 0 the compiler would not vectorize the fold)
+// It isn't inlined, because in a comparison with 0 the compiler would not vectorize the fold.
 #[inline(never)]
 pub(crate) fn xor_of(bytes: &[u8]) -> u8
     ensures { result ≡ xor_all bytes.now }
