@@ -81,8 +81,8 @@ pub record RestOfStage {A : Type 0} (played : StageResult A) (whole : List Outpu
   pub output_events_are : played.output_events ≡ whole ++ later
   pub broken : BreakFitsNext break more (events_with_refusal later played.stage_outcome)
 
--- The stage broke off. For the openings that passed, a prefix of its events was done, whatever later openings would
--- give. Then the reason was reported. An allocation failed only where the stage allocates.
+-- The stage broke off. For the openings that passed, a prefix of its events, `whole`, was done, whatever later openings
+-- would give. Then the reason was reported as `notice`. An allocation failed only where the stage allocates.
 pub record StageBrokeOff {A : Type 0} (taking : AllocationPoints) (stage : Stage A) (old new : DeskState) : Type 0 where
   pub passed : List Opening
   pub whole : List OutputEvent

@@ -29,8 +29,8 @@ is_id text = is_between 1 31 (length text) && list_all is_id_byte text
 abbrev pub id_of : List ℕ → Option (List ℕ)
 id_of text = if is_id text then Some text else None
 
--- A valid id, and sizes that a part can have: a page divides 256, so it is a power of two, and a memory is whole
--- pages.
+-- A valid id, and sizes that a part can have. A page divides 256, so it is a power of two, and a memory is whole pages.
+-- Flash has at most 262,144 bytes and pages of whole words. EEPROM has at most 4,096 bytes.
 pub record IsPart (p : Part) : Type 0 where
   pub id : is_id p.id ≡ true
   pub signature : length p.signature ≡ 3

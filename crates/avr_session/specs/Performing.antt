@@ -25,7 +25,8 @@ abbrev pub Runs : {R : Type 0} → Dialog OutputEvent R → Progress → Devices
 Runs dialog before old new terms points (Ok result) after = RanWhole dialog before old new result after
 Runs dialog before old new terms points (Err stopped) after = BrokeOff dialog before old new terms points
 
--- A host ran this action on these terms, between these states of the devices.
+-- A host ran this dialog on these terms, between these states of the devices. Then it can be used, unless the link has
+-- ended, programming mode was left or the run has stopped.
 pub record PerformsOnTerms (terms : Terms) (points : RunAllocationPoints) (dialog : Dialog OutputEvent Standing)
     (host_old host_new : HostState) (old new : Devices) (result : Result Standing ⊤) : Type 0 where
   pub runs : Runs dialog host_old.progress old new terms points result host_new.progress

@@ -71,7 +71,7 @@ pub record StopsInFrame (during : Transcript) (begun later : List (Event OutputE
   pub part : begun ≡ Frame done ∷ []
   pub not_whole : NoneTaken during → 0 < length unsent
 
--- A prefix of the next bytes was printed or written.
+-- A prefix of the next bytes was printed or written; `begun` has it, and `later` has all of them.
 pub record StopsInOutput (event : Bytes → OutputEvent) (begun later : List (Event OutputEvent)) : Type 0 where
   pub bytes : Bytes
   pub done : Bytes

@@ -57,7 +57,7 @@ IsPartOfFirst IsPartOfEvent (Frame part ∷ []) (Frame whole ∷ events) = IsByt
 IsPartOfFirst IsPartOfEvent (Emitted part ∷ []) (Emitted whole ∷ events) = IsPartOfEvent part whole
 IsPartOfFirst IsPartOfEvent _ _ = ⊥
 
--- A prefix of the events, and perhaps a part of the next one.
+-- A prefix of the events, and perhaps a part of the next one: `whole` and `begun`. The events left are `later`.
 pub record IsPrefixOfEvents {E : Type 0} (IsPartOfEvent : E → E → Type 0) (shown events : List (Event E)) : Type 0 where
   pub whole : List (Event E)
   pub begun : List (Event E)
@@ -115,7 +115,7 @@ pub record RunsOverLink {R : Type 0} (dialog : Dialog ⊥ R) (before : Progress)
   pub plays : Plays dialog before during events result after
   pub sound : new.failures ≡ old.failures
 
--- A call broke off because the link failed, with this fault.
+-- A call broke off because the link failed, with this fault. `shown` is what happened up to then.
 pub record BreaksOverLink {R : Type 0} (fault : HostFault) (dialog : Dialog ⊥ R) (before : Progress)
     (old new : LinkState) : Type 0 where
   pub during : Transcript

@@ -74,7 +74,7 @@ pub record ReceivesReply (seq : ℕ) (unread : List ℕ) (old new : LinkState) (
   pub reading_is : (more : Tape) → answer seq (on_tape unread ++ (heard during ++ more))
       ≡ Some (reading, on_tape left ++ more)
 
--- The wait broke off before the reply arrived.
+-- The wait broke off before the reply arrived, within the limit of bytes.
 pub record ReceivesNoReply (seq : ℕ) (unread : List ℕ) (old new : LinkState) : Type 0 where
   pub during : Transcript
   pub grows : Grows old.transcript during new.transcript
