@@ -33,6 +33,6 @@ read_one_by_one word i (suc n) s = flash_byte (half_at i) (word + i / 2) s ∷ r
 abbrev pub is_in_flash : ℕ → ℕ → ChipState → Bool
 is_in_flash word n s = nat_le (word * 2 + n) 131072 && nat_le (word_address s word + n) s.part.flash_size
 
--- the bytes of the block at `word`, if it is in flash
+-- the bytes of the block at `word`, if it is in flash and within one extended address
 abbrev pub flash_block : ℕ → ℕ → ChipState → Option (List ℕ)
 flash_block word n s = if is_in_flash word n s then Some (read_one_by_one word 0 n s) else None

@@ -81,7 +81,7 @@ pub record StoppedPlanning (settings : Settings) (before now : Devices) : Type 0
   pub bare : settings.parts ≡ None → settings.updates ≡ [] → LacksPart settings.part [] before.desk now.desk
   pub same : now.link ≡ before.link
 
--- A run that stopped has status 1.
+-- The run stopped, in its session or in planning, and its status is 1.
 abbrev pub IsStopped : Settings → Devices → Devices → ℕ → Type 0
 IsStopped settings before now status =
     (StoppedInSession settings before now ⊎ StoppedPlanning settings before now) × (status ≡ 1)
