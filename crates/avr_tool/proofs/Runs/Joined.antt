@@ -36,8 +36,8 @@ emitted_bytes (event ∷ output_events) events = emitted_bytes output_events eve
 abbrev after_planning : StageResult Plan → Tape → Played OutputEvent ℕ
 after_planning p tape = prepend_events (map Emitted p.output_events) (run_after_planning p.stage_outcome tape)
 
-answered : {p q : StageResult Plan} → p ≡ q → p.stage_outcome ≡ q.stage_outcome
-answered e = ap (λ (p : StageResult Plan). p.stage_outcome) e
+outcomes_equal : {p q : StageResult Plan} → p ≡ q → p.stage_outcome ≡ q.stage_outcome
+outcomes_equal e = ap (λ (p : StageResult Plan). p.stage_outcome) e
 
 pub ran_whole : (settings : Settings) (plan : Plan) (x y : Devices) (between : DeskState) (status : ℕ)
     → StageCompleted (planned settings) x.desk between (Produced plan)
@@ -75,7 +75,7 @@ refused_whole settings x y same (line, went) = record {
   next = 1;
   left = [];
   is = λ later more. ap (λ q. after_planning q more) (went.comes later);
-  in_turn = λ later. subst (λ stage_outcome. IsInTurn stage_outcome []) (sym (answered (went.comes later))) refl;
+  in_turn = λ later. subst (λ stage_outcome. IsInTurn stage_outcome []) (sym (outcomes_equal (went.comes later))) refl;
   all_sent = emitted_bytes went.output_events (Emitted (PrintsLine line) ∷ []);
   grows = subst (λ (l : LinkState). Grows x.link.transcript [] l.transcript) (sym same) (grows_none x.link.transcript);
   kept = went.kept ∙ ap (λ output_events. after_events output_events x.desk.kept)
@@ -163,7 +163,7 @@ stopped_prefix settings x y stopped = record {
   reported_part = cause_part _ stopped.then_is.cause stopped.then_is.notice _ y.desk stopped.then_is.stops.is_reported;
   prefix = search (rules, prefix_behind);
   in_turn = λ later. subst (λ stage_outcome. IsInTurn stage_outcome stopped.then_is.during)
-      (sym (answered (stopped.made.comes later))) stopped.then_is.breaks.in_turn;
+      (sym (outcomes_equal (stopped.made.comes later))) stopped.then_is.breaks.in_turn;
   all_sent = emitted_bytes stopped.made.output_events stopped.then_is.shown ∙ stopped.then_is.breaks.all_sent;
   grows = stopped.then_is.grows;
   kept = shown_kept stopped.made.output_events stopped.then_is.shown stopped.then_is.notice x.desk.kept
