@@ -4,7 +4,7 @@ use Rattle.avr_cli.specs.declared.settings.Settings.{Settings}
 use Rattle.avr_desk.specs.Fault.{CountsNeverFall}
 use Rattle.avr_desk.specs.Lines.{memory_line, not_opened_line, not_read_line}
 use Rattle.avr_desk.specs.Record.{DeskState, Record, Bytes, after_err}
-use Rattle.avr_desk.specs.OutputEvents.{OutputEvent, PrintsLine, IsPrefixOfBytes, ReportsLineAs, after_events}
+use Rattle.avr_desk.specs.OutputEvents.{OutputEvent, PrintsLine, IsBytePrefixOf, ReportsLineAs, after_events}
 use Rattle.avr_desk.proofs.Stages.Outputs.{kept_append, after_append}
 use Rattle.avr_desk.proofs.Lines.ReportedAs.{follows_on, follows_same, same_on}
 use Rattle.avr_plan.specs.Plan.{Plan}
@@ -127,15 +127,15 @@ shown_kept output_events shown notice r s t first then =
     (sym (append-nil (outputs (map Emitted output_events ++ shown)) ∙ emitted_outputs output_events shown))
 
 -- what was reported is a part of the reason's line
-line_part : (line notice : Bytes) (x y : DeskState) → ReportsLineAs line notice x y → IsPrefixOfBytes notice line
+line_part : (line notice : Bytes) (x y : DeskState) → ReportsLineAs line notice x y → IsBytePrefixOf notice line
 line_part line notice x y (inl whole) = ([], append-nil notice ∙ whole.0)
 line_part line notice x y (inr part) = part.0
 
-none_part : (line notice : Bytes) → notice ≡ [] → IsPrefixOfBytes notice line
+none_part : (line notice : Bytes) → notice ≡ [] → IsBytePrefixOf notice line
 none_part line notice none = (line, ap (λ t. t ++ line) none)
 
 cause_part : (has_reported : Bool) (cause : Cause) (notice : Bytes) (x y : DeskState)
-    → ReportsCause has_reported cause notice x y → IsPrefixOfBytes notice (cause_line cause)
+    → ReportsCause has_reported cause notice x y → IsBytePrefixOf notice (cause_line cause)
 cause_part false cause notice x y is_reported = line_part (cause_line cause) notice x y is_reported
 cause_part true SendingFailed notice x y none = none_part (cause_line SendingFailed) notice none
 cause_part true ReceivingFailed notice x y none = none_part (cause_line ReceivingFailed) notice none
@@ -144,7 +144,7 @@ cause_part true (FileFailed file trouble) notice x y is_reported = absurd is_rep
 cause_part true AllocationFailed notice x y is_reported = absurd is_reported
 
 break_part : (break : BreakCause) (notice : Bytes) (x y : DeskState)
-    → ReportsBreakAs break notice x y → IsPrefixOfBytes notice (stop_line (InPlanning break))
+    → ReportsBreakAs break notice x y → IsBytePrefixOf notice (stop_line (InPlanning break))
 break_part (LineNotPrinted line) notice x y is_reported = is_reported.0
 break_part (NotOpened name) notice x y is_reported =
     line_part (not_opened_line name) notice is_reported.between y is_reported.is_reported
