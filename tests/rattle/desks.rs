@@ -127,7 +127,7 @@ impl WatchDesk for Tally {
 }
 
 #[test]
-fn a_watcher_is_told_of_each_call(rt: HostRuntime) {
+fn a_watcher_receives_each_call(rt: HostRuntime) {
     let watcher = Tally {
         absent: 0,
         written: 0,

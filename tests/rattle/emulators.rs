@@ -10,10 +10,10 @@ use std::test::Fail;
 use stk_emu::{Emulator, Fate, Fates, FatesFault, Wired, noise_is_lawful};
 use stk_frame::{Command, put_frame};
 use stk_host::{Heard, Host, HostFault, Link};
-use crate::data::{ANSWERS, FRAMES};
+use crate::data::{REPLIES, FRAMES};
 
 /// Returns all replies to these bytes, fed in pieces of this size.
-fn answers(
+fn replies(
     alloc: Global,
     emulator: &mut Emulator,
     bytes: &[u8],
@@ -29,7 +29,7 @@ fn answers(
 }
 
 /// Returns the reply to a frame with this body.
-fn answer_to(emulator: &mut Emulator, body: &[u8]) -> ArrayVec<u8, 281>
+fn reply_to(emulator: &mut Emulator, body: &[u8]) -> ArrayVec<u8, 281>
     requires some { 0 < length body.now }
     requires fits { length body.now ≤ 275 }
 {
@@ -41,7 +41,7 @@ fn answer_to(emulator: &mut Emulator, body: &[u8]) -> ArrayVec<u8, 281>
 }
 
 /// Returns whether the reply to `body` has the body `want` and the frame's sequence number.
-fn is_answered(emulator: &mut Emulator, body: &[u8], want: &[u8]) -> bool
+fn replies_with(emulator: &mut Emulator, body: &[u8], want: &[u8]) -> bool
     requires some { 0 < length body.now }
     requires fits { length body.now ≤ 275 }
     requires wanted { 0 < length want.now }
@@ -49,7 +49,7 @@ fn is_answered(emulator: &mut Emulator, body: &[u8], want: &[u8]) -> bool
 {
     let mut frame = ArrayVec::new();
     put_frame(7, want, &mut frame);
-    answer_to(emulator, body).as_slice() == frame.as_slice()
+    reply_to(emulator, body).as_slice() == frame.as_slice()
 }
 
 fn emulator(alloc: Global, id: &str) -> Result<Emulator, avr_part::PartFault> {
@@ -65,14 +65,14 @@ fn session_in_pieces(alloc: Global, size: usize) -> Result<Vec<u8>, Fail>
     requires { 0 < size }
 {
     let mut emulator = emulator(alloc, "m328p")?;
-    Ok(answers(alloc, &mut emulator, &FRAMES, size)?)
+    Ok(replies(alloc, &mut emulator, &FRAMES, size)?)
 }
 
 #[test]
-fn a_session_is_answered_alike_in_pieces_of_any_size(rt: HostRuntime) -> Result<(), Fail> {
+fn a_session_gets_the_same_replies_in_pieces_of_any_size(rt: HostRuntime) -> Result<(), Fail> {
     for size in [1, 2, 3, 5, 280, 281] {
         let all = session_in_pieces(rt.alloc(), size)?;
-        assert_eq!(rt; all.as_slice(), ANSWERS.as_slice(), "in pieces of {size}");
+        assert_eq!(rt; all.as_slice(), REPLIES.as_slice(), "in pieces of {size}");
     }
     Ok(())
 }
@@ -89,7 +89,7 @@ fn unknown_and_spoiled_frames_are_told_apart(rt: HostRuntime) -> Result<(), Fail
         let mut emulator = emulator(alloc, "m328p")?;
         for (frame, reply) in rows {
             let frame = hex::decode(alloc, frame)?;
-            let all = answers(alloc, &mut emulator, frame.as_slice(), size)?;
+            let all = replies(alloc, &mut emulator, frame.as_slice(), size)?;
             assert_eq!(rt; all.as_slice(), hex::decode(alloc, reply)?.as_slice(), "in pieces of {size}");
         }
     }
@@ -99,32 +99,32 @@ fn unknown_and_spoiled_frames_are_told_apart(rt: HostRuntime) -> Result<(), Fail
 #[test]
 fn commands_are_obeyed(rt: HostRuntime) -> Result<(), Fail> {
     let mut e = emulator(rt.alloc(), "m328p")?;
-    assert!(rt; is_answered(&mut e, &[0x02, 0x98, 0x05], &[0x02, 0x00]));
-    assert!(rt; is_answered(&mut e, &[0x03, 0x98], &[0x03, 0x00, 0x05]));
-    assert!(rt; is_answered(&mut e, &[0x1D, 4, 4, 0, 0x30, 0, 1, 0], &[0x1D, 0xC0]));
-    assert!(rt; is_answered(&mut e, &ENTER, &[0x10, 0x00]));
+    assert!(rt; replies_with(&mut e, &[0x02, 0x98, 0x05], &[0x02, 0x00]));
+    assert!(rt; replies_with(&mut e, &[0x03, 0x98], &[0x03, 0x00, 0x05]));
+    assert!(rt; replies_with(&mut e, &[0x1D, 4, 4, 0, 0x30, 0, 1, 0], &[0x1D, 0xC0]));
+    assert!(rt; replies_with(&mut e, &ENTER, &[0x10, 0x00]));
     assert!(rt;
-        is_answered(
+        replies_with(
             &mut e,
             &[0x1D, 4, 4, 0, 0x30, 0, 1, 0],
             &[0x1D, 0, 0, 0x30, 0, 0x95, 0]
         )
     );
-    assert!(rt; is_answered(&mut e, &[0x1D, 4, 1, 3, 0x30, 0, 1, 0], &[0x1D, 0, 0x95, 0]));
-    assert!(rt; is_answered(&mut e, &[0x17, 0xAC, 0xA0, 0x00], &[0x17, 0xC0]));
-    assert!(rt; is_answered(&mut e, &[0x06, 0, 0, 0, 0], &[0x06, 0]));
+    assert!(rt; replies_with(&mut e, &[0x1D, 4, 1, 3, 0x30, 0, 1, 0], &[0x1D, 0, 0x95, 0]));
+    assert!(rt; replies_with(&mut e, &[0x17, 0xAC, 0xA0, 0x00], &[0x17, 0xC0]));
+    assert!(rt; replies_with(&mut e, &[0x06, 0, 0, 0, 0], &[0x06, 0]));
     let page = [
         0x13, 0, 2, 0xC1, 0x0A, 0x40, 0x4C, 0x20, 0xFF, 0xFF, 0x12, 0x34,
     ];
-    assert!(rt; is_answered(&mut e, &page, &[0x13, 0]));
-    assert!(rt; is_answered(&mut e, &[0x06, 0, 0, 0, 0], &[0x06, 0]));
-    assert!(rt; is_answered(&mut e, &[0x14, 0, 2, 0x20], &[0x14, 0, 0x12, 0x34, 0]));
-    assert!(rt; is_answered(&mut e, &[0x14, 0, 2, 0x20], &[0x14, 0, 0xFF, 0xFF, 0]));
-    assert!(rt; is_answered(&mut e, &[0x06, 0x80, 0, 0, 0], &[0x06, 0]));
+    assert!(rt; replies_with(&mut e, &page, &[0x13, 0]));
+    assert!(rt; replies_with(&mut e, &[0x06, 0, 0, 0, 0], &[0x06, 0]));
+    assert!(rt; replies_with(&mut e, &[0x14, 0, 2, 0x20], &[0x14, 0, 0x12, 0x34, 0]));
+    assert!(rt; replies_with(&mut e, &[0x14, 0, 2, 0x20], &[0x14, 0, 0xFF, 0xFF, 0]));
+    assert!(rt; replies_with(&mut e, &[0x06, 0x80, 0, 0, 0], &[0x06, 0]));
     let enter = [
         0x10, 0xC8, 0x64, 0x19, 0x20, 0x00, 0x53, 0x05, 0xAC, 0x53, 0x00, 0x00,
     ];
-    assert!(rt; is_answered(&mut e, &enter, &[0x10, 0xC0]));
+    assert!(rt; replies_with(&mut e, &enter, &[0x10, 0xC0]));
     Ok(())
 }
 
@@ -146,7 +146,7 @@ fn a_parameter_is_given_back(rt: HostRuntime) -> Result<(), Fail> {
 #[test]
 fn flash_above_the_extended_address_is_written(rt: HostRuntime) -> Result<(), Fail> {
     let mut e = emulator(rt.alloc(), "m2560")?;
-    assert!(rt; is_answered(&mut e, &ENTER, &[0x10, 0x00]));
+    assert!(rt; replies_with(&mut e, &ENTER, &[0x10, 0x00]));
     let mut out = ArrayVec::new();
     let load = [
         0x1B, 0x07, 0x00, 0x05, 0x0E, 0x06, 0x80, 0x01, 0x00, 0x00, 0x90,
@@ -160,7 +160,7 @@ fn flash_above_the_extended_address_is_written(rt: HostRuntime) -> Result<(), Fa
     page[0] = 0x55;
     let mut body = ArrayVec::new();
     Command::program_page(&page).body(&mut body);
-    assert!(rt; is_answered(&mut e, body.as_slice(), &[0x13, 0x00]));
+    assert!(rt; replies_with(&mut e, body.as_slice(), &[0x13, 0x00]));
     assert_eq!(rt; e.chip().byte(Mem::Flash, 0x20000), Some(0x55));
     assert_eq!(rt; e.chip().byte(Mem::Flash, 0), Some(0xFF));
     Ok(())
@@ -170,18 +170,18 @@ fn flash_above_the_extended_address_is_written(rt: HostRuntime) -> Result<(), Fa
 #[test]
 fn habits_of_avrdude_are_served(rt: HostRuntime) -> Result<(), Fail> {
     let mut e = emulator(rt.alloc(), "m328p")?;
-    assert!(rt; is_answered(&mut e, &[0x02, 0x9E, 0x01], &[0x02, 0x00]));
-    assert!(rt; is_answered(&mut e, &ENTER, &[0x10, 0x00]));
-    assert!(rt; is_answered(&mut e, &ENTER, &[0x10, 0x00]));
+    assert!(rt; replies_with(&mut e, &[0x02, 0x9E, 0x01], &[0x02, 0x00]));
+    assert!(rt; replies_with(&mut e, &ENTER, &[0x10, 0x00]));
+    assert!(rt; replies_with(&mut e, &ENTER, &[0x10, 0x00]));
     for number in 0x90..0x99u8 {
-        assert!(rt; is_answered(&mut e, &[0x03, number], &[0x03, 0x00, 0x00]));
+        assert!(rt; replies_with(&mut e, &[0x03, number], &[0x03, 0x00, 0x00]));
     }
-    assert!(rt; is_answered(&mut e, &[0x03, 0x9E], &[0x03, 0x00, 0x01]));
+    assert!(rt; replies_with(&mut e, &[0x03, 0x9E], &[0x03, 0x00, 0x01]));
     let mut page = [0xFF; 131];
     page[0] = 0x14;
     page[1] = 0x00;
     page[130] = 0x00;
-    assert!(rt; is_answered(&mut e, &[0x14, 0x00, 0x80, 0x20], &page));
+    assert!(rt; replies_with(&mut e, &[0x14, 0x00, 0x80, 0x20], &page));
     let sign_on = [0x1B, 0x01, 0x00, 0x01, 0x0E, 0x01, 0x14];
     let mut first = ArrayVec::new();
     e.feed(&sign_on, &mut first);
@@ -206,14 +206,14 @@ fn noise_is_judged(rt: HostRuntime) -> Result<(), Fail> {
 #[test]
 fn fates_are_judged(rt: HostRuntime) -> Result<(), Fail> {
     let alloc = rt.alloc();
-    let answer = [0x1B, 0x01, 0x00, 0x02, 0x0E, 0x01, 0x00, 0x17];
+    let reply = [0x1B, 0x01, 0x00, 0x02, 0x0E, 0x01, 0x00, 0x17];
     let mut fates = Fates::none(alloc);
     assert!(rt; fates.is_empty());
     fates.push(Fate::LostAnswer)?;
-    let noise = Vec::from_slice(alloc, &answer[..7])?;
+    let noise = Vec::from_slice(alloc, &reply[..7])?;
     fates.push(Fate::AnswerSpoiled(noise))?;
     assert_eq!(rt; fates.len(), 2);
-    let whole = Vec::from_slice(alloc, &answer)?;
+    let whole = Vec::from_slice(alloc, &reply)?;
     let fault = FatesFault::UnlawfulNoise;
     assert_eq!(rt; fates.push(Fate::AnswerSpoiled(whole)), Err(fault));
     assert_eq!(rt; fates.len(), 2);
@@ -313,7 +313,7 @@ fn a_session_gets_through_every_fate(rt: HostRuntime) -> Result<(), Fail> {
 }
 
 #[test]
-fn a_late_answer_comes_before_the_next(rt: HostRuntime) -> Result<(), Fail> {
+fn a_late_reply_comes_before_the_next(rt: HostRuntime) -> Result<(), Fail> {
     let alloc = rt.alloc();
     let mut link = Wired::with_fates(alloc, m328p(alloc)?, fates(alloc, 0, 0, Fate::LateAnswer)?);
     let mut buffer = [0; 64];
@@ -322,7 +322,7 @@ fn a_late_answer_comes_before_the_next(rt: HostRuntime) -> Result<(), Fail> {
     assert_eq!(rt; link.recv(&mut buffer), Ok(Heard::Silence));
     assert_eq!(rt; link.send(&FRAMES[7..25]), Ok(18));
     assert_eq!(rt; link.recv(&mut buffer), Ok(Heard::Bytes(25)));
-    assert!(rt; buffer.starts_with(&ANSWERS[..25]));
+    assert!(rt; buffer.starts_with(&REPLIES[..25]));
     assert_eq!(rt; link.recv(&mut buffer), Ok(Heard::Silence));
     Ok(())
 }
@@ -351,10 +351,10 @@ fn brought(alloc: Global, letters: &str, count: usize) -> Result<String, Fail> {
         link.send(frame.as_slice())?;
     }
     let mut items = String::new(alloc);
-    let mut answer = [0; 8];
+    let mut reply = [0; 8];
     for _ in 0..count {
-        match link.recv(&mut answer)? {
-            Heard::Bytes(_) => write!(items, "{}", answer[1])?,
+        match link.recv(&mut reply)? {
+            Heard::Bytes(_) => write!(items, "{}", reply[1])?,
             _ => write!(items, ".")?,
         }
     }
@@ -362,7 +362,7 @@ fn brought(alloc: Global, letters: &str, count: usize) -> Result<String, Fail> {
 }
 
 #[test]
-fn answers_that_wait_come_in_their_order(rt: HostRuntime) -> Result<(), Fail> {
+fn replies_that_wait_come_in_their_order(rt: HostRuntime) -> Result<(), Fail> {
     for (letters, items) in [
         ("HHG", "..12345"),
         ("AHL", "..12.45"),

@@ -6,7 +6,7 @@ use std::test::Fail;
 use stk_frame::{
     Answer, Command, Event, FrameFault, FrameReader, command_name, put_frame, status_name,
 };
-use crate::data::ANSWERS;
+use crate::data::REPLIES;
 
 #[test]
 fn a_command_goes_into_a_frame(rt: HostRuntime) {
@@ -27,11 +27,11 @@ fn a_command_goes_into_a_frame(rt: HostRuntime) {
 }
 
 #[test]
-fn answers_are_cut_alike_in_pieces_of_any_size(rt: HostRuntime) {
+fn replies_are_cut_alike_in_pieces_of_any_size(rt: HostRuntime) {
     for size in 1..64usize {
         let mut reader = FrameReader::new();
         let mut frames = 0u8;
-        for piece in ANSWERS.chunks(size) {
+        for piece in REPLIES.chunks(size) {
             let mut left = piece;
             for _ in 0..64 {
                 let (used, event) = reader.feed(left);
@@ -50,14 +50,14 @@ fn answers_are_cut_alike_in_pieces_of_any_size(rt: HostRuntime) {
 }
 
 #[test]
-fn answers_are_judged(rt: HostRuntime) -> Result<(), Fail> {
-    let answer = Answer::read(&Command::read_signature(0), &[0x1B, 0x00, 0x1E, 0x00])?;
-    assert_eq!(rt; answer.data, [0x1E].as_slice());
+fn replies_are_checked(rt: HostRuntime) -> Result<(), Fail> {
+    let reply = Answer::read(&Command::read_signature(0), &[0x1B, 0x00, 0x1E, 0x00])?;
+    assert_eq!(rt; reply.data, [0x1E].as_slice());
     Ok(())
 }
 
 #[test]
-fn faults_are_numbered_and_told(rt: HostRuntime) -> Result<(), Fail> {
+fn faults_have_numbers_and_texts(rt: HostRuntime) -> Result<(), Fail> {
     for (fault, number, text) in [
         (FrameFault::WrongLength, 1, "an answer of another length"),
         (FrameFault::WrongCommand, 2, "an answer to another command"),

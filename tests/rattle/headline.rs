@@ -4,7 +4,7 @@ use crate::support::{Over, desk_with, fates, run_wired_on, settings_for};
 use avr_tool::{Fate, Item, MemDesk, Settings, StreamLink, SystemDesk, TapeLink, run};
 use std::alloc::Global;
 use std::test::Fail;
-use crate::data::digits::{ANSWERS, LEAVE, OPENING};
+use crate::data::digits::{REPLIES, LEAVE, OPENING};
 
 /// What a run sent, wrote to standard output and printed as messages, and its status.
 #[derive(Drop)]
@@ -19,18 +19,18 @@ struct Passed {
 fn play<'a>(
     rt: &'a HostRuntime,
     settings: &Settings,
-    answers: &'a [u8],
+    replies: &'a [u8],
     sent: &'a mut Vec<u8>,
     output: &'a mut Vec<u8>,
     messages: &'a mut Vec<u8>,
 ) -> u8 {
     let mut desk = SystemDesk::new(rt, output, messages);
-    let mut link = StreamLink::new(answers, sent);
+    let mut link = StreamLink::new(replies, sent);
     run(rt.alloc(), settings, &mut desk, &mut link)
 }
 
 /// Runs a session over these replies, with writers in memory.
-fn run_over_streams(rt: &HostRuntime, answers: &[u8]) -> Result<Passed, Fail> {
+fn run_over_streams(rt: &HostRuntime, replies: &[u8]) -> Result<Passed, Fail> {
     let alloc = rt.alloc();
     let settings = settings_for(alloc, &["-p", "m328p"])?;
     let mut sent = Vec::new(alloc);
@@ -39,7 +39,7 @@ fn run_over_streams(rt: &HostRuntime, answers: &[u8]) -> Result<Passed, Fail> {
     let status = play(
         rt,
         &settings,
-        answers,
+        replies,
         &mut sent,
         &mut output,
         &mut messages,
@@ -55,8 +55,8 @@ fn run_over_streams(rt: &HostRuntime, answers: &[u8]) -> Result<Passed, Fail> {
 #[test]
 fn the_desk_and_the_link_of_the_program(rt: HostRuntime) -> Result<(), Fail> {
     let alloc = rt.alloc();
-    let answers = hex::decode(alloc, ANSWERS)?;
-    let passed = run_over_streams(&rt, answers.as_slice())?;
+    let replies = hex::decode(alloc, REPLIES)?;
+    let passed = run_over_streams(&rt, replies.as_slice())?;
     assert_eq!(rt; passed.status, 0);
     let mut frames = hex::decode(alloc, OPENING)?;
     frames.extend_from_slice(hex::decode(alloc, LEAVE)?.as_slice())?;
@@ -73,8 +73,8 @@ fn the_desk_and_the_link_of_the_program(rt: HostRuntime) -> Result<(), Fail> {
 #[test]
 fn a_reader_that_ends(rt: HostRuntime) -> Result<(), Fail> {
     let alloc = rt.alloc();
-    let answers = hex::decode(alloc, ANSWERS)?;
-    let passed = run_over_streams(&rt, answers.get(..25).unwrap_or(&[]))?;
+    let replies = hex::decode(alloc, REPLIES)?;
+    let passed = run_over_streams(&rt, replies.get(..25).unwrap_or(&[]))?;
     assert_eq!(rt; passed.status, 1);
     let frames = hex::decode(alloc, OPENING)?;
     assert!(rt; passed.sent.as_slice() == frames.get(..37).unwrap_or(&[]));
@@ -83,7 +83,7 @@ fn a_reader_that_ends(rt: HostRuntime) -> Result<(), Fail> {
 }
 
 /// The replies to a session that opens, reads the low fuse (62) twice, and ends.
-const FUSE_ANSWERS: &str =
+const FUSE_REPLIES: &str =
     "1B01000B0E01000853544B3530305F32021B0200020E1000051B0300040E1B001E00171B0400040E1B0095009B1B0500040E1B000F00001B0600040E180062006D1B0700040E180062006C1B0800020E11000E";
 
 /// The frames that follow the opening of that session.
@@ -101,11 +101,11 @@ fn run_over_tape(
     alloc: Global,
     words: &[&str],
     low: u8,
-    answers: &[u8],
+    replies: &[u8],
 ) -> Result<Over<MemDesk, TapeLink>, Fail> {
     let settings = settings_for(alloc, words)?;
     let mut items = Vec::new(alloc);
-    for byte in answers {
+    for byte in replies {
         items.push(Item::Byte(*byte))?;
     }
     let mut desk = MemDesk::empty(alloc);
@@ -120,10 +120,10 @@ fn status_over_streams(
     alloc: Global,
     settings: &Settings,
     desk: &mut MemDesk,
-    answers: &[u8],
+    replies: &[u8],
     sent: &mut Vec<u8>,
 ) -> u8 {
-    let mut streams = StreamLink::new(answers, sent);
+    let mut streams = StreamLink::new(replies, sent);
     run(alloc, settings, desk, &mut streams)
 }
 
@@ -132,13 +132,13 @@ fn run_over_reader(
     alloc: Global,
     words: &[&str],
     low: u8,
-    answers: &[u8],
+    replies: &[u8],
 ) -> Result<Over<MemDesk, Vec<u8>>, Fail> {
     let settings = settings_for(alloc, words)?;
     let mut desk = MemDesk::empty(alloc);
     desk.put("low", &[low])?;
     let mut link = Vec::new(alloc);
-    let status = status_over_streams(alloc, &settings, &mut desk, answers, &mut link);
+    let status = status_over_streams(alloc, &settings, &mut desk, replies, &mut link);
     Ok(Over { desk, link, status })
 }
 
@@ -153,8 +153,8 @@ fn fuse_frames(alloc: Global) -> Result<Vec<u8>, Fail> {
 #[test]
 fn from_bytes_to_bytes(rt: HostRuntime) -> Result<(), Fail> {
     let alloc = rt.alloc();
-    let answers = hex::decode(alloc, FUSE_ANSWERS)?;
-    let over = run_over_tape(alloc, &FUSE_WORDS, 0x62, answers.as_slice())?;
+    let replies = hex::decode(alloc, FUSE_REPLIES)?;
+    let over = run_over_tape(alloc, &FUSE_WORDS, 0x62, replies.as_slice())?;
     assert_eq!(rt; over.status, 0);
     assert!(rt; over.link.sent() == fuse_frames(alloc)?.as_slice());
     assert!(rt; over.desk.messages() == FUSE_MESSAGES.as_bytes());
@@ -166,8 +166,8 @@ fn from_bytes_to_bytes(rt: HostRuntime) -> Result<(), Fail> {
 #[test]
 fn from_a_reader_to_a_writer(rt: HostRuntime) -> Result<(), Fail> {
     let alloc = rt.alloc();
-    let answers = hex::decode(alloc, FUSE_ANSWERS)?;
-    let over = run_over_reader(alloc, &FUSE_WORDS, 0x62, answers.as_slice())?;
+    let replies = hex::decode(alloc, FUSE_REPLIES)?;
+    let over = run_over_reader(alloc, &FUSE_WORDS, 0x62, replies.as_slice())?;
     assert_eq!(rt; over.status, 0);
     assert!(rt; over.link == fuse_frames(alloc)?);
     assert!(rt; over.desk.messages() == FUSE_MESSAGES.as_bytes());

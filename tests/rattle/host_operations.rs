@@ -24,8 +24,8 @@ fn image(alloc: Global, part: &Part, mem: Mem, byte: u8) -> Result<Image, ImageF
     Ok(image)
 }
 
-/// Returns a link that answers the first frames with these bodies.
-fn answering(alloc: Global, bodies: &[&[u8]]) -> Result<TapeLink, AllocError> {
+/// Returns a link that replies to the first frames with these bodies.
+fn replying(alloc: Global, bodies: &[&[u8]]) -> Result<TapeLink, AllocError> {
     let mut items = Vec::new(alloc);
     let mut seq: u8 = 1;
     for body in bodies {
@@ -62,7 +62,7 @@ fn erases_and_writes_runs_of_eeprom(rt: HostRuntime) -> Result<(), Fail> {
         &[0x06, 0x00],
         &[0x15, 0x00],
     ];
-    let mut link = answering(rt.alloc(), bodies)?;
+    let mut link = replying(rt.alloc(), bodies)?;
     let mut host = Host::new(part);
     assert!(rt; host.erase(&mut link) == Ok(()));
     assert!(rt; host.write(&mut link, Mem::Eeprom, &image) == Ok(()));
@@ -75,7 +75,7 @@ fn reads_a_fuse_and_finds_it_different(rt: HostRuntime) -> Result<(), Fail> {
     let part = part()?;
     let image = image(rt.alloc(), &part, Mem::Lfuse, 0xE2)?;
     let bodies: &[&[u8]] = &[&[0x18, 0x00, 0x62, 0x00], &[0x18, 0x00, 0x62, 0x00]];
-    let mut link = answering(rt.alloc(), bodies)?;
+    let mut link = replying(rt.alloc(), bodies)?;
     let mut host = Host::new(part);
     let mut bytes = Vec::new(rt.alloc());
     let differs = HostFault::Differs(Mem::Lfuse, 0, 0xE2, 0x62);

@@ -6,7 +6,7 @@ use std::io::{ErrorKind, Read, Write};
 use std::process::Abort;
 use std::test::Fail;
 use stk_host::{FailingLink, Heard, Host, HostFault, Item, Link, LinkFault, StreamLink, TapeLink};
-use crate::data::{ANSWERS, FRAMES};
+use crate::data::{REPLIES, FRAMES};
 
 const SIGNATURE: [u8; 3] = [0x1E, 0x95, 0x0F];
 
@@ -16,7 +16,7 @@ fn host() -> Result<Host, PartFault> {
 }
 
 /// Returns a link that gives these bytes, then ends.
-fn answering(alloc: Global, bytes: &[u8]) -> Result<TapeLink, AllocError> {
+fn replying(alloc: Global, bytes: &[u8]) -> Result<TapeLink, AllocError> {
     let mut items = Vec::new(alloc);
     for byte in bytes {
         items.push(Item::Byte(*byte))?;
@@ -28,12 +28,12 @@ fn answering(alloc: Global, bytes: &[u8]) -> Result<TapeLink, AllocError> {
 fn session(
     rt: &impl Abort,
     alloc: Global,
-    answers: &[u8],
+    replies: &[u8],
     force: bool,
     outcome: Result<[u8; 3], HostFault>,
     sent: &[u8],
 ) -> Result<(), Fail> {
-    let mut link = answering(alloc, answers)?;
+    let mut link = replying(alloc, replies)?;
     let mut host = host()?;
     let opened = host.open(&mut link, force);
     let _ = host.close(&mut link);
@@ -45,7 +45,7 @@ fn session(
 #[test]
 fn opens_and_closes_in_pieces_of_any_size(rt: HostRuntime) -> Result<(), Fail> {
     for cut in [1usize, 2, 5, 280, 281] {
-        let mut link = FailingLink::new(answering(rt.alloc(), &ANSWERS)?, 0, cut.max(1));
+        let mut link = FailingLink::new(replying(rt.alloc(), &REPLIES)?, 0, cut.max(1));
         let mut host = host()?;
         assert!(rt; host.open(&mut link, false) == Ok(SIGNATURE), "cut {cut}");
         assert!(rt; host.close(&mut link) == Ok(()), "cut {cut}");
@@ -58,7 +58,7 @@ fn opens_and_closes_in_pieces_of_any_size(rt: HostRuntime) -> Result<(), Fail> {
 fn every_call_of_the_link_fails_in_turn(rt: HostRuntime) -> Result<(), Fail> {
     // 17 calls of `send` and 13 of `recv` in pieces of five bytes
     for n in 1u64..=31 {
-        let mut link = FailingLink::new(answering(rt.alloc(), &ANSWERS)?, n, 5);
+        let mut link = FailingLink::new(replying(rt.alloc(), &REPLIES)?, n, 5);
         let mut host = host()?;
         let opened = host.open(&mut link, false);
         let closed = host.close(&mut link);
@@ -98,14 +98,14 @@ fn eight_silences(rt: HostRuntime) -> Result<(), Fail> {
 }
 
 #[test]
-fn babble_a_silence_an_answer_and_the_end(rt: HostRuntime) -> Result<(), Fail> {
+fn babble_a_silence_a_reply_and_the_end(rt: HostRuntime) -> Result<(), Fail> {
     let mut items = vec![in rt.alloc(); Item::Byte(0x1B); 5000]?;
     items.push(Item::Silence)?;
-    let answer: [u8; 17] = [
+    let reply: [u8; 17] = [
         0x1B, 0x03, 0x00, 0x0B, 0x0E, 0x01, 0x00, 0x08, 0x53, 0x54, 0x4B, 0x35, 0x30, 0x30, 0x5F,
         0x32, 0x00,
     ];
-    for byte in &answer {
+    for byte in &reply {
         items.push(Item::Byte(*byte))?;
     }
     items.push(Item::End)?;
@@ -128,8 +128,8 @@ fn babble_a_silence_an_answer_and_the_end(rt: HostRuntime) -> Result<(), Fail> {
 #[test]
 fn enter_is_refused(rt: HostRuntime) -> Result<(), Fail> {
     // `B0 C1` reports a spoiled frame: ENTER is sent again, with the next number
-    let mut answers = ANSWERS[..17].to_vec(rt.alloc())?;
-    answers.extend_from_slice(&[0x1B, 0x02, 0x00, 0x02, 0x0E, 0xB0, 0xC1, 0x64])?;
+    let mut replies = REPLIES[..17].to_vec(rt.alloc())?;
+    replies.extend_from_slice(&[0x1B, 0x02, 0x00, 0x02, 0x0E, 0xB0, 0xC1, 0x64])?;
     let mut sent = FRAMES[..25].to_vec(rt.alloc())?;
     sent.extend_from_slice(&[
         0x1B, 0x03, 0x00, 0x0C, 0x0E, 0x10, 0xC8, 0x64, 0x19, 0x20, 0x00, 0x53, 0x03, 0xAC, 0x53,
@@ -138,14 +138,14 @@ fn enter_is_refused(rt: HostRuntime) -> Result<(), Fail> {
     session(
         &rt,
         rt.alloc(),
-        &answers,
+        &replies,
         false,
         Err(HostFault::LinkEnded),
         &sent,
     )?;
 
     // at most four times, then LEAVE
-    answers.extend_from_slice(&[
+    replies.extend_from_slice(&[
         0x1B, 0x03, 0x00, 0x02, 0x0E, 0xB0, 0xC1, 0x65, 0x1B, 0x04, 0x00, 0x02, 0x0E, 0xB0, 0xC1,
         0x62, 0x1B, 0x05, 0x00, 0x02, 0x0E, 0xB0, 0xC1, 0x63,
     ])?;
@@ -157,7 +157,7 @@ fn enter_is_refused(rt: HostRuntime) -> Result<(), Fail> {
     session(
         &rt,
         rt.alloc(),
-        &answers,
+        &replies,
         false,
         Err(HostFault::Refused(0x10, 0xC1)),
         &sent,
@@ -170,7 +170,7 @@ fn enter_fails_at_once(rt: HostRuntime) -> Result<(), Fail> {
     let mut sent = FRAMES[..25].to_vec(rt.alloc())?;
     sent.extend_from_slice(&[0x1B, 0x03, 0x00, 0x03, 0x0E, 0x11, 0x01, 0x01, 0x04])?;
     // a status other than 00
-    let mut refused = ANSWERS[..17].to_vec(rt.alloc())?;
+    let mut refused = REPLIES[..17].to_vec(rt.alloc())?;
     refused.extend_from_slice(&[0x1B, 0x02, 0x00, 0x02, 0x0E, 0x10, 0xC0, 0xC5])?;
     session(
         &rt,
@@ -181,7 +181,7 @@ fn enter_fails_at_once(rt: HostRuntime) -> Result<(), Fail> {
         &sent,
     )?;
     // the reply to another command
-    let mut other = ANSWERS[..17].to_vec(rt.alloc())?;
+    let mut other = REPLIES[..17].to_vec(rt.alloc())?;
     other.extend_from_slice(&[0x1B, 0x02, 0x00, 0x02, 0x0E, 0x11, 0x00, 0x04])?;
     session(
         &rt,
@@ -196,26 +196,26 @@ fn enter_fails_at_once(rt: HostRuntime) -> Result<(), Fail> {
 
 #[test]
 fn another_signature(rt: HostRuntime) -> Result<(), Fail> {
-    let mut answers = ANSWERS;
-    answers[52] = 0x14;
-    answers[54] = 0x1B;
+    let mut replies = REPLIES;
+    replies[52] = 0x14;
+    replies[54] = 0x1B;
     let found = [0x1E, 0x95, 0x14];
     session(
         &rt,
         rt.alloc(),
-        &answers,
+        &replies,
         false,
         Err(HostFault::WrongSignature(found)),
         &FRAMES,
     )?;
-    session(&rt, rt.alloc(), &answers, true, Ok(found), &FRAMES)
+    session(&rt, rt.alloc(), &replies, true, Ok(found), &FRAMES)
 }
 
 #[test]
 fn over_a_reader_and_a_writer(rt: HostRuntime) -> Result<(), Fail> {
     let mut written = Vec::new(rt.alloc());
     let mut host = host()?;
-    let mut link = StreamLink::new(ANSWERS.as_slice(), &mut written);
+    let mut link = StreamLink::new(REPLIES.as_slice(), &mut written);
     assert!(rt; host.open(&mut link, false) == Ok(SIGNATURE));
     assert!(rt; host.close(&mut link) == Ok(()));
     assert!(rt; host.close(&mut link) == Err(HostFault::LinkEnded));

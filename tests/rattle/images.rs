@@ -28,7 +28,7 @@ fn runs_cross_the_words_of_present_bits(rt: HostRuntime) -> Result<(), Fail> {
 }
 
 #[test]
-fn an_image_and_a_fault_tell_what_they_are(rt: HostRuntime) -> Result<(), Fail> {
+fn an_image_and_a_fault_show_what_they_are(rt: HostRuntime) -> Result<(), Fail> {
     let alloc = rt.alloc();
     let mut image = Image::new(alloc, 64)?;
     image.put_slice(8, &[1, 2])?;
@@ -61,7 +61,7 @@ fn images_are_compared(rt: HostRuntime) -> Result<(), Fail> {
 }
 
 #[test]
-fn readers_and_writers_tell_where_they_are(rt: HostRuntime) -> Result<(), Fail> {
+fn readers_and_writers_return_where_they_are(rt: HostRuntime) -> Result<(), Fail> {
     let alloc = rt.alloc();
     let mut reader = RawReader::new(alloc, 4)?;
     reader.feed(&[1, 2])?;

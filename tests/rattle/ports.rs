@@ -8,7 +8,7 @@ use std::io::{ErrorKind, Read, Write};
 use std::net::{Net, OpenListener, Shutdown, SocketAddr, TcpListener, TcpStream};
 use std::test::Fail;
 use stk_host::{Heard, Link, StreamLink};
-use crate::data::{ANSWERS, FRAMES};
+use crate::data::{REPLIES, FRAMES};
 
 /// Returns the settings of a run without updates: it only reads the part's signature.
 fn settings_for(alloc: Global, part: &str) -> Result<Settings, Fail> {
@@ -46,7 +46,7 @@ fn run_at<R: Net>(rt: &R, alloc: Global, part: &str, port: u16) -> Result<Over, 
 }
 
 /// Receives everything on a link up to its end.
-fn heard_to_the_end<R: Read + Drop, W: Write + Drop>(
+fn received_to_the_end<R: Read + Drop, W: Write + Drop>(
     alloc: Global,
     link: &mut StreamLink<R, W>,
 ) -> Result<Vec<u8>, Fail> {
@@ -92,7 +92,7 @@ fn a_port_that_nobody_serves(rt: HostRuntime) -> Result<(), Fail> {
 }
 
 /// SIGN_ON and LEAVE_PROGMODE_ISP, four times each, numbered from 1.
-const UNANSWERED: [u8; 64] = [
+const WITHOUT_REPLY: [u8; 64] = [
     0x1B, 0x01, 0x00, 0x01, 0x0E, 0x01, 0x14, 0x1B, 0x02, 0x00, 0x01, 0x0E, 0x01, 0x17, 0x1B, 0x03,
     0x00, 0x01, 0x0E, 0x01, 0x16, 0x1B, 0x04, 0x00, 0x01, 0x0E, 0x01, 0x11, 0x1B, 0x05, 0x00, 0x03,
     0x0E, 0x11, 0x01, 0x01, 0x02, 0x1B, 0x06, 0x00, 0x03, 0x0E, 0x11, 0x01, 0x01, 0x01, 0x1B, 0x07,
@@ -101,13 +101,13 @@ const UNANSWERED: [u8; 64] = [
 
 /// The connection is accepted only after the run, so each attempt ends with a timeout of one second.
 #[test]
-fn a_programmer_that_never_answers(rt: HostRuntime) -> Result<(), Fail> {
+fn a_programmer_that_never_replies(rt: HostRuntime) -> Result<(), Fail> {
     let listener = listen(&rt, 0)?;
     let over = run_at(&rt, rt.alloc(), "m328p", listener.local_addr()?.port())?;
     assert_eq!(rt; over.status, 1);
     assert!(rt; over.desk.messages() == b"avrstk: error: no answer\n".as_slice());
-    let heard = heard_to_the_end(rt.alloc(), &mut accept(listener)?)?;
-    assert_eq!(rt; heard.as_slice(), UNANSWERED.as_slice());
+    let received = received_to_the_end(rt.alloc(), &mut accept(listener)?)?;
+    assert_eq!(rt; received.as_slice(), WITHOUT_REPLY.as_slice());
     Ok(())
 }
 
@@ -133,19 +133,19 @@ impl Net for Connected {
 
 /// All replies are sent before the first frame arrives.
 #[test]
-fn a_programmer_that_answers(rt: HostRuntime) -> Result<(), Fail> {
+fn a_programmer_that_replies(rt: HostRuntime) -> Result<(), Fail> {
     let listener = listen(&rt, 0)?;
     let stream = TcpStream::connect(&rt, listener.local_addr()?)?;
     let net = Connected { stream };
     let mut programmer = accept(listener)?;
-    assert_eq!(rt; programmer.send(ANSWERS.as_slice())?, ANSWERS.len());
+    assert_eq!(rt; programmer.send(REPLIES.as_slice())?, REPLIES.len());
     let over = run_at(&net, rt.alloc(), "m328p", 1)?;
     drop(net);
     assert_eq!(rt; over.status, 0);
     let lines = b"avrstk: device signature = 1E 95 0F\navrstk: done\n";
     assert!(rt; over.desk.messages() == lines.as_slice());
-    let heard = heard_to_the_end(rt.alloc(), &mut programmer)?;
-    assert_eq!(rt; heard.as_slice(), FRAMES.as_slice());
+    let received = received_to_the_end(rt.alloc(), &mut programmer)?;
+    assert_eq!(rt; received.as_slice(), FRAMES.as_slice());
     Ok(())
 }
 
@@ -153,11 +153,11 @@ fn a_programmer_that_answers(rt: HostRuntime) -> Result<(), Fail> {
 const FRAME: [u8; 7] = [0x1B, 0x09, 0x00, 0x01, 0x0E, 0x05, 0x18];
 
 /// The reply of any programmer to it.
-const ANSWER: [u8; 8] = [0x1B, 0x09, 0x00, 0x02, 0x0E, 0x05, 0xC9, 0xD2];
+const REPLY: [u8; 8] = [0x1B, 0x09, 0x00, 0x02, 0x0E, 0x05, 0xC9, 0xD2];
 
 /// The caller has sent everything and shut down its writing side before it is accepted.
 #[test]
-fn a_caller_is_answered_and_the_chip_is_saved(rt: HostRuntime) -> Result<(), Fail> {
+fn a_caller_gets_its_reply_and_the_chip_is_saved(rt: HostRuntime) -> Result<(), Fail> {
     let alloc = rt.alloc();
     let listener = listen(&rt, 0)?;
     let mut caller = TcpStream::connect(&rt, listener.local_addr()?)?;
@@ -169,9 +169,9 @@ fn a_caller_is_answered_and_the_chip_is_saved(rt: HostRuntime) -> Result<(), Fai
     assert_eq!(rt; status, 0);
     assert!(rt; desk.messages().is_empty());
     assert_eq!(rt; desk.file("chip.bin").map(|file| file.len()), Some(33_796));
-    let mut heard = Vec::new(alloc);
-    caller.read_to_end(&mut heard)?;
-    assert_eq!(rt; heard.as_slice(), ANSWER.as_slice());
+    let mut received = Vec::new(alloc);
+    caller.read_to_end(&mut received)?;
+    assert_eq!(rt; received.as_slice(), REPLY.as_slice());
     Ok(())
 }
 

@@ -236,7 +236,7 @@ fn reads_long_lines(rt: HostRuntime) -> Result<(), Fail> {
 }
 
 #[test]
-fn answers_line_by_line(rt: HostRuntime) -> Result<(), Fail> {
+fn returns_a_fault_by_its_line(rt: HostRuntime) -> Result<(), Fail> {
     let mut reader = RecordReader::new(rt.alloc(), Kind::Ihex, 4)?;
     assert_eq!(rt; reader.feed(b":0400000001020304F3"), Ok(()));
     assert_eq!(rt; reader.fed(), 19);
@@ -342,7 +342,7 @@ fn agrees_with_the_plain_reader(rt: HostRuntime) -> Result<(), Fail> {
 }
 
 #[test]
-fn a_size_is_told_without_an_image(rt: HostRuntime) {
+fn a_size_is_returned_without_an_image(rt: HostRuntime) {
     let firmware = b":020000040800F2\n:020010000102EB\n:00000001FF\n";
     assert_eq!(rt; needed_size(Kind::Ihex, firmware), Ok(0x0800_0012));
     assert_eq!(rt; needed_size(Kind::Ihex, b""), Ok(0));
@@ -373,7 +373,7 @@ fn a_size_is_told_without_an_image(rt: HostRuntime) {
 }
 
 #[test]
-fn readers_and_writers_tell_where_they_are(rt: HostRuntime) -> Result<(), Fail> {
+fn readers_and_writers_return_where_they_are(rt: HostRuntime) -> Result<(), Fail> {
     let alloc = rt.alloc();
     let record = read_record(Kind::Ihex, b":0400100001020304E2")?;
     let shown = format!(in alloc; "{record:?}")?;

@@ -38,7 +38,7 @@ fn fault_of(alloc: Global, kind: u8, bytes: &mut [u8], present: &mut [u8]) -> Ou
 }
 
 #[test]
-fn formats_are_told(rt: HostRuntime) -> Result<(), Fail> {
+fn formats_are_detected(rt: HostRuntime) -> Result<(), Fail> {
     assert_eq!(rt; avr_records_detect(b":00000001FF\n"), 1);
     assert_eq!(rt; avr_records_detect(b"S9030000FC\n"), 2);
     Ok(())
@@ -110,7 +110,7 @@ fn a_file_goes_on(rt: HostRuntime) -> Result<(), Fail> {
 }
 
 #[test]
-fn a_bad_cursor_is_told(rt: HostRuntime) -> Result<(), Fail> {
+fn a_bad_cursor_is_reported(rt: HostRuntime) -> Result<(), Fail> {
     let mut cursor = START;
     cursor.address_size = 5;
     let mut room = [7; 4];
@@ -122,7 +122,7 @@ fn a_bad_cursor_is_told(rt: HostRuntime) -> Result<(), Fail> {
 }
 
 #[test]
-fn a_length_is_told(rt: HostRuntime) -> Result<(), Fail> {
+fn a_length_is_returned(rt: HostRuntime) -> Result<(), Fail> {
     let notice = avr_records_length(2, &[0xFF, 0x0A, 0x0B], &[0b110]);
     assert_eq!(rt;
         notice,

@@ -8,13 +8,13 @@ use std::ops::Range;
 use std::process::Abort;
 use std::test::Fail;
 use stk_host::{FailingLink, Item, Link, TapeLink};
-use crate::data::digits::{ANSWERS, LEAVE, OPENING};
+use crate::data::digits::{REPLIES, LEAVE, OPENING};
 
 /// A run: the part, the replies in hexadecimal (`-` is a timeout), the frames in hexadecimal, the messages and the
 /// status.
 struct Row {
     part: &'static str,
-    answers: &'static str,
+    replies: &'static str,
     frames: &'static [&'static str],
     messages: &'static str,
     status: u8,
@@ -95,7 +95,7 @@ fn shows(
 
 fn look(rt: &impl Abort, alloc: Global, row: &Row, cut: usize) -> Result<(), Fail> {
     let sent = joined(alloc, row.frames)?;
-    let over = run_over(alloc, row.part, tape(alloc, row.answers)?, cut)?;
+    let over = run_over(alloc, row.part, tape(alloc, row.replies)?, cut)?;
     shows(rt, &over, sent.as_slice(), row.messages, row.status)
 }
 
@@ -116,28 +116,28 @@ fn signatures(rt: HostRuntime) -> Result<(), Fail> {
         &[
             Row {
                 part: "m328p",
-                answers: ANSWERS,
+                replies: REPLIES,
                 frames: &[OPENING, LEAVE],
                 messages: "avrstk: device signature = 1E 95 0F\navrstk: done\n",
                 status: 0,
             },
             Row {
                 part: "t85",
-                answers: "1B01000B0E01000853544B3530305F32021B0200020E1000051B0300040E1B001E00171B0400040E1B0093009D1B0500040E1B000B00041B0600020E110000",
+                replies: "1B01000B0E01000853544B3530305F32021B0200020E1000051B0300040E1B001E00171B0400040E1B0093009D1B0500040E1B000B00041B0600020E110000",
                 frames: &[OPENING, LEAVE],
                 messages: "avrstk: device signature = 1E 93 0B\navrstk: done\n",
                 status: 0,
             },
             Row {
                 part: "m328p",
-                answers: "1B01000B0E01000853544B3530305F32021B0200020E1000051B0300040E1B001E00171B0400040E1B0095009B1B0500040E1B0014001B1B0600020E110000",
+                replies: "1B01000B0E01000853544B3530305F32021B0200020E1000051B0300040E1B001E00171B0400040E1B0095009B1B0500040E1B0014001B1B0600020E110000",
                 frames: &[OPENING, LEAVE],
                 messages: "avrstk: device signature = 1E 95 14\navrstk: error: signature is 1E 95 14, m328p has 1E 95 0F\n",
                 status: 1,
             },
             Row {
                 part: "m9",
-                answers: ANSWERS,
+                replies: REPLIES,
                 frames: &[],
                 messages: "avrstk: error: no part m9\n",
                 status: 1,
@@ -147,14 +147,14 @@ fn signatures(rt: HostRuntime) -> Result<(), Fail> {
 }
 
 #[test]
-fn answers_that_do_not_come(rt: HostRuntime) -> Result<(), Fail> {
+fn replies_that_do_not_come(rt: HostRuntime) -> Result<(), Fail> {
     look_at_all(
         &rt,
         rt.alloc(),
         &[
             Row {
                 part: "m328p",
-                answers: "--------",
+                replies: "--------",
                 frames: &[
                     "1B0100010E01141B0200010E01171B0300010E01161B0400010E0111",
                     "1B0500030E110101021B0600030E110101011B0700030E110101001B0800030E1101010F",
@@ -165,14 +165,14 @@ fn answers_that_do_not_come(rt: HostRuntime) -> Result<(), Fail> {
             // the tape ends when the reply to LEAVE is due
             Row {
                 part: "m328p",
-                answers: "1B01000B0E01000853544B3530305F32021B0200020E1000051B0300040E1B001E00171B0400040E1B0095009B1B0500040E1B000F0000",
+                replies: "1B01000B0E01000853544B3530305F32021B0200020E1000051B0300040E1B001E00171B0400040E1B0095009B1B0500040E1B000F0000",
                 frames: &[OPENING, LEAVE],
                 messages: "avrstk: device signature = 1E 95 0F\navrstk: error: link ended\n",
                 status: 1,
             },
             Row {
                 part: "m328p",
-                answers: "1B01000B0E01000853544B3530305F3202",
+                replies: "1B01000B0E01000853544B3530305F3202",
                 frames: &["1B0100010E01141B02000C0E10C8641920005303AC53000031"],
                 messages: "avrstk: error: link ended\n",
                 status: 1,
@@ -189,7 +189,7 @@ fn commands_that_are_refused(rt: HostRuntime) -> Result<(), Fail> {
         &[
             Row {
                 part: "m328p",
-                answers: "1B01000B0E01000853544B3530305F32021B0200020E10C0C5",
+                replies: "1B01000B0E01000853544B3530305F32021B0200020E10C0C5",
                 frames: &[
                     "1B0100010E01141B02000C0E10C8641920005303AC53000031",
                     "1B0300030E11010104",
@@ -199,7 +199,7 @@ fn commands_that_are_refused(rt: HostRuntime) -> Result<(), Fail> {
             },
             Row {
                 part: "m328p",
-                answers: "1B01000B0E01000853544B3530305F32021B0200020EB0C1641B0300020EB0C1651B0400020EB0C1621B0500020EB0C163",
+                replies: "1B01000B0E01000853544B3530305F32021B0200020EB0C1641B0300020EB0C1651B0400020EB0C1621B0500020EB0C163",
                 frames: &[
                     "1B0100010E01141B02000C0E10C8641920005303AC53000031",
                     "1B03000C0E10C8641920005303AC530000301B04000C0E10C8641920005303AC53000037",
@@ -210,7 +210,7 @@ fn commands_that_are_refused(rt: HostRuntime) -> Result<(), Fail> {
             },
             Row {
                 part: "m328p",
-                answers: "1B01000B0E01000853544B3530305F32021B0200020E110004",
+                replies: "1B01000B0E01000853544B3530305F32021B0200020E110004",
                 frames: &[
                     "1B0100010E01141B02000C0E10C8641920005303AC53000031",
                     "1B0300030E11010104",
@@ -223,9 +223,9 @@ fn commands_that_are_refused(rt: HostRuntime) -> Result<(), Fail> {
 }
 
 /// Returns a tape of the first bytes of the good replies; then the link ends.
-fn prefix_of_answers(alloc: Global, count: usize) -> Result<Vec<Item>, Fail> {
+fn prefix_of_replies(alloc: Global, count: usize) -> Result<Vec<Item>, Fail> {
     let mut items = Vec::new(alloc);
-    for byte in hex::decode(alloc, ANSWERS)?.into_iter().take(count) {
+    for byte in hex::decode(alloc, REPLIES)?.into_iter().take(count) {
         items.push(Item::Byte(byte))?;
     }
     Ok(items)
@@ -244,7 +244,7 @@ fn look_at_cuts(
     frames.truncate(sent);
     for count in counts {
         for cut in [1usize, 281] {
-            let over = run_over(alloc, "m328p", prefix_of_answers(alloc, count)?, cut)?;
+            let over = run_over(alloc, "m328p", prefix_of_replies(alloc, count)?, cut)?;
             shows(rt, &over, frames.as_slice(), messages, 1)?;
         }
     }
@@ -253,7 +253,7 @@ fn look_at_cuts(
 
 /// Each complete reply lets the next frame be sent: after 17, 25, 35, 45 and 55 bytes.
 #[test]
-fn answers_that_break_off(rt: HostRuntime) -> Result<(), Fail> {
+fn replies_that_break_off(rt: HostRuntime) -> Result<(), Fail> {
     let alloc = rt.alloc();
     let ended = "avrstk: error: link ended\n";
     look_at_cuts(&rt, alloc, 0..17, 7, ended)?;
@@ -302,7 +302,7 @@ fn rubbish_on_the_line(rt: HostRuntime) -> Result<(), Fail> {
 #[test]
 fn a_link_that_fails(rt: HostRuntime) -> Result<(), Fail> {
     let alloc = rt.alloc();
-    let items = tape(alloc, ANSWERS)?;
+    let items = tape(alloc, REPLIES)?;
     let settings = settings_for(alloc, "m328p")?;
     let mut desk = MemDesk::empty(alloc);
     let mut link = FailingLink::new(TapeLink::new(alloc, items, 281), 1, 281);
@@ -316,7 +316,7 @@ fn a_link_that_fails(rt: HostRuntime) -> Result<(), Fail> {
 fn a_desk_that_fails(rt: HostRuntime) -> Result<(), Fail> {
     let alloc = rt.alloc();
     let opening = joined(alloc, &[OPENING])?;
-    let items = tape(alloc, ANSWERS)?;
+    let items = tape(alloc, REPLIES)?;
     let settings = settings_for(alloc, "m328p")?;
     let mut desk = FailingDesk::new(MemDesk::empty(alloc), 1);
     let mut link = TapeLink::new(alloc, items, 281);
@@ -330,6 +330,6 @@ fn a_desk_that_fails(rt: HostRuntime) -> Result<(), Fail> {
 fn the_digits_are_of_the_same_bytes(rt: HostRuntime) -> Result<(), Fail> {
     let alloc = rt.alloc();
     assert!(rt; joined(alloc, &[OPENING, LEAVE])?.as_slice() == crate::data::FRAMES.as_slice());
-    assert!(rt; joined(alloc, &[ANSWERS])?.as_slice() == crate::data::ANSWERS.as_slice());
+    assert!(rt; joined(alloc, &[REPLIES])?.as_slice() == crate::data::REPLIES.as_slice());
     Ok(())
 }

@@ -254,7 +254,7 @@ fn each_call_of_the_link_fails_over_the_whole_eeprom(rt: HostRuntime) -> Result<
 }
 
 /// Returns the report of a failure of this call of the desk.
-fn told_of(run: &SoundRun, n: u64) -> &'static [&'static str] {
+fn notice_of(run: &SoundRun, n: u64) -> &'static [&'static str] {
     for (call, lines) in run.notice {
         if *call == n {
             return *lines;
@@ -273,7 +273,7 @@ fn fail_each_desk_call(rt: &impl Abort, alloc: Global, run: &SoundRun) -> Result
         }
         failures = failures.wrapping_add(1);
         let over = (broken.desk.inner(), broken.link.inner(), broken.status);
-        broke_off(rt, alloc, &sound, over, told_of(run, n), n)?;
+        broke_off(rt, alloc, &sound, over, notice_of(run, n), n)?;
     }
     assert!(rt; failures == run.desk_calls);
     Ok(())

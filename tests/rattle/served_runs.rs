@@ -10,7 +10,7 @@ use stk_host::{FailingLink, Item, Link, TapeLink};
 const FRAME: [u8; 7] = [0x1B, 0x09, 0x00, 0x01, 0x0E, 0x05, 0x18];
 
 /// The reply of any programmer to it.
-const ANSWER: [u8; 8] = [0x1B, 0x09, 0x00, 0x02, 0x0E, 0x05, 0xC9, 0xD2];
+const REPLY: [u8; 8] = [0x1B, 0x09, 0x00, 0x02, 0x0E, 0x05, 0xC9, 0xD2];
 
 /// Returns a tape of the frame, with a timeout before its last byte, and the end.
 fn frame_and_end(alloc: Global) -> Result<Vec<Item>, AllocError> {
@@ -45,21 +45,21 @@ fn saved_size(desk: &MemDesk) -> Option<usize> {
 }
 
 #[test]
-fn an_end_that_is_heard_saves_the_chip(rt: HostRuntime) -> Result<(), Fail> {
+fn an_end_that_is_received_saves_the_chip(rt: HostRuntime) -> Result<(), Fail> {
     let alloc = rt.alloc();
     let items = frame_and_end(alloc)?;
     let settings = settings_to_serve(alloc)?;
     let mut link = TapeLink::new(alloc, items, 281);
     let mut desk = MemDesk::empty(alloc);
     assert_eq!(rt; served(alloc, &settings, &mut desk, &mut link), 0);
-    assert_eq!(rt; link.sent(), ANSWER.as_slice());
+    assert_eq!(rt; link.sent(), REPLY.as_slice());
     assert_eq!(rt; saved_size(&desk), Some(33_796));
     assert!(rt; desk.messages().is_empty());
     Ok(())
 }
 
 #[test]
-fn too_many_reads_are_told_and_the_chip_is_saved(rt: HostRuntime) -> Result<(), Fail> {
+fn too_many_reads_are_reported_and_the_chip_is_saved(rt: HostRuntime) -> Result<(), Fail> {
     let alloc = rt.alloc();
     let items = vec![in alloc; Item::Silence; 5]?;
     let settings = settings_to_serve(alloc)?;
@@ -73,7 +73,7 @@ fn too_many_reads_are_told_and_the_chip_is_saved(rt: HostRuntime) -> Result<(), 
 }
 
 #[test]
-fn a_link_that_fails_is_told_and_the_chip_is_saved(rt: HostRuntime) -> Result<(), Fail> {
+fn a_link_that_fails_is_reported_and_the_chip_is_saved(rt: HostRuntime) -> Result<(), Fail> {
     let alloc = rt.alloc();
     let settings = settings_to_serve(alloc)?;
     let mut link = FailingLink::new(TapeLink::new(alloc, Vec::new(alloc), 281), 1, 5);

@@ -12,7 +12,7 @@ const FRAMES: [u8; 14] = [
 ];
 
 /// The replies of any programmer to them.
-const ANSWERS: [u8; 16] = [
+const REPLIES: [u8; 16] = [
     0x1B, 0x09, 0x00, 0x02, 0x0E, 0x05, 0xC9, 0xD2, 0x1B, 0x0A, 0x00, 0x02, 0x0E, 0x05, 0xC9, 0xD1,
 ];
 
@@ -28,7 +28,7 @@ fn add_bytes(items: &mut Vec<Item>, bytes: &[u8]) -> Result<(), AllocError> {
 }
 
 #[test]
-fn a_frame_is_answered_over_a_silence(rt: HostRuntime) -> Result<(), Fail> {
+fn a_frame_gets_its_reply_over_a_silence(rt: HostRuntime) -> Result<(), Fail> {
     let mut items = Vec::new(rt.alloc());
     add_bytes(&mut items, &FRAMES[..6])?;
     items.push(Item::Silence)?;
@@ -37,7 +37,7 @@ fn a_frame_is_answered_over_a_silence(rt: HostRuntime) -> Result<(), Fail> {
     let mut link = TapeLink::new(rt.alloc(), items, 281);
     let served = serve_link(&mut emulator(rt.alloc())?, &mut link, 100);
     assert_eq!(rt; served, Served::Ended);
-    assert_eq!(rt; link.sent(), &ANSWERS[..8]);
+    assert_eq!(rt; link.sent(), &REPLIES[..8]);
     Ok(())
 }
 
@@ -73,7 +73,7 @@ fn every_call_of_the_link_fails_in_turn(rt: HostRuntime) -> Result<(), Fail> {
         let served = serve_link(&mut emulator(rt.alloc())?, &mut link, 100);
         assert_eq!(rt; served, *end, "call {call}");
         assert_eq!(rt; link.inner().sent().len(), *count, "call {call}");
-        assert!(rt; ANSWERS.starts_with(link.inner().sent()), "call {call}");
+        assert!(rt; REPLIES.starts_with(link.inner().sent()), "call {call}");
     }
     Ok(())
 }

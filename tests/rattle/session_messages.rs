@@ -7,7 +7,7 @@ use avr_session::{Outcome, drive_outcome, refuse};
 use std::alloc::{AllocError, Global};
 use std::test::Fail;
 use stk_host::{FailingLink, HostFault, Item, Link, TapeLink};
-use crate::data::ANSWERS;
+use crate::data::REPLIES;
 
 /// An update that only reads.
 const READ: &str = "lfuse:r:low:h";
@@ -61,9 +61,9 @@ fn outcome_over<L: Link>(
 }
 
 /// Returns a tape of the first `count` bytes of the worked session's replies, then `more`.
-fn answers_then(alloc: Global, count: usize, more: &[u8]) -> Result<Vec<Item>, AllocError> {
+fn replies_then(alloc: Global, count: usize, more: &[u8]) -> Result<Vec<Item>, AllocError> {
     let mut items = Vec::new(alloc);
-    for byte in ANSWERS.iter().take(count).chain(more) {
+    for byte in REPLIES.iter().take(count).chain(more) {
         items.push(Item::Byte(*byte))?;
     }
     Ok(items)
@@ -86,7 +86,7 @@ fn ends_with(
 /// Returns whether a session stops if this call of the link fails, and the last line is the text of this fault.
 fn stops_with(alloc: Global, call: u64, fault: HostFault) -> Result<bool, Fail> {
     let mut desk = MemDesk::empty(alloc);
-    let tape = TapeLink::new(alloc, answers_then(alloc, 63, &[])?, 281);
+    let tape = TapeLink::new(alloc, replies_then(alloc, 63, &[])?, 281);
     let mut link = FailingLink::new(tape, call, 281);
     let outcome = outcome_over(alloc, READ, &mut desk, &mut link)?;
     let line = format!(in alloc; "avrstk: error: {fault}\n")?;
@@ -101,7 +101,7 @@ fn faults_of_the_line_show_as_their_lines(rt: HostRuntime) -> Result<(), Fail> {
     let alloc = rt.alloc();
     let silent = vec![in alloc; Item::Silence; 8]?;
     assert!(rt; ends_with(alloc, READ, silent, HostFault::NoAnswer)?);
-    let cut = answers_then(alloc, 17, &[])?;
+    let cut = replies_then(alloc, 17, &[])?;
     assert!(rt; ends_with(alloc, READ, cut, HostFault::LinkEnded)?);
     let babble = vec![in alloc; Item::Byte(0); 16_384]?;
     assert!(rt; ends_with(alloc, READ, babble, HostFault::Babble)?);
@@ -117,12 +117,12 @@ fn failed_calls_show_as_their_lines(rt: HostRuntime) -> Result<(), Fail> {
 }
 
 #[test]
-fn faults_of_answers_show_as_their_lines(rt: HostRuntime) -> Result<(), Fail> {
+fn faults_of_replies_show_as_their_lines(rt: HostRuntime) -> Result<(), Fail> {
     let alloc = rt.alloc();
-    let refused = answers_then(alloc, 17, &[0x1B, 0x02, 0x00, 0x02, 0x0E, 0x10, 0xC0, 0xC5])?;
+    let refused = replies_then(alloc, 17, &[0x1B, 0x02, 0x00, 0x02, 0x0E, 0x10, 0xC0, 0xC5])?;
     let fault = HostFault::Refused(0x10, 0xC0);
     assert!(rt; ends_with(alloc, READ, refused, fault)?);
-    let other = answers_then(alloc, 17, &[0x1B, 0x02, 0x00, 0x02, 0x0E, 0x11, 0x00, 0x04])?;
+    let other = replies_then(alloc, 17, &[0x1B, 0x02, 0x00, 0x02, 0x0E, 0x11, 0x00, 0x04])?;
     assert!(rt; ends_with(alloc, READ, other, HostFault::BadAnswer(0x10))?);
     Ok(())
 }
@@ -131,7 +131,7 @@ fn faults_of_answers_show_as_their_lines(rt: HostRuntime) -> Result<(), Fail> {
 fn another_byte_shows_as_its_line(rt: HostRuntime) -> Result<(), Fail> {
     let alloc = rt.alloc();
     let fuse = [0x1B, 0x06, 0x00, 0x04, 0x0E, 0x18, 0x00, 0x62, 0x00, 0x6D];
-    let items = answers_then(alloc, 55, &fuse)?;
+    let items = replies_then(alloc, 55, &fuse)?;
     let fault = HostFault::Differs(Mem::Lfuse, 0, 0xE2, 0x62);
     assert!(rt; ends_with(alloc, "lfuse:v:0xE2:m", items, fault)?);
     Ok(())
@@ -141,11 +141,11 @@ fn another_byte_shows_as_its_line(rt: HostRuntime) -> Result<(), Fail> {
 #[test]
 fn another_signature_shows_as_its_line(rt: HostRuntime) -> Result<(), Fail> {
     let alloc = rt.alloc();
-    let mut answers = ANSWERS;
-    answers[52] = 0x14;
-    answers[54] = 0x1B;
+    let mut replies = REPLIES;
+    replies[52] = 0x14;
+    replies[54] = 0x1B;
     let mut desk = MemDesk::empty(alloc);
-    let mut link = TapeLink::new(alloc, answers_then(alloc, 0, &answers)?, 281);
+    let mut link = TapeLink::new(alloc, replies_then(alloc, 0, &replies)?, 281);
     let outcome = outcome_over(alloc, READ, &mut desk, &mut link)?;
     let fault = HostFault::WrongSignature([0x1E, 0x95, 0x14]);
     assert!(rt; outcome == Some(Outcome::Faulty(fault)));

@@ -108,10 +108,10 @@ no_plan_behind_success fails = let e : 1 ≡ 0 = fails.planned in omega (arith, 
 abbrev failing : Failing ℕ
 failing = record { inner = 0; due = 1; planned = 0; message_failures = 0 }
 
-abbrev failed_unsaid : Failing ℕ
-failed_unsaid = record { inner = 0; due = 0; planned = 1; message_failures = 1 }
+abbrev not_reported : Failing ℕ
+not_reported = record { inner = 0; due = 0; planned = 1; message_failures = 1 }
 
-pub no_file_is_a_planned_message_failure : FailsWhenDue File silent failing failed_unsaid (λ a b r. Unit {0}) failed → ⊥
+pub no_file_is_a_planned_message_failure : FailsWhenDue File silent failing not_reported (λ a b r. Unit {0}) failed → ⊥
 no_file_is_a_planned_message_failure fails = let e : 1 ≡ 0 = fails.message_failures in omega (arith, e)
 
 -- ---- openings of a desk in memory that no file gives

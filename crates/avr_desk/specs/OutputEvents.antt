@@ -35,15 +35,15 @@ abbrev pub after_events : List OutputEvent → Record → Record
 after_events [] r = r
 after_events (event ∷ events) r = after_events events (after event r)
 
-abbrev pub IsPrefixOfBytes : Bytes → Bytes → Type 0
-IsPrefixOfBytes prefix bytes = (back : Bytes) × (prefix ++ back ≡ bytes)
+abbrev pub IsBytePrefixOf : Bytes → Bytes → Type 0
+IsBytePrefixOf prefix bytes = (back : Bytes) × (prefix ++ back ≡ bytes)
 
 -- The first event is the second, done in part: a prefix of the bytes was printed or written. It bounds what an
 -- interrupted run printed.
 abbrev pub IsPartOfEvent : OutputEvent → OutputEvent → Type 0
-IsPartOfEvent (PrintsLine part) (PrintsLine whole) = IsPrefixOfBytes part whole
-IsPartOfEvent (WritesFile part) (WritesFile whole) = IsPrefixOfBytes part whole
-IsPartOfEvent (WritesOutput part) (WritesOutput whole) = IsPrefixOfBytes part whole
+IsPartOfEvent (PrintsLine part) (PrintsLine whole) = IsBytePrefixOf part whole
+IsPartOfEvent (WritesFile part) (WritesFile whole) = IsBytePrefixOf part whole
+IsPartOfEvent (WritesOutput part) (WritesOutput whole) = IsBytePrefixOf part whole
 IsPartOfEvent _ _ = ⊥
 
 -- The clause `printed` of calls that print: the line was printed, or a prefix of it if a write to the messages failed.
@@ -54,7 +54,7 @@ IsPrinted old new bytes (Err fault) = SendsPart Messages old new bytes
 -- Of the line, `notice` was reported: all of it if no call failed, a prefix if a write to the messages failed.
 abbrev pub ReportsLineAs : Bytes → Bytes → DeskState → DeskState → Type 0
 ReportsLineAs line notice old new =
-    ((notice ≡ line) × HasSameCounts old new) ⊎ (IsPrefixOfBytes notice line × HasFailedToReport old new)
+    ((notice ≡ line) × HasSameCounts old new) ⊎ (IsBytePrefixOf notice line × HasFailedToReport old new)
 
 -- The line was reported as far as the desk took it, and nothing else happened. Contracts of refusals cite it.
 pub record ReportsLine (old new : DeskState) (line : Bytes) : Type 0 where

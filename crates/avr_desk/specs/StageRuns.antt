@@ -6,7 +6,7 @@ use Rattle.avr_desk.specs.declared.record.Opening.{Opening}
 use Rattle.avr_desk.specs.declared.record.Opening.TheVariants.{Found}
 use Rattle.avr_desk.specs.declared.record.Reading.{Reading}
 use Rattle.avr_desk.specs.Lines.{memory_line, not_opened_line, not_read_line}
-use Rattle.avr_desk.specs.OutputEvents.{OutputEvent, Opens, PrintsLine, IsPrefixOfBytes, ReportsLineAs, ReportsFailureAs, after_events}
+use Rattle.avr_desk.specs.OutputEvents.{OutputEvent, Opens, PrintsLine, IsBytePrefixOf, ReportsLineAs, ReportsFailureAs, after_events}
 use Rattle.avr_desk.specs.Stage.{Stage, StageOutcome, Produced, Refused, StageResult, events_with_refusal, next_opening}
 
 -- The stage ran to its end and no call of the desk failed. For the openings that passed, the desk has the stage's
@@ -68,7 +68,7 @@ AllocatesThere taking break passed emitted = Unit {0}
 -- The desk failed at a file or allocation failed, and the line about that was reported. Or a line couldn't be
 -- printed: a prefix of it was printed, a write to the messages failed, and nothing else is reported.
 abbrev pub ReportsBreakAs : BreakCause → Bytes → DeskState → DeskState → Type 0
-ReportsBreakAs (LineNotPrinted line) notice old new = IsPrefixOfBytes notice line × HasFailedToReport old new
+ReportsBreakAs (LineNotPrinted line) notice old new = IsBytePrefixOf notice line × HasFailedToReport old new
 ReportsBreakAs (NotOpened name) notice old new = ReportsFailureAs (not_opened_line name) notice old new
 ReportsBreakAs (NotRead name bytes) notice old new = ReportsFailureAs (not_read_line name) notice old new
 ReportsBreakAs NoMemory notice old new = ReportsLineAs memory_line notice old new

@@ -34,12 +34,12 @@ use Rattle.avr_laws.proofs.ReportsOverExchanges.{ends_and_reports_over_exchanges
 use Rattle.avr_laws.proofs.Reports.OverTape.{by_fates, results_prefix}
 
 -- what was received is authentic, by the fates of all frames that the run over it sends
-pub authentic_heard : {E R : Type 0} (d : Dialog E R) (n : ℕ) (p : Programmer) (fates : List Fate) (w : WiredState)
+pub authentic_received : {E R : Type 0} (d : Dialog E R) (n : ℕ) (p : Programmer) (fates : List Fate) (w : WiredState)
     → SendsValidBodies d → AreLawful fates → FollowsFates p fates w → InTurn d (progress_at n []) w.transcript
     → IsBytePrefixOf (sent w.transcript) (bytes_sent (played d n (heard w.transcript)).events)
     → RepliesAreAuthentic device d n (heard w.transcript) p
     (executions_of_fates (length (frames_in (played d n (heard w.transcript)).events)) fates)
-authentic_heard d n p fates w asks lawful keeps exchanges prefix =
+authentic_received d n p fates w asks lawful keeps exchanges prefix =
     let events = (played d n (heard w.transcript)).events in
     let executions = executions_of_fates (length (frames_in events)) fates in
     let some = frames_prefix events (sent w.transcript) prefix.0 (sends_whole d n (heard w.transcript) asks) prefix.1 in
@@ -71,7 +71,7 @@ module _ (plan : Plan) (w v : WiredState) (fresh : IsFresh w) (stays : Preserves
       reports_over_exchanges plan p is_sound part_is fitted exchanges v.wire.programmer (sent v.transcript)
       (stands plan w v fresh stays is_sound part_is fitted old now status runs) (heard v.transcript)
       (executions_of_fates all w.wire.fates) is_first.1
-      (authentic_heard (session plan) 1 p w.wire.fates v asks fresh.lawful follows is_first.0 is_first.1)
+      (authentic_received (session plan) 1 p w.wire.fates v asks fresh.lawful follows is_first.0 is_first.1)
       (by_fates all w.wire.fates)
 
   pub over_any_wire : Runs → OverAnyWire plan w v old now status
@@ -121,9 +121,9 @@ module _ (plan : Plan) (w v : WiredState) (d e : DeskState) (status : ℕ) (sile
   pub played_truly : (whole : RanToStatus (session plan) (devices (wired_link w) d) (devices (wired_link v) e) status)
       → AreTrue whole.1.events
   played_truly whole =
-      let over_heard = ap (λ t. (played (session plan) 1 t).events)
+      let over_tape = ap (λ t. (played (session plan) 1 t).events)
       (search (rules, append-nil)) in
-      subst AreTrue (over_heard ∙ ap (λ x. x.events) (whole.1.plays.plays [])) over.along_exchanges.reports_are_true
+      subst AreTrue (over_tape ∙ ap (λ x. x.events) (whole.1.plays.plays [])) over.along_exchanges.reports_are_true
 
   pub stopped_truly : (stopped : SessionStopped plan w v d e) → AreTrue stopped.breaks.prefix.whole
   stopped_truly stopped = search (rules, results_prefix, over)

@@ -24,7 +24,7 @@ use Rattle.avr_laws.specs.FewBadFrames.{AtMostThreeBadOfSeven}
 use Rattle.avr_laws.proofs.FewBad.Sessions.{few_session_ends}
 use Rattle.avr_laws.proofs.Reports.OverTape.{ByExchanges, reported_any}
 use Rattle.avr_laws.proofs.Reports.Truth.{session_reports}
-use Rattle.avr_laws.proofs.Reports.UpToFault.{foretold_end, foretold_on_tape}
+use Rattle.avr_laws.proofs.Reports.UpToFault.{expected_end, expected_on_tape}
 use Rattle.avr_laws.proofs.SecondRun.Status.{succeeds}
 
 module _ (plan : Plan) (begun : Programmer) (is_sound : IsSoundChip begun.chip) (part_is : begun.chip.part ≡ plan.part)
@@ -51,7 +51,7 @@ module _ (plan : Plan) (begun : Programmer) (is_sound : IsSoundChip begun.chip) 
     reports_over_exchanges tape executions prefix is_authentic same = record {
       leaves = over_exchanges plan begun is_sound part_is fitted exchanges q bytes stands tape prefix;
       reports_are_true = search (rules, reported_any, asks, session_reports, sound, sizes, idle);
-      output_is_expected = foretold_on_tape plan sound fitted before sizes begun tape executions idle is_authentic;
+      output_is_expected = expected_on_tape plan sound fitted before sizes begun tape executions idle is_authentic;
     }
 
     -- and the session has come to a status there
@@ -72,7 +72,7 @@ module _ (plan : Plan) (begun : Programmer) (is_sound : IsSoundChip begun.chip) 
         comes = ends_over_exchanges plan begun is_sound part_is fitted exchanges q bytes stands output_events status
             comes output_events_are;
         emitted = subst (λ x. EndsAsExpected plan before x status) (sym output_events_are)
-            (foretold_end plan sound fitted before sizes (length (frames bytes)) status begun exchanges idle comes);
+            (expected_end plan sound fitted before sizes (length (frames bytes)) status begun exchanges idle comes);
         if_few_bad = its_expected;
         again = λ few erases both. succeeds plan before status sizes erases both (its_expected few).status_is;
       }

@@ -2,7 +2,7 @@
 pub mod Slots
 pub mod InOrder
 pub mod Misses
-pub mod AnswerParts
+pub mod ReplyParts
 pub mod NeverSilent
 pub mod Meeting
 pub mod Sessions

@@ -3,7 +3,7 @@
 use Rattle.std.specs.Prelude.{ℕ, suc, Bool, true, false, List, [], ◌∷◌, ◌≡◌, ◌≤◌, Option, Some, None, length, filter, map, take, if◌then◌else◌}
 use Rattle.std.specs.Str.{bytes_eq}
 use Rattle.stk_frame.specs.Cut.{frames, is_good}
-use Rattle.stk_host.specs.Tape.{Tape, Reading, Answered, Silent, Ended, Babbled, answer}
+use Rattle.stk_host.specs.Tape.{Tape, Reading, Replied, Silent, Ended, Babbled, answer}
 use Rattle.stk_host.specs.Dialog.{Dialog, Done, Emit, Ask, played, next, frames_in, outputs}
 use Rattle.stk_emu.specs.Device.{Device, after_frame, after_frames, refusal}
 use Rattle.stk_emu.specs.Exchange.{Execution, NotExecuted, Executed, ThenRestarted, after_execution, Exchange, AsIntended, Disturbed, Refusal, NoReply, Babble, Ending}
@@ -25,7 +25,7 @@ exchange_with_reply execution body = Disturbed execution Refusal
 
 -- The exchange of a command, by what happened to it and what was read.
 abbrev pub exchange_by : Execution → Reading → Exchange
-exchange_by execution (Answered body) = exchange_with_reply execution body
+exchange_by execution (Replied body) = exchange_with_reply execution body
 exchange_by execution Silent = Disturbed execution NoReply
 exchange_by execution Ended = Disturbed execution Ending
 exchange_by execution Babbled = Disturbed execution Babble

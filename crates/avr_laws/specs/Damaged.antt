@@ -3,7 +3,7 @@ use Rattle.std.specs.Prelude.{ℕ, zero, suc, Bool, true, false, List, [], ◌�
 use Rattle.stk_frame.specs.Frame.{frame}
 use Rattle.stk_frame.specs.Cut.{body_of}
 use Rattle.stk_host.specs.declared.link.Item.TheVariants.{Silence, End}
-use Rattle.stk_host.specs.Tape.{Tape, on_tape, Reading, Answered, Silent, Ended, is_answer, reply_byte_limit}
+use Rattle.stk_host.specs.Tape.{Tape, on_tape, Reading, Replied, Silent, Ended, is_reply, reply_byte_limit}
 use Rattle.stk_host.specs.Dialog.{Dialog, Done, Emit, Ask, next}
 use Rattle.stk_emu.specs.Device.{Device, refusal}
 use Rattle.stk_emu.specs.Exchange.{Execution, after_execution}
@@ -65,18 +65,18 @@ IsSomeRefusal piece = (n : ℕ) × ((piece ≡ frame n refusal) ⊎ IsDamaged (f
 abbrev pub AreRecentReplies : ℕ → List (List ℕ) → List (List ℕ) → Type 0
 AreRecentReplies n sent [] = Unit {0}
 AreRecentReplies n sent (piece ∷ pieces) =
-    (IsReplyOfFirst 256 sent piece ⊎ IsSomeRefusal piece) × (is_answer n piece ≡ false → AreRecentReplies n sent pieces)
+    (IsReplyOfFirst 256 sent piece ⊎ IsSomeRefusal piece) × (is_reply n piece ≡ false → AreRecentReplies n sent pieces)
 
 -- The bytes up to the end of that reply.
 abbrev pub bytes_up_to_reply : ℕ → List (List ℕ) → List ℕ
 bytes_up_to_reply n [] = []
-bytes_up_to_reply n (piece ∷ pieces) = piece ++ (if is_answer n piece then [] else bytes_up_to_reply n pieces)
+bytes_up_to_reply n (piece ∷ pieces) = piece ++ (if is_reply n piece then [] else bytes_up_to_reply n pieces)
 
 -- What is read as the reply to frame `n`, and what is left.
 abbrev pub first_reading : ℕ → List Arrival → Option (Reading × List Arrival)
 first_reading n [] = None
 first_reading n (FrameArrives piece ∷ more) =
-    if is_answer n piece then Some (Answered (body_of piece), more) else first_reading n more
+    if is_reply n piece then Some (Replied (body_of piece), more) else first_reading n more
 first_reading n (PauseArrives ∷ more) = Some (Silent, more)
 first_reading n (EndArrives ∷ more) = Some (Ended, more)
 

@@ -2,7 +2,7 @@
 use Rattle.std.specs.Prelude.{ℕ, zero, suc, true, List, [], ◌∷◌, ◌≡◌, ◌⊎◌, false, take}
 use Rattle.stk_frame.specs.Frame.{frame}
 use Rattle.stk_frame.specs.Cut.{cut, is_good, body_of}
-use Rattle.stk_host.specs.Tape.{Tape, answer, is_answer, leading_bytes, reply_byte_limit}
+use Rattle.stk_host.specs.Tape.{Tape, answer, is_reply, leading_bytes, reply_byte_limit}
 use Rattle.stk_host.specs.Dialog.{Dialog, Done, Emit, Ask, next}
 use Rattle.stk_emu.specs.Device.{Device, refusal}
 use Rattle.stk_emu.specs.Exchange.{Execution, NotExecuted, Executed, ThenRestarted, after_execution}
@@ -11,7 +11,7 @@ use Rattle.avr_tool.specs.Authentic.{first_execution, later_executions, on_readi
 -- The frame of the reply to a command; nothing if it wasn't executed, or if the programmer restarted after it.
 abbrev pub frame_of_reply : {P : Type 0} → Device P → ℕ → List ℕ → P → Execution → List ℕ
 frame_of_reply m n bytes p NotExecuted = []
-frame_of_reply m n bytes p Executed = frame n (m.answer bytes p)
+frame_of_reply m n bytes p Executed = frame n (m.reply bytes p)
 frame_of_reply m n bytes p (ThenRestarted execution) = []
 
 -- The piece is one of the first `k` of these.
@@ -28,7 +28,7 @@ IsNotForged sent piece = is_good piece ≡ true → (body_of piece ≡ refusal) 
 -- No piece is forged, up to and including the reply to frame `n`. What follows isn't read yet.
 abbrev pub AreNotForged : ℕ → List (List ℕ) → List (List ℕ) → Type 0
 AreNotForged n sent [] = Unit {0}
-AreNotForged n sent (piece ∷ pieces) = IsNotForged sent piece × (is_answer n piece ≡ false → AreNotForged n sent pieces)
+AreNotForged n sent (piece ∷ pieces) = IsNotForged sent piece × (is_reply n piece ≡ false → AreNotForged n sent pieces)
 
 -- THE LINK FORGES NO FRAME: at a command, each good frame that the host cuts is the programmer's reply to one of the
 -- last 256 frames sent, or a refusal. The dialog is run over this tape. Anything else may be anywhere on the tape:

@@ -29,7 +29,7 @@ ReportsTrue m IsTrueReport k (Emit e dialog) p exchanges =
     IsTrueReport p e × ReportsTrue m IsTrueReport k dialog p exchanges
 ReportsTrue m IsTrueReport zero (Ask bytes go_on) p exchanges = ⊤
 ReportsTrue m IsTrueReport (suc k) (Ask bytes go_on) p exchanges =
-    ReportsTrue m IsTrueReport k (go_on (reading_of_exchange (first_exchange exchanges) (m.answer bytes p)))
+    ReportsTrue m IsTrueReport k (go_on (reading_of_exchange (first_exchange exchanges) (m.reply bytes p)))
     (after_exchange (first_exchange exchanges) (m.after bytes p) p m.reset) (later_exchanges exchanges)
 
 -- The line for `count` bytes of a memory that were written, verified or read.

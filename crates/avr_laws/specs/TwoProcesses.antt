@@ -91,9 +91,9 @@ HasNoTimeout (End ∷ tape) = HasNoTimeout tape
 
 -- ---- 5. Such a run exists
 
--- A link over which this has passed, without a failure.
-abbrev pub passed : Transcript → LinkState
-passed transcript = record { transcript = transcript; failures = 0 }
+-- A link with this transcript that never failed.
+abbrev pub link_with : Transcript → LinkState
+link_with transcript = record { transcript = transcript; failures = 0 }
 
 -- A session of this plan that ran whole, and a server of status 0 with this chip, at the ends of an ordered link
 -- without timeouts. Nothing had passed before.
@@ -108,7 +108,7 @@ pub record HasPromptRun (plan : Plan) (chip : Chip) (file : Bytes) : Type 0 wher
   pub host_desk_then : DeskState
   pub server_desk : DeskState
   pub server_desk_then : DeskState
-  pub ran : RanWhole (session plan) start (devices (passed []) host_desk) (devices (passed (host_transcript calls))
-      host_desk_then) status after
-  pub serves : ServesChip chip file most (devices (passed []) server_desk)
-      (devices (passed (server_transcript calls)) server_desk_then) 0
+  pub ran : RanWhole (session plan) start (devices (link_with []) host_desk)
+      (devices (link_with (host_transcript calls)) host_desk_then) status after
+  pub serves : ServesChip chip file most (devices (link_with []) server_desk)
+      (devices (link_with (server_transcript calls)) server_desk_then) 0

@@ -294,7 +294,7 @@ impl Chip {
 
     /// Returns the byte that an instruction reads, or `third` if it reads none.
     #[inline(always)]
-    fn answer(&self, instruction: Instruction, third: u8) -> u8
+    fn output_byte(&self, instruction: Instruction, third: u8) -> u8
         ensures { result ≡ output_byte instruction third self.now }
     {
         match instruction {
@@ -348,9 +348,9 @@ impl Chip {
         ensures { (result, self.new) ≡ spi_of bytes self.old }
     {
         let instruction = Instruction::of(bytes);
-        let answer = self.answer(instruction, bytes[2]);
+        let output = self.output_byte(instruction, bytes[2]);
         self.execute(instruction);
-        [0, bytes[0], bytes[1], answer]
+        [0, bytes[0], bytes[1], output]
     }
 
     /// Loads bytes into the page buffer from a word on, low byte first, as instructions 40 and 48 would. `word` counts

@@ -28,8 +28,8 @@ abbrev pub refused_pieces : ℕ → ℕ → List Bytes
 refused_pieces command status =
     codes "command " ∷ digits (command ∷ []) ∷ codes " refused with status " ∷ digits (status ∷ []) ∷ []
 
-abbrev pub bad_answer_pieces : ℕ → List Bytes
-bad_answer_pieces command = codes "command " ∷ digits (command ∷ []) ∷ codes ": bad answer" ∷ []
+abbrev pub bad_reply_pieces : ℕ → List Bytes
+bad_reply_pieces command = codes "command " ∷ digits (command ∷ []) ∷ codes ": bad answer" ∷ []
 
 abbrev pub differs_pieces : Mem → ℕ → ℕ → ℕ → List Bytes
 differs_pieces mem address want found =
@@ -50,7 +50,7 @@ fault_pieces part LinkEnded = codes "link ended" ∷ []
 fault_pieces part SendFailed = unsent_pieces
 fault_pieces part Babble = codes "no answer in 4096 bytes" ∷ []
 fault_pieces part (Refused command status) = refused_pieces command status
-fault_pieces part (BadAnswer command) = bad_answer_pieces command
+fault_pieces part (BadAnswer command) = bad_reply_pieces command
 fault_pieces part (WrongSignature found) = other_signature part found
 fault_pieces part (Differs mem address want found) = differs_pieces mem address want found
 fault_pieces part (ReadOnly mem) = read_only_pieces mem

@@ -12,7 +12,7 @@ use Rattle.stk_host.specs.Dialog.{Dialog, Event, Frame, Emitted, played, outputs
 use Rattle.stk_host.specs.Play.{Progress, Plays, Breaks}
 use Rattle.avr_desk.specs.Lines.{error, memory_line, not_created_pieces, not_written_pieces}
 use Rattle.avr_session.specs.Lines.{unsent_pieces, unreceived_pieces}
-use Rattle.avr_desk.specs.OutputEvents.{OutputEvent, PrintsLine, CreatesFile, WritesFile, WritesOutput, IsPartOfEvent, IsPrefixOfBytes, ReportsLineAs, after_events}
+use Rattle.avr_desk.specs.OutputEvents.{OutputEvent, PrintsLine, CreatesFile, WritesFile, WritesOutput, IsPartOfEvent, IsBytePrefixOf, ReportsLineAs, after_events}
 
 -- The state of a link and a desk.
 pub record Devices : Type 0 where
@@ -78,7 +78,7 @@ pub record StopsInOutput (event : Bytes → OutputEvent) (begun later : List (Ev
   pub more : List (Event OutputEvent)
   pub due : later ≡ Emitted (event bytes) ∷ more
   pub part : begun ≡ Emitted (event done) ∷ []
-  pub prefix : IsPrefixOfBytes done bytes
+  pub prefix : IsBytePrefixOf done bytes
 
 -- Nothing was done of the next event, the creation of this file.
 pub record StopsAtCreation (file : Bytes) (begun later : List (Event OutputEvent)) : Type 0 where

@@ -1,7 +1,7 @@
 //! The messages of faults: those of the host, and those of the settings.
 ghost use Rattle.std.specs.Prelude.{◌≡◌};
 ghost use Rattle.avr_desk.specs.OutputEvents.{ReportsLine};
-ghost use Rattle.avr_session.specs.Lines.{bad_answer_pieces, differs_pieces, fault_pieces, other_signature, refused_pieces, unreceived_pieces, unsent_pieces};
+ghost use Rattle.avr_session.specs.Lines.{bad_reply_pieces, differs_pieces, fault_pieces, other_signature, refused_pieces, unreceived_pieces, unsent_pieces};
 ghost use Rattle.avr_session.specs.Refusal.{in_update_pieces, port_pieces, refusal_line, refusal_pieces, unknown_pieces, update_pieces};
 ghost use Rattle.ghosts.specs.Preserves.{Preserves};
 
@@ -22,8 +22,8 @@ fn refused_message<'a>(command: u8, status: u8) -> Message<'a>
     ])
 }
 
-fn bad_answer_message<'a>(command: u8) -> Message<'a>
-    ensures { result ≡ bad_answer_pieces command }
+fn bad_reply_message<'a>(command: u8) -> Message<'a>
+    ensures { result ≡ bad_reply_pieces command }
 {
     Message::new(&[
         Piece::Text("command "),
@@ -83,7 +83,7 @@ pub(crate) fn fault_message<'a>(part: &'a Part, fault: HostFault) -> Message<'a>
         HostFault::SendFailed => unsent_message(),
         HostFault::Babble => Message::text("no answer in 4096 bytes"),
         HostFault::Refused(command, status) => refused_message(command, status),
-        HostFault::BadAnswer(command) => bad_answer_message(command),
+        HostFault::BadAnswer(command) => bad_reply_message(command),
         HostFault::WrongSignature(found) => other_signature_message(part, found),
         HostFault::Differs(mem, addr, want, found) => differs_message(mem, addr, want, found),
         HostFault::ReadOnly(mem) => read_only_message(mem),

@@ -1,6 +1,6 @@
 -- What each step gives from a settled programmer.
-pub mod LaterAnswers
-pub mod ReadAnswers
+pub mod LongerTape
+pub mod ReadReplies
 pub mod FirstSteps
 pub mod StepsGive
 pub mod WholeMemories

@@ -17,7 +17,7 @@ pub mod WirePlays
 -- chips of files; serving: transcripts and replies, a piece and its replies, read after read; a run over the emulator
 pub mod Chips
 pub mod Transcripts
-pub mod Answers
+pub mod LaterReplies
 pub mod Replies
 pub mod ReadByRead
 pub mod ServedRuns

@@ -73,10 +73,10 @@ printed_part has s a b c part n rounds fault before given sent failed follows = 
 
 -- ---- an error whose text no clause knows
 
-pub untold : (has : Parts) (a b c : DeskState) (fault : DeskFault)
+pub partly_reported : (has : Parts) (a b c : DeskState) (fault : DeskFault)
     → ChangesRecord (after_sent Messages (codes "avrstk: error: ")) a b → HasSameCounts a b
     → PrintsText has Messages b c (Err fault) → ReportsText has a c
-untold has a b c fault mark same prints = grind (arith, common_steps)
+partly_reported has a b c fault mark same prints = grind (arith, common_steps)
 
 pub reported_by : (has : Parts) (a b c d : DeskState) (count : ℕ) (r : Result (Unit {0}) DeskFault)
     → ChangesRecord (after_sent Messages (codes "avrstk: error: ")) a b → HasSameCounts a b

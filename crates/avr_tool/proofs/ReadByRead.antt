@@ -3,9 +3,9 @@ use Rattle.std.proofs.Common.{ℕ, ◌+◌, ◌≤◌, List, [], ◌∷◌, ◌+
 use Rattle.std.specs.Prelude.{◌≢◌}
 use Rattle.std.proofs.lemmas.List.{append-nil}
 use Rattle.stk_host.specs.Tape.{on_tape, bytes_on_tape}
-use Rattle.stk_host.specs.Transcript.{Transcript, Got, NoneTaken, sent, heard as heard_in, Grows, LinkState}
-use Rattle.stk_host.proofs.Transcripts.Laws.{sent_append, heard_append, heard_quiet, grows_none, grows_on, none_append}
-use Rattle.stk_host.proofs.Tapes.Answers.{bytes_of_append, bytes_of_on_tape}
+use Rattle.stk_host.specs.Transcript.{Transcript, Got, NoneTaken, sent, heard as got_in, Grows, LinkState}
+use Rattle.stk_host.proofs.Transcripts.Laws.{sent_append, got_append, got_quiet, grows_none, grows_on, none_append}
+use Rattle.stk_host.proofs.Tapes.Readings.{bytes_of_append, bytes_of_on_tape}
 use Rattle.stk_emu.specs.Programmer.{Programmer}
 use Rattle.stk_emu.specs.Emulator.{EmulatorState}
 use Rattle.avr_tool.specs.declared.serving_link.Served.{Served}
@@ -13,23 +13,23 @@ use Rattle.avr_tool.specs.declared.serving_link.Served.TheVariants.{SendFailed, 
 use Rattle.avr_tool.specs.Serving.{ReceivesUntil, RepliesToAll, LastReplyFailed, NoSendFailed, ServingLeaves, Serves}
 use Rattle.avr_tool.specs.Replying.{SendsAllReplies, SendsPartOfReplies}
 use Rattle.avr_tool.proofs.Transcripts.{no_end_append, no_end_on_tape, reads_append, reads_quiet, in_turn_quiet, in_turn_append}
-use Rattle.avr_tool.proofs.Answers.{all_nothing, all_more, breaks_more, breaks_prefix, breaks_heard}
+use Rattle.avr_tool.proofs.LaterReplies.{all_nothing, all_more, breaks_more, breaks_prefix, breaks_got}
 
 breaks_transcript : (p : Programmer) (text : List ℕ) (x y : Transcript) (mid now : EmulatorState)
-    → RepliesToAll p text (bytes_on_tape (heard_in x)) (sent x) mid
-    → LastReplyFailed p (text ++ bytes_on_tape (heard_in x)) (bytes_on_tape (heard_in y)) y now
-    → LastReplyFailed p text (bytes_on_tape (heard_in (x ++ y))) (x ++ y) now
-breaks_transcript p text x y mid now first then = search (rules, breaks_more, heard_append, bytes_of_append)
+    → RepliesToAll p text (bytes_on_tape (got_in x)) (sent x) mid
+    → LastReplyFailed p (text ++ bytes_on_tape (got_in x)) (bytes_on_tape (got_in y)) y now
+    → LastReplyFailed p text (bytes_on_tape (got_in (x ++ y))) (x ++ y) now
+breaks_transcript p text x y mid now first then = search (rules, breaks_more, got_append, bytes_of_append)
 
 leaves_more : (served : Served) (p : Programmer) (text : List ℕ) (x y : Transcript) (mid now : EmulatorState)
-    → RepliesToAll p text (bytes_on_tape (heard_in x)) (sent x) mid
-    → ServingLeaves served p (text ++ bytes_on_tape (heard_in x)) y now → ServingLeaves served p text (x ++ y) now
+    → RepliesToAll p text (bytes_on_tape (got_in x)) (sent x) mid
+    → ServingLeaves served p (text ++ bytes_on_tape (got_in x)) y now → ServingLeaves served p text (x ++ y) now
 leaves_more served p text x y mid now first then =
-    search (rules, breaks_transcript, breaks_prefix, sent_append, all_more, heard_append, bytes_of_append)
+    search (rules, breaks_transcript, breaks_prefix, sent_append, all_more, got_append, bytes_of_append)
 
 receives_more : (served : Served) (most_reads : ℕ) (x y : Transcript) → ReceivesUntil TooManyReads most_reads x
     → ReceivesUntil served 1 y → ReceivesUntil served (most_reads + 1) (x ++ y)
-receives_more served most_reads x y first then = search (rules, no_end_append, heard_append, append_assoc, reads_append)
+receives_more served most_reads x y first then = search (rules, no_end_append, got_append, append_assoc, reads_append)
 
 sends_more : (served : Served) (x y : Transcript) → NoneTaken x → NoSendFailed served y → NoSendFailed served (x ++ y)
 sends_more served x y first then = search (rules, none_append)
@@ -49,18 +49,18 @@ serves_within served few many old now a b other le s = search rules
 
 -- the outcome of one read
 
-pub read_answered : (piece : List ℕ) (old now : EmulatorState) (a b c : LinkState)
+pub read_replied : (piece : List ℕ) (old now : EmulatorState) (a b c : LinkState)
     → Grows a.transcript (Got (on_tape piece) ∷ []) b.transcript → SendsAllReplies old piece b c now
     → Serves old 1 TooManyReads a c now
-read_answered piece old now a b c g r =
+read_replied piece old now a b c g r =
     let transcript : Transcript = r.sends.during in
     record {
       during = Got (on_tape piece) ∷ transcript;
       grows = grows_on a.transcript b.transcript c.transcript (Got (on_tape piece) ∷ []) transcript g r.sends.grows;
-      receives = search (rules, heard_quiet, append-nil, no_end_on_tape, reads_quiet);
+      receives = search (rules, got_quiet, append-nil, no_end_on_tape, reads_quiet);
       sends = r.sends.none_taken;
       in_turn = search (rules, in_turn_quiet);
-      leaves = search (rules, bytes_of_on_tape, heard_quiet, append-nil);
+      leaves = search (rules, bytes_of_on_tape, got_quiet, append-nil);
     }
 
 pub read_broken : (piece : List ℕ) (old now : EmulatorState) (a b c : LinkState)
@@ -71,8 +71,8 @@ read_broken piece old now a b c g r =
     record {
       during = Got (on_tape piece) ∷ transcript;
       grows = grows_on a.transcript b.transcript c.transcript (Got (on_tape piece) ∷ []) transcript g r.grows;
-      receives = search (rules, heard_quiet, append-nil, no_end_on_tape, reads_quiet);
+      receives = search (rules, got_quiet, append-nil, no_end_on_tape, reads_quiet);
       sends = tt;
       in_turn = search (rules, in_turn_quiet);
-      leaves = search (rules, bytes_of_on_tape, heard_quiet, append-nil, breaks_prefix, breaks_heard);
+      leaves = search (rules, bytes_of_on_tape, got_quiet, append-nil, breaks_prefix, breaks_got);
     }

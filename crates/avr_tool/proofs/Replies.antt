@@ -9,7 +9,7 @@ use Rattle.stk_host.proofs.Transcripts.Laws.{sent_append, grows_on, quiet_append
 use Rattle.stk_emu.specs.Emulator.{EmulatorState, RepliesToFrame}
 use Rattle.avr_tool.specs.Serving.{RepliesToAll, LastReplyFailed}
 use Rattle.avr_tool.specs.Replying.{SendsAllReplies, SendsPartOfReplies}
-use Rattle.avr_tool.proofs.Answers.{all_fed, all_more, breaks_here, breaks_more}
+use Rattle.avr_tool.proofs.LaterReplies.{all_fed, all_more, breaks_here, breaks_more}
 
 -- the bytes after the first n are fed, up to the first reply
 module _ (piece part out : List ℕ) (n used : ℕ) (old mid now : EmulatorState) (a b c : LinkState)

@@ -5,7 +5,7 @@ use Rattle.stk_host.specs.declared.link.Item.TheVariants.{Byte, Silence, End}
 use Rattle.stk_host.specs.Tape.{Tape, on_tape, bytes_on_tape}
 use Rattle.stk_host.specs.Transcript.{Transcript, Sent, Taken, Got, NoneTaken, sent, heard}
 use Rattle.stk_host.specs.Reach.{NothingReceived}
-use Rattle.stk_host.proofs.Tapes.Answers.{bytes_of_append}
+use Rattle.stk_host.proofs.Tapes.Readings.{bytes_of_append}
 use Rattle.stk_emu.specs.Programmer.{Programmer}
 use Rattle.avr_tool.specs.Serving.{HasNoEnd, reads, RepliesInTurn}
 

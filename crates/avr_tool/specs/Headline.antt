@@ -9,7 +9,7 @@ use Rattle.avr_desk.specs.declared.record.Opening.{Opening}
 use Rattle.avr_desk.specs.declared.record.Opening.TheVariants.{Found}
 use Rattle.avr_desk.specs.Lines.{memory_line, not_opened_line, not_read_line}
 use Rattle.avr_desk.specs.StageRuns.{BreakCause, LineNotPrinted, NotOpened, NotRead, NoMemoryForFile, opened_and_read_in_part}
-use Rattle.avr_desk.specs.OutputEvents.{OutputEvent, Opens, PrintsLine, IsPartOfEvent, IsPrefixOfBytes, after_events}
+use Rattle.avr_desk.specs.OutputEvents.{OutputEvent, Opens, PrintsLine, IsPartOfEvent, IsBytePrefixOf, after_events}
 use Rattle.avr_plan.specs.Plan.{Plan}
 use Rattle.avr_plan.specs.Planning.{LacksPart, planned}
 use Rattle.avr_plan.specs.AllocationPoints.{AtAllocatingUpdate}
@@ -119,7 +119,7 @@ pub record IsPrefixOfRun (settings : Settings) (before now : Devices) : Type 0 w
   pub in_turn : (later : List Opening) → IsInTurn (planned settings (openings ++ later)).stage_outcome during
   pub all_sent : bytes_sent shown ≡ sent during
   pub grows : Grows before.link.transcript during now.link.transcript
-  pub reported_part : IsPrefixOfBytes notice (stop_line reason)
+  pub reported_part : IsBytePrefixOf notice (stop_line reason)
   pub kept : ChangesRecord (λ r. after_err notice (after_events (outputs shown ++ opened_at reason) r))
       before.desk now.desk
 

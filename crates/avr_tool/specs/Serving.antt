@@ -64,7 +64,7 @@ pub record LastReplyFailed (p : Programmer) (text bytes : List ℕ) (transcript 
   pub frames_are : frames (text ++ used) ≡ earlier ++ last ∷ []
   pub part : List ℕ
   pub unsent : List ℕ
-  pub answer_is : reply_frame device last (after_frames device earlier p) ≡ part ++ unsent
+  pub reply_is : reply_frame device last (after_frames device earlier p) ≡ part ++ unsent
   pub not_whole : NoneTaken transcript → 0 < length unsent
   pub sent_is : emulate p text ++ sent transcript ≡ replies device earlier p ++ part
 

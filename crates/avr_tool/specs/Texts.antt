@@ -3,7 +3,7 @@ use Rattle.std.specs.Prelude.{◌≡◌, ◌⊎◌, ◌<◌, ◌+◌, ◌^◌, �
 use Rattle.std.specs.List.{concat}
 use Rattle.avr_desk.specs.Fault.{CountsNeverFall, HasFailedAt, HasFailedToReport, HasSameCounts}
 use Rattle.avr_desk.specs.Record.{DeskState, Bytes, ChangesRecord, after_err}
-use Rattle.avr_desk.specs.OutputEvents.{IsPrefixOfBytes}
+use Rattle.avr_desk.specs.OutputEvents.{IsBytePrefixOf}
 use Rattle.avr_desk.specs.Stream.{after_sent}
 use Rattle.avr_desk.specs.declared.desk.DeskFault.{DeskFault}
 use Rattle.avr_desk.specs.declared.stream.Stream.{Stream}
@@ -32,7 +32,7 @@ pub record IsText (has : Parts) (text : Bytes) : Type 0 where
 pub record IsTextFront (has : Parts) (front : Bytes) : Type 0 where
   pub parts : List Bytes
   pub are : HasParts has 0 parts
-  pub begins : IsPrefixOfBytes front (concat parts)
+  pub begins : IsBytePrefixOf front (concat parts)
 
 -- The text was printed whole, and has `count` bytes; or a write failed after a prefix of it.
 abbrev pub IsPrintedOrCut : Parts → Stream → Bytes → DeskState → DeskState → Result ℕ DeskFault → Type 0

@@ -163,8 +163,8 @@ pub fn serve_for<D: ChipDesk, L: Link>(
 /// let sign_on = b"\x1B\x01\x00\x01\x0E\x01\x14";
 /// let mut caller = StreamLink::new(sign_on.as_slice(), Vec::new(alloc));
 /// assert_eq!(rt; serve(alloc, &settings, &mut desk, &mut caller), 0);
-/// let (_, answer) = caller.into_inner();
-/// assert!(rt; answer.as_slice() == b"\x1B\x01\x00\x0B\x0E\x01\x00\x08STK500_2\x02".as_slice());
+/// let (_, reply) = caller.into_inner();
+/// assert!(rt; reply.as_slice() == b"\x1B\x01\x00\x0B\x0E\x01\x00\x08STK500_2\x02".as_slice());
 /// ```
 pub fn serve<D: ChipDesk, L: Link>(
     alloc: Global,

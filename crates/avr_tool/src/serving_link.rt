@@ -47,7 +47,7 @@ fn reply_to_piece<L: Link>(
 /// next read.
 ///
 /// A timeout counts as a read. The bytes of the last read still get their replies.
-#[tactic(auto, using(crate::proofs::ReadByRead::read_answered, crate::proofs::ReadByRead::read_broken))]
+#[tactic(auto, using(crate::proofs::ReadByRead::read_replied, crate::proofs::ReadByRead::read_broken))]
 pub fn serve_link<L: Link>(emulator: &mut Emulator, link: &mut L, turns: u32) -> Served
     ensures serves { Serves emulator.old turns result (L.view link.old) (L.view link.new) emulator.new }
     ensures counted { (L.view link.old).failures ≤ (L.view link.new).failures }

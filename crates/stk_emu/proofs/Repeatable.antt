@@ -3,7 +3,7 @@ use Rattle.std.specs.Prelude.{ℕ, zero, suc, ◌⊎◌, ◌≡◌, List, [], �
 use Rattle.avr_part.specs.Part.{Part}
 use Rattle.stk_frame.specs.declared.command.Command.{Command}
 use Rattle.stk_frame.specs.Commands.{body}
-use Rattle.stk_host.specs.Tape.{Answered}
+use Rattle.stk_host.specs.Tape.{Replied}
 use Rattle.stk_host.specs.Steps.{Reply, Data, Again, Stop, reply_from_reading}
 use Rattle.stk_emu.specs.Programmer.{Programmer}
 use Rattle.stk_emu.specs.Device.{Device}
@@ -16,7 +16,7 @@ on_data (Again fault) go_on = Again fault
 on_data (Stop fault) go_on = Stop fault
 
 abbrev pub reply_to : {P : Type 0} → Device P → Command → P → Reply
-reply_to m command p = reply_from_reading command (Answered (m.answer (body command) p))
+reply_to m command p = reply_from_reading command (Replied (m.reply (body command) p))
 
 -- The result of commands that are all executed and replied to: their data joined, after `before`.
 abbrev pub joined_reply : {P : Type 0} → Device P → List Command → List ℕ → P → Reply

@@ -1,3 +1,3 @@
 -- Worked examples of replies and effects.
-pub mod Answers
+pub mod Replies
 pub mod Effects

@@ -6,14 +6,14 @@ use Rattle.stk_emu.specs.Programmer.{Programmer, execute, restarted_programmer}
 
 -- The body of the reply to a command's body, the device after that command, and the device after a restart.
 pub record Device (P : Type 0) : Type 0 where
-  pub answer : List ℕ → P → List ℕ
+  pub reply : List ℕ → P → List ℕ
   pub after : List ℕ → P → P
   pub reset : P → P
 
 -- The emulated programmer as a device.
 abbrev pub device : Device Programmer
 device = record {
-  answer = λ bytes p. (execute bytes p).0;
+  reply = λ bytes p. (execute bytes p).0;
   after = λ bytes p. (execute bytes p).1;
   reset = restarted_programmer;
 }
@@ -24,7 +24,7 @@ refusal = 0xB0 ∷ 0xC1 ∷ []
 
 -- A good frame is executed; any other is refused and changes nothing.
 abbrev pub reply_body : {P : Type 0} → Device P → List ℕ → P → List ℕ
-reply_body m piece p = if is_good piece then m.answer (body_of piece) p else refusal
+reply_body m piece p = if is_good piece then m.reply (body_of piece) p else refusal
 
 abbrev pub after_frame : {P : Type 0} → Device P → List ℕ → P → P
 after_frame m piece p = if is_good piece then m.after (body_of piece) p else p

@@ -20,7 +20,7 @@ state_after m k (Emit e dialog) p exchanges = state_after m k dialog p exchanges
 state_after m zero (Ask bytes go_on) p exchanges =
     record { dialog = Ask bytes go_on; programmer = p; exchanges = exchanges; left = 0 }
 state_after m (suc k) (Ask bytes go_on) p exchanges =
-    state_after m k (go_on (reading_of_exchange (first_exchange exchanges) (m.answer bytes p)))
+    state_after m k (go_on (reading_of_exchange (first_exchange exchanges) (m.reply bytes p)))
     (after_exchange (first_exchange exchanges) (m.after bytes p) p m.reset) (later_exchanges exchanges)
 
 -- The output events up to then.
@@ -29,7 +29,7 @@ outputs_after m k (Done r) p exchanges = []
 outputs_after m k (Emit e dialog) p exchanges = e ∷ outputs_after m k dialog p exchanges
 outputs_after m zero (Ask bytes go_on) p exchanges = []
 outputs_after m (suc k) (Ask bytes go_on) p exchanges =
-    outputs_after m k (go_on (reading_of_exchange (first_exchange exchanges) (m.answer bytes p)))
+    outputs_after m k (go_on (reading_of_exchange (first_exchange exchanges) (m.reply bytes p)))
     (after_exchange (first_exchange exchanges) (m.after bytes p) p m.reset) (later_exchanges exchanges)
 
 -- Each body that a dialog sends fits a frame.

@@ -1,6 +1,6 @@
 -- The exchange of one command and its reply, whatever the link does to the bytes.
 use Rattle.std.specs.Prelude.{ℕ, List, [], ◌∷◌, ◌≡◌, ◌⊎◌}
-use Rattle.stk_host.specs.Tape.{Reading, Answered, Silent, Ended, Babbled}
+use Rattle.stk_host.specs.Tape.{Reading, Replied, Silent, Ended, Babbled}
 use Rattle.stk_emu.specs.Device.{Device, refusal}
 
 -- What became of the command: it never arrived, or was executed. The programmer may have restarted after that.
@@ -40,11 +40,11 @@ execution_in (Disturbed execution instead) = execution
 
 -- How listening ends in an exchange, given the body of the programmer's own reply.
 abbrev pub reading_of_exchange : Exchange → List ℕ → Reading
-reading_of_exchange AsIntended answered = Answered answered
-reading_of_exchange (Disturbed execution Refusal) answered = Answered refusal
-reading_of_exchange (Disturbed execution NoReply) answered = Silent
-reading_of_exchange (Disturbed execution Babble) answered = Babbled
-reading_of_exchange (Disturbed execution Ending) answered = Ended
+reading_of_exchange AsIntended reply = Replied reply
+reading_of_exchange (Disturbed execution Refusal) reply = Replied refusal
+reading_of_exchange (Disturbed execution NoReply) reply = Silent
+reading_of_exchange (Disturbed execution Babble) reply = Babbled
+reading_of_exchange (Disturbed execution Ending) reply = Ended
 
 -- After the list all exchanges go as intended.
 abbrev pub first_exchange : List Exchange → Exchange
@@ -57,6 +57,6 @@ later_exchanges (one_exchange ∷ exchanges) = exchanges
 
 -- An authentic reading is no reply, the refusal, or the programmer's own reply to this command, which it executed.
 abbrev pub IsAuthentic : {P : Type 0} → Device P → List ℕ → P → Execution → Reading → Type 0
-IsAuthentic m bytes p execution (Answered body) = ((execution ≡ Executed) × (body ≡ m.answer bytes p))
+IsAuthentic m bytes p execution (Replied body) = ((execution ≡ Executed) × (body ≡ m.reply bytes p))
     ⊎ (body ≡ refusal)
 IsAuthentic m bytes p execution _ = Unit {0}

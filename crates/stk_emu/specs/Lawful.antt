@@ -27,7 +27,7 @@ no_late_replies = record { first = []; second = []; third = [] }
 
 -- One more reply; a fourth one drops the first.
 abbrev pub with_late_reply : Late → List ℕ → Late
-with_late_reply late answered = record { first = late.second; second = late.third; third = answered }
+with_late_reply late reply = record { first = late.second; second = late.third; third = reply }
 
 -- All late replies, joined in order.
 abbrev pub waiting : Late → List ℕ

@@ -46,10 +46,10 @@ executions_of_fates (suc k) fates = execution_in (exchange_of_fate (first_fate f
 
 -- What a fate brings back, given the frames of the reply and of the refusal.
 abbrev pub brought_by_fate : Fate → List ℕ → List ℕ → Tape
-brought_by_fate Good answered refused = on_tape answered
-brought_by_fate CommandRefused answered refused = on_tape refused
-brought_by_fate (AnswerSpoiled noise) answered refused = on_tape noise.items ++ Silence ∷ []
-brought_by_fate _ answered refused = Silence ∷ []
+brought_by_fate Good reply refused = on_tape reply
+brought_by_fate CommandRefused reply refused = on_tape refused
+brought_by_fate (AnswerSpoiled noise) reply refused = on_tape noise.items ++ Silence ∷ []
+brought_by_fate _ reply refused = Silence ∷ []
 
 -- The fate keeps the late replies waiting.
 abbrev pub holds_replies : Fate → Bool
@@ -62,9 +62,9 @@ released_replies fate late = if holds_replies fate then [] else waiting late
 
 -- The late replies that wait after it.
 abbrev pub late_after : Fate → List ℕ → Late → Late
-late_after LateAnswer answered late = with_late_reply no_late_replies answered
-late_after HeldAnswer answered late = with_late_reply late answered
-late_after _ answered late = no_late_replies
+late_after LateAnswer reply late = with_late_reply no_late_replies reply
+late_after HeldAnswer reply late = with_late_reply late reply
+late_after _ reply late = no_late_replies
 
 -- The programmer, the fates to come, and the late replies that wait.
 pub record Wire (P : Type 0) : Type 0 where

@@ -11,8 +11,8 @@ use thiserror::Error;
 /// Why a fate was not added.
 ///
 /// ```text
-/// let answer = b"\x1B\x01\x00\x02\x0E\x01\x00\x17";
-/// let noise = Fate::AnswerSpoiled(Vec::from_slice(alloc, answer)?);
+/// let reply = b"\x1B\x01\x00\x02\x0E\x01\x00\x17";
+/// let noise = Fate::AnswerSpoiled(Vec::from_slice(alloc, reply)?);
 /// assert_eq!(rt; Fates::none(alloc).push(noise), Err(FatesFault::UnlawfulNoise));
 /// ```
 #[derive(Clone, Copy, Debug, Drop, PartialEq, Eq, Error)]
@@ -103,8 +103,8 @@ impl Fates {
     /// let mut fates = Fates::none(alloc);
     /// fates.push(Fate::LostCommand)?;
     /// fates.push(Fate::AnswerSpoiled(Vec::from_slice(alloc, b"\xFF\x1B")?))?;
-    /// let answer = b"\x1B\x01\x00\x02\x0E\x01\x00\x17";
-    /// let spoiled = Fate::AnswerSpoiled(Vec::from_slice(alloc, answer)?);
+    /// let reply = b"\x1B\x01\x00\x02\x0E\x01\x00\x17";
+    /// let spoiled = Fate::AnswerSpoiled(Vec::from_slice(alloc, reply)?);
     /// assert_eq!(rt; fates.push(spoiled), Err(FatesFault::UnlawfulNoise));
     /// assert_eq!(rt; fates.len(), 2);
     /// ```

@@ -256,7 +256,7 @@ impl<R: Recorder> Link for Wired<R> {
         requires { 0 < length buffer.old }
         ensures receives { Receives buffer.new (wired_link self.old) (wired_link self.new) result }
         // What waited first is received; if nothing waited, a timeout.
-        ensures heard { IfOk result (λ heard. self.new ≡ after_receiving (items_of heard buffer.new) self.old) }
+        ensures received { IfOk result (λ heard. self.new ≡ after_receiving (items_of heard buffer.new) self.old) }
         ensures next { IfOk result (λ heard. IsReceivedNext (items_of heard buffer.new) self.old.waits) }
         ensures same { OnErr result (self.new ≡ record self.old { failures = self.new.failures }) }
         ensures comes { Preserves ComesOf self.old self.new }

@@ -1,4 +1,4 @@
 -- Replies on a tape, and the links that give them.
-pub mod Answers
+pub mod Readings
 pub mod Prefixes
 pub mod TapeLinks

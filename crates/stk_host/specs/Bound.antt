@@ -13,8 +13,8 @@ use Rattle.stk_host.specs.ReadSteps.{signature_steps}
 abbrev pub AsksAtMost : {E R : Type 0} → ℕ → Dialog E R → Type 0
 AsksAtMost n (Done r) = Unit {0}
 AsksAtMost n (Emit e dialog) = AsksAtMost n dialog
-AsksAtMost zero (Ask body answered) = ⊥
-AsksAtMost (suc n) (Ask body answered) = (reading : Reading) → AsksAtMost n (answered reading)
+AsksAtMost zero (Ask body resume) = ⊥
+AsksAtMost (suc n) (Ask body resume) = (reading : Reading) → AsksAtMost n (resume reading)
 
 -- The dialog sends at most `n` frames: over every tape, in every run to its end, and in every run that broke off.
 -- `a_call_sends_at_most_four_times_its_commands` states it of each operation.

@@ -57,14 +57,14 @@ pub record ReceivesNextPiece {L : Type 0} (link : Ghosts L) (most : ℕ) (old ne
 
 -- How listening ended, with the body of the reply that the reader holds.
 abbrev pub reading_of : Reading → List ℕ → tape.Reading
-reading_of read.Answered held = tape.Answered (body_of held)
+reading_of read.Replied held = tape.Replied (body_of held)
 reading_of read.Silent held = tape.Silent
 reading_of read.Ended held = tape.Ended
 reading_of read.Babbled held = tape.Babbled
 
 -- If a reply was received, the reader holds its frame.
 abbrev pub HoldsReply : Reading → List ℕ → Type 0
-HoldsReply read.Answered held = HoldsFrame held
+HoldsReply read.Replied held = HoldsFrame held
 HoldsReply _ held = Unit {0}
 
 -- What `listen` ensures: how it ends, what the reader holds, and which bytes are unread then.

@@ -15,13 +15,13 @@ infixl 10 ◌>>=◌
 abbrev pub ◌>>=◌ : {E A B : Type 0} → Dialog E A → (A → Dialog E B) → Dialog E B
 (Done a) >>= go_on = go_on a
 (Emit e dialog) >>= go_on = Emit e (dialog >>= go_on)
-(Ask body answered) >>= go_on = Ask body (λ reading. answered reading >>= go_on)
+(Ask body resume) >>= go_on = Ask body (λ reading. resume reading >>= go_on)
 
 -- A dialog without output events, for use in one that has them.
 abbrev pub lifted : {E R : Type 0} → Dialog ⊥ R → Dialog E R
 lifted (Done r) = Done r
 lifted (Emit e dialog) = absurd e
-lifted (Ask body answered) = Ask body (λ reading. lifted (answered reading))
+lifted (Ask body resume) = Ask body (λ reading. lifted (resume reading))
 
 -- A frame is sent, or an event is output beside the link.
 pub data Event (E : Type 0) : Type 0 where
@@ -51,9 +51,9 @@ next seq = (seq + 1) % 256
 abbrev pub played : {E R : Type 0} → Dialog E R → ℕ → Tape → Played E R
 played (Done r) seq tape = record { events = []; outcome = Some (r, seq, tape) }
 played (Emit e dialog) seq tape = prepend_events (Emitted e ∷ []) (played dialog seq tape)
-played (Ask body answered) seq tape =
+played (Ask body resume) seq tape =
     prepend_events (Frame (frame seq body) ∷ [])
-    (continue_with_reading (λ reading. played (answered reading) (next seq)) (answer seq tape))
+    (continue_with_reading (λ reading. played (resume reading) (next seq)) (answer seq tape))
 
 -- The frames among the events.
 abbrev pub frames_in : {E : Type 0} → List (Event E) → List (List ℕ)

@@ -7,7 +7,7 @@ use Rattle.stk_frame.specs.declared.answer.FrameFault.TheVariants.{CheckSum, Sta
 use Rattle.stk_frame.specs.Commands.{code, body, judge}
 use Rattle.stk_host.specs.declared.fault.StepFault.{StepFault}
 use Rattle.stk_host.specs.declared.fault.StepFault.TheVariants.{NoAnswer, LinkEnded, Babble, Refused, BadAnswer}
-use Rattle.stk_host.specs.Tape.{Reading, Answered, Silent, Ended, Babbled}
+use Rattle.stk_host.specs.Tape.{Reading, Replied, Silent, Ended, Babbled}
 use Rattle.stk_host.specs.Dialog.{Dialog, Done, Ask, ◌>>=◌}
 
 -- What follows from a reply: its data, a fault after which the commands are sent again, or a fault that ends the
@@ -26,7 +26,7 @@ reply_from_check command (Err fault) = Stop (BadAnswer (code command))
 
 -- What follows from how listening for the reply to this command ended.
 abbrev pub reply_from_reading : Command → Reading → Reply
-reply_from_reading command (Answered bytes) = reply_from_check command (judge command bytes)
+reply_from_reading command (Replied bytes) = reply_from_check command (judge command bytes)
 reply_from_reading command Silent = Again NoAnswer
 reply_from_reading command Babbled = Again Babble
 reply_from_reading command Ended = Stop LinkEnded

@@ -57,7 +57,7 @@ fn reply_to(reader: &FrameReader, reading: Reading, command: &Command<'_>) -> Re
     ensures sized { result ≡ Reply.Data → FitsShape (shape command.now) (data_held command.now reader.now) }
 {
     match reading {
-        Reading::Answered => match Answer::read(command, reader.body()) {
+        Reading::Replied => match Answer::read(command, reader.body()) {
             Ok(_) => Reply::Data,
             Err(FrameFault::CheckSum) => {
                 Reply::Again(StepFault::Refused(command.code(), STATUS_CKSUM_ERROR))

@@ -3,7 +3,7 @@ ghost use Rattle.std.specs.Prelude.{◌≡◌, ◌<◌, ◌≤◌, ◌↔◌, Is
 ghost use Rattle.stk_host.specs.Calls.{ReceivesNextPiece, ListensForReply};
 ghost use Rattle.stk_frame.specs.declared.protocol.TheConstants.{LARGEST_FRAME};
 ghost use Rattle.stk_frame.specs.Reader.{frames_of_event, EventMatchesHeld, HoldsFrame};
-ghost use Rattle.stk_host.specs.Tape.{is_answer, first_answer};
+ghost use Rattle.stk_host.specs.Tape.{is_reply, first_reply};
 
 use crate::link::{Heard, Link, LinkFault};
 use std::marker::Model;
@@ -83,22 +83,22 @@ impl Unread {
 }
 
 /// The most bytes read for one reply. The message of [`crate::HostFault::Babble`] names this number.
-const MOST_BYTES_PER_ANSWER: usize = 4096;
+const MOST_BYTES_PER_REPLY: usize = 4096;
 
 #[derive(Clone, Copy)]
 pub(crate) enum Reading {
     /// The reader holds the reply.
-    Answered,
+    Replied,
     Silent,
     Ended,
     Babbled,
 }
 
 /// Returns whether the reader holds the reply to the frame numbered `seq`.
-fn is_answer(reader: &FrameReader, event: Event, seq: u8) -> bool
+fn is_reply(reader: &FrameReader, event: Event, seq: u8) -> bool
     requires { EventMatchesHeld event reader.now }
-    ensures yes { result ≡ true → (event ≡ Event.Frame) × HoldsFrame reader.now × (is_answer seq reader.now ≡ true) }
-    ensures no { result ≡ false → first_answer seq (frames_of_event event reader.now) ≡ None }
+    ensures yes { result ≡ true → (event ≡ Event.Frame) × HoldsFrame reader.now × (is_reply seq reader.now ≡ true) }
+    ensures no { result ≡ false → first_reply seq (frames_of_event event reader.now) ≡ None }
 {
     match event {
         Event::Frame => reader.seq() == seq,
@@ -119,19 +119,19 @@ pub(crate) fn listen<L: Link>(
 {
     reader.reset();
     let mut count = 0;
-    while count < MOST_BYTES_PER_ANSWER {
+    while count < MOST_BYTES_PER_REPLY {
         if unread.is_empty() {
-            match unread.receive_piece(link, MOST_BYTES_PER_ANSWER - count)? {
+            match unread.receive_piece(link, MOST_BYTES_PER_REPLY - count)? {
                 Heard::Bytes(_) => {}
                 Heard::Silence => return Ok(Reading::Silent),
                 Heard::End => return Ok(Reading::Ended),
             }
         }
-        let (used, event) = reader.feed(unread.prefix(MOST_BYTES_PER_ANSWER - count));
+        let (used, event) = reader.feed(unread.prefix(MOST_BYTES_PER_REPLY - count));
         unread.consume(used);
         count += used;
-        if is_answer(reader, event, seq) {
-            return Ok(Reading::Answered);
+        if is_reply(reader, event, seq) {
+            return Ok(Reading::Replied);
         }
     }
     Ok(Reading::Babbled)

@@ -89,7 +89,7 @@ fn ports(rt: HostRuntime) -> Result<(), Fail> {
 }
 
 /// The traits and types of links and desks have their names here too.
-fn heard_over<D: Desk, L: Link>(
+fn received_over<D: Desk, L: Link>(
     desk: &mut D,
     link: &mut L,
 ) -> (Result<usize, DeskFault>, Result<Heard, LinkFault>) {
@@ -102,7 +102,7 @@ fn devices(rt: HostRuntime) {
     let alloc = rt.alloc();
     let mut desk = SystemDesk::new(&rt, Vec::new(alloc), Vec::new(alloc));
     let mut streams = StreamLink::new(b"".as_slice(), Vec::new(alloc));
-    let (_, heard) = heard_over(&mut desk, &mut streams);
+    let (_, heard) = received_over(&mut desk, &mut streams);
     assert!(rt; heard == Ok(Heard::End));
 }
 

@@ -12,6 +12,6 @@ byte_decides first second = search (rules, nat_tests)
 pub same_decides : (first second : List (Option ℕ)) → Decides (is_same first second) (first ≡ second)
 same_decides = pointwise_decides byte_decides
 
-pub same_answer : (notice : Bool) (first second : List (Option ℕ)) → (IsTrue notice ↔ (first ≡ second))
+pub notice_is_same : (notice : Bool) (first second : List (Option ℕ)) → (IsTrue notice ↔ (first ≡ second))
     → notice ≡ is_same first second
-same_answer notice first second is = one_answer notice (is_same first second) is (same_decides first second)
+notice_is_same notice first second is = one_answer notice (is_same first second) is (same_decides first second)

@@ -13,12 +13,12 @@ use Rattle.stk_host.specs.Bound.{AsksAtMost, commands_in}
 use Rattle.stk_host.specs.Dialog.{Dialog, Done, Emit, Ask, Event, Frame, Played, prepend_events, continue_with_reading, next, played, frames_in}
 use Rattle.stk_host.specs.Play.{Progress, Plays, InTurn}
 use Rattle.stk_host.specs.Transcript.{Transcript, Got, sent, heard}
-use Rattle.stk_host.specs.Tape.{Tape, Reading, on_tape, leading_bytes, answer, reading_from_first, timeout_or_end, first_answer, reply_byte_limit, Babbled}
+use Rattle.stk_host.specs.Tape.{Tape, Reading, on_tape, leading_bytes, answer, reading_from_first, timeout_or_end, first_reply, reply_byte_limit, Babbled}
 use Rattle.stk_host.specs.declared.link.Item.TheVariants.{Byte, Silence}
 use Rattle.stk_host.proofs.Dialogs.Questions.{sends_most}
 use Rattle.stk_emu.specs.DialogOverExchanges.{SendsValidBodies}
 use Rattle.avr_tool.proofs.Lines.InTurn.{sends_whole, frames_sent, due_at}
-use Rattle.avr_tool.proofs.Given.LaterAnswers.{used_within}
+use Rattle.avr_tool.proofs.Given.LongerTape.{used_within}
 use Rattle.avr_session.specs.PlanSteps.{run_steps}
 use Rattle.avr_laws.specs.Bound.{timeouts_on, count_of_bytes_on, ListensAtMost}
 use Rattle.avr_tool.proofs.OverFaultyLink.FrameSizes.{session_asks}
@@ -112,13 +112,13 @@ read_costs tape bytes None reading left few within each e = elim (cases_Bool (na
       search rules
 ]
 
-answer_costs : (seq : ℕ) (tape : Tape) (reading : Reading) (left : Tape) → answer seq tape ≡ Some (reading, left)
+reading_costs : (seq : ℕ) (tape : Tape) (reading : Reading) (left : Tape) → answer seq tape ≡ Some (reading, left)
     → Costs tape left
 unfolding answer
-answer_costs seq tape reading left e =
+reading_costs seq tape reading left e =
     let bytes = take reply_byte_limit (leading_bytes tape) in
     let cut_few = cut_within bytes in
-    read_costs tape bytes (first_answer seq (cut bytes)) reading left (take_few reply_byte_limit (leading_bytes tape))
+    read_costs tape bytes (first_reply seq (cut bytes)) reading left (take_few reply_byte_limit (leading_bytes tape))
     (take_within reply_byte_limit (leading_bytes tape))
     (λ body used f. let inside = used_within seq (cut bytes) body used f in omega (arith, inside, cut_few)) e
 
@@ -149,10 +149,10 @@ read_waits tape None e =
           search rules
     ]
 
-answer_waits_for : (seq : ℕ) (tape : Tape) → answer seq tape ≡ None → (timeouts_on tape ≡ 0)
+reading_waits_for : (seq : ℕ) (tape : Tape) → answer seq tape ≡ None → (timeouts_on tape ≡ 0)
     × (count_of_bytes_on tape < reply_byte_limit)
 unfolding answer
-answer_waits_for seq tape e = read_waits tape (first_answer seq (cut (take reply_byte_limit (leading_bytes tape)))) e
+reading_waits_for seq tape e = read_waits tape (first_reply seq (cut (take reply_byte_limit (leading_bytes tape)))) e
 
 -- Listening once for a reply. If it waits for more, the tape had little; if it is done, that cost no more.
 record ListensOnce (tape : Tape) (got : Option (Reading × Tape)) : Type 0 where
@@ -191,9 +191,9 @@ listens_asked f go_on tape (Some (reading, rest)) once more =
 listens : {E R : Type 0} (d : Dialog E R) (seq : ℕ) (tape : Tape) → Listens (played d seq tape) tape
 listens (Done r) seq tape = search rules
 listens (Emit s d) seq tape = search (rules, listens d seq tape)
-listens (Ask body answered) seq tape =
-    listens_asked (frame seq body) (λ reading. played (answered reading) (next seq)) tape (answer seq tape)
-    (search (rules, answer_waits_for, answer_costs)) (λ reading left. listens (answered reading) (next seq) left)
+listens (Ask body resume) seq tape =
+    listens_asked (frame seq body) (λ reading. played (resume reading) (next seq)) tape (answer seq tape)
+    (search (rules, reading_waits_for, reading_costs)) (λ reading left. listens (resume reading) (next seq) left)
 
 -- ---- a transcript
 

@@ -25,7 +25,7 @@ use Rattle.stk_emu.specs.StepData.{data_of_step, data_of_steps}
 use Rattle.stk_emu.proofs.Repeatable.{on_data, reply_to, joined_reply, IsRepeatable}
 use Rattle.avr_tool.proofs.Hosts.AnyExchange.{AfterStep, try_goes}
 use Rattle.avr_tool.proofs.Hosts.OneLink.{Spot, this_link, Runs, on_link, both}
-use Rattle.stk_emu.proofs.Answers.Commands.{steady}
+use Rattle.stk_emu.proofs.Replies.Commands.{steady}
 use Rattle.avr_tool.proofs.WriteOperations.OutsideMode.{gathered_steady}
 use Rattle.avr_tool.proofs.Sure.Good.{AreSteady, IsSteady, on_steady}
 use Rattle.avr_laws.proofs.Lines.Ends.{where_done, first_steady}
@@ -168,15 +168,15 @@ Tries size exchanges got d z = Runs steady (λ y. ⊤) (λ reply y. Tried size e
 module _ (go_on : List ℕ → Dialog ⊥ Reply) (go : List ℕ → Reply) (size : ℕ) (exchanges : List Exchange) (got : List ℕ)
     (few : AtMostThreeBadOfSeven (later_exchanges exchanges)) where
   -- by the reply to a command that was executed
-  answered : (q : Programmer) (reply : Reply) → ((bytes : List ℕ) → go bytes ≡ Data got
+  replied : (q : Programmer) (reply : Reply) → ((bytes : List ℕ) → go bytes ≡ Data got
       → Tries size (later_exchanges exchanges) got (go_on bytes) (q, later_exchanges exchanges))
       → on_data reply go ≡ Data got → Tries (suc size) exchanges got (with_data go_on reply) (
         q,
         later_exchanges exchanges,
       )
-  answered q (Data bytes) each has = wider (λ b y x. x) (λ e y x. x)
+  replied q (Data bytes) each has = wider (λ b y x. x) (λ e y x. x)
       (λ reply y x. (well size exchanges got reply y.1 x.0, x.1)) (each bytes has)
-  answered q reply each has = search rules
+  replied q reply each has = search rules
 
   by_exchange : (one_exchange : Exchange) (command : Command) (p : Programmer) → badness (first_exchange exchanges)
       ≡ badness one_exchange → IsSteady one_exchange → ((bytes : List ℕ) → go bytes ≡ Data got
@@ -184,9 +184,9 @@ module _ (go_on : List ℕ → Dialog ⊥ Reply) (go : List ℕ → Reply) (size
         steady.after (body command) p,
         later_exchanges exchanges,
       )) → on_data (reply_to steady command p) go ≡ Data got → Tries (suc size) exchanges got
-      (with_data go_on (reply_from_reading command (reading_of_exchange one_exchange (steady.answer (body command) p))))
+      (with_data go_on (reply_from_reading command (reading_of_exchange one_exchange (steady.reply (body command) p))))
       (after_exchange one_exchange (steady.after (body command) p) p steady.reset, later_exchanges exchanges)
-  by_exchange one_exchange command p is calm each has = search (rules, answered)
+  by_exchange one_exchange command p is calm each has = search (rules, replied)
 
 -- an attempt whose commands would all have data: the data come, or a frame went wrong
 attempt_tried : (commands : List Command) (before : List ℕ) (z : Spot) (got : List ℕ) → AtMostThreeBadOfSeven z.1

@@ -157,14 +157,14 @@ module _ (settings : Settings) (stock : Stock) (old m : DeskState) (stage_outcom
       ≡ lines_in (all_events_of (planned settings (went.passed ++ []))))
   both = search (rules, seen_is_planned, seen_before, seen)
 
-  same_answer : (planned_from_files settings stock).stage_outcome ≡ stage_outcome
-  same_answer = both.0 ∙ ap (λ (p : StageResult Plan). p.stage_outcome) planned_is
+  same_result : (planned_from_files settings stock).stage_outcome ≡ stage_outcome
+  same_result = both.0 ∙ ap (λ (p : StageResult Plan). p.stage_outcome) planned_is
 
   same_left : left_in (after_events (events_with_refusal (planned_from_files settings stock).output_events
       stage_outcome) nothing_kept) ≡ left_in m.kept
   same_left =
       let whole = all_events_of (planned_from_files settings stock) in
-      search (rules, both, same_answer, planning_left, only_reads, only_read, kept_is)
+      search (rules, both, same_result, planning_left, only_reads, only_read, kept_is)
 
 -- ---- the run
 
@@ -203,7 +203,7 @@ module _ (settings : Settings) (old new : MemDeskState) (before after : LinkStat
       let verdict : ◌≡◌ {A = StageOutcome Plan} (Produced plan) NotReadToEnd → ⊥ = λ e. cc in
       let are = all_true stock between holds in
       let stage_outcome : p.stage_outcome ≡ Produced plan =
-      same_answer settings stock (memory_state old) (memory_state between) (Produced plan) unused.desk_is are verdict
+      same_result settings stock (memory_state old) (memory_state between) (Produced plan) unused.desk_is are verdict
       went in
       let alike = same_left settings stock (memory_state old) (memory_state between) (Produced plan) unused.desk_is are
       verdict went in
@@ -224,7 +224,7 @@ module _ (settings : Settings) (old new : MemDeskState) (before after : LinkStat
       let verdict : ◌≡◌ {A = StageOutcome Plan} (Refused line) NotReadToEnd → ⊥ = λ e. cc in
       let are = all_true stock new holds in
       let stage_outcome : p.stage_outcome ≡ Refused line =
-      same_answer settings stock (memory_state old) (memory_state new) (Refused line) unused.desk_is are verdict went in
+      same_result settings stock (memory_state old) (memory_state new) (Refused line) unused.desk_is are verdict went in
       let alike = same_left settings stock (memory_state old) (memory_state new) (Refused line) unused.desk_is are
       verdict went in
       let events : map Emitted (p.output_events ++ PrintsLine line ∷ []) ++ [] ≡ map Emitted p.output_events

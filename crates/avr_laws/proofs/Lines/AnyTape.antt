@@ -15,13 +15,13 @@ use Rattle.stk_emu.specs.Exchange.{Execution, NotExecuted, Executed, ThenRestart
 use Rattle.stk_emu.specs.DialogOverExchanges.{state_after, SendsValidBodies}
 use Rattle.avr_laws.specs.AnyTape.{after_sent_frames, exchange_by, exchanges_from, exchanges_on_tape, GoesAlongExchanges, FramesByRestart, adding_received, received_frames, good_frames, after_received_bytes, ReceivedSentFrames}
 use Rattle.avr_tool.specs.Authentic.{first_execution, later_executions, on_reading, RepliesAreAuthentic}
-use Rattle.avr_tool.proofs.Given.LaterAnswers.{answer_extends}
+use Rattle.avr_tool.proofs.Given.LongerTape.{reading_extends}
 use Rattle.avr_tool.proofs.Lines.Plays.{played_along, emitted_played, done_played, waits_played}
 
 -- every authentic reading is an exchange
 abbrev IsExchangeOf : {P : Type 0} → Device P → List ℕ → P → Execution → Reading → Exchange → Type 0
 IsExchangeOf m bytes p execution reading one_exchange =
-    (reading_of_exchange one_exchange (m.answer bytes p) ≡ reading)
+    (reading_of_exchange one_exchange (m.reply bytes p) ≡ reading)
     × (after_exchange one_exchange (m.after bytes p) p m.reset ≡ after_execution execution (m.after bytes p) p m.reset)
 
 not_anew : (execution : Execution) → ◌≡◌ {A = Execution} (ThenRestarted execution) Executed → ⊥
@@ -41,7 +41,7 @@ none_asked m (Ask bytes go_on) p exchanges = refl
 
 -- A run over a tape is the run along these exchanges, of which `reply_count` are read. If it is done, these are as many
 -- as its frames. After any first frames the programmer is as the list of what happened to it gives.
-record HeardAs {E R P : Type 0} (m : Device P) (d : Dialog E R) (n : ℕ) (tape : Tape) (p : P)
+record ReadAs {E R P : Type 0} (m : Device P) (d : Dialog E R) (n : ℕ) (tape : Tape) (p : P)
     (executions : List Execution) (exchanges : List Exchange) : Type 0 where
   reply_count : ℕ
   left : Tape
@@ -70,24 +70,24 @@ module _ {P : Type 0} (m : Device P) where
         ∷ []) (continue_with_reading (λ reading. played (go_on reading) (next n)) o)
 
     -- a command that waits for its reply
-    waiting : answer n tape ≡ None → HeardAs m (Ask bytes go_on) n tape p executions (Disturbed execution NoReply ∷ [])
+    waiting : answer n tape ≡ None → ReadAs m (Ask bytes go_on) n tape p executions (Disturbed execution NoReply ∷ [])
     waiting e = search (rules, none-some, none_asked, arrives)
 
     -- a command that got its reply, by its exchange
     module _ (one_exchange : Exchange) (later : List Exchange) (left : Tape)
-        (read : answer n tape ≡ Some (reading_of_exchange one_exchange (m.answer bytes p), left))
+        (read : answer n tape ≡ Some (reading_of_exchange one_exchange (m.reply bytes p), left))
         (leaves : after_exchange one_exchange (m.after bytes p) p m.reset ≡ on_time)
-        (goes : HeardAs m (go_on (reading_of_exchange one_exchange (m.answer bytes p))) (next n) left
+        (goes : ReadAs m (go_on (reading_of_exchange one_exchange (m.reply bytes p))) (next n) left
         (after_exchange one_exchange (m.after bytes p) p m.reset) (later_executions executions) later) where
       abbrev fs : List (List ℕ)
-      fs = frames_in (played_along m goes.reply_count (go_on (reading_of_exchange one_exchange (m.answer bytes p)))
+      fs = frames_in (played_along m goes.reply_count (go_on (reading_of_exchange one_exchange (m.reply bytes p)))
           (next n) (after_exchange one_exchange (m.after bytes p) p m.reset) later goes.left).events
 
       stands : (k : ℕ) → k ≤ suc (length fs) → (state_after m k (Ask bytes go_on) p (one_exchange ∷ later)).programmer
           ≡ after_sent_frames m (take k (frame n bytes ∷ fs)) executions p
       stands k le = search (rules, arrives)
 
-      by_exchange : HeardAs m (Ask bytes go_on) n tape p executions (one_exchange ∷ later)
+      by_exchange : ReadAs m (Ask bytes go_on) n tape p executions (one_exchange ∷ later)
       by_exchange = record {
         reply_count = suc goes.reply_count;
         left = goes.left;
@@ -98,34 +98,34 @@ module _ {P : Type 0} (m : Device P) where
 
     asked : (o : Option (Reading × Tape)) → answer n tape ≡ o
         → ((reading : Reading) (left : Tape) → RepliesAreAuthentic m (go_on reading) (next n) left on_time
-        (later_executions executions) → HeardAs m (go_on reading) (next n) left on_time (later_executions executions)
+        (later_executions executions) → ReadAs m (go_on reading) (next n) left on_time (later_executions executions)
         (exchanges_on_tape (go_on reading) (next n) left (later_executions executions)))
         → on_reading (λ reading left. IsAuthentic m bytes p execution reading
         × RepliesAreAuthentic m (go_on reading) (next n) left on_time (later_executions executions)) o
-        → HeardAs m (Ask bytes go_on) n tape p executions
+        → ReadAs m (Ask bytes go_on) n tape p executions
         (exchanges_from execution (λ reading left. exchanges_on_tape (go_on reading) (next n) left
         (later_executions executions)) o)
     asked o e each h = search (rules, waiting, authentic_exchange, by_exchange)
 
-  heard_as : {E R : Type 0} (d : Dialog E R) (n : ℕ) (tape : Tape) (p : P) (executions : List Execution)
+  read_as : {E R : Type 0} (d : Dialog E R) (n : ℕ) (tape : Tape) (p : P) (executions : List Execution)
       → SendsValidBodies d → RepliesAreAuthentic m d n tape p executions
-      → HeardAs m d n tape p executions (exchanges_on_tape d n tape executions)
-  heard_as (Done r) n tape p executions asks h =
+      → ReadAs m d n tape p executions (exchanges_on_tape d n tape executions)
+  read_as (Done r) n tape p executions asks h =
       record { reply_count = 0; left = tape; play = refl; all = λ q seq rest o. refl; programmer = none_sent }
     where
       none_sent : (k : ℕ) → k ≤ 0 → p ≡ after_sent_frames m (take k []) executions p
       none_sent zero le = refl
       none_sent (suc k) le = absurd (omega (arith, le))
-  heard_as (Emit e d) n tape p executions asks h = search (rules, heard_as d n tape p executions asks h)
-  heard_as (Ask bytes go_on) n tape p executions asks h =
+  read_as (Emit e d) n tape p executions asks h = search (rules, read_as d n tape p executions asks h)
+  read_as (Ask bytes go_on) n tape p executions asks h =
       asked bytes go_on n tape p executions asks.0 (answer n tape) refl
-      (λ reading left inner. heard_as (go_on reading) (next n) left _ (later_executions executions) (asks.1 reading)
+      (λ reading left inner. read_as (go_on reading) (next n) left _ (later_executions executions) (asks.1 reading)
       inner) h
 
   -- THE LAW
   pub goes_as : {E R : Type 0} (d : Dialog E R) (n : ℕ) (tape : Tape) (p : P) (executions : List Execution)
       → SendsValidBodies d → RepliesAreAuthentic m d n tape p executions → GoesAlongExchanges m d n tape p executions
-  goes_as {R = R} d n tape p executions asks h = search (rules, heard_as, emitted_played, done_played, waits_played)
+  goes_as {R = R} d n tape p executions asks h = search (rules, read_as, emitted_played, done_played, waits_played)
 
 -- ---- the first readings of an authentic tape
 
@@ -146,7 +146,7 @@ module _ {P : Type 0} (m : Device P) where
       → RepliesAreAuthentic m (Ask bytes go_on) n (t ++ u) p executions
       → AuthenticReading m bytes go_on n p executions o
   shorter bytes go_on n t u p executions None e each h = tt
-  shorter bytes go_on n t u p executions (Some (reading, left)) e each h = search (rules, answer_extends)
+  shorter bytes go_on n t u p executions (Some (reading, left)) e each h = search (rules, reading_extends)
 
   pub authentic_prefix : {E R : Type 0} (d : Dialog E R) (n : ℕ) (t u : Tape) (p : P) (executions : List Execution)
       → RepliesAreAuthentic m d n (t ++ u) p executions → RepliesAreAuthentic m d n t p executions

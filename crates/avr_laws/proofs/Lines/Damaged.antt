@@ -11,9 +11,9 @@ use Rattle.std.specs.Prelude.{All, bit_xor, fold, filter, ◌==◌}
 use Rattle.stk_frame.specs.Frame.{frame, xor_all}
 use Rattle.stk_frame.specs.Cut.{cut, frames, IsPiece, is_good, is_frame, body_of}
 use Rattle.stk_frame.proofs.Laws.{cut_first, frame_is_piece, frame_is_good, body_of_frame}
-use Rattle.stk_host.specs.Tape.{Tape, on_tape, leading_bytes, Reading, Answered, answer, first_answer, is_answer, past_skipped, reply_byte_limit}
+use Rattle.stk_host.specs.Tape.{Tape, on_tape, leading_bytes, Reading, Replied, answer, first_reply, is_reply, past_skipped, reply_byte_limit}
 use Rattle.stk_host.specs.Dialog.{Dialog, Done, Emit, Ask, next}
-use Rattle.stk_host.proofs.Tapes.Answers.{answer_silent, answer_ended, answer_waits, answer_found, on_tape_append, further_zero}
+use Rattle.stk_host.proofs.Tapes.Readings.{reading_silent, reading_ended, reading_waits, reading_found, on_tape_append, further_zero}
 use Rattle.stk_emu.specs.Device.{Device, refusal}
 use Rattle.stk_emu.specs.Lawful.{IsFrameBody}
 use Rattle.stk_emu.specs.Exchange.{Execution, NotExecuted, Executed, ThenRestarted, after_execution}
@@ -196,8 +196,8 @@ was_sent sent piece all (inr is) = elim (refuses piece is) [
   | inr (whole, of) ↦ inr (whole, λ good. inl (of good))
 ]
 
-no_piece : (n : ℕ) (piece : List ℕ) → piece ≡ [] → is_answer n piece ≡ false
-no_piece n piece e = ap (is_answer n) e
+no_piece : (n : ℕ) (piece : List ℕ) → piece ≡ [] → is_reply n piece ≡ false
+no_piece n piece e = ap (is_reply n) e
 
 -- the bytes up to the awaited reply, and what may follow it
 abbrev Window : ℕ → List (List ℕ) → ℕ → Type 0
@@ -206,14 +206,14 @@ Window n pieces most = length (bytes_up_to_reply n pieces) ≤ most
 window_front : (n : ℕ) (piece : List ℕ) (pieces : List (List ℕ)) (most : ℕ) → Window n (piece ∷ pieces) most
     → length piece ≤ most
 window_front n piece pieces most le =
-    omega (arith, le, length-append piece (if is_answer n piece then [] else bytes_up_to_reply n pieces))
+    omega (arith, le, length-append piece (if is_reply n piece then [] else bytes_up_to_reply n pieces))
 
-window_rest : (n : ℕ) (piece : List ℕ) (pieces : List (List ℕ)) (most : ℕ) → is_answer n piece ≡ false
+window_rest : (n : ℕ) (piece : List ℕ) (pieces : List (List ℕ)) (most : ℕ) → is_reply n piece ≡ false
     → Window n (piece ∷ pieces) most → Window n pieces (most - length piece)
 window_rest n piece pieces most other le =
     let size = length-append piece (bytes_up_to_reply n pieces) in
     let e : length (bytes_up_to_reply n (piece ∷ pieces)) ≡ length (piece ++ bytes_up_to_reply n pieces) =
-    ap (λ bs. length (piece ++ bs)) (cond-false (is_answer n piece) [] (bytes_up_to_reply n pieces) other) in
+    ap (λ bs. length (piece ++ bs)) (cond-false (is_reply n piece) [] (bytes_up_to_reply n pieces) other) in
     omega (arith, le, size, e)
 
 take_front : (piece bytes : List ℕ) (most : ℕ) → length piece ≤ most
@@ -257,32 +257,32 @@ burst_bytes (EndArrives ∷ come) = refl
 
 -- the awaited reply comes, as the end of these bytes
 abbrev Found : ℕ → List Arrival → List ℕ → Type 0
-Found n come bytes = (body : List ℕ) × (left : List Arrival) × (first_reading n come ≡ Some (Answered body, left))
-    × (tape_of_arrivals come ≡ on_tape bytes ++ tape_of_arrivals left) × (first_answer n (cut bytes)
+Found n come bytes = (body : List ℕ) × (left : List Arrival) × (first_reading n come ≡ Some (Replied body, left))
+    × (tape_of_arrivals come ≡ on_tape bytes ++ tape_of_arrivals left) × (first_reply n (cut bytes)
     ≡ Some (body, length bytes))
 
 -- it doesn't come in these bytes, before a pause or the end
 abbrev Lost : ℕ → List Arrival → List ℕ → Type 0
 Lost n come bytes = (left : List Arrival) × (first_reading n come ≡ first_reading n left)
     × (frames_before_pause left ≡ []) × (tape_of_arrivals come ≡ on_tape bytes ++ tape_of_arrivals left)
-    × (first_answer n (cut bytes) ≡ None)
+    × (first_reply n (cut bytes) ≡ None)
 
 joined : (piece bytes : List ℕ) (tape left : Tape) → tape ≡ on_tape bytes ++ left
     → on_tape piece ++ tape ≡ on_tape (piece ++ bytes) ++ left
 joined piece bytes tape left e = ap (λ t. on_tape piece ++ t) e
     ∙ (sym (append_assoc (on_tape piece) (on_tape bytes) left) ∙ ap (λ t. t ++ left) (sym (on_tape_append piece bytes)))
 
-further_first : (n : ℕ) (piece bytes : List ℕ) → (piece ≡ []) ⊎ IsPiece piece → is_answer n piece ≡ false
-    → first_answer n (cut (piece ++ bytes)) ≡ past_skipped (length piece) (first_answer n (cut bytes))
+further_first : (n : ℕ) (piece bytes : List ℕ) → (piece ≡ []) ⊎ IsPiece piece → is_reply n piece ≡ false
+    → first_reply n (cut (piece ++ bytes)) ≡ past_skipped (length piece) (first_reply n (cut bytes))
 further_first n piece bytes (inl none) other = subst
-    (λ p. first_answer n (cut (p ++ bytes)) ≡ past_skipped (length p) (first_answer n (cut bytes))) (sym none)
-    (further_zero (first_answer n (cut bytes)))
+    (λ p. first_reply n (cut (p ++ bytes)) ≡ past_skipped (length p) (first_reply n (cut bytes))) (sym none)
+    (further_zero (first_reply n (cut bytes)))
 further_first n piece bytes (inr whole) other =
-    ap (first_answer n) (cut_first piece bytes whole)
-    ∙ cond-false (is_answer n piece) (Some (body_of piece, length piece))
-    (past_skipped (length piece) (first_answer n (cut bytes))) other
+    ap (first_reply n) (cut_first piece bytes whole)
+    ∙ cond-false (is_reply n piece) (Some (body_of piece, length piece))
+    (past_skipped (length piece) (first_reply n (cut bytes))) other
 
-no_reply : (n : ℕ) (piece : List ℕ) → piece ≡ [] → is_answer n piece ≡ true → ⊥
+no_reply : (n : ℕ) (piece : List ℕ) → piece ≡ [] → is_reply n piece ≡ true → ⊥
 no_reply n piece none is = false≢true (sym (no_piece n piece none) ∙ is)
 
 shape : {A : Type 0} (piece : List ℕ) → (piece ≡ []) ⊎ (IsPiece piece × A) → (piece ≡ []) ⊎ IsPiece piece
@@ -291,14 +291,14 @@ shape piece (inr (whole, was)) = inr whole
 
 -- a frame in front that isn't the reply
 behind : (n : ℕ) (piece bytes : List ℕ) (come : List Arrival) → (piece ≡ []) ⊎ IsPiece piece
-    → is_answer n piece ≡ false → Found n come bytes ⊎ Lost n come bytes
+    → is_reply n piece ≡ false → Found n come bytes ⊎ Lost n come bytes
     → Found n (FrameArrives piece ∷ come) (piece ++ bytes) ⊎ Lost n (FrameArrives piece ∷ come) (piece ++ bytes)
 behind n piece bytes come whole other (inl (body, left, is, tape, first)) =
     let size : length piece + length bytes ≡ length (piece ++ bytes) = sym (length-append piece bytes) in
     inl (
       body,
       left,
-      cond-false (is_answer n piece) _ _ other ∙ is,
+      cond-false (is_reply n piece) _ _ other ∙ is,
       joined piece bytes (tape_of_arrivals come) (tape_of_arrivals left) tape,
       further_first n piece bytes whole other
           ∙ (ap (past_skipped (length piece)) first ∙ ap (λ k. Some (body, k)) size),
@@ -306,7 +306,7 @@ behind n piece bytes come whole other (inl (body, left, is, tape, first)) =
 behind n piece bytes come whole other (inr (left, is, none, tape, first)) =
     inr (
       left,
-      cond-false (is_answer n piece) _ _ other ∙ is,
+      cond-false (is_reply n piece) _ _ other ∙ is,
       none,
       joined piece bytes (tape_of_arrivals come) (tape_of_arrivals left) tape,
       further_first n piece bytes whole other ∙ ap (past_skipped (length piece)) first,
@@ -318,57 +318,57 @@ looked : (n : ℕ) (sent : List (List ℕ)) (come : List Arrival) → AllReplies
 looked n sent [] all replies = inr ([], refl, refl, refl, refl)
 looked n sent (PauseArrives ∷ come) all replies = inr (PauseArrives ∷ come, refl, refl, refl, refl)
 looked n sent (EndArrives ∷ come) all replies = inr (EndArrives ∷ come, refl, refl, refl, refl)
-looked n sent (FrameArrives piece ∷ come) all (is, later) = elim (cases_Bool (is_answer n piece)) [
+looked n sent (FrameArrives piece ∷ come) all (is, later) = elim (cases_Bool (is_reply n piece)) [
   | inl found ↦ subst (λ bs. Found n (FrameArrives piece ∷ come) (piece ++ bs)
       ⊎ Lost n (FrameArrives piece ∷ come) (piece ++ bs))
-      (sym (cond-true (is_answer n piece) [] (bytes_up_to_reply n (frames_before_pause come)) found))
+      (sym (cond-true (is_reply n piece) [] (bytes_up_to_reply n (frames_before_pause come)) found))
       (inl (taken found (was_sent sent piece all is)))
   | inr other ↦ subst (λ bs. Found n (FrameArrives piece ∷ come) (piece ++ bs)
       ⊎ Lost n (FrameArrives piece ∷ come) (piece ++ bs))
-      (sym (cond-false (is_answer n piece) [] (bytes_up_to_reply n (frames_before_pause come)) other))
+      (sym (cond-false (is_reply n piece) [] (bytes_up_to_reply n (frames_before_pause come)) other))
       (behind n piece (bytes_up_to_reply n (frames_before_pause come)) come (shape piece (was_sent sent piece all is))
       other (looked n sent come all (later other)))
 ]
   where
-    taken : is_answer n piece ≡ true → (piece ≡ []) ⊎ (IsPiece piece × IsNotForged sent piece)
+    taken : is_reply n piece ≡ true → (piece ≡ []) ⊎ (IsPiece piece × IsNotForged sent piece)
         → Found n (FrameArrives piece ∷ come) (piece ++ [])
     taken found (inl none) = absurd (no_reply n piece none found)
     taken found (inr (whole, was)) = subst (Found n (FrameArrives piece ∷ come)) (sym (append-nil piece)) (
       body_of piece,
       come,
-      cond-true (is_answer n piece) _ _ found,
+      cond-true (is_reply n piece) _ _ found,
       refl,
-      ap (first_answer n) (ap cut (sym (append-nil piece)) ∙ cut_first piece [] whole)
-          ∙ cond-true (is_answer n piece) _ _ found,
+      ap (first_reply n) (ap cut (sym (append-nil piece)) ∙ cut_first piece [] whole)
+          ∙ cond-true (is_reply n piece) _ _ found,
     )
 
 abbrev on_the_tape : Option (Reading × List Arrival) → Option (Reading × Tape)
 on_the_tape None = None
 on_the_tape (Some (reading, come)) = Some (reading, tape_of_arrivals come)
 
-lost : (n : ℕ) (bytes : List ℕ) (left : List Arrival) → frames_before_pause left ≡ [] → first_answer n (cut bytes)
+lost : (n : ℕ) (bytes : List ℕ) (left : List Arrival) → frames_before_pause left ≡ [] → first_reply n (cut bytes)
     ≡ None → length bytes < reply_byte_limit → answer n (on_tape bytes ++ tape_of_arrivals left)
     ≡ on_the_tape (first_reading n left)
-lost n bytes [] none first lt = ap (answer n) (append-nil (on_tape bytes)) ∙ answer_waits n bytes first lt
-lost n bytes (PauseArrives ∷ left) none first lt = answer_silent n bytes (tape_of_arrivals left) first lt
-lost n bytes (EndArrives ∷ left) none first lt = answer_ended n bytes (tape_of_arrivals left) first lt
+lost n bytes [] none first lt = ap (answer n) (append-nil (on_tape bytes)) ∙ reading_waits n bytes first lt
+lost n bytes (PauseArrives ∷ left) none first lt = reading_silent n bytes (tape_of_arrivals left) first lt
+lost n bytes (EndArrives ∷ left) none first lt = reading_ended n bytes (tape_of_arrivals left) first lt
 lost n bytes (FrameArrives piece ∷ left) none first lt = cc
 
 read : (n : ℕ) (come : List Arrival) (bytes : List ℕ) → Found n come bytes ⊎ Lost n come bytes
     → length bytes < reply_byte_limit → answer n (tape_of_arrivals come) ≡ on_the_tape (first_reading n come)
 read n come bytes (inl (body, left, is, tape, first)) lt =
-    ap (answer n) tape ∙ (answer_found n bytes (tape_of_arrivals left) body first (omega (arith, lt)) ∙ ap on_the_tape
+    ap (answer n) tape ∙ (reading_found n bytes (tape_of_arrivals left) body first (omega (arith, lt)) ∙ ap on_the_tape
     (sym is))
 read n come bytes (inr (left, is, none, tape, first)) lt =
     ap (answer n) tape ∙ (lost n bytes left none first lt ∙ ap on_the_tape (sym is))
 
 -- ---- the law
 
-module _ {P : Type 0} (m : Device P) (bodies : (bytes : List ℕ) (p : P) → IsFrameBody (m.answer bytes p)) where
+module _ {P : Type 0} (m : Device P) (bodies : (bytes : List ℕ) (p : P) → IsFrameBody (m.reply bytes p)) where
   given_reply : (n : ℕ) (bytes : List ℕ) (p : P) (execution : Execution)
       → IsReply (frame_of_reply m n bytes p execution)
   given_reply n bytes p NotExecuted = inl refl
-  given_reply n bytes p Executed = inr (n, m.answer bytes p, bodies bytes p, refl)
+  given_reply n bytes p Executed = inr (n, m.reply bytes p, bodies bytes p, refl)
   given_reply n bytes p (ThenRestarted execution) = inl refl
 
   pub brings_no_frame : {E R : Type 0} (d : Dialog E R) (n : ℕ) (come : List Arrival) (p : P)

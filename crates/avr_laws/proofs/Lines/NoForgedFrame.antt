@@ -4,7 +4,7 @@ use Rattle.std.proofs.lemmas.Bool.{cases_Bool, and_parts, eqb-true, false≢true
 use Rattle.std.specs.Prelude.{◌==◌, filter, replicate}
 use Rattle.stk_frame.specs.Cut.{cut, frames, is_good, seq_of, body_of}
 use Rattle.stk_frame.proofs.Laws.{body_of_frame}
-use Rattle.stk_host.specs.Tape.{Tape, Reading, Answered, answer, reading_from_first, timeout_or_end, first_answer, is_answer, past_skipped, leading_bytes, reply_byte_limit}
+use Rattle.stk_host.specs.Tape.{Tape, Reading, Replied, answer, reading_from_first, timeout_or_end, first_reply, is_reply, past_skipped, leading_bytes, reply_byte_limit}
 use Rattle.stk_host.specs.Dialog.{Dialog, Done, Emit, Ask, next}
 use Rattle.stk_emu.specs.Device.{Device, refusal}
 use Rattle.stk_emu.specs.Exchange.{Execution, Executed, after_execution, IsAuthentic}
@@ -19,11 +19,11 @@ use Rattle.avr_laws.proofs.Lines.AnyTape.{AuthenticReading}
 -- the replies `k` commands back and further: each is empty or has the number of its command
 abbrev pub Past : ℕ → ℕ → List (List ℕ) → Type 0
 Past n k [] = Unit {0}
-Past n k (answer ∷ before) = ((answer ≡ []) ⊎ ((seq_of answer + k) % 256 ≡ n % 256)) × Past n (suc k) before
+Past n k (reply ∷ before) = ((reply ≡ []) ⊎ ((seq_of reply + k) % 256 ≡ n % 256)) × Past n (suc k) before
 
 further_back : (n k : ℕ) (before : List (List ℕ)) → Past n k before → Past (next n) (suc k) before
 further_back n k [] past = tt
-further_back n k (answer ∷ before) past = search (rules, further_back n (suc k) before past.1)
+further_back n k (reply ∷ before) past = search (rules, further_back n (suc k) before past.1)
 
 none_good : (piece : List ℕ) → piece ≡ [] → is_good piece ≡ true → ⊥
 none_good piece e good = search rules
@@ -33,21 +33,21 @@ not_past : (c n k : ℕ) (before : List (List ℕ)) (piece : List ℕ) → 1 ≤
     → is_good piece ≡ true → seq_of piece ≡ n → IsAmongFirst c before piece → ⊥
 not_past zero n k before piece some few past good is among = among
 not_past (suc c) n k [] piece some few past good is among = among
-not_past (suc c) n k (answer ∷ before) piece some few past good is (inl same) = search (rules, none_good)
-not_past (suc c) n k (answer ∷ before) piece some few past good is (inr among) =
+not_past (suc c) n k (reply ∷ before) piece some few past good is (inl same) = search (rules, none_good)
+not_past (suc c) n k (reply ∷ before) piece some few past good is (inr among) =
     not_past c n (suc k) before piece (omega arith) (omega (arith, few)) past.1 good is among
 
 -- ---- the piece that is taken
 
 abbrev Taken : ℕ → List (List ℕ) → List ℕ → Type 0
-Taken n sent body = (piece : List ℕ) × (is_answer n piece ≡ true) × (body_of piece ≡ body) × IsNotForged sent piece
+Taken n sent body = (piece : List ℕ) × (is_reply n piece ≡ true) × (body_of piece ≡ body) × IsNotForged sent piece
 
 abbrev body_in : Option (List ℕ × ℕ) → List ℕ
 body_in None = []
 body_in (Some (body, used)) = body
 
 abbrev body_read : Option (Reading × Tape) → List ℕ
-body_read (Some (Answered body, left)) = body
+body_read (Some (Replied body, left)) = body
 body_read other = []
 
 further_body : (count : ℕ) (o : Option (List ℕ × ℕ)) (body : List ℕ) (used : ℕ) → past_skipped count o
@@ -56,27 +56,27 @@ further_body count None body used e = cc
 further_body count (Some (b, u)) body used e = (u, ap (λ x. Some (x, u)) (ap body_in e))
 
 taken : (n : ℕ) (sent : List (List ℕ)) (pieces : List (List ℕ)) (body : List ℕ) (used : ℕ)
-    → first_answer n pieces ≡ Some (body, used) → AreNotForged n sent pieces → Taken n sent body
+    → first_reply n pieces ≡ Some (body, used) → AreNotForged n sent pieces → Taken n sent body
 taken n sent [] body used e were = cc
-taken n sent (piece ∷ pieces) body used e were = elim (cases_Bool (is_answer n piece)) [
-  | inl is ↦ (piece, is, ap body_in (sym (cond-true (is_answer n piece) _ _ is) ∙ e), were.0)
+taken n sent (piece ∷ pieces) body used e were = elim (cases_Bool (is_reply n piece)) [
+  | inl is ↦ (piece, is, ap body_in (sym (cond-true (is_reply n piece) _ _ is) ∙ e), were.0)
   | inr other ↦
-      let rest = further_body (length piece) (first_answer n pieces) body used
-      (sym (cond-false (is_answer n piece) _ _ other) ∙ e) in
+      let rest = further_body (length piece) (first_reply n pieces) body used
+      (sym (cond-false (is_reply n piece) _ _ other) ∙ e) in
       taken n sent pieces body rest.0 rest.1 (were.1 other)
 ]
 
 -- a timeout or the end is never the body of a reply
-no_answer : (tape left : Tape) (body : List ℕ) → timeout_or_end tape ≡ Some (Answered body, left) → ⊥
-no_answer tape left body e = search (rules, false≢true)
+never_replied : (tape left : Tape) (body : List ℕ) → timeout_or_end tape ≡ Some (Replied body, left) → ⊥
+never_replied tape left body e = search (rules, false≢true)
 
 found_by : (o : Option (List ℕ × ℕ)) (bytes : List ℕ) (tape left : Tape) (body : List ℕ)
-    → reading_from_first o bytes tape ≡ Some (Answered body, left) → (used : ℕ) × (o ≡ Some (body, used))
+    → reading_from_first o bytes tape ≡ Some (Replied body, left) → (used : ℕ) × (o ≡ Some (body, used))
 found_by (Some (b, used)) bytes tape left body e = (used, ap (λ x. Some (x, used)) (ap body_read e))
-found_by None bytes tape left body e = search (rules, cases_Bool, cond-true, no_answer, cond-false)
+found_by None bytes tape left body e = search (rules, cases_Bool, cond-true, never_replied, cond-false)
 
-found : (n : ℕ) (tape left : Tape) (body : List ℕ) → answer n tape ≡ Some (Answered body, left)
-    → (used : ℕ) × (first_answer n (cut (take reply_byte_limit (leading_bytes tape))) ≡ Some (body, used))
+found : (n : ℕ) (tape left : Tape) (body : List ℕ) → answer n tape ≡ Some (Replied body, left)
+    → (used : ℕ) × (first_reply n (cut (take reply_byte_limit (leading_bytes tape))) ≡ Some (body, used))
 unfolding answer
 found n tape left body e = search (rules, found_by)
 
@@ -84,7 +84,7 @@ module _ {P : Type 0} (m : Device P) where
   -- of the replies to the last 256 frames only the one to this command has its number
   own : (n : ℕ) (bytes : List ℕ) (p : P) (execution : Execution) (before : List (List ℕ)) (body : List ℕ)
       → Past n 1 before → Taken n (frame_of_reply m n bytes p execution ∷ before) body
-      → IsAuthentic m bytes p execution (Answered body)
+      → IsAuthentic m bytes p execution (Replied body)
   own n bytes p execution before body past t = by_sent execution (t.3 good)
     where
       good : is_good t.0 ≡ true
@@ -95,18 +95,18 @@ module _ {P : Type 0} (m : Device P) where
 
       by_sent : (execution : Execution) → (body_of t.0 ≡ refusal)
           ⊎ IsAmongFirst 256 (frame_of_reply m n bytes p execution ∷ before) t.0
-          → IsAuthentic m bytes p execution (Answered body)
+          → IsAuthentic m bytes p execution (Replied body)
       by_sent execution (inl e) = inr (sym t.2 ∙ e)
       by_sent execution (inr (inr among)) = absurd
           (not_past 255 n 1 before t.0 (omega arith) (omega arith) past good number among)
-      by_sent Executed (inr (inl same)) = inl (refl, sym t.2 ∙ (ap body_of same ∙ body_of_frame n (m.answer bytes p)))
+      by_sent Executed (inr (inl same)) = inl (refl, sym t.2 ∙ (ap body_of same ∙ body_of_frame n (m.reply bytes p)))
       by_sent execution (inr (inl same)) = absurd (none_good t.0 same good)
 
   by_reading : (n : ℕ) (bytes : List ℕ) (p : P) (execution : Execution) (before : List (List ℕ)) (reading : Reading)
       (tape left : Tape) → answer n tape ≡ Some (reading, left) → Past n 1 before
       → AreNotForged n (frame_of_reply m n bytes p execution
       ∷ before) (cut (take reply_byte_limit (leading_bytes tape))) → IsAuthentic m bytes p execution reading
-  by_reading n bytes p execution before (Answered body) tape left e past were =
+  by_reading n bytes p execution before (Replied body) tape left e past were =
       let f = found n tape left body e in
       own n bytes p execution before body past (search (rules, taken))
   by_reading n bytes p execution before reading tape left e past were = tt

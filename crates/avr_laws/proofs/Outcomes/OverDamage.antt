@@ -22,7 +22,7 @@ use Rattle.stk_emu.specs.Device.{Device, device, after_frames}
 use Rattle.stk_emu.specs.Effect.{memories_of}
 use Rattle.stk_emu.specs.Exchange.{Execution}
 use Rattle.stk_emu.specs.Programmer.{Programmer}
-use Rattle.stk_emu.proofs.Answers.BodySizes.{reply_fits_frame}
+use Rattle.stk_emu.proofs.Replies.BodySizes.{reply_fits_frame}
 use Rattle.avr_tool.specs.Headline.{IsRun}
 use Rattle.avr_tool.proofs.Lines.InTurn.{AreWhole, sends_whole}
 use Rattle.avr_laws.specs.AnyTape.{executions_by_arrival}

@@ -47,9 +47,9 @@ touched_in_silence plan w v d e status none other over = other (untouched plan w
 
 -- ---- the worked run
 
-pub answered_due : (openings : List Opening) → (run worked_settings openings worked_replies).outcome ≡ Some (0, 7, [])
+pub status_due : (openings : List Opening) → (run worked_settings openings worked_replies).outcome ≡ Some (0, 7, [])
 unfolding session opening handshake operation closing play attempts_or_fault attempt exchange answer
-answered_due openings = refl
+status_due openings = refl
 
 pub sent_due : (openings : List Opening) → bytes_sent (run worked_settings openings worked_replies).events
     ≡ worked_frames
@@ -74,7 +74,7 @@ module _ (transcript : Transcript) (a b : ℕ) (d e : DeskState) (status : ℕ) 
 
   pub worked_status : status ≡ 0
   worked_status = ap (λ z. z.0) (some_is (status, x.next, on_tape x.left ++ []) (0, 7, [])
-      (sym (ap (λ p. p.outcome) played_over) ∙ answered_due (x.openings ++ [])))
+      (sym (ap (λ p. p.outcome) played_over) ∙ status_due (x.openings ++ [])))
 
   pub worked_sent : sent transcript ≡ worked_frames
   worked_sent = ap sent (sym passed) ∙ (sym x.all_sent

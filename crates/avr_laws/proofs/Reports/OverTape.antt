@@ -32,19 +32,19 @@ by_fates (suc k) (fate ∷ fates) = (refl, by_fates k fates)
 by_reading : (execution : Execution) (reading : Reading) → execution ≡ execution_in (exchange_by execution reading)
 by_reading execution reading = search rules
 
-by_answered : {E R : Type 0} (executions : List Execution) (go_on : Reading → Tape → Played E R)
+by_next_reading : {E R : Type 0} (executions : List Execution) (go_on : Reading → Tape → Played E R)
     (more : Reading → Tape → List Exchange) (o : Option (Reading × Tape)) → ((reading : Reading) (left : Tape)
     → ByExchanges (length (frames_in (go_on reading left).events)) (later_executions executions) (more reading left))
     → ByExchanges (suc (length (frames_in (continue_with_reading go_on o).events))) executions
     (exchanges_from (first_execution executions) more o)
-by_answered executions go_on more o each = search (rules, by_reading)
+by_next_reading executions go_on more o each = search (rules, by_reading)
 
 pub by_tape : {E R : Type 0} (d : Dialog E R) (n : ℕ) (tape : Tape) (executions : List Execution)
     → ByExchanges (length (frames_in (played d n tape).events)) executions (exchanges_on_tape d n tape executions)
 by_tape (Done r) n tape executions = tt
 by_tape (Emit e d) n tape executions = by_tape d n tape executions
 by_tape (Ask bytes go_on) n tape executions =
-    by_answered executions (λ reading. played (go_on reading) (next n))
+    by_next_reading executions (λ reading. played (go_on reading) (next n))
     (λ reading left. exchanges_on_tape (go_on reading) (next n) left (later_executions executions)) (answer n tape)
     (λ reading left. by_tape (go_on reading) (next n) left (later_executions executions))
 

@@ -26,20 +26,20 @@ use Rattle.avr_tool.specs.ExpectedOutput.{FirstActionsOutput, IsExpectedOutput, 
 module _ (plan : Plan) (sound : IsPart plan.part) (fitted : All (IsFitted plan.part) plan.tasks) (m : Memories)
     (f : FitsPart plan.part m) where
   -- AT EACH MOMENT, and at its end
-  pub foretold_now : (k : ℕ) (p : Programmer) (exchanges : List Exchange) → HasMemories plan.part m p
+  pub expected_now : (k : ℕ) (p : Programmer) (exchanges : List Exchange) → HasMemories plan.part m p
       → IsExpectedOutput plan m (outputs_after device k (session plan) p exchanges)
-  foretold_now k p exchanges idle = (session_along plan sound m f fitted p exchanges idle k).now.1
+  expected_now k p exchanges idle = (session_along plan sound m f fitted p exchanges idle k).now.1
 
-  pub foretold_end : (k status : ℕ) (p : Programmer) (exchanges : List Exchange) → HasMemories plan.part m p
+  pub expected_end : (k status : ℕ) (p : Programmer) (exchanges : List Exchange) → HasMemories plan.part m p
       → (state_after device k (session plan) p exchanges).dialog ≡ Done status
       → EndsAsExpected plan m (outputs_after device k (session plan) p exchanges) status
-  foretold_end k status p exchanges idle e = search (rules, session_along plan sound m f fitted p exchanges idle k)
+  expected_end k status p exchanges idle e = search (rules, session_along plan sound m f fitted p exchanges idle k)
 
   -- and in a play over any tape that is authentic
-  pub foretold_on_tape : (p : Programmer) (tape : Tape) (executions : List Execution) → HasMemories plan.part m p
+  pub expected_on_tape : (p : Programmer) (tape : Tape) (executions : List Execution) → HasMemories plan.part m p
       → RepliesAreAuthentic device (session plan) 1 tape p executions
       → IsExpectedOutput plan m (outputs (played (session plan) 1 tape).events)
-  foretold_on_tape p tape executions idle is_authentic = by_outcome (played (session plan) 1 tape).outcome refl
+  expected_on_tape p tape executions idle is_authentic = by_outcome (played (session plan) 1 tape).outcome refl
     where
       goes : GoesAlongExchanges device (session plan) 1 tape p executions
       goes = goes_as device (session plan) 1 tape p executions (session_asks plan sound fitted) is_authentic
@@ -48,10 +48,10 @@ module _ (plan : Plan) (sound : IsPart plan.part) (fitted : All (IsFitted plan.p
           → IsExpectedOutput plan m (outputs (played (session plan) 1 tape).events)
       by_outcome None e =
           let w = goes.waits e in
-          search (rules, foretold_now)
+          search (rules, expected_now)
       by_outcome (Some (status, seq, left)) e =
           let got = goes.outcome status seq left e in
-          search (rules, foretold_now)
+          search (rules, expected_now)
 
 -- ---- the output of first actions is a prefix of the expected run's
 

@@ -19,7 +19,7 @@ use Rattle.stk_emu.specs.Programmer.{Programmer, fresh_programmer}
 use Rattle.stk_emu.specs.Exchange.{Execution, Executed}
 use Rattle.stk_frame.specs.Cut.{body_of, cut, frames, seq_of}
 use Rattle.stk_frame.specs.Frame.{frame}
-use Rattle.stk_host.specs.Tape.{Answered, Reading, Tape, answer, leading_bytes, is_answer, reply_byte_limit, on_tape}
+use Rattle.stk_host.specs.Tape.{Replied, Reading, Tape, answer, leading_bytes, is_reply, reply_byte_limit, on_tape}
 use Rattle.avr_tool.specs.Authentic.{on_reading}
 use Rattle.avr_laws.specs.AnyTape.{ReceivedSentFrames}
 use Rattle.avr_laws.specs.AskedPlan.{FileGave}
@@ -60,17 +60,17 @@ sixth = 0x1B ∷ 0x06 ∷ 0x00 ∷ 0x02 ∷ 0x0E ∷ 0x11 ∷ 0x00 ∷ 0x00 ∷ 
 own : (piece reply : List ℕ) (pieces others : List (List ℕ)) (tape left : Tape) (p : Programmer)
     (executions : List Execution) (before : List (List ℕ)) (reading : Reading)
     → answer (seq_of piece) tape ≡ Some (reading, left) → cut (take reply_byte_limit (leading_bytes tape)) ≡ reply
-    ∷ others → frame (seq_of piece) (device.answer (body_of piece) p) ≡ reply → is_answer (seq_of piece) reply ≡ true
+    ∷ others → frame (seq_of piece) (device.reply (body_of piece) p) ≡ reply → is_reply (seq_of piece) reply ≡ true
     → NoneForged device pieces left (device.after (body_of piece) p) executions
-    (frame (seq_of piece) (device.answer (body_of piece) p) ∷ before)
+    (frame (seq_of piece) (device.reply (body_of piece) p) ∷ before)
     → NoneForged device (piece ∷ pieces) tape p (Executed ∷ executions) before
 own piece reply pieces others tape left p executions before reading read cut_is own_is taken rest =
     subst (on_reading (λ reading left.
-    AreNotForged (seq_of piece) (frame (seq_of piece) (device.answer (body_of piece) p) ∷ before)
+    AreNotForged (seq_of piece) (frame (seq_of piece) (device.reply (body_of piece) p) ∷ before)
     (cut (take reply_byte_limit (leading_bytes tape)))
     × NoneForged device pieces left (device.after (body_of piece) p) executions
-    (frame (seq_of piece) (device.answer (body_of piece) p) ∷ before))) (sym read) (
-      subst (AreNotForged (seq_of piece) (frame (seq_of piece) (device.answer (body_of piece) p) ∷ before)) (sym cut_is)
+    (frame (seq_of piece) (device.reply (body_of piece) p) ∷ before))) (sym read) (
+      subst (AreNotForged (seq_of piece) (frame (seq_of piece) (device.reply (body_of piece) p) ∷ before)) (sym cut_is)
           ((λ good. inr (inl (sym own_is)), λ other. absurd (true≢false (sym taken ∙ other)))),
       rest,
     )
@@ -110,22 +110,22 @@ abbrev at_sixth : Programmer
 at_sixth = device.after (body_of asked_fifth) at_fifth
 
 abbrev sent_first : List (List ℕ)
-sent_first = frame (seq_of asked_first) (device.answer (body_of asked_first) programmer) ∷ []
+sent_first = frame (seq_of asked_first) (device.reply (body_of asked_first) programmer) ∷ []
 
 abbrev sent_second : List (List ℕ)
-sent_second = frame (seq_of asked_second) (device.answer (body_of asked_second) at_second) ∷ sent_first
+sent_second = frame (seq_of asked_second) (device.reply (body_of asked_second) at_second) ∷ sent_first
 
 abbrev sent_third : List (List ℕ)
-sent_third = frame (seq_of asked_third) (device.answer (body_of asked_third) at_third) ∷ sent_second
+sent_third = frame (seq_of asked_third) (device.reply (body_of asked_third) at_third) ∷ sent_second
 
 abbrev sent_fourth : List (List ℕ)
-sent_fourth = frame (seq_of asked_fourth) (device.answer (body_of asked_fourth) at_fourth) ∷ sent_third
+sent_fourth = frame (seq_of asked_fourth) (device.reply (body_of asked_fourth) at_fourth) ∷ sent_third
 
 abbrev sent_fifth : List (List ℕ)
-sent_fifth = frame (seq_of asked_fifth) (device.answer (body_of asked_fifth) at_fifth) ∷ sent_fourth
+sent_fifth = frame (seq_of asked_fifth) (device.reply (body_of asked_fifth) at_fifth) ∷ sent_fourth
 
 abbrev sent_sixth : List (List ℕ)
-sent_sixth = frame (seq_of asked_sixth) (device.answer (body_of asked_sixth) at_sixth) ∷ sent_fifth
+sent_sixth = frame (seq_of asked_sixth) (device.reply (body_of asked_sixth) at_sixth) ∷ sent_fifth
 
 pub worked_forges_none : NoneForged device (frames worked_frames) worked_replies programmer executed []
 unfolding answer
@@ -133,19 +133,19 @@ worked_forges_none =
     own asked_first first (asked_second ∷ asked_third ∷ asked_fourth ∷ asked_fifth ∷ asked_sixth ∷ []) (second ∷ third
     ∷ fourth ∷ fifth ∷ sixth ∷ []) (on_tape (first ++ second ++ third ++ fourth ++ fifth ++ sixth))
     (on_tape (second ++ third ++ fourth ++ fifth ++ sixth)) programmer (Executed ∷ Executed ∷ Executed ∷ Executed
-    ∷ Executed ∷ []) [] (Answered (body_of first)) refl refl refl refl (
+    ∷ Executed ∷ []) [] (Replied (body_of first)) refl refl refl refl (
     own asked_second second (asked_third ∷ asked_fourth ∷ asked_fifth ∷ asked_sixth ∷ []) (third ∷ fourth ∷ fifth
     ∷ sixth ∷ []) (on_tape (second ++ third ++ fourth ++ fifth ++ sixth)) (on_tape (third ++ fourth ++ fifth ++ sixth))
-    at_second (Executed ∷ Executed ∷ Executed ∷ Executed ∷ []) sent_first (Answered (body_of second)) refl refl refl
+    at_second (Executed ∷ Executed ∷ Executed ∷ Executed ∷ []) sent_first (Replied (body_of second)) refl refl refl
     refl (own asked_third third (asked_fourth ∷ asked_fifth ∷ asked_sixth ∷ []) (fourth ∷ fifth ∷ sixth
     ∷ []) (on_tape (third ++ fourth ++ fifth ++ sixth)) (on_tape (fourth ++ fifth ++ sixth)) at_third (Executed
-    ∷ Executed ∷ Executed ∷ []) sent_second (Answered (body_of third)) refl refl refl refl (
+    ∷ Executed ∷ Executed ∷ []) sent_second (Replied (body_of third)) refl refl refl refl (
     own asked_fourth fourth (asked_fifth ∷ asked_sixth ∷ []) (fifth ∷ sixth ∷ []) (on_tape (fourth ++ fifth ++ sixth))
-    (on_tape (fifth ++ sixth)) at_fourth (Executed ∷ Executed ∷ []) sent_third (Answered (body_of fourth)) refl refl
+    (on_tape (fifth ++ sixth)) at_fourth (Executed ∷ Executed ∷ []) sent_third (Replied (body_of fourth)) refl refl
     refl refl (own asked_fifth fifth (asked_sixth ∷ []) (sixth ∷ []) (on_tape (fifth ++ sixth)) (on_tape (sixth))
-    at_fifth (Executed ∷ []) sent_fourth (Answered (body_of fifth)) refl refl refl refl (
+    at_fifth (Executed ∷ []) sent_fourth (Replied (body_of fifth)) refl refl refl refl (
     own asked_sixth sixth [] [] (on_tape (sixth)) [] at_sixth [] sent_fifth
-    (Answered (body_of sixth)) refl refl refl refl (
+    (Replied (body_of sixth)) refl refl refl refl (
     tt))))))
 
 -- ---- `-U lfuse:r:fuse:r`: the file has the chip's byte, and no other

@@ -6,7 +6,7 @@ use Rattle.stk_host.specs.Dialog.{Dialog, Done, Ask}
 use Rattle.stk_emu.specs.Device.{device}
 use Rattle.stk_emu.specs.Exchange.{NotExecuted, Executed}
 use Rattle.avr_tool.specs.Authentic.{RepliesAreAuthentic}
-use Rattle.stk_emu.proofs.Rows.Answers.{start, notice}
+use Rattle.stk_emu.proofs.Rows.Replies.{start, notice}
 
 -- one frame, of a command that no programmer knows, whatever is read
 abbrev asks : Dialog ⊥ ℕ

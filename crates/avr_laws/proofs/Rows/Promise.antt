@@ -43,7 +43,7 @@ use Rattle.avr_plan.specs.declared.planned.Task.TheVariants.{Write}
 use Rattle.avr_session.specs.FileText.{file_text}
 use Rattle.avr_session.specs.Runs.{Devices, devices}
 use Rattle.avr_session.specs.Session.{session}
-use Rattle.stk_emu.proofs.Answers.BodySizes.{reply_fits_frame}
+use Rattle.stk_emu.proofs.Replies.BodySizes.{reply_fits_frame}
 use Rattle.stk_emu.specs.Device.{device}
 use Rattle.stk_emu.specs.DialogOverExchanges.{SendsValidBodies}
 use Rattle.stk_emu.specs.Effect.{Memories, memories_of}
@@ -55,7 +55,7 @@ use Rattle.stk_host.specs.Dialog.{Dialog, Done, Emit, Ask, bytes_sent, frames_in
 use Rattle.stk_host.specs.Links.{StreamState, TranscriptIsTrueSince}
 use Rattle.stk_host.specs.Operations.{handshake, opening, closing, operation}
 use Rattle.stk_host.specs.Steps.{exchange, attempt, attempts_or_fault, play}
-use Rattle.stk_host.specs.Tape.{Answered, Tape, answer, bytes_on_tape, on_tape}
+use Rattle.stk_host.specs.Tape.{Replied, Tape, answer, bytes_on_tape, on_tape}
 use Rattle.stk_host.specs.Transcript.{LinkState, Transcript, Sent, Got, heard, sent}
 use Rattle.avr_tool.proofs.OverFaultyLink.FrameSizes.{session_asks}
 use Rattle.avr_tool.specs.ComparisonsAgree.{ComparisonsAgree}
@@ -158,8 +158,8 @@ abbrev arrivals : {E R : Type 0} → Dialog E R → ℕ → Programmer → List 
 arrivals (Done r) n p = []
 arrivals (Emit e d) n p = arrivals d n p
 arrivals (Ask bytes go_on) n p =
-    FrameArrives (frame n (device.answer bytes p))
-    ∷ arrivals (go_on (Answered (device.answer bytes p))) (next n) (device.after bytes p)
+    FrameArrives (frame n (device.reply bytes p))
+    ∷ arrivals (go_on (Replied (device.reply bytes p))) (next n) (device.after bytes p)
 
 abbrev tape : Tape
 tape = tape_of_arrivals (arrivals (session plan) 1 programmer)

@@ -52,15 +52,15 @@ no_success_behind_a_failure file bytes saves = let e : 1 ≡ 0 = saves.1.0 in om
 abbrev frame : List ℕ
 frame = 0x1B ∷ 0x09 ∷ 0x00 ∷ 0x01 ∷ 0x0E ∷ 0x05 ∷ 0x18 ∷ []
 
-abbrev answer : List ℕ
-answer = 0x1B ∷ 0x09 ∷ 0x00 ∷ 0x02 ∷ 0x0E ∷ 0x05 ∷ 0xC9 ∷ 0xD2 ∷ []
+abbrev reply : List ℕ
+reply = 0x1B ∷ 0x09 ∷ 0x00 ∷ 0x02 ∷ 0x0E ∷ 0x05 ∷ 0xC9 ∷ 0xD2 ∷ []
 
 -- a programmer that listens before it replies isn't in turn, nor is one that keeps a byte of its reply
 abbrev ahead : Transcript
-ahead = Got (on_tape frame) ∷ (Got (End ∷ []) ∷ (Sent answer ∷ []))
+ahead = Got (on_tape frame) ∷ (Got (End ∷ []) ∷ (Sent reply ∷ []))
 
 pub not_ahead : (p : Programmer) → RepliesInTurn p [] [] ahead → ⊥
-not_ahead p in_turn = let none : [] ≡ answer = in_turn.1.0 in absurd (cc)
+not_ahead p in_turn = let none : [] ≡ reply = in_turn.1.0 in absurd (cc)
 
 abbrev short : Transcript
 short = Got (on_tape frame) ∷ (Sent (0x1B ∷ 0x09 ∷ 0x00 ∷ 0x02 ∷ 0x0E ∷ 0x05 ∷ 0xC9 ∷ []) ∷ (Got (End ∷ []) ∷ []))

@@ -5,7 +5,7 @@ use Rattle.std.specs.List.{concat}
 use Rattle.stk_frame.specs.Frame.{frame}
 use Rattle.stk_frame.specs.Cut.{body_of}
 use Rattle.stk_frame.proofs.Laws.{frame_is_good, body_of_frame}
-use Rattle.stk_host.specs.Tape.{Tape, Reading, Answered, Silent, answer}
+use Rattle.stk_host.specs.Tape.{Tape, Reading, Replied, Silent, answer}
 use Rattle.stk_host.specs.Dialog.{Dialog, Done, Emit, Ask, played, continue_with_reading, next, frames_in}
 use Rattle.stk_emu.specs.DialogOverExchanges.{SendsValidBodies}
 use Rattle.avr_laws.specs.AnyTape.{after_sent_frames}
@@ -14,7 +14,7 @@ use Rattle.avr_tool.proofs.Lines.Plays.{cons_none, head_is}
 use Rattle.stk_emu.specs.Device.{Device, reply_frame, after_frame, after_frames, replies}
 use Rattle.stk_emu.specs.Lawful.{IsFrameBody}
 use Rattle.stk_emu.specs.Exchange.{Executed, after_execution, IsAuthentic}
-use Rattle.stk_emu.proofs.Answers.BodySizes.{RepliesFitFrames}
+use Rattle.stk_emu.proofs.Replies.BodySizes.{RepliesFitFrames}
 use Rattle.stk_emu.proofs.Wires.Arrivals.{none_skipped}
 use Rattle.avr_laws.specs.TwoProcesses.{all_executed}
 use Rattle.avr_laws.proofs.TwoProcesses.Slots.{Slot, slots_tape, came, IsStub, AreOld, IsOwn, all_older, old_and_own, Finds, FindsNone, Waits, Reads, reads}
@@ -24,7 +24,7 @@ abbrev pub MissesFew : {E R : Type 0} → ℕ → Dialog E R → Type 0
 MissesFew k (Done r) = Unit {0}
 MissesFew k (Emit e dialog) = MissesFew k dialog
 MissesFew zero (Ask bytes go_on) = ⊥
-MissesFew (suc k) (Ask bytes go_on) = ((body : List ℕ) → MissesFew 8 (go_on (Answered body)))
+MissesFew (suc k) (Ask bytes go_on) = ((body : List ℕ) → MissesFew 8 (go_on (Replied body)))
     × MissesFew k (go_on Silent)
 
 -- the first pieces
@@ -38,9 +38,9 @@ one_less zero = zero
 one_less (suc h) = h
 
 -- the replies to frames, one by one
-abbrev pub answer_list : {P : Type 0} → Device P → List (List ℕ) → P → List (List ℕ)
-answer_list m [] p = []
-answer_list m (piece ∷ pieces) p = reply_frame m piece p ∷ answer_list m pieces (after_frame m piece p)
+abbrev pub reply_frames : {P : Type 0} → Device P → List (List ℕ) → P → List (List ℕ)
+reply_frames m [] p = []
+reply_frames m (piece ∷ pieces) p = reply_frame m piece p ∷ reply_frames m pieces (after_frame m piece p)
 
 -- The tape carries the replies to the first `h` frames of the dialog's run over it, in their order, after some old
 -- ones. The last of these replies may be missing.
@@ -55,7 +55,7 @@ pub record Brings {E R P : Type 0} (m : Device P) (d : Dialog E R) (n : ℕ) (ta
   pub old : List (List ℕ)
   pub are_old : AreOld n missed old
   pub few : length old ≤ missed
-  pub comes : came slots ++ more ≡ old ++ answer_list m (first_of h (frames_in (played d n tape).events)) p
+  pub comes : came slots ++ more ≡ old ++ reply_frames m (first_of h (frames_in (played d n tape).events)) p
 
 -- the outcome of its command
 pub record ComesOwn {E R P : Type 0} (m : Device P) (bytes : List ℕ) (go_on : Reading → Dialog E R) (n : ℕ)
@@ -63,8 +63,8 @@ pub record ComesOwn {E R P : Type 0} (m : Device P) (bytes : List ℕ) (go_on : 
     (more : List (List ℕ)) : Type 0 where
   pub left : Tape
   pub execution : first_execution (all_executed h) ≡ Executed
-  pub is : answer n tape ≡ Some (Answered (m.answer bytes p), left)
-  pub brings : Brings m (go_on (Answered (m.answer bytes p))) (next n) left
+  pub is : answer n tape ≡ Some (Replied (m.reply bytes p), left)
+  pub brings : Brings m (go_on (Replied (m.reply bytes p))) (next n) left
       (after_execution (first_execution (all_executed h)) (m.after bytes p) p m.reset) (one_less h) 8 more
 
 pub record ComesNone {E R P : Type 0} (m : Device P) (bytes : List ℕ) (go_on : Reading → Dialog E R) (n : ℕ)
@@ -89,9 +89,9 @@ no_middle [] x ys e = cc
 no_middle (y ∷ xs) x ys e = cc
 
 module _ {P : Type 0} (m : Device P) (sound : RepliesFitFrames m) where
-  pub answer_is : (n : ℕ) (bytes : List ℕ) (p : P) → IsFrameBody bytes
-      → reply_frame m (frame n bytes) p ≡ frame n (m.answer bytes p)
-  answer_is n bytes p b = search (rules, frame_is_good, body_of_frame)
+  pub reply_is : (n : ℕ) (bytes : List ℕ) (p : P) → IsFrameBody bytes
+      → reply_frame m (frame n bytes) p ≡ frame n (m.reply bytes p)
+  reply_is n bytes p b = search (rules, frame_is_good, body_of_frame)
 
   pub after_is : (n : ℕ) (bytes : List ℕ) (p : P) → IsFrameBody bytes → after_frame m (frame n bytes) p
       ≡ m.after bytes p
@@ -105,26 +105,26 @@ module _ {P : Type 0} (m : Device P) (sound : RepliesFitFrames m) where
 
       -- the replies that are due, by how many frames were received
       abbrev due : ℕ → Option (Reading × Tape) → List (List ℕ)
-      due h o = answer_list m (first_of h (frame n bytes ∷ frames_by o)) p
+      due h o = reply_frames m (first_of h (frame n bytes ∷ frames_by o)) p
 
       own_due : (h : ℕ) (o : Option (Reading × Tape)) (piece : List ℕ) (later : List (List ℕ)) → due h o ≡ piece ∷ later
           → IsOwn n piece
-      own_due h o piece later e = search (rules, answer_is)
+      own_due h o piece later e = search (rules, reply_is)
 
       -- its own reply is found
       finds : (h : ℕ) (tape : Tape) (last : List ℕ) (stub : IsStub last) (more : List (List ℕ)) (t : Tape) → t ≡ tape
           → Finds n t last more (due h (answer n tape)) → ComesOwn m bytes go_on n tape p h more
-      finds zero tape last stub more t same f = absurd (cons_none _ f.later f.answers_are)
+      finds zero tape last stub more t same f = absurd (cons_none _ f.later f.replies_are)
       finds (suc h) tape last stub more t same f =
           let left : Tape = slots_tape f.slots last in
-          let own : frame n f.bytes ≡ frame n (m.answer bytes p) =
-          sym (head_is _ (frame n f.bytes) _ f.later f.answers_are) ∙ answer_is n bytes p body in
-          let own_body : f.bytes ≡ m.answer bytes p =
-          sym (body_of_frame n f.bytes) ∙ (ap body_of own ∙ body_of_frame n (m.answer bytes p)) in
-          let is : answer n tape ≡ Some (Answered (m.answer bytes p), left) =
-          ap (answer n) (sym same) ∙ (f.is ∙ ap (λ b. Some (Answered b, left)) own_body) in
-          let comes : came f.slots ++ more ≡ answer_list m
-          (first_of h (frames_by (Some (Answered (m.answer bytes p), left)))) (m.after bytes p) =
+          let own : frame n f.bytes ≡ frame n (m.reply bytes p) =
+          sym (head_is _ (frame n f.bytes) _ f.later f.replies_are) ∙ reply_is n bytes p body in
+          let own_body : f.bytes ≡ m.reply bytes p =
+          sym (body_of_frame n f.bytes) ∙ (ap body_of own ∙ body_of_frame n (m.reply bytes p)) in
+          let is : answer n tape ≡ Some (Replied (m.reply bytes p), left) =
+          ap (answer n) (sym same) ∙ (f.is ∙ ap (λ b. Some (Replied b, left)) own_body) in
+          let comes : came f.slots ++ more ≡ reply_frames m
+          (first_of h (frames_by (Some (Replied (m.reply bytes p), left)))) (m.after bytes p) =
           search (rules, after_is) in
           record {
             left = left;
@@ -228,11 +228,11 @@ module _ {P : Type 0} (m : Device P) (sound : RepliesFitFrames m) where
   authentic_by bytes go_on n tape p h count more each (inl c) few asks =
       subst (on_reading (Reading_is bytes go_on n p h)) (sym c.is) (
         inl (c.execution, refl),
-        subst (RepliesAreAuthentic m (go_on (Answered (m.answer bytes p))) (next n) c.left
+        subst (RepliesAreAuthentic m (go_on (Replied (m.reply bytes p))) (next n) c.left
             (after_execution (first_execution (all_executed h)) (m.after bytes p) p m.reset)) (sym (search rules))
-            (each (Answered (m.answer bytes p)) c.left
+            (each (Replied (m.reply bytes p)) c.left
             (after_execution (first_execution (all_executed h)) (m.after bytes p) p m.reset) (one_less h) 8 more
-            c.brings (few.0 (m.answer bytes p)) (asks.1 (Answered (m.answer bytes p)))),
+            c.brings (few.0 (m.reply bytes p)) (asks.1 (Replied (m.reply bytes p)))),
       )
   authentic_by bytes go_on n tape p h count more each (inr (inl c)) few asks =
       subst (on_reading (Reading_is bytes go_on n p h)) (sym c.is) (
@@ -267,8 +267,8 @@ module _ {P : Type 0} (m : Device P) (sound : RepliesFitFrames m) where
       (answer n tape)).events)) ≤ h → (continue_with_reading (λ reading. played (go_on reading) (next n))
       (answer n tape)).outcome ≡ None → ⊥
   ends_by bytes go_on n tape p h count each (inl c) few asks all none =
-      each (Answered (m.answer bytes p)) c.left (after_execution (first_execution (all_executed h)) (m.after bytes p) p
-      m.reset) (one_less h) 8 c.brings (few.0 (m.answer bytes p)) (asks.1 (Answered (m.answer bytes p)))
+      each (Replied (m.reply bytes p)) c.left (after_execution (first_execution (all_executed h)) (m.after bytes p) p
+      m.reset) (one_less h) 8 c.brings (few.0 (m.reply bytes p)) (asks.1 (Replied (m.reply bytes p)))
       (search rules)
       (ap (λ o. (continue_with_reading (λ reading. played (go_on reading) (next n)) o).outcome) (sym c.is) ∙ none)
   ends_by bytes go_on n tape p h count each (inr (inl c)) few asks all none =
@@ -290,7 +290,7 @@ module _ {P : Type 0} (m : Device P) (sound : RepliesFitFrames m) where
 
   -- ---- what was sent in order
 
-  pub replies_joined : (frames : List (List ℕ)) (p : P) → replies m frames p ≡ concat (answer_list m frames p)
+  pub replies_joined : (frames : List (List ℕ)) (p : P) → replies m frames p ≡ concat (reply_frames m frames p)
   replies_joined [] p = refl
   replies_joined (f ∷ frames) p = ap (λ x. reply_frame m f p ++ x) (replies_joined frames (after_frame m f p))
 

@@ -19,30 +19,30 @@ use Rattle.stk_emu.specs.Device.{device, reply_body, reply_frame, after_frame}
 use Rattle.stk_emu.specs.Emulator.{EmulatorState}
 use Rattle.stk_emu.specs.Lawful.{IsFrameBody}
 use Rattle.stk_emu.specs.Programmer.{Programmer}
-use Rattle.stk_emu.proofs.Answers.Texts.{replies_append}
-use Rattle.stk_emu.proofs.Answers.BodySizes.{replies_fit_frames, reply_fits_frame}
+use Rattle.stk_emu.proofs.Replies.Texts.{replies_append}
+use Rattle.stk_emu.proofs.Replies.BodySizes.{replies_fit_frames, reply_fits_frame}
 use Rattle.avr_tool.proofs.Lines.InTurn.{sends_whole, frames_prefix}
 use Rattle.avr_tool.specs.Serving.{HasNoEnd, RepliesToAll, LastReplyFailed, ServingLeaves}
 use Rattle.avr_tool.specs.declared.serving_link.Served.{Served}
 use Rattle.avr_laws.specs.TwoProcesses.{IsJoined, HasNoTimeout, TimesOutBetweenReplies, HasServed, all_executed}
-use Rattle.avr_laws.proofs.TwoProcesses.InOrder.{MissesFew, first_of, answer_list, Brings, in_order_authentic, in_order_ends, replies_joined, after_first}
+use Rattle.avr_laws.proofs.TwoProcesses.InOrder.{MissesFew, first_of, reply_frames, Brings, in_order_authentic, in_order_ends, replies_joined, after_first}
 use Rattle.avr_laws.proofs.TwoProcesses.NeverSilent.{Straight, goes_straight}
-use Rattle.avr_laws.proofs.TwoProcesses.AnswerParts.{IsShort, AreShort, InSlots, parted}
+use Rattle.avr_laws.proofs.TwoProcesses.ReplyParts.{IsShort, AreShort, InSlots, parted}
 
 first_prefix : (xs ys : List (List ℕ)) → first_of (length xs) (xs ++ ys) ≡ xs
 first_prefix [] ys = refl
 first_prefix (x ∷ xs) ys = ap (λ zs. x ∷ zs) (first_prefix xs ys)
 
 -- each reply is a frame
-body_answered : (piece : List ℕ) (p : Programmer) → IsFrameBody (reply_body device piece p)
-body_answered piece p = grind (arith, common_steps, reply_fits_frame)
+reply_body_fits : (piece : List ℕ) (p : Programmer) → IsFrameBody (reply_body device piece p)
+reply_body_fits piece p = grind (arith, common_steps, reply_fits_frame)
 
-answer_short : (piece : List ℕ) (p : Programmer) → IsShort (reply_frame device piece p)
-answer_short piece p = let b = body_answered piece p in search (rules, frame_is_piece, length_frame)
+reply_short : (piece : List ℕ) (p : Programmer) → IsShort (reply_frame device piece p)
+reply_short piece p = let b = reply_body_fits piece p in search (rules, frame_is_piece, length_frame)
 
-answers_short : (pieces : List (List ℕ)) (p : Programmer) → AreShort (answer_list device pieces p)
-answers_short [] p = tt
-answers_short (piece ∷ pieces) p = (answer_short piece p, answers_short pieces (after_frame device piece p))
+replies_short : (pieces : List (List ℕ)) (p : Programmer) → AreShort (reply_frames device pieces p)
+replies_short [] p = tt
+replies_short (piece ∷ pieces) p = (reply_short piece p, replies_short pieces (after_frame device piece p))
 
 -- ---- the server's end
 
@@ -84,7 +84,7 @@ module _ {E R : Type 0} (d : Dialog E R) (asks : SendsValidBodies d) (p left : P
   arrived = length (frames serves.used)
 
   abbrev given : List (List ℕ)
-  given = answer_list device (frames serves.used) p
+  given = reply_frames device (frames serves.used) p
 
   some_frames : (others : List (List ℕ)) × (frames_in events ≡ frames serves.used ++ others)
   some_frames = frames_prefix events serves.used (serves.unused ++ (joined.up.0 ++ plays.0))
@@ -102,11 +102,11 @@ module _ {E R : Type 0} (d : Dialog E R) (asks : SendsValidBodies d) (p left : P
     abbrev unreceived : List ℕ
     unreceived = joined.down.0 ++ serves.unsent
 
-    heard_are : bytes_on_tape (heard host) ++ unreceived ≡ concat given
-    heard_are = search (rules, append_assoc, replies_joined, replies_fit_frames)
+    received_are : bytes_on_tape (heard host) ++ unreceived ≡ concat given
+    received_are = search (rules, append_assoc, replies_joined, replies_fit_frames)
 
     slots : InSlots [] (heard host) given unreceived
-    slots = search (rules, parted, answers_short, heard_are)
+    slots = search (rules, parted, replies_short, received_are)
 
     brings : Brings device d 1 (heard host) p arrived 8 slots.more
     brings = search (rules, arrived_are)

@@ -9,7 +9,7 @@ use Rattle.stk_frame.specs.declared.command.Command.{Command}
 use Rattle.stk_host.specs.declared.fault.HostFault.{HostFault}
 use Rattle.stk_host.specs.declared.fault.StepFault.{StepFault}
 use Rattle.stk_host.specs.declared.fault.StepFault.TheVariants.{NoAnswer}
-use Rattle.stk_host.specs.Tape.{Answered, Silent}
+use Rattle.stk_host.specs.Tape.{Replied, Silent}
 use Rattle.stk_host.specs.Dialog.{Dialog, Done, Emit, Ask, ◌>>=◌, lifted}
 use Rattle.stk_host.specs.Steps.{exchange, Reply, Data, Again, Stop, attempt, StepOutcome, retry_or_end, attempts_or_fault, step, unless_step_fault, play}
 use Rattle.stk_host.specs.Operations.{handshake, opening, no_result, closing, checked_by, operation}
@@ -23,7 +23,7 @@ abbrev Misses : {E R : Type 0} → (ℕ → R → Type 0) → ℕ → Dialog E R
 Misses Post k (Done r) = Post k r
 Misses Post k (Emit e dialog) = Misses Post k dialog
 Misses Post zero (Ask bytes go_on) = ⊥
-Misses Post (suc k) (Ask bytes go_on) = ((body : List ℕ) → Misses Post 8 (go_on (Answered body)))
+Misses Post (suc k) (Ask bytes go_on) = ((body : List ℕ) → Misses Post 8 (go_on (Replied body)))
     × Misses Post k (go_on Silent)
 
 few_of : {E R : Type 0} (Post : ℕ → R → Type 0) (k : ℕ) (d : Dialog E R) → Misses Post k d → MissesFew k d
@@ -31,7 +31,7 @@ few_of Post k (Done r) f = tt
 few_of Post k (Emit e d) f = few_of Post k d f
 few_of Post zero (Ask bytes go_on) f = f
 few_of Post (suc k) (Ask bytes go_on) f =
-    (λ body. few_of Post 8 (go_on (Answered body)) (f.0 body), few_of Post k (go_on Silent) f.1)
+    (λ body. few_of Post 8 (go_on (Replied body)) (f.0 body), few_of Post k (go_on Silent) f.1)
 
 -- what follows misses few, whatever comes before it
 abbrev GoesOn : {E A B : Type 0} → (ℕ → A → Type 0) → (ℕ → B → Type 0) → (A → Dialog E B) → Type 0
@@ -41,10 +41,10 @@ bind : {E A B : Type 0} (Post : ℕ → A → Type 0) (After : ℕ → B → Typ
     (go_on : A → Dialog E B) → Misses Post k d → GoesOn Post After go_on → Misses After k (d >>= go_on)
 bind Post After k (Done a) go_on f g = g k a f
 bind Post After k (Emit e d) go_on f g = bind Post After k d go_on f g
-bind Post After zero (Ask bytes answered) go_on f g = absurd f
-bind Post After (suc k) (Ask bytes answered) go_on f g = (
-  λ body. bind Post After 8 (answered (Answered body)) go_on (f.0 body) g,
-  bind Post After k (answered Silent) go_on f.1 g,
+bind Post After zero (Ask bytes resume) go_on f g = absurd f
+bind Post After (suc k) (Ask bytes resume) go_on f g = (
+  λ body. bind Post After 8 (resume (Replied body)) go_on (f.0 body) g,
+  bind Post After k (resume Silent) go_on f.1 g,
 )
 
 weaker : {E R : Type 0} (Post After : ℕ → R → Type 0) (k : ℕ) (d : Dialog E R)
@@ -53,7 +53,7 @@ weaker Post After k (Done r) w f = w k r f
 weaker Post After k (Emit e d) w f = weaker Post After k d w f
 weaker Post After zero (Ask bytes go_on) w f = f
 weaker Post After (suc k) (Ask bytes go_on) w f =
-    (λ body. weaker Post After 8 (go_on (Answered body)) w (f.0 body), weaker Post After k (go_on Silent) w f.1)
+    (λ body. weaker Post After 8 (go_on (Replied body)) w (f.0 body), weaker Post After k (go_on Silent) w f.1)
 
 lifts : {R : Type 0} (E : Type 0) (Post : ℕ → R → Type 0) (k : ℕ) (d : Dialog ⊥ R) → Misses Post k d
     → Misses {E = E} Post k (lifted d)
@@ -61,7 +61,7 @@ lifts E Post k (Done r) f = f
 lifts E Post k (Emit e d) f = absurd e
 lifts E Post zero (Ask bytes go_on) f = f
 lifts E Post (suc k) (Ask bytes go_on) f =
-    (λ body. lifts E Post 8 (go_on (Answered body)) (f.0 body), lifts E Post k (go_on Silent) f.1)
+    (λ body. lifts E Post 8 (go_on (Replied body)) (f.0 body), lifts E Post k (go_on Silent) f.1)
 
 -- ---- steps
 

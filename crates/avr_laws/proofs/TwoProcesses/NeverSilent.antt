@@ -6,14 +6,14 @@ use Rattle.std.specs.Prelude.{nat_le}
 use Rattle.stk_frame.specs.Frame.{frame}
 use Rattle.stk_frame.specs.Cut.{cut}
 use Rattle.stk_host.specs.declared.link.Item.TheVariants.{Byte, Silence, End}
-use Rattle.stk_host.specs.Tape.{Tape, Reading, Answered, Silent, Babbled, answer, reading_from_first, timeout_or_end, first_answer, leading_bytes, reply_byte_limit}
+use Rattle.stk_host.specs.Tape.{Tape, Reading, Replied, Silent, Babbled, answer, reading_from_first, timeout_or_end, first_reply, leading_bytes, reply_byte_limit}
 use Rattle.stk_host.specs.Dialog.{Dialog, Done, Emit, Ask, Frame, played, prepend_events, continue_with_reading, next, frames_in, outputs}
 use Rattle.stk_emu.specs.DialogOverExchanges.{state_after, outputs_after, SendsValidBodies}
 use Rattle.avr_laws.specs.AnyTape.{after_sent_frames}
 use Rattle.avr_tool.specs.Authentic.{first_execution}
 use Rattle.stk_emu.specs.Device.{Device}
 use Rattle.stk_emu.specs.Exchange.{after_execution}
-use Rattle.stk_emu.proofs.Answers.BodySizes.{RepliesFitFrames}
+use Rattle.stk_emu.proofs.Replies.BodySizes.{RepliesFitFrames}
 use Rattle.avr_laws.specs.TwoProcesses.{HasNoTimeout, TimesOutBetweenReplies, all_executed}
 use Rattle.avr_laws.proofs.TwoProcesses.InOrder.{MissesFew, one_less, Brings, Comes, asked, after_is}
 
@@ -47,7 +47,7 @@ left_of (Some (reading, left)) = left
 
 -- what is read isn't a timeout, and none is left
 record ReadsOn (o : Option (Reading × Tape)) : Type 0 where
-  heard : has_timed_out o ≡ false
+  in_time : has_timed_out o ≡ false
   left : HasNoTimeout (left_of o)
 
 end_on : (tape : Tape) → HasNoTimeout tape → ReadsOn (timeout_or_end tape)
@@ -55,19 +55,19 @@ end_on tape p = search rules
 
 read_on : (o : Option (List ℕ × ℕ)) (bytes : List ℕ) (tape : Tape) → HasNoTimeout tape
     → ReadsOn (reading_from_first o bytes tape)
-read_on (Some (body, used)) bytes tape p = record { heard = refl; left = dropped used tape p }
+read_on (Some (body, used)) bytes tape p = record { in_time = refl; left = dropped used tape p }
 read_on None bytes tape p = elim (cases_Bool (nat_le reply_byte_limit (length bytes))) [
   | inl full ↦ subst ReadsOn (sym (cond-true (nat_le reply_byte_limit (length bytes))
       (Some (Babbled, drop reply_byte_limit tape)) (timeout_or_end (drop (length bytes) tape)) full)) (record {
-        heard = refl;
+        in_time = refl;
         left = dropped reply_byte_limit tape p;
       })
   | inr few ↦ subst ReadsOn (search rules) (end_on (drop (length bytes) tape) (dropped (length bytes) tape p))
 ]
 
-answer_on : (n : ℕ) (tape : Tape) → HasNoTimeout tape → ReadsOn (answer n tape)
+reading_on : (n : ℕ) (tape : Tape) → HasNoTimeout tape → ReadsOn (answer n tape)
 unfolding answer
-answer_on n tape p = read_on (first_answer n (cut (take reply_byte_limit (leading_bytes tape))))
+reading_on n tape p = read_on (first_reply n (cut (take reply_byte_limit (leading_bytes tape))))
     (take reply_byte_limit (leading_bytes tape)) tape p
 
 -- The dialog goes along a perfect link.
@@ -96,18 +96,18 @@ module _ {P : Type 0} (m : Device P) (sound : RepliesFitFrames m) where
       → SendsValidBodies (Ask bytes go_on) → HasNoTimeout tape → (r : R) (seq : ℕ) (unread : Tape)
       → (played (Ask bytes go_on) n tape).outcome ≡ Some (r, seq, unread) → Straight m (Ask bytes go_on) n tape p h r
   straight_by {E} {R} bytes go_on n tape p h count more each (inl c) few asks prompt r seq unread e =
-      let d = go_on (Answered (m.answer bytes p)) in
+      let d = go_on (Replied (m.reply bytes p)) in
       let first : played (Ask bytes go_on) n tape ≡ prepend_events (Frame (frame n bytes)
       ∷ []) (played d (next n) c.left) =
       ap (λ o. prepend_events (Frame (frame n bytes)
       ∷ []) (continue_with_reading (λ reading. played (go_on reading) (next n)) o)) c.is in
-      let goes : HasNoTimeout c.left = subst (λ o. HasNoTimeout (left_of o)) c.is (answer_on n tape prompt).left in
-      let inner = each (Answered (m.answer bytes p)) c.left
+      let goes : HasNoTimeout c.left = subst (λ o. HasNoTimeout (left_of o)) c.is (reading_on n tape prompt).left in
+      let inner = each (Replied (m.reply bytes p)) c.left
       (after_execution (first_execution (all_executed h)) (m.after bytes p) p m.reset) (one_less h) 8 more c.brings
-      (few.0 (m.answer bytes p)) (asks.1 (Answered (m.answer bytes p))) goes r seq unread
+      (few.0 (m.reply bytes p)) (asks.1 (Replied (m.reply bytes p))) goes r seq unread
       (sym (ap (λ x. x.outcome) first) ∙ e) in search (rules, after_is)
   straight_by bytes go_on n tape p h count more each (inr (inl c)) few asks prompt r seq unread e =
-      absurd (false≢true (sym (sym (ap has_timed_out c.is) ∙ (answer_on n tape prompt).heard)))
+      absurd (false≢true (sym (sym (ap has_timed_out c.is) ∙ (reading_on n tape prompt).in_time)))
   straight_by bytes go_on n tape p h count more each (inr (inr c)) few asks prompt r seq unread e =
       absurd (none-some (r, seq, unread) (sym (search rules) ∙ e))
 

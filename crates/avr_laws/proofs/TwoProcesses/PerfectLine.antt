@@ -16,12 +16,12 @@ use Rattle.stk_frame.proofs.Laws.{body_of_frame, frame_is_good, frame_is_piece, 
 use Rattle.stk_host.specs.Dialog.{Dialog, Done, Emit, Ask, Event, Frame, Emitted, prepend_events, bytes_sent, next, played, outputs}
 use Rattle.stk_host.specs.Play.{IsBytePrefixOf, InTurnFrom}
 use Rattle.stk_host.specs.Transcript.{LinkState, Transcript, Sent, Taken, Got, NoneTaken, heard, sent}
-use Rattle.stk_host.specs.Tape.{Tape, Answered, Reading, answer, bytes_on_tape, first_answer, reply_byte_limit, on_tape}
+use Rattle.stk_host.specs.Tape.{Tape, Replied, Reading, answer, bytes_on_tape, first_reply, reply_byte_limit, on_tape}
 use Rattle.stk_host.specs.declared.link.Item.TheVariants.{End}
 use Rattle.stk_host.proofs.Transcripts.InDialogs.{bytes_append}
-use Rattle.stk_host.proofs.Tapes.Answers.{answer_found, answer_waits, bytes_of_append, bytes_of_on_tape}
-use Rattle.stk_emu.proofs.Answers.Texts.{after_more, replies_append}
-use Rattle.stk_emu.proofs.Answers.BodySizes.{replies_fit_frames}
+use Rattle.stk_host.proofs.Tapes.Readings.{reading_found, reading_waits, bytes_of_append, bytes_of_on_tape}
+use Rattle.stk_emu.proofs.Replies.Texts.{after_more, replies_append}
+use Rattle.stk_emu.proofs.Replies.BodySizes.{replies_fit_frames}
 use Rattle.stk_emu.specs.DialogOverExchanges.{SendsValidBodies}
 use Rattle.stk_emu.specs.Device.{after_frames, device}
 use Rattle.stk_emu.specs.Emulator.{EmulatorState, WasFedText, emulate}
@@ -41,36 +41,36 @@ abbrev pub calls_of : {E R : Type 0} → Dialog E R → ℕ → Programmer → L
 calls_of (Done r) n p = ServerReceives (End ∷ []) ∷ []
 calls_of (Emit e d) n p = calls_of d n p
 calls_of (Ask bytes go_on) n p =
-    asking (frame n bytes) (frame n (device.answer bytes p))
-    (calls_of (go_on (Answered (device.answer bytes p))) (next n) (device.after bytes p))
+    asking (frame n bytes) (frame n (device.reply bytes p))
+    (calls_of (go_on (Replied (device.reply bytes p))) (next n) (device.after bytes p))
 
 -- ---- the link
 
 -- at each moment what an end has received is a prefix of what the other has sent
 abbrev Joined : List ℕ → List ℕ → List ℕ → List ℕ → Type 0
-Joined emitted_up heard_up emitted_down heard_down = IsBytePrefixOf heard_up emitted_up
-    × IsBytePrefixOf heard_down emitted_down
+Joined emitted_up got_up emitted_down got_down = IsBytePrefixOf got_up emitted_up
+    × IsBytePrefixOf got_down emitted_down
 
 abbrev JoinedFrom : List ℕ → List ℕ → List ℕ → List ℕ → List EndCall → Type 0
-JoinedFrom emitted_up heard_up emitted_down heard_down [] = Joined emitted_up heard_up emitted_down heard_down
-JoinedFrom emitted_up heard_up emitted_down heard_down (HostSends bytes ∷ calls) =
-    Joined emitted_up heard_up emitted_down heard_down × JoinedFrom (emitted_up ++ bytes) heard_up emitted_down
-    heard_down calls
-JoinedFrom emitted_up heard_up emitted_down heard_down (HostSendFails bytes ∷ calls) =
-    Joined emitted_up heard_up emitted_down heard_down × JoinedFrom (emitted_up ++ bytes) heard_up emitted_down
-    heard_down calls
-JoinedFrom emitted_up heard_up emitted_down heard_down (HostReceives items ∷ calls) =
-    Joined emitted_up heard_up emitted_down heard_down
-    × JoinedFrom emitted_up heard_up emitted_down (heard_down ++ bytes_on_tape items) calls
-JoinedFrom emitted_up heard_up emitted_down heard_down (ServerSends bytes ∷ calls) =
-    Joined emitted_up heard_up emitted_down heard_down × JoinedFrom emitted_up heard_up (emitted_down
-    ++ bytes) heard_down calls
-JoinedFrom emitted_up heard_up emitted_down heard_down (ServerSendFails bytes ∷ calls) =
-    Joined emitted_up heard_up emitted_down heard_down × JoinedFrom emitted_up heard_up (emitted_down
-    ++ bytes) heard_down calls
-JoinedFrom emitted_up heard_up emitted_down heard_down (ServerReceives items ∷ calls) =
-    Joined emitted_up heard_up emitted_down heard_down
-    × JoinedFrom emitted_up (heard_up ++ bytes_on_tape items) emitted_down heard_down calls
+JoinedFrom emitted_up got_up emitted_down got_down [] = Joined emitted_up got_up emitted_down got_down
+JoinedFrom emitted_up got_up emitted_down got_down (HostSends bytes ∷ calls) =
+    Joined emitted_up got_up emitted_down got_down × JoinedFrom (emitted_up ++ bytes) got_up emitted_down
+    got_down calls
+JoinedFrom emitted_up got_up emitted_down got_down (HostSendFails bytes ∷ calls) =
+    Joined emitted_up got_up emitted_down got_down × JoinedFrom (emitted_up ++ bytes) got_up emitted_down
+    got_down calls
+JoinedFrom emitted_up got_up emitted_down got_down (HostReceives items ∷ calls) =
+    Joined emitted_up got_up emitted_down got_down
+    × JoinedFrom emitted_up got_up emitted_down (got_down ++ bytes_on_tape items) calls
+JoinedFrom emitted_up got_up emitted_down got_down (ServerSends bytes ∷ calls) =
+    Joined emitted_up got_up emitted_down got_down × JoinedFrom emitted_up got_up (emitted_down
+    ++ bytes) got_down calls
+JoinedFrom emitted_up got_up emitted_down got_down (ServerSendFails bytes ∷ calls) =
+    Joined emitted_up got_up emitted_down got_down × JoinedFrom emitted_up got_up (emitted_down
+    ++ bytes) got_down calls
+JoinedFrom emitted_up got_up emitted_down got_down (ServerReceives items ∷ calls) =
+    Joined emitted_up got_up emitted_down got_down
+    × JoinedFrom emitted_up (got_up ++ bytes_on_tape items) emitted_down got_down calls
 
 joined_now : (a b c d : List ℕ) (calls : List EndCall) → JoinedFrom a b c d calls → Joined a b c d
 joined_now a b c d [] j = j
@@ -110,8 +110,8 @@ calls_joined (Ask bytes go_on) n p a c =
     search (
       rules,
       asking_joined,
-      calls_joined (go_on (Answered (device.answer bytes p))) (next n) (device.after bytes
-          p) (a ++ frame n bytes) (c ++ frame n (device.answer bytes p)),
+      calls_joined (go_on (Replied (device.reply bytes p))) (next n) (device.after bytes
+          p) (a ++ frame n bytes) (c ++ frame n (device.reply bytes p)),
     )
 
 -- bytes alone are received
@@ -128,16 +128,16 @@ pub calls_prompt : {E R : Type 0} (d : Dialog E R) (n : ℕ) (p : Programmer)
 calls_prompt (Done r) n p = tt
 calls_prompt (Emit e d) n p = calls_prompt d n p
 calls_prompt (Ask bytes go_on) n p =
-    bytes_prompt (frame n (device.answer bytes p)) _
-    (calls_prompt (go_on (Answered (device.answer bytes p))) (next n) (device.after bytes p))
+    bytes_prompt (frame n (device.reply bytes p)) _
+    (calls_prompt (go_on (Replied (device.reply bytes p))) (next n) (device.after bytes p))
 
 calls_endless : {E R : Type 0} (d : Dialog E R) (n : ℕ) (p : Programmer)
     → HasNoEnd (heard (host_transcript (calls_of d n p)))
 calls_endless (Done r) n p = tt
 calls_endless (Emit e d) n p = calls_endless d n p
 calls_endless (Ask bytes go_on) n p =
-    bytes_endless (frame n (device.answer bytes p)) _
-    (calls_endless (go_on (Answered (device.answer bytes p))) (next n) (device.after bytes p))
+    bytes_endless (frame n (device.reply bytes p)) _
+    (calls_endless (go_on (Replied (device.reply bytes p))) (next n) (device.after bytes p))
 
 pub calls_ordered : {E R : Type 0} (d : Dialog E R) (n : ℕ) (p : Programmer) → IsOrdered (calls_of d n p)
 calls_ordered d n p = record {
@@ -149,21 +149,21 @@ calls_ordered d n p = record {
 
 -- ---- the host
 
-own_answer : (n : ℕ) (bytes : List ℕ) (later : Tape) → IsFrameBody bytes
-    → answer n (on_tape (frame n bytes) ++ later) ≡ Some (Answered bytes, later)
-own_answer n bytes later b =
-    let found : first_answer n (cut (frame n bytes)) ≡ Some (bytes, length (frame n bytes)) =
-    ap (first_answer n) (cut_whole (frame n bytes) (frame_is_piece n bytes b.some b.few))
+own_reply : (n : ℕ) (bytes : List ℕ) (later : Tape) → IsFrameBody bytes
+    → answer n (on_tape (frame n bytes) ++ later) ≡ Some (Replied bytes, later)
+own_reply n bytes later b =
+    let found : first_reply n (cut (frame n bytes)) ≡ Some (bytes, length (frame n bytes)) =
+    ap (first_reply n) (cut_whole (frame n bytes) (frame_is_piece n bytes b.some b.few))
     ∙ (search (rules, frame_is_good, body_of_frame)) in
     let few : length (frame n bytes) ≤ reply_byte_limit = let f = b.few in
     rw (length_frame n bytes) (omega (arith, f)) in
-    answer_found n (frame n bytes) later bytes found few
+    reading_found n (frame n bytes) later bytes found few
 
 -- a command with this reply
 asked : {E R : Type 0} (bytes : List ℕ) (go_on : Reading → Dialog E R) (n : ℕ) (reply : List ℕ) (later : Tape)
     → IsFrameBody reply → played (Ask bytes go_on) n (on_tape (frame n reply) ++ later)
-    ≡ prepend_events (Frame (frame n bytes) ∷ []) (played (go_on (Answered reply)) (next n) later)
-asked bytes go_on n reply later b = search (rules, own_answer)
+    ≡ prepend_events (Frame (frame n bytes) ∷ []) (played (go_on (Replied reply)) (next n) later)
+asked bytes go_on n reply later b = search (rules, own_reply)
 
 -- the run of the dialog, whatever follows on the link
 pub record IsWhole {E R : Type 0} (d : Dialog E R) (n : ℕ) (transcript : Transcript) : Type 0 where
@@ -196,10 +196,10 @@ host_plays (Emit e d) n p asks =
       none_taken = inner.none_taken;
     }
 host_plays (Ask bytes go_on) n p asks =
-    let reply = device.answer bytes p in
-    let d = go_on (Answered reply) in
-    let inner = host_plays (go_on (Answered (device.answer bytes p))) (next n) (device.after bytes p)
-    (asks.1 (Answered (device.answer bytes p))) in
+    let reply = device.reply bytes p in
+    let d = go_on (Replied reply) in
+    let inner = host_plays (go_on (Replied (device.reply bytes p))) (next n) (device.after bytes p)
+    (asks.1 (Replied (device.reply bytes p))) in
     record {
       events = Frame (frame n bytes) ∷ inner.events;
       result = inner.result;
@@ -228,16 +228,16 @@ host_in_turn (Emit e d) n p asks =
     in_turn_after (Emit e d) d n n [] (Emitted e ∷ []) (λ tape. refl) (host_transcript (calls_of d n p)) [] []
     (host_in_turn d n p asks)
 host_in_turn (Ask bytes go_on) n p asks =
-    let reply = device.answer bytes p in
-    let d = go_on (Answered reply) in
+    let reply = device.reply bytes p in
+    let d = go_on (Replied reply) in
     let transcript = host_transcript (calls_of d (next n) (device.after bytes p)) in
-    let waits : answer n [] ≡ None = answer_waits n [] refl (omega arith) in
+    let waits : answer n [] ≡ None = reading_waits n [] refl (omega arith) in
     let later : InTurnFrom (Ask bytes go_on) n (on_tape (frame n reply) ++ []) ((frame n bytes ++ [])
     ++ []) transcript =
     in_turn_after (Ask bytes go_on) d n (next n) (on_tape (frame n reply)) (Frame (frame n bytes) ∷ [])
     (λ tape. asked bytes go_on n reply tape (replies_fit_frames bytes p asks.0)) transcript [] []
-    (host_in_turn (go_on (Answered (device.answer bytes p))) (next n) (device.after bytes p)
-    (asks.1 (Answered (device.answer bytes p)))) in search rules
+    (host_in_turn (go_on (Replied (device.reply bytes p))) (next n) (device.after bytes p)
+    (asks.1 (Replied (device.reply bytes p)))) in search rules
 
 -- ---- the server
 
@@ -264,14 +264,14 @@ module _ (p : Programmer) (text : List ℕ) (n : ℕ) (bytes : List ℕ) (body :
     stands = sym (grind (arith, common_steps, one_more, after_more));
   }
 
-  answered_more : emulate p (text ++ question) ≡ emulate p text ++ frame n (device.answer bytes now)
-  answered_more = grind (arith, common_steps, one_more, replies_append)
+  reply_added : emulate p (text ++ question) ≡ emulate p text ++ frame n (device.reply bytes now)
+  reply_added = grind (arith, common_steps, one_more, replies_append)
 
 -- what is left of the programmer
 abbrev pub left_of : {E R : Type 0} → Dialog E R → ℕ → Programmer → Programmer
 left_of (Done r) n p = p
 left_of (Emit e d) n p = left_of d n p
-left_of (Ask bytes go_on) n p = left_of (go_on (Answered (device.answer bytes p))) (next n) (device.after bytes p)
+left_of (Ask bytes go_on) n p = left_of (go_on (Replied (device.reply bytes p))) (next n) (device.after bytes p)
 
 -- After any text of whole frames that it replied to, it replies to all that it receives.
 record ServesOn (p : Programmer) (text : List ℕ) (transcript : Transcript) (left : Programmer) : Type 0 where
@@ -286,13 +286,13 @@ serves_on (Done r) n now p text asks was = search rules
 serves_on (Emit e d) n now p text asks was = serves_on d n now p text asks was
 serves_on (Ask bytes go_on) n now p text asks was =
     let question = frame n bytes in
-    let reply = device.answer bytes now in
-    let d = go_on (Answered reply) in
+    let reply = device.reply bytes now in
+    let d = go_on (Replied reply) in
     let inner =
-    serves_on (go_on (Answered (device.answer bytes now))) (next n) (device.after bytes now) p (text ++ question)
-    (asks.1 (Answered (device.answer bytes now)))
+    serves_on (go_on (Replied (device.reply bytes now))) (next n) (device.after bytes now) p (text ++ question)
+    (asks.1 (Replied (device.reply bytes now)))
     (fed_more p text n bytes asks.0 now was) in
-    let replied = answered_more p text n bytes asks.0 now was in
+    let replied = reply_added p text n bytes asks.0 now was in
     search (rules, bytes_of_append, bytes_of_on_tape, append_assoc)
 
 -- the end of the link is received last
@@ -301,7 +301,7 @@ ends : {E R : Type 0} (d : Dialog E R) (n : ℕ) (p : Programmer)
 ends (Done r) n p = ([], tt, refl)
 ends (Emit e d) n p = ends d n p
 ends (Ask bytes go_on) n p =
-    let later = ends (go_on (Answered (device.answer bytes p))) (next n) (device.after bytes p) in (
+    let later = ends (go_on (Replied (device.reply bytes p))) (next n) (device.after bytes p) in (
       on_tape (frame n bytes) ++ later.0,
       bytes_endless (frame n bytes) later.0 later.1,
       ap (λ t. on_tape (frame n bytes) ++ t) later.2 ∙ sym (append_assoc (on_tape (frame n bytes)) later.0 (End ∷ [])),
@@ -345,9 +345,9 @@ module _ (plan : Plan) (s : chips.ChipState) (file : Bytes) (asks : SendsValidBo
   on : (p : Programmer) (text : List ℕ) → WasFedText p text (fresh_machine s) → ServesOn p text server left.programmer
   on p text was = search (rules, serves_on)
 
-  answers_all : (p : Programmer) (text : List ℕ) → WasFedText p text (fresh_machine s)
+  replies_to_all : (p : Programmer) (text : List ℕ) → WasFedText p text (fresh_machine s)
       → RepliesToAll p text (bytes_on_tape (heard server)) (sent server) left
-  answers_all p text was = search (rules, on p text was)
+  replies_to_all p text was = search (rules, on p text was)
 
   fed_nothing : WasFedText (fresh_programmer s) [] (fresh_machine s)
   fed_nothing = record { stands = refl; executed = refl }
@@ -366,10 +366,10 @@ module _ (plan : Plan) (s : chips.ChipState) (file : Bytes) (asks : SendsValidBo
           receives = (last.0, last.1, last.2, omega arith);
           sends = (on (fresh_programmer s) [] fed_nothing).none_taken;
           in_turn = λ p text was. (on p text was).in_turn;
-          leaves = answers_all;
+          leaves = replies_to_all;
         };
         in_turn = (on (fresh_programmer s) [] fed_nothing).in_turn;
-        leaves = answers_all (fresh_programmer s) [] fed_nothing;
+        leaves = replies_to_all (fresh_programmer s) [] fed_nothing;
         fails = refl;
         notice = refl;
         rises = (omega arith, omega arith);

@@ -16,7 +16,7 @@ use Rattle.stk_host.specs.Play.{Progress, Plays, IsBytePrefixOf, IsDueToListen, 
 use Rattle.stk_host.specs.Tape.{Tape, on_tape, bytes_on_tape}
 use Rattle.stk_host.specs.Transcript.{Transcript, Sent, Taken, Got, sent, heard}
 use Rattle.stk_host.proofs.Transcripts.Laws.{not_behind}
-use Rattle.stk_host.proofs.Tapes.Answers.{bytes_of_append}
+use Rattle.stk_host.proofs.Tapes.Readings.{bytes_of_append}
 use Rattle.stk_emu.specs.DialogOverExchanges.{state_after, SendsValidBodies}
 use Rattle.stk_emu.specs.Effect.{memories_of}
 use Rattle.stk_emu.specs.Settled.{HasMemories, FitsPart}
@@ -45,16 +45,16 @@ use Rattle.avr_tool.proofs.WirePlays.{IsFirst, sent_first}
 use Rattle.avr_laws.proofs.AnyLink.{over_any_line, over_any_end}
 
 -- whenever something is received, all earlier replies had been sent
-answered_at : (p : Programmer) (text answered : List ℕ) (before after : Transcript) (items : Tape)
-    → RepliesInTurn p text answered (before ++ Got items ∷ after)
-    → answered ++ sent before ≡ emulate p (text ++ bytes_on_tape (heard before))
-answered_at p text answered [] after items exchanges = search rules
-answered_at p text answered (Sent more ∷ before) after items exchanges =
-    sym (append_assoc answered more (sent before)) ∙ answered_at p text (answered ++ more) before after items exchanges
-answered_at p text answered (Taken more ∷ before) after items exchanges =
+replied_at : (p : Programmer) (text replied : List ℕ) (before after : Transcript) (items : Tape)
+    → RepliesInTurn p text replied (before ++ Got items ∷ after)
+    → replied ++ sent before ≡ emulate p (text ++ bytes_on_tape (heard before))
+replied_at p text replied [] after items exchanges = search rules
+replied_at p text replied (Sent more ∷ before) after items exchanges =
+    sym (append_assoc replied more (sent before)) ∙ replied_at p text (replied ++ more) before after items exchanges
+replied_at p text replied (Taken more ∷ before) after items exchanges =
     absurd (not_behind before after items exchanges)
-answered_at p text answered (Got got ∷ before) after items exchanges =
-    answered_at p (text ++ bytes_on_tape got) answered before after items exchanges.1
+replied_at p text replied (Got got ∷ before) after items exchanges =
+    replied_at p (text ++ bytes_on_tape got) replied before after items exchanges.1
     ∙ ap (emulate p) (append_assoc text (bytes_on_tape got) (bytes_on_tape (heard before))
     ∙ ap (λ bs. text ++ bs) (sym (bytes_of_append got (heard before))))
 
@@ -87,7 +87,7 @@ module _ (plan : Plan) (s : chips.ChipState) (is_sound : IsSoundChip s) (part_is
     pub never_wait : bytes_on_tape (heard server) ≡ sent host → bytes_on_tape (heard host) ≡ sent server
         → sent server ≡ emulate (fresh_programmer s) (bytes_on_tape (heard server))
         → IsDueToListen (session plan) 1 (heard host) (sent host) → ⊥
-    never_wait up down answered due =
+    never_wait up down replied due =
         let events = (played (session plan) 1 (heard host)).events in
         let p : Programmer = fresh_programmer s in
         let serves : HasServed p server (after_frames device (frames (bytes_on_tape (heard server))) p) = record {
@@ -95,7 +95,7 @@ module _ (plan : Plan) (s : chips.ChipState) (is_sound : IsSoundChip s) (part_is
           unused = [];
           used_and_unused = append-nil (bytes_on_tape (heard server));
           unsent = [];
-          sent_is = append-nil (sent server) ∙ answered;
+          sent_is = append-nil (sent server) ∙ replied;
           left_is = refl;
         } in
         let all : frames_in events ≡ frames (bytes_on_tape (heard server)) =
@@ -110,7 +110,7 @@ module _ (plan : Plan) (s : chips.ChipState) (is_sound : IsSoundChip s) (part_is
         → RepliesInTurn (fresh_programmer s) [] [] (server ++ Got server_items ∷ [])
         → bytes_on_tape (heard server) ≡ sent host → bytes_on_tape (heard host) ≡ sent server → ⊥
     never_both host_items server_items host_exchanges server_exchanges up down =
-        search (rules, never_wait, answered_at, due_at)
+        search (rules, never_wait, replied_at, due_at)
 
     -- whatever happens to both
     pub touched : (left : Programmer) (serves : HasServed (fresh_programmer s) server left) → IsJoined host server

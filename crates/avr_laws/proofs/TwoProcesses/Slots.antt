@@ -5,9 +5,9 @@ use Rattle.stk_frame.specs.Frame.{frame}
 use Rattle.stk_frame.specs.Cut.{cut}
 use Rattle.stk_frame.proofs.Laws.{length_frame}
 use Rattle.stk_host.specs.declared.link.Item.TheVariants.{Silence}
-use Rattle.stk_host.specs.Tape.{Tape, Answered, Silent, answer, on_tape, first_answer, past_skipped}
+use Rattle.stk_host.specs.Tape.{Tape, Replied, Silent, answer, on_tape, first_reply, past_skipped}
 use Rattle.stk_host.specs.Dialog.{next}
-use Rattle.stk_host.proofs.Tapes.Answers.{answer_found, answer_silent, answer_waits, on_tape_append}
+use Rattle.stk_host.proofs.Tapes.Readings.{reading_found, reading_silent, reading_waits, on_tape_append}
 use Rattle.stk_emu.specs.Lawful.{IsFrameBody}
 use Rattle.stk_emu.proofs.Wires.Arrivals.{found_frame, Skipped, frame_skipped, both_skipped}
 use Rattle.avr_tool.proofs.Lines.Plays.{head_is, tail_is}
@@ -85,83 +85,83 @@ passed_on n c prefix piece most f o = search (rules, both_skipped, frame_skipped
 -- ---- what is read
 
 -- the reply to this very frame
-pub record Finds (n : ℕ) (t : Tape) (last : List ℕ) (more answers : List (List ℕ)) : Type 0 where
+pub record Finds (n : ℕ) (t : Tape) (last : List ℕ) (more replies : List (List ℕ)) : Type 0 where
   pub bytes : List ℕ
   pub later : List (List ℕ)
-  pub answers_are : answers ≡ frame n bytes ∷ later
+  pub replies_are : replies ≡ frame n bytes ∷ later
   pub slots : List Slot
-  pub is : answer n t ≡ Some (Answered bytes, slots_tape slots last)
+  pub is : answer n t ≡ Some (Replied bytes, slots_tape slots last)
   pub left : came slots ++ more ≡ later
 
 -- a timeout
-pub record FindsNone (n c count : ℕ) (t : Tape) (last : List ℕ) (more answers : List (List ℕ)) : Type 0 where
+pub record FindsNone (n c count : ℕ) (t : Tape) (last : List ℕ) (more replies : List (List ℕ)) : Type 0 where
   pub slots : List Slot
   pub old : List (List ℕ)
   pub are_old : AreOld n c old
   pub few : length old ≤ count
   pub is : answer n t ≡ Some (Silent, slots_tape slots last)
-  pub left : came slots ++ more ≡ old ++ answers
+  pub left : came slots ++ more ≡ old ++ replies
 
 -- it waits
-pub record Waits (n : ℕ) (t : Tape) (more answers : List (List ℕ)) : Type 0 where
+pub record Waits (n : ℕ) (t : Tape) (more replies : List (List ℕ)) : Type 0 where
   pub old : List (List ℕ)
   pub is : answer n t ≡ None
-  pub left : more ≡ old ++ answers
+  pub left : more ≡ old ++ replies
 
 abbrev pub Reads : ℕ → ℕ → ℕ → Tape → List ℕ → List (List ℕ) → List (List ℕ) → Type 0
-Reads n c count t last more answers = Finds n t last more answers
-    ⊎ (FindsNone n c count t last more answers ⊎ Waits n t more answers)
+Reads n c count t last more replies = Finds n t last more replies
+    ⊎ (FindsNone n c count t last more replies ⊎ Waits n t more replies)
 
 old_length : (n c : ℕ) (piece : List ℕ) → IsOld n c piece → length piece ≤ 281
 old_length n c piece o = let few = o.carried.few in rw (o.is, length_frame o.seq o.bytes) (omega (arith, few))
 
 module _ (n c : ℕ) (most : c ≤ 255) (last : List ℕ) (stub : IsStub last) (more : List (List ℕ)) where
-  stub_none : (prefix : List ℕ) → Skipped n prefix → first_answer n (cut (prefix ++ last)) ≡ None
-  stub_none prefix passed = passed.first last ∙ ap (λ ps. past_skipped (length prefix) (first_answer n ps)) stub.none
+  stub_none : (prefix : List ℕ) → Skipped n prefix → first_reply n (cut (prefix ++ last)) ≡ None
+  stub_none prefix passed = passed.first last ∙ ap (λ ps. past_skipped (length prefix) (first_reply n ps)) stub.none
 
-  prefix_none : (prefix : List ℕ) → Skipped n prefix → first_answer n (cut prefix) ≡ None
-  prefix_none prefix passed = ap (λ bs. first_answer n (cut bs)) (sym (append-nil prefix)) ∙ passed.first []
+  prefix_none : (prefix : List ℕ) → Skipped n prefix → first_reply n (cut prefix) ≡ None
+  prefix_none prefix passed = ap (λ bs. first_reply n (cut bs)) (sym (append-nil prefix)) ∙ passed.first []
 
   -- after bytes that were skipped
-  pub reads : (prefix : List ℕ) (slots : List Slot) (old answers : List (List ℕ)) → Skipped n prefix
+  pub reads : (prefix : List ℕ) (slots : List Slot) (old replies : List (List ℕ)) → Skipped n prefix
       → length prefix + 281 * length old ≤ 3000 → AreOld n c old
-      → ((piece : List ℕ) (later : List (List ℕ)) → answers ≡ piece ∷ later → IsOwn n piece)
-      → came slots ++ more ≡ old ++ answers
-      → Reads n c (length old) (on_tape prefix ++ slots_tape slots last) last more answers
-  reads prefix [] old answers passed short are_old own e =
+      → ((piece : List ℕ) (later : List (List ℕ)) → replies ≡ piece ∷ later → IsOwn n piece)
+      → came slots ++ more ≡ old ++ replies
+      → Reads n c (length old) (on_tape prefix ++ slots_tape slots last) last more replies
+  reads prefix [] old replies passed short are_old own e =
       let few = stub.few in
       inr (inr (record {
         old = old;
         is = ap (answer n) (sym (on_tape_append prefix last))
-            ∙ answer_waits n (prefix ++ last) (stub_none prefix passed)
+            ∙ reading_waits n (prefix ++ last) (stub_none prefix passed)
             (rw (length-append prefix last) (omega (arith, short, few)));
         left = e;
       }))
-  reads prefix (Quiet ∷ slots) old answers passed short are_old own e = search (rules, answer_silent, prefix_none)
-  reads prefix (Came piece ∷ slots) (first ∷ old) answers passed short are_old own e =
-      let same : piece ≡ first = head_is piece first (came slots ++ more) (old ++ answers) e in
+  reads prefix (Quiet ∷ slots) old replies passed short are_old own e = search (rules, reading_silent, prefix_none)
+  reads prefix (Came piece ∷ slots) (first ∷ old) replies passed short are_old own e =
+      let same : piece ≡ first = head_is piece first (came slots ++ more) (old ++ replies) e in
       let length_is = old_length n c first are_old.0 in
-      let inner = reads (prefix ++ first) slots old answers (passed_on n c prefix first most passed are_old.0)
+      let inner = reads (prefix ++ first) slots old replies (passed_on n c prefix first most passed are_old.0)
       (rw (length-append prefix first) (omega (arith, short, length_is))) are_old.1 own
-      (tail_is piece first (came slots ++ more) (old ++ answers) e) in
+      (tail_is piece first (came slots ++ more) (old ++ replies) e) in
       search (rules, on_tape_append, append_assoc)
   reads prefix (Came piece ∷ slots) [] [] passed short are_old own e = search rules
   reads prefix (Came piece ∷ slots) [] (first ∷ later) passed short are_old own e =
       let o = own first later refl in
       let few = o.carried.few in
       let same : piece ≡ frame n o.bytes = head_is piece first (came slots ++ more) later e ∙ o.is in
-      let found : first_answer n (cut (prefix ++ frame n o.bytes))
+      let found : first_reply n (cut (prefix ++ frame n o.bytes))
       ≡ Some (o.bytes, length (prefix ++ frame n o.bytes)) =
       search (rules, found_frame, length-append) in
       inl (record {
         bytes = o.bytes;
         later = later;
-        answers_are = ap (λ q. q ∷ later) o.is;
+        replies_are = ap (λ q. q ∷ later) o.is;
         slots = slots;
         is =
             ap (λ q. answer n (on_tape prefix ++ (on_tape q ++ slots_tape slots last))) same
             ∙ (ap (answer n) (search (rules, append_assoc, on_tape_append))
-            ∙ answer_found n (prefix ++ frame n o.bytes) (slots_tape slots last) o.bytes found
+            ∙ reading_found n (prefix ++ frame n o.bytes) (slots_tape slots last) o.bytes found
             (rw (length-append prefix (frame n o.bytes), length_frame n o.bytes) (omega (arith, short, few))));
         left = tail_is piece first (came slots ++ more) later e;
       })

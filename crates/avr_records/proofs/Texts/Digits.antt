@@ -12,26 +12,26 @@ use Rattle.avr_records.specs.declared.fault.LineFault.TheVariants.{Digit}
 
 -- what a call of the decoder returns and writes
 abbrev pub Decoded : List ℕ → List ℕ → Result Unit FromHexError → Result (List ℕ) FromHexError → Type 0
-Decoded digits out answer of = MatchResult of (λ bytes. (answer ≡ Ok tt) × (out ≡ bytes)) (λ e. answer ≡ Err e)
+Decoded digits out result of = MatchResult of (λ bytes. (result ≡ Ok tt) × (out ≡ bytes)) (λ e. result ≡ Err e)
 
-all_digits : (digits out : List ℕ) (answer : Result Unit FromHexError) → length digits % 2 ≡ 0
+all_digits : (digits out : List ℕ) (result : Result Unit FromHexError) → length digits % 2 ≡ 0
     → list_all is_hex_digit digits ≡ true
-    → Decoded digits out answer (decode_of digits) → (answer ≡ Ok tt) × (bytes_of_digits digits ≡ Ok out)
-all_digits digits out answer even all is = grind (arith, common_steps, decode_of-digits)
+    → Decoded digits out result (decode_of digits) → (result ≡ Ok tt) × (bytes_of_digits digits ≡ Ok out)
+all_digits digits out result even all is = grind (arith, common_steps, decode_of-digits)
 
-no_digit : (digits out : List ℕ) (answer : Result Unit FromHexError) (of : Result (List ℕ) FromHexError)
+no_digit : (digits out : List ℕ) (result : Result Unit FromHexError) (of : Result (List ℕ) FromHexError)
     → decode_of digits ≡ of → list_all is_hex_digit digits ≡ false
-    → Decoded digits out answer of → (e : FromHexError) × (answer ≡ Err e) × (bytes_of_digits digits ≡ Err Digit)
-no_digit digits out answer (Ok bytes) is none facts =
+    → Decoded digits out result of → (e : FromHexError) × (result ≡ Err e) × (bytes_of_digits digits ≡ Err Digit)
+no_digit digits out result (Ok bytes) is none facts =
     let all : list_all is_hex_digit digits ≡ true =
     list_all-from_AllPass is_hex_digit digits (decode_of-ok digits bytes is).1 in absurd (grind arith)
-no_digit digits out answer (Err e) is none fact = (e, fact, rw none refl)
+no_digit digits out result (Err e) is none fact = (e, fact, rw none refl)
 
-pub decoded-ok : (digits out : List ℕ) (n : ℕ) (answer : Result Unit FromHexError) → length digits ≡ 2 * n
-    → Decoded digits out answer (decode_sized digits n) → answer ≡ Ok tt → bytes_of_digits digits ≡ Ok out
-decoded-ok digits out n answer len facts ok = grind (arith, nat_tests, no_digit)
+pub decoded-ok : (digits out : List ℕ) (n : ℕ) (result : Result Unit FromHexError) → length digits ≡ 2 * n
+    → Decoded digits out result (decode_sized digits n) → result ≡ Ok tt → bytes_of_digits digits ≡ Ok out
+decoded-ok digits out n result len facts ok = grind (arith, nat_tests, no_digit)
 
-pub decoded-err : (digits out : List ℕ) (n : ℕ) (answer : Result Unit FromHexError) (e : FromHexError)
+pub decoded-err : (digits out : List ℕ) (n : ℕ) (result : Result Unit FromHexError) (e : FromHexError)
     → length digits ≡ 2 * n
-    → Decoded digits out answer (decode_sized digits n) → answer ≡ Err e → bytes_of_digits digits ≡ Err Digit
-decoded-err digits out n answer e len facts err = grind (arith, nat_tests, all_digits)
+    → Decoded digits out result (decode_sized digits n) → result ≡ Err e → bytes_of_digits digits ≡ Err Digit
+decoded-err digits out n result e len facts err = grind (arith, nat_tests, all_digits)

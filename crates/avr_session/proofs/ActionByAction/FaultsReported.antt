@@ -28,7 +28,7 @@ use Rattle.avr_session.proofs.Runs.Stops.{outputs_by}
 abbrev pub Along : {R : Type 0} → (List OutputEvent → R → Type 0) → Dialog OutputEvent R → Type 0
 Along P (Done r) = P [] r
 Along P (Emit e dialog) = Along (λ emitted r. P (e ∷ emitted) r) dialog
-Along {R = R} P (Ask body answered) = (reading : Reading) → Along P (answered reading)
+Along {R = R} P (Ask body resume) = (reading : Reading) → Along P (resume reading)
 
 pub along_bind : {A R : Type 0} (P : List OutputEvent → A → Type 0) (Q : List OutputEvent → R
     → Type 0) (dialog : Dialog OutputEvent A) (go_on : A → Dialog OutputEvent R) → Along P dialog
@@ -38,12 +38,12 @@ along_bind P Q (Done a) go_on f g = g [] a f
 along_bind P Q (Emit e dialog) go_on f g =
     along_bind (λ emitted a. P (e ∷ emitted) a) (λ emitted r. Q (e ∷ emitted) r) dialog go_on f (λ emitted a p. g (e
     ∷ emitted) a p)
-along_bind P Q (Ask body answered) go_on f g = λ reading. along_bind P Q (answered reading) go_on (f reading) g
+along_bind P Q (Ask body resume) go_on f g = λ reading. along_bind P Q (resume reading) go_on (f reading) g
 
 pub along_lifted : {R : Type 0} (dialog : Dialog ⊥ R) → Along (λ emitted r. emitted ≡ []) (lifted dialog)
 along_lifted (Done r) = refl
 along_lifted (Emit e dialog) = absurd e
-along_lifted (Ask body answered) = λ reading. along_lifted (answered reading)
+along_lifted (Ask body resume) = λ reading. along_lifted (resume reading)
 
 pub along_output : {R : Type 0} (Q : List OutputEvent → R
     → Type 0) (xs : List OutputEvent) (dialog : Dialog OutputEvent R)
@@ -60,11 +60,11 @@ along_play : {R : Type 0} (P : List OutputEvent → R → Type 0) (dialog : Dial
     → Along P dialog → Ends P (outputs (played dialog seq tape).events) (played dialog seq tape).outcome
 along_play P (Done r) seq tape f = f
 along_play P (Emit e dialog) seq tape f = search (rules, along_play (λ emitted r. P (e ∷ emitted) r) dialog seq tape f)
-along_play {R = R} P (Ask body answered) seq tape f =
-    elim (answer seq tape) as (λ o. Ends P (outputs (continue_with_reading (λ r. played (answered r) (next seq))
-    o).events) (continue_with_reading (λ r. played (answered r) (next seq)) o).outcome) [
+along_play {R = R} P (Ask body resume) seq tape f =
+    elim (answer seq tape) as (λ o. Ends P (outputs (continue_with_reading (λ r. played (resume r) (next seq))
+    o).events) (continue_with_reading (λ r. played (resume r) (next seq)) o).outcome) [
       | None ↦ tt
-      | Some got ↦ along_play P (answered got.0) (next seq) got.1 (f got.0)
+      | Some got ↦ along_play P (resume got.0) (next seq) got.1 (f got.0)
     ]
 
 -- ---- the state of a session
@@ -72,33 +72,33 @@ along_play {R = R} P (Ask body answered) seq tape f =
 abbrev pub FaultAsInState : List OutputEvent → Standing → Type 0
 FaultAsInState emitted standing = reports_fault emitted ≡ has_fault standing
 
-abbrev pub Foretells : Dialog OutputEvent Standing → Type 0
-Foretells dialog = Along FaultAsInState dialog
+abbrev pub ReportsFault : Dialog OutputEvent Standing → Type 0
+ReportsFault dialog = Along FaultAsInState dialog
 
-pub foretold : {dialog : Dialog OutputEvent Standing} {m n : Progress} {o p : Devices} {standing : Standing}
-    → Foretells dialog → (ran : RanWhole dialog m o p standing n) → reports_fault (outputs ran.events)
+pub fault_reported : {dialog : Dialog OutputEvent Standing} {m n : Progress} {o p : Devices} {standing : Standing}
+    → ReportsFault dialog → (ran : RanWhole dialog m o p standing n) → reports_fault (outputs ran.events)
     ≡ has_fault standing
-foretold {dialog = dialog} {m = m} f ran =
+fault_reported {dialog = dialog} {m = m} f ran =
     subst (λ (p : Played OutputEvent Standing). Ends FaultAsInState (outputs p.events) p.outcome) (ran.plays.plays [])
     (along_play FaultAsInState dialog m.next (on_tape m.unread ++ (heard ran.during ++ [])) f)
 
-pub foretells_then : (first more : Dialog OutputEvent Standing) → Foretells first → Foretells more
-    → Foretells (first >>= unless_fault more)
-foretells_then first more f g = search (rules, along_bind, list_any-append, append-nil)
+pub then_reports : (first more : Dialog OutputEvent Standing) → ReportsFault first → ReportsFault more
+    → ReportsFault (first >>= unless_fault more)
+then_reports first more f g = search (rules, along_bind, list_any-append, append-nil)
 
-foretells_reported : {A : Type 0} (operation : Dialog ⊥ (Result A HostFault))
+operation_reports : {A : Type 0} (operation : Dialog ⊥ (Result A HostFault))
     (outcome_output : Result A HostFault → List OutputEvent)
     → ((outcome : Result A HostFault) → reports_fault (outcome_output outcome) ≡ has_fault (standing outcome))
-    → Foretells (reported operation outcome_output)
-foretells_reported operation outcome_output f =
+    → ReportsFault (reported operation outcome_output)
+operation_reports operation outcome_output f =
     along_bind (λ emitted outcome. emitted ≡ []) FaultAsInState (lifted operation)
     (λ outcome. emits (outcome_output outcome) (Done (standing outcome))) (along_lifted operation) λ emitted outcome
     none. along_output (λ more after. FaultAsInState (emitted ++ more) after) (outcome_output outcome)
     (Done (standing outcome)) (search rules)
 
-foretells_output : (outputs : List OutputEvent) → reports_fault outputs ≡ false
-    → Foretells (emits outputs (Done NoFault))
-foretells_output outputs f = along_output FaultAsInState outputs (Done NoFault) (ap reports_fault (append-nil outputs) ∙
+output_reports : (outputs : List OutputEvent) → reports_fault outputs ≡ false
+    → ReportsFault (emits outputs (Done NoFault))
+output_reports outputs f = along_output FaultAsInState outputs (Done NoFault) (ap reports_fault (append-nil outputs) ∙
     f)
 
 -- ---- lines that report no fault, and those that do
@@ -124,15 +124,15 @@ left_out_none quiet what = search (rules, bytes_none)
 
 -- ---- the actions of a session
 
-pub action_foretells : (part : Part) (s : Switches) (action : Action) → Foretells (action_dialog part s action)
-action_foretells part s OpenSession = search (rules, foretells_reported, opening_reports)
-action_foretells part s action =
-    search (rules, foretells_reported, fault_reports, bytes_none, read_none, foretells_output, left_out_none)
+pub action_reports : (part : Part) (s : Switches) (action : Action) → ReportsFault (action_dialog part s action)
+action_reports part s OpenSession = search (rules, operation_reports, opening_reports)
+action_reports part s action =
+    search (rules, operation_reports, fault_reports, bytes_none, read_none, output_reports, left_out_none)
 
-pub actions_foretells : (part : Part) (s : Switches) (actions : List Action) → Foretells (actions_dialog part s actions)
-actions_foretells part s [] = refl
-actions_foretells part s (action ∷ actions) =
-    search (rules, foretells_then, action_foretells, actions_foretells part s actions)
+pub actions_report : (part : Part) (s : Switches) (actions : List Action) → ReportsFault (actions_dialog part s actions)
+actions_report part s [] = refl
+actions_report part s (action ∷ actions) =
+    search (rules, then_reports, action_reports, actions_report part s actions)
 
 -- ---- a prefix of output without a fault has none
 

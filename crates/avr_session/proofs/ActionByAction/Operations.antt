@@ -25,12 +25,12 @@ use Rattle.avr_session.proofs.Runs.Calls.{came_lifted, came_emitted, came_on, ra
 -- Why an operation stops a run: the link failed during it, or allocation failed.
 pub data Stop : Type 0 where
   Unsent : Stop
-  Unheard : Stop
+  Unreceived : Stop
   Lacks : Stop
 
 abbrev pub fault_at : Stop → HostFault
 fault_at Unsent = SendFailed
-fault_at Unheard = RecvFailed
+fault_at Unreceived = RecvFailed
 fault_at Lacks = Memory
 
 abbrev pub cause_at : Stop → Cause

@@ -9,7 +9,7 @@ use Rattle.avr_desk.specs.declared.desk.DeskFault.{DeskFault}
 use Rattle.avr_desk.specs.declared.desk.DeskFault.TheVariants.{Failed}
 use Rattle.avr_desk.specs.declared.stream.Stream.TheVariants.{File, Messages}
 use Rattle.stk_host.specs.Dialog.{outputs}
-use Rattle.avr_desk.specs.OutputEvents.{OutputEvent, PrintsLine, IsPrefixOfBytes, IsPrinted, ReportsLine, after_events}
+use Rattle.avr_desk.specs.OutputEvents.{OutputEvent, PrintsLine, IsBytePrefixOf, IsPrinted, ReportsLine, after_events}
 use Rattle.avr_desk.proofs.Stages.Outputs.{kept_append}
 use Rattle.avr_desk.proofs.Lines.ReportedAs.{follows_on, same_on, message_failures_since}
 use Rattle.avr_session.specs.Runs.{cause_line, Cause, FileFailed, PrintingFailed, FileTrouble}
@@ -76,7 +76,7 @@ one_only l x (s ∷ []) more is = let e : [] ≡ PrintsLine x ∷ more = cc in a
 one_only l x (s ∷ t ∷ whole) more is = let e : [] ≡ t ∷ (whole ++ (PrintsLine x ∷ more)) = cc in absurd (cc)
 
 one_line : {d e : DeskState} (l : List ℕ) → OutputsPrefix PrintingFailed d e (PrintsLine l ∷ [])
-    → (prefix : List ℕ) × IsPrefixOfBytes prefix l × ChangesRecord (after_err prefix) d e
+    → (prefix : List ℕ) × IsBytePrefixOf prefix l × ChangesRecord (after_err prefix) d e
 one_line {d = d} {e = e} l prefix =
     let p = prefix.place in
     let begun : prefix.begun ≡ PrintsLine p.done ∷ [] = outputs_by prefix.begun _ p.part in

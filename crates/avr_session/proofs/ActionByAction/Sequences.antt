@@ -16,7 +16,7 @@ use Rattle.stk_host.specs.Play.{Progress}
 use Rattle.stk_host.specs.Transcript.{LinkState, heard}
 use Rattle.stk_host.specs.Tape.{Tape, on_tape}
 use Rattle.stk_host.proofs.Transcripts.InDialogs.{followed, played_bind}
-use Rattle.stk_host.proofs.Transcripts.Laws.{heard_append}
+use Rattle.stk_host.proofs.Transcripts.Laws.{got_append}
 use Rattle.std.specs.Result.{result_and}
 use Rattle.stk_host.specs.Calls.{Calls}
 use Rattle.stk_host.specs.Dialog.{Dialog, Done, ◌>>=◌, played, outputs}
@@ -40,7 +40,7 @@ use Rattle.avr_session.specs.Performing.{has_fault, PerformsOnTerms, Performing,
 use Rattle.avr_desk.proofs.Stages.Outputs.{kept_none}
 use Rattle.avr_desk.proofs.Lines.ReportedAs.{follows_here, same_here}
 use Rattle.avr_session.proofs.Runs.Calls.{none_failed_here, came_here, came_emitted, came_part, ran_from, ran_on, stops_in, broke_on, broke_part, broke_output, LacksLater, StopsReport, ReportedBy}
-use Rattle.avr_session.proofs.ActionByAction.FaultsReported.{Foretells, foretold, prefix_reports_none, actions_foretells}
+use Rattle.avr_session.proofs.ActionByAction.FaultsReported.{ReportsFault, fault_reported, prefix_reports_none, actions_report}
 use Rattle.avr_session.proofs.ActionByAction.Actions.{actions_dialog-one, actions_dialog-append}
 use Rattle.avr_session.proofs.ActionByAction.Operations.{Stop, fault_at, cause_at, StopsAs, StopsOver, operation_runs, stop_come, cause_is_reported}
 
@@ -144,14 +144,14 @@ module _ {first : Dialog OutputEvent Standing} {K : RunAllocationPoints} {x y : 
 
   pub performs_on : {L M : RunAllocationPoints} (more_allocates : Bool) (go_on : Standing → Dialog OutputEvent Standing)
       {z : HostState} {q : Devices} (result : Result Standing (Unit {0})) → (more_allocates ≡ true → allocates ≡ true)
-      → Foretells first → LacksLater L x.progress done.runs.during done.runs.events M y.progress
+      → ReportsFault first → LacksLater L x.progress done.runs.during done.runs.events M y.progress
       → PerformsOnTerms (record { allocates = more_allocates; has_reported = has_fault standing }) M (go_on standing) y
       z p q result → PerformsOnTerms (before_fault allocates) L (first >>= go_on) x z o q result
   unfolding came_part
-  performs_on more_allocates go_on (Ok then) both foretells lack rest =
+  performs_on more_allocates go_on (Ok then) both reporting lack rest =
       after_done rest (ran_on (came_part go_on done.runs) rest.runs)
-  performs_on more_allocates go_on {q = q} (Err stopped) both foretells lack rest =
-      after_done rest (broke_on (came_part go_on done.runs) (search (rules, stops_in, foretold)) lack rest.runs)
+  performs_on more_allocates go_on {q = q} (Err stopped) both reporting lack rest =
+      after_done rest (broke_on (came_part go_on done.runs) (search (rules, stops_in, fault_reported)) lack rest.runs)
 
 -- the same run of the host and its devices, as another action
 abbrev performs_as : {terms all : Terms} {L M : RunAllocationPoints} {first whole : Dialog OutputEvent Standing}
@@ -198,7 +198,7 @@ taking_then : (part : Part) (s : Switches) (xs ys : List Action) {m n : Progress
 taking_then part s xs ys {m = m} {n = n} ran during shown at =
     let tape : Tape = on_tape m.unread ++ heard (ran.during ++ during) in
     let first = ap (λ (t : Tape). played (actions_dialog part s xs) m.next (on_tape m.unread ++ t))
-    (heard_append ran.during during) ∙ ran.plays.plays (heard during) in
+    (got_append ran.during during) ∙ ran.plays.plays (heard during) in
     record {
       done = xs ++ at.done;
       due = at.due;
@@ -269,7 +269,7 @@ module _ (plan : Plan) (xs ys : List Action) where
       (performs_as done done.runs done.serves)
       (list_any action_allocates ys) (unless_fault (actions_dialog plan.part plan.switches ys)) result
       (search rules)
-      (actions_foretells plan.part plan.switches xs) (taking_then plan.part plan.switches xs ys done.runs) rest)
+      (actions_report plan.part plan.switches xs) (taking_then plan.part plan.switches xs ys done.runs) rest)
 
   -- the others are skipped
   pub does_last : {x y : HostState} {o p : Devices} (end : End)
@@ -361,7 +361,7 @@ pub ends_so : (plan : Plan) (standing : Standing) {x y z : HostState} {o p q : D
     → EndsSession plan standing y z p q result → PlaysSession plan x z o q result
 ends_so plan standing result done rest =
     performs_on (plan_allocates plan) standing done false (ending plan.part plan.switches) result (λ e. absurd (cc))
-    (actions_foretells plan.part plan.switches (actions plan)) (λ during shown never. let e = never.0 in absurd (cc))
+    (actions_report plan.part plan.switches (actions plan)) (λ during shown never. let e = never.0 in absurd (cc))
     rest
 
 -- a whole session, run to its status, or stopped in this state

@@ -14,7 +14,7 @@ use Rattle.stk_host.specs.Reach.{TranscriptLeads}
 use Rattle.stk_host.proofs.Transcripts.Laws.{grows_none, grows_on}
 use Rattle.stk_host.proofs.Transcripts.InDialogs.{continued, played_bind, leads_here, leads_on, leads_bind, leads_emit, leads_from, breaks_on, breaks_bind}
 use Rattle.stk_host.proofs.Dialogs.Lifted.{raised, plays_lifted, by_lifted, outputs_raised}
-use Rattle.stk_host.proofs.Transcripts.Laws.{heard_append}
+use Rattle.stk_host.proofs.Transcripts.Laws.{got_append}
 use Rattle.avr_desk.specs.OutputEvents.{OutputEvent, IsPartOfEvent, after_events}
 use Rattle.avr_desk.proofs.Stages.Outputs.{kept_on, kept_none, after_append}
 use Rattle.avr_desk.proofs.Lines.ReportedAs.{follows_on, follows_same, same_here, same_on}
@@ -212,7 +212,7 @@ broke_on {R = R} {x = x} {y = y} {q = q} {all = all} came why lack broke =
     let o = x.devices in
     let p = y.devices in
     let whole = breaks_on IsPartOfEvent came.leads broke.breaks in
-    let play = ap (λ t. played x.left m.next (on_tape m.unread ++ t)) (heard_append came.during broke.during)
+    let play = ap (λ t. played x.left m.next (on_tape m.unread ++ t)) (got_append came.during broke.during)
     ∙ came.leads.goes_on (heard broke.during) in
     broke_off (came.during ++ broke.during) (came.events ++ broke.shown) broke.cause broke.notice
     (grows_on o.link.transcript p.link.transcript q.link.transcript came.during broke.during came.grows broke.grows)
@@ -307,11 +307,11 @@ leads_output : {R : Type 0} (xs : List OutputEvent) (dialog : Dialog OutputEvent
 leads_output [] dialog m = leads_here dialog m
 leads_output (x ∷ xs) dialog m = leads_on (leads_emit x (emits xs dialog) m) (leads_output xs dialog m)
 
-says_events : {R : Type 0} (xs : List OutputEvent) (dialog : Dialog OutputEvent R) (seq : ℕ) (u : List ℕ)
+emits_events : {R : Type 0} (xs : List OutputEvent) (dialog : Dialog OutputEvent R) (seq : ℕ) (u : List ℕ)
     → (played (emits xs dialog) seq (on_tape u ++ [])).events
     ≡ map Emitted xs ++ (played dialog seq (on_tape u ++ [])).events
-says_events [] dialog seq u = refl
-says_events (x ∷ xs) dialog seq u = ap (λ es. Emitted x ∷ es) (says_events xs dialog seq u)
+emits_events [] dialog seq u = refl
+emits_events (x ∷ xs) dialog seq u = ap (λ es. Emitted x ∷ es) (emits_events xs dialog seq u)
 
 no_bytes : (xs : List OutputEvent) → bytes_sent (map {B = Event OutputEvent} Emitted xs) ≡ []
 no_bytes [] = refl
@@ -341,7 +341,7 @@ module _ {R : Type 0} (xs : List OutputEvent) (dialog : Dialog OutputEvent R) (m
       let prefix = f.prefix in
       let shown : List OutputEvent = prefix.whole ++ prefix.begun in
       broke_off [] (map Emitted shown) f.cause f.notice (grows_none o.transcript)
-      (subst (Placed f.cause [] (map Emitted shown)) (sym (says_events xs dialog m.next m.unread))
+      (subst (Placed f.cause [] (map Emitted shown)) (sym (emits_events xs dialog m.next m.unread))
       (placed_more (played_over dialog m []).events (λ listens. absurd (search rules))
       (search (rules, map_append)))) (no_bytes shown) tt (search rules)
       (subst (λ emitted. StopsAfterOutput terms (devices o d) (devices o e) emitted f.cause f.notice)

@@ -21,9 +21,9 @@ module _ (w : Weight) where
       → total_weight w (map body_of (frames_in (played d seq tape).events)) ≤ n
   frames_weigh n (Done r) seq tape f = omega arith
   frames_weigh n (Emit e d) seq tape f = frames_weigh n d seq tape f.1
-  frames_weigh n (Ask asked answered) seq tape f =
-      let rest = by_reading (n - w asked) (λ reading. played (answered reading) (next seq)) (answer seq tape)
-      (λ reading left. frames_weigh (n - w asked) (answered reading) (next seq) left (f.1 reading)) in
+  frames_weigh n (Ask asked resume) seq tape f =
+      let rest = by_reading (n - w asked) (λ reading. played (resume reading) (next seq)) (answer seq tape)
+      (λ reading left. frames_weigh (n - w asked) (resume reading) (next seq) left (f.1 reading)) in
       search (rules, body_of_frame)
 
   -- the same of a prefix of the bytes

@@ -8,7 +8,7 @@ use Rattle.stk_frame.specs.declared.command.Command.{Command}
 use Rattle.stk_frame.specs.declared.host_command.Fuse.{Fuse}
 use Rattle.stk_frame.specs.Commands.{body}
 use Rattle.stk_frame.specs.HostCommands.{program_page, program_eeprom_block, program_fuse, read_flash_block, read_eeprom_block, read_lock, read_signature, read_calibration}
-use Rattle.stk_host.specs.Tape.{Answered}
+use Rattle.stk_host.specs.Tape.{Replied}
 use Rattle.stk_host.specs.Places.{flash_address, load_flash, load_eeprom}
 use Rattle.stk_host.specs.Steps.{Data, reply_from_reading}
 use Rattle.stk_host.proofs.ImagePlaces.PagesAndRuns.{page_most}
@@ -21,7 +21,7 @@ use Rattle.stk_emu.specs.WriteOperations.{memories_after_step, write_operation_o
 use Rattle.stk_emu.specs.StepData.{data_of_step}
 use Rattle.avr_tool.proofs.Leads.{IsDataOfAttempt}
 use Rattle.stk_emu.proofs.Repeatable.{on_data, reply_to, joined_reply, Settled}
-use Rattle.stk_emu.proofs.Answers.Commands.{settled_ready}
+use Rattle.stk_emu.proofs.Replies.Commands.{settled_ready}
 use Rattle.stk_emu.proofs.Memories.Pages.{is_wide, flash_loaded_at, flash_address_back}
 use Rattle.stk_emu.proofs.Memories.Runs.{narrow_loaded}
 use Rattle.stk_emu.proofs.Memories.BlocksRead.{BytesAndChip, flash_looked, eeprom_looked}
@@ -39,8 +39,8 @@ module _ {P : Type 0} (m : Device P) where
   two_gathered c d p bytes e f = search rules
 
 in_mode_reply : (c : Command) (p : Programmer) (x y : programmer.Response) → p.mode ≡ true
-    → reply_from_reading c (Answered (cond p.mode x y).0) ≡ reply_from_reading c (Answered x.0)
-in_mode_reply c p x y e = ap (λ (z : programmer.Response). reply_from_reading c (Answered z.0)) (cond-true p.mode x y e)
+    → reply_from_reading c (Replied (cond p.mode x y).0) ≡ reply_from_reading c (Replied x.0)
+in_mode_reply c p x y e = ap (λ (z : programmer.Response). reply_from_reading c (Replied z.0)) (cond-true p.mode x y e)
 
 fuse_reply : (f : Fuse) (v : ℕ) (p : Programmer) → p.mode ≡ true → reply_to device (program_fuse f v) p ≡ Data []
 fuse_reply f v p e = search rules

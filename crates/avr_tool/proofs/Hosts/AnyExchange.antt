@@ -19,7 +19,7 @@ use Rattle.avr_tool.proofs.Leads.{Leads, IsDataOfAttempt}
 -- What holds at each move holds along all links, so no list of exchanges and no count of commands is needed.
 abbrev pub over_any_exchange : {P : Type 0} → Device P → World P Exchange
 over_any_exchange m = record {
-  reads = λ bytes p one_exchange. reading_of_exchange one_exchange (m.answer bytes p);
+  reads = λ bytes p one_exchange. reading_of_exchange one_exchange (m.reply bytes p);
   after = λ bytes p one_exchange. after_exchange one_exchange (m.after bytes p) p m.reset;
 }
 
@@ -65,11 +65,11 @@ module _ {P : Type 0} (m : Device P) where
     abbrev Tries : Dialog ⊥ Reply → P → Type 0
     Tries d p = Keeps Stands (OnReply Stands After) d p
 
-    answered : (reply : Reply) (joined : List ℕ → Reply) (go_on : List ℕ → Dialog ⊥ Reply) (q : P)
+    replied : (reply : Reply) (joined : List ℕ → Reply) (go_on : List ℕ → Dialog ⊥ Reply) (q : P)
         (All : List ℕ → Type 0) → Stands q
         → ((bytes : List ℕ) → ((got : List ℕ) → joined bytes ≡ Data got → All got) → Tries (go_on bytes) q)
         → ((got : List ℕ) → on_data reply joined ≡ Data got → All got) → Tries (with_data go_on reply) q
-    answered reply joined go_on q All stands each whole = search rules
+    replied reply joined go_on q All stands each whole = search rules
 
     lost : (execution : Execution) (executed p : P) → Stands executed → Stands p
         → Stands (after_execution execution executed p m.reset)
@@ -81,7 +81,7 @@ module _ {P : Type 0} (m : Device P) where
         → Stands (m.after (body command) p) → Stands p
         → Tries (with_data go_on (reply_to m command p)) (m.after (body command) p)
         → Tries (with_data go_on (reply_from_reading command (reading_of_exchange one_exchange
-        (m.answer (body command) p)))) (after_exchange one_exchange (m.after (body command) p) p m.reset)
+        (m.reply (body command) p)))) (after_exchange one_exchange (m.after (body command) p) p m.reset)
     by_exchange one_exchange command go_on p o s right = search (rules, lost)
 
     attempt_goes : (commands : List Command) (before : List ℕ) (p : P)
@@ -94,7 +94,7 @@ module _ {P : Type 0} (m : Device P) where
         let q = m.after (body command) p in
         let go_on : List ℕ → Dialog ⊥ Reply = λ bytes. attempt commands (before ++ bytes) in
         ask (prefixes 0) (λ one_exchange. by_exchange one_exchange command go_on p (prefixes 1) (prefixes 0)
-        (answered (reply_to m command p) (λ bytes. joined_reply m commands (before ++ bytes) q) go_on q
+        (replied (reply_to m command p) (λ bytes. joined_reply m commands (before ++ bytes) q) go_on q
         (λ got. After (Ok got) (after_commands m (length commands) commands q)) (prefixes 1)
         (λ bytes each. attempt_goes commands (before ++ bytes) q (λ i. prefixes (suc i)) each) whole))
 

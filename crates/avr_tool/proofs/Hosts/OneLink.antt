@@ -17,7 +17,7 @@ module _ (m : Device Programmer) where
   -- each exchange is the next of the list
   abbrev pub this_link : World Spot ⊤
   this_link = record {
-    reads = λ bytes z move. reading_of_exchange (first_exchange z.1) (m.answer bytes z.0);
+    reads = λ bytes z move. reading_of_exchange (first_exchange z.1) (m.reply bytes z.0);
     after = λ bytes z move. (after_exchange (first_exchange z.1) (m.after bytes z.0) z.0 m.reset, later_exchanges z.1);
   }
 

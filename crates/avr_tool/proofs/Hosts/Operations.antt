@@ -28,7 +28,7 @@ use Rattle.avr_tool.proofs.OverFaultyLink.FirstSteps.{quiet_stays, read_quiet}
 use Rattle.avr_tool.proofs.Leads.{Reached, AfterSteps, AfterBeginning, memories_after_steps, IsDataOfAttempt}
 use Rattle.avr_tool.proofs.Hosts.Attempts.{along_bind, along_next_dialog}
 use Rattle.avr_tool.proofs.WriteOperations.Steps.{sign_on_fits, enter_fits}
-use Rattle.stk_emu.proofs.Answers.Commands.{settled_idle}
+use Rattle.stk_emu.proofs.Replies.Commands.{settled_idle}
 use Rattle.avr_tool.proofs.Given.WholeMemories.{one_by_one}
 use Rattle.avr_tool.proofs.WriteOperations.OutsideMode.{step_fits}
 use Rattle.avr_tool.proofs.Given.StepsGive.{gives_given, changed_sizes}

@@ -20,8 +20,8 @@ use Rattle.stk_emu.specs.Wire.{AreLawful, exchanges_of_fates, fresh_wire}
 use Rattle.stk_emu.specs.Wired.{WiredState, FollowsFates, NeverIdle, brought}
 use Rattle.stk_emu.specs.DialogOverExchanges.{state_after, outputs_after, SendsValidBodies}
 use Rattle.stk_emu.proofs.Wires.Arrivals.{none_clear}
-use Rattle.stk_emu.proofs.Answers.BodySizes.{replies_fit_frames}
-use Rattle.avr_tool.proofs.Given.LaterAnswers.{answer_extends}
+use Rattle.stk_emu.proofs.Replies.BodySizes.{replies_fit_frames}
+use Rattle.avr_tool.proofs.Given.LongerTape.{reading_extends}
 use Rattle.avr_tool.proofs.Lines.Plays.{played_along, emitted_played, done_played, waits_played}
 use Rattle.avr_tool.proofs.Lines.WireTapes.{GoesOver, over_wire}
 
@@ -103,7 +103,7 @@ played_goes (Ask bytes go_on) n t u =
       )
       | Some got ↦ λ e.
           let g = played_goes (go_on got.0) (next n) got.1 u in
-          (g.0, ap sent_by (answer_extends n t u got.0 got.1 e) ∙ ap (λ fs. frame n bytes ∷ fs) g.1)
+          (g.0, ap sent_by (reading_extends n t u got.0 got.1 e) ∙ ap (λ fs. frame n bytes ∷ fs) g.1)
     ]) refl
 
 -- a part of a frame contains no frame

@@ -18,7 +18,7 @@ played_along m zero (Ask bytes go_on) n p exchanges left = record {
 }
 played_along m (suc k) (Ask bytes go_on) n p exchanges left =
     prepend_events (Frame (frame n bytes) ∷ [])
-    (played_along m k (go_on (reading_of_exchange (first_exchange exchanges) (m.answer bytes p))) (next n)
+    (played_along m k (go_on (reading_of_exchange (first_exchange exchanges) (m.reply bytes p))) (next n)
     (after_exchange (first_exchange exchanges) (m.after bytes p) p m.reset) (later_exchanges exchanges) left)
 
 abbrev pub result_of : {R : Type 0} → R → Option (R × ℕ × Tape) → R
@@ -45,7 +45,7 @@ module _ {E R P : Type 0} (m : Device P) where
   emitted_played k (Emit e d) n p exchanges left = ap (λ emitted. e ∷ emitted) (emitted_played k d n p exchanges left)
   emitted_played zero (Ask bytes go_on) n p exchanges left = refl
   emitted_played (suc k) (Ask bytes go_on) n p exchanges left =
-      emitted_played k (go_on (reading_of_exchange (first_exchange exchanges) (m.answer bytes p))) (next n)
+      emitted_played k (go_on (reading_of_exchange (first_exchange exchanges) (m.reply bytes p))) (next n)
       (after_exchange (first_exchange exchanges) (m.after bytes p) p m.reset) (later_exchanges exchanges) left
 
   pub done_played : (k : ℕ) (d : Dialog E R) (n : ℕ) (p : P) (exchanges : List Exchange) (left : Tape) (r : R) (seq : ℕ)
@@ -55,7 +55,7 @@ module _ {E R P : Type 0} (m : Device P) where
   done_played k (Emit e d) n p exchanges left r seq rest o = done_played k d n p exchanges left r seq rest o
   done_played zero (Ask bytes go_on) n p exchanges left r seq rest o = absurd (none-some (r, seq, rest) o)
   done_played (suc k) (Ask bytes go_on) n p exchanges left r seq rest o =
-      done_played k (go_on (reading_of_exchange (first_exchange exchanges) (m.answer bytes p))) (next n)
+      done_played k (go_on (reading_of_exchange (first_exchange exchanges) (m.reply bytes p))) (next n)
       (after_exchange (first_exchange exchanges) (m.after bytes p) p m.reset) (later_exchanges exchanges) left r seq
       rest o
 
@@ -66,5 +66,5 @@ module _ {E R P : Type 0} (m : Device P) where
   waits_played k (Emit e d) n p exchanges left none = waits_played k d n p exchanges left none
   waits_played zero (Ask bytes go_on) n p exchanges left none = refl
   waits_played (suc k) (Ask bytes go_on) n p exchanges left none =
-      ap suc (waits_played k (go_on (reading_of_exchange (first_exchange exchanges) (m.answer bytes p))) (next n)
+      ap suc (waits_played k (go_on (reading_of_exchange (first_exchange exchanges) (m.reply bytes p))) (next n)
       (after_exchange (first_exchange exchanges) (m.after bytes p) p m.reset) (later_exchanges exchanges) left none)

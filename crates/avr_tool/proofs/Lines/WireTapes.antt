@@ -4,14 +4,14 @@ use Rattle.std.proofs.lemmas.List.Elements.{All-tail}
 use Rattle.stk_frame.specs.Frame.{frame}
 use Rattle.stk_host.specs.Tape.{Reading, answer}
 use Rattle.stk_host.specs.Dialog.{Dialog, Done, Emit, Ask, Frame, played, prepend_events, next, frames_in}
-use Rattle.stk_host.proofs.Tapes.Answers.{answer_waits}
+use Rattle.stk_host.proofs.Tapes.Readings.{reading_waits}
 use Rattle.stk_emu.specs.declared.fate.Fate.{Fate}
 use Rattle.stk_emu.specs.Device.{Device}
 use Rattle.stk_emu.specs.Wire.{first_fate, other_fates, exchange_of_fate, exchanges_of_fates, executions_of_fates, IsLawfulFate, AreLawful, Wire, wire_after_frame, wire_after_frames, tape_of}
 use Rattle.stk_emu.specs.Lawful.{NoneHasNumber}
 use Rattle.stk_emu.specs.Exchange.{Exchange, after_exchange, reading_of_exchange}
 use Rattle.stk_emu.specs.DialogOverExchanges.{state_after, SendsValidBodies}
-use Rattle.stk_emu.proofs.Answers.BodySizes.{RepliesFitFrames}
+use Rattle.stk_emu.proofs.Replies.BodySizes.{RepliesFitFrames}
 use Rattle.stk_emu.proofs.Wires.Arrivals.{arrival_read, arrival_leaves, arrival_late}
 use Rattle.avr_tool.specs.Authentic.{RepliesAreAuthentic}
 use Rattle.avr_tool.proofs.Lines.Plays.{played_along, head_is, tail_is, cons_none}
@@ -32,19 +32,19 @@ pub record GoesOver {E R P : Type 0} (m : Device P) (d : Dialog E R) (n : ℕ) (
   pub is_authentic : (j : ℕ) → length sent ≤ j → RepliesAreAuthentic m d n (tape_of m sent w) p
       (executions_of_fates j w.fates)
 
-module _ {P : Type 0} (m : Device P) (answers : RepliesFitFrames m) where
+module _ {P : Type 0} (m : Device P) (replies_fit : RepliesFitFrames m) where
   -- a command whose reply came, by its own exchange
-  answered : {E R : Type 0} (bytes : List ℕ) (go_on : Reading → Dialog E R) (n : ℕ) (w : Wire P) (sent : List (List ℕ))
+  replied : {E R : Type 0} (bytes : List ℕ) (go_on : Reading → Dialog E R) (n : ℕ) (w : Wire P) (sent : List (List ℕ))
       (exchanges : List Exchange) → answer n (tape_of m (frame n bytes ∷ sent) w) ≡ Some (
-        reading_of_exchange (exchange_of_fate (first_fate w.fates)) (m.answer bytes w.programmer),
+        reading_of_exchange (exchange_of_fate (first_fate w.fates)) (m.reply bytes w.programmer),
         tape_of m sent (wire_after_frame m (frame n bytes) w),
       )
-      → GoesOver m (go_on (reading_of_exchange (exchange_of_fate (first_fate w.fates)) (m.answer bytes w.programmer)))
+      → GoesOver m (go_on (reading_of_exchange (exchange_of_fate (first_fate w.fates)) (m.reply bytes w.programmer)))
       (next n) (wire_after_frame m (frame n bytes) w) sent
       (after_exchange (exchange_of_fate (first_fate w.fates)) (m.after bytes w.programmer) w.programmer m.reset)
       exchanges → GoesOver m (Ask bytes go_on) n w (frame n bytes ∷ sent) w.programmer
       (exchange_of_fate (first_fate w.fates) ∷ exchanges)
-  answered bytes go_on n w sent exchanges read goes = search rules
+  replied bytes go_on n w sent exchanges read goes = search rules
 
   by_fates : {E R : Type 0} (bytes : List ℕ) (go_on : Reading → Dialog E R) (n : ℕ) (w : Wire P) (f : List ℕ)
       (sent : List (List ℕ)) (p : P) (fates : List Fate)
@@ -64,13 +64,13 @@ module _ {P : Type 0} (m : Device P) (answers : RepliesFitFrames m) where
   over_wire (Done r) n w (f ∷ sent) more asks clear lawful e = absurd (cons_none f (sent ++ more) e)
   over_wire (Emit s d) n w sent more asks clear lawful e = search (rules, over_wire d n w sent more asks clear lawful e)
   over_wire (Ask bytes go_on) n w [] more asks clear lawful e =
-      let waits : answer n [] ≡ None = answer_waits n [] refl (omega arith) in
+      let waits : answer n [] ≡ None = reading_waits n [] refl (omega arith) in
       search rules
   over_wire {E = E} {R = R} (Ask bytes go_on) n w (f ∷ sent) more asks clear lawful e =
       let is : frame n bytes ≡ f = head_is (frame n bytes) f _ (sent ++ more) e in
-      let a = answers bytes w.programmer asks.0 in
+      let a = replies_fit bytes w.programmer asks.0 in
       let w' = wire_after_frame m (frame n bytes) w in
-      let reading = reading_of_exchange (exchange_of_fate (first_fate w.fates)) (m.answer bytes w.programmer) in
+      let reading = reading_of_exchange (exchange_of_fate (first_fate w.fates)) (m.reply bytes w.programmer) in
       let read : answer n (tape_of m (frame n bytes ∷ sent) w) ≡ Some (reading, tape_of m sent w') =
       arrival_read m n bytes w (tape_of m sent w') asks.0 a clear (first_lawful w.fates lawful) in
       let first : played (Ask bytes go_on) n (tape_of m (f ∷ sent) w)
@@ -81,4 +81,4 @@ module _ {P : Type 0} (m : Device P) (answers : RepliesFitFrames m) where
       (tail_is (frame n bytes) f _ (sent ++ more) (sym (ap (λ x. frames_in x.events) first) ∙ e)) in
       subst (λ g. GoesOver m (Ask bytes go_on) n w (g ∷ sent) w.programmer (exchanges_of_fates w.fates)) is
       (by_fates bytes go_on n w (frame n bytes) sent w.programmer w.fates
-      (search (rules, answered, arrival_leaves)))
+      (search (rules, replied, arrival_leaves)))

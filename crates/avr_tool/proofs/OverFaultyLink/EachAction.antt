@@ -15,7 +15,7 @@ use Rattle.stk_host.specs.declared.fault.StepFault.{StepFault}
 use Rattle.stk_host.specs.declared.fault.StepFault.TheVariants as of_step
 use Rattle.stk_host.specs.Operations.{opening, closing, host_fault, checked_by, signature_checked}
 use Rattle.stk_host.specs.Steps.{StepOutcome}
-use Rattle.stk_emu.proofs.Answers.Commands.{settled_idle}
+use Rattle.stk_emu.proofs.Replies.Commands.{settled_idle}
 use Rattle.stk_emu.specs.Device.{device}
 use Rattle.stk_emu.specs.Effect.{Memories, Item, effects, memories_of}
 use Rattle.stk_emu.specs.WriteOperations.{steps_of_items}
@@ -145,10 +145,10 @@ abbrev pub fault_output : Part → StepFault → List OutputEvent
 fault_output part fault = PrintsLine (fault_line part (host_fault fault)) ∷ []
 
 module _ (part : Part) (s : Switches) where
-  fault_says : (action : Action) (fault : StepFault)
+  fault_prints : (action : Action) (fault : StepFault)
       → outcome_output part s action (Err (host_fault fault)) ≡ fault_output part fault
-  fault_says OpenSession of_step.NoAnswer = refl
-  fault_says action fault = search rules
+  fault_prints OpenSession of_step.NoAnswer = refl
+  fault_prints action fault = search rules
 
   -- the output of an action is true
   module _ (True : OutputEvent → Programmer → Type 0) where
@@ -201,7 +201,7 @@ module _ (part : Part) (sound : IsPart part) (s : Switches) (True : OutputEvent 
         each got y (inr broke) =
             let fault = broke.1.0 in
             let line : outcome_output part s action got ≡ fault_output part fault =
-            ap (outcome_output part s action) broke.1.1 ∙ fault_says part s action fault in (
+            ap (outcome_output part s action) broke.1.1 ∙ fault_prints part s action fault in (
               subst (λ x. AllTrue True x y.0) (sym line) (fault_true fault y.0),
               (
                 broke.1.2,

@@ -28,11 +28,11 @@ sendable bytes le = record { some = grind (arith, nat_tests); few = grind (arith
 asks_light : {E R : Type 0} (d : Dialog E R) → WeighsAtMost unsendable 0 d → SendsValidBodies d
 asks_light (Done r) f = tt
 asks_light (Emit e d) f = asks_light d f.1
-asks_light (Ask asked answered) f = (
+asks_light (Ask asked resume) f = (
   sendable asked f.0,
   λ reading.
       let none : 0 - unsendable asked ≡ 0 = omega arith in
-      asks_light (answered reading) (subst (λ n. WeighsAtMost unsendable n (answered reading)) none (f.1 reading)),
+      asks_light (resume reading) (subst (λ n. WeighsAtMost unsendable n (resume reading)) none (f.1 reading)),
 )
 
 commands_light : (commands : List Command) → AreSendable commands → total_weight unsendable (map body commands) ≡ 0

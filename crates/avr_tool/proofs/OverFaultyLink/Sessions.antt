@@ -13,7 +13,7 @@ use Rattle.stk_host.proofs.Dialogs.Logic.{wider}
 use Rattle.stk_host.specs.declared.fault.HostFault.{HostFault}
 use Rattle.stk_host.specs.declared.fault.StepFault.{StepFault}
 use Rattle.stk_host.specs.Operations.{host_fault}
-use Rattle.stk_emu.proofs.Answers.Commands.{settled_idle}
+use Rattle.stk_emu.proofs.Replies.Commands.{settled_idle}
 use Rattle.stk_emu.specs.Device.{device}
 use Rattle.stk_emu.specs.Effect.{Memories, memories_of}
 use Rattle.stk_emu.specs.WriteOperations.{steps_of_items}

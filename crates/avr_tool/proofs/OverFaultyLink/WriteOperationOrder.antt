@@ -37,7 +37,7 @@ use Rattle.avr_tool.proofs.Hosts.OneLink.{Spot, on_link}
 use Rattle.avr_tool.proofs.Hosts.Outputs.{Anything, Prints, any_outputs, stops, at_moment, prints_reported, prints_then, prints_wider}
 use Rattle.avr_tool.proofs.WriteOperations.Steps.{leave_fits}
 use Rattle.avr_tool.proofs.Plans.Calls.{outcome_of, outcome_output, dialog_is, is_operation}
-use Rattle.stk_emu.proofs.Answers.Commands.{settled_idle}
+use Rattle.stk_emu.proofs.Replies.Commands.{settled_idle}
 use Rattle.avr_tool.proofs.OverFaultyLink.WriteOperations.{Changed, Makes, makes_none, makes_items, makes_then}
 
 -- an action makes the write operations of these items, from a programmer in programming mode with these memories

@@ -4,7 +4,7 @@ use Rattle.avr_cli.specs.declared.settings.Settings.{Settings}
 use Rattle.avr_desk.specs.Fault.{CountsNeverFall}
 use Rattle.avr_desk.specs.Lines.{memory_line, not_opened_line, not_read_line}
 use Rattle.avr_desk.specs.Record.{DeskState, Record, Bytes, after_err}
-use Rattle.avr_desk.specs.OutputEvents.{OutputEvent, PrintsLine, IsPrefixOfBytes, ReportsLineAs, after_events}
+use Rattle.avr_desk.specs.OutputEvents.{OutputEvent, PrintsLine, IsBytePrefixOf, ReportsLineAs, after_events}
 use Rattle.avr_desk.proofs.Stages.Outputs.{kept_append, after_append}
 use Rattle.avr_desk.proofs.Lines.ReportedAs.{follows_on, follows_same, same_on}
 use Rattle.avr_plan.specs.Plan.{Plan}
@@ -36,8 +36,8 @@ emitted_bytes (event ∷ output_events) events = emitted_bytes output_events eve
 abbrev after_planning : StageResult Plan → Tape → Played OutputEvent ℕ
 after_planning p tape = prepend_events (map Emitted p.output_events) (run_after_planning p.stage_outcome tape)
 
-answered : {p q : StageResult Plan} → p ≡ q → p.stage_outcome ≡ q.stage_outcome
-answered e = ap (λ (p : StageResult Plan). p.stage_outcome) e
+outcomes_equal : {p q : StageResult Plan} → p ≡ q → p.stage_outcome ≡ q.stage_outcome
+outcomes_equal e = ap (λ (p : StageResult Plan). p.stage_outcome) e
 
 pub ran_whole : (settings : Settings) (plan : Plan) (x y : Devices) (between : DeskState) (status : ℕ)
     → StageCompleted (planned settings) x.desk between (Produced plan)
@@ -75,7 +75,7 @@ refused_whole settings x y same (line, went) = record {
   next = 1;
   left = [];
   is = λ later more. ap (λ q. after_planning q more) (went.comes later);
-  in_turn = λ later. subst (λ stage_outcome. IsInTurn stage_outcome []) (sym (answered (went.comes later))) refl;
+  in_turn = λ later. subst (λ stage_outcome. IsInTurn stage_outcome []) (sym (outcomes_equal (went.comes later))) refl;
   all_sent = emitted_bytes went.output_events (Emitted (PrintsLine line) ∷ []);
   grows = subst (λ (l : LinkState). Grows x.link.transcript [] l.transcript) (sym same) (grows_none x.link.transcript);
   kept = went.kept ∙ ap (λ output_events. after_events output_events x.desk.kept)
@@ -127,15 +127,15 @@ shown_kept output_events shown notice r s t first then =
     (sym (append-nil (outputs (map Emitted output_events ++ shown)) ∙ emitted_outputs output_events shown))
 
 -- what was reported is a part of the reason's line
-line_part : (line notice : Bytes) (x y : DeskState) → ReportsLineAs line notice x y → IsPrefixOfBytes notice line
+line_part : (line notice : Bytes) (x y : DeskState) → ReportsLineAs line notice x y → IsBytePrefixOf notice line
 line_part line notice x y (inl whole) = ([], append-nil notice ∙ whole.0)
 line_part line notice x y (inr part) = part.0
 
-none_part : (line notice : Bytes) → notice ≡ [] → IsPrefixOfBytes notice line
+none_part : (line notice : Bytes) → notice ≡ [] → IsBytePrefixOf notice line
 none_part line notice none = (line, ap (λ t. t ++ line) none)
 
 cause_part : (has_reported : Bool) (cause : Cause) (notice : Bytes) (x y : DeskState)
-    → ReportsCause has_reported cause notice x y → IsPrefixOfBytes notice (cause_line cause)
+    → ReportsCause has_reported cause notice x y → IsBytePrefixOf notice (cause_line cause)
 cause_part false cause notice x y is_reported = line_part (cause_line cause) notice x y is_reported
 cause_part true SendingFailed notice x y none = none_part (cause_line SendingFailed) notice none
 cause_part true ReceivingFailed notice x y none = none_part (cause_line ReceivingFailed) notice none
@@ -144,7 +144,7 @@ cause_part true (FileFailed file trouble) notice x y is_reported = absurd is_rep
 cause_part true AllocationFailed notice x y is_reported = absurd is_reported
 
 break_part : (break : BreakCause) (notice : Bytes) (x y : DeskState)
-    → ReportsBreakAs break notice x y → IsPrefixOfBytes notice (stop_line (InPlanning break))
+    → ReportsBreakAs break notice x y → IsBytePrefixOf notice (stop_line (InPlanning break))
 break_part (LineNotPrinted line) notice x y is_reported = is_reported.0
 break_part (NotOpened name) notice x y is_reported =
     line_part (not_opened_line name) notice is_reported.between y is_reported.is_reported
@@ -163,7 +163,7 @@ stopped_prefix settings x y stopped = record {
   reported_part = cause_part _ stopped.then_is.cause stopped.then_is.notice _ y.desk stopped.then_is.stops.is_reported;
   prefix = search (rules, prefix_behind);
   in_turn = λ later. subst (λ stage_outcome. IsInTurn stage_outcome stopped.then_is.during)
-      (sym (answered (stopped.made.comes later))) stopped.then_is.breaks.in_turn;
+      (sym (outcomes_equal (stopped.made.comes later))) stopped.then_is.breaks.in_turn;
   all_sent = emitted_bytes stopped.made.output_events stopped.then_is.shown ∙ stopped.then_is.breaks.all_sent;
   grows = stopped.then_is.grows;
   kept = shown_kept stopped.made.output_events stopped.then_is.shown stopped.then_is.notice x.desk.kept

@@ -13,7 +13,7 @@ use Rattle.stk_host.specs.Steps.{StepOutcome, step, unless_step_fault, play}
 use Rattle.stk_host.specs.ReadSteps.{signature_steps}
 use Rattle.stk_host.specs.Operations as host
 use Rattle.stk_host.specs.Operations.{checked_by, signature_checked, no_result}
-use Rattle.stk_emu.proofs.Answers.Commands.{ready_idle, ready_settled}
+use Rattle.stk_emu.proofs.Replies.Commands.{ready_idle, ready_settled}
 use Rattle.stk_emu.specs.Device.{device}
 use Rattle.stk_emu.specs.Effect.{Memories, effects}
 use Rattle.stk_emu.specs.StepData.{data_of_steps}

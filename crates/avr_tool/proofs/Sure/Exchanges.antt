@@ -17,7 +17,7 @@ use Rattle.avr_tool.proofs.Leads.{memories_after_steps}
 use Rattle.stk_emu.specs.StepData.{data_of_step, data_of_steps}
 use Rattle.stk_emu.proofs.Repeatable.{joined_reply, IsRepeatable}
 use Rattle.avr_tool.proofs.Hosts.OneLink.{Spot, Runs}
-use Rattle.stk_emu.proofs.Answers.Commands.{steady}
+use Rattle.stk_emu.proofs.Replies.Commands.{steady}
 use Rattle.avr_tool.proofs.WriteOperations.Steps.{step_ready}
 use Rattle.avr_tool.proofs.Given.StepsGive.{step_data, changed_sizes, given_same}
 

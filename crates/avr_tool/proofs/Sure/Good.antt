@@ -14,7 +14,7 @@ use Rattle.stk_emu.proofs.Repeatable.{on_data, joined_reply, IsRepeatable}
 use Rattle.avr_tool.specs.OverFaultyLink.{AllArriveRight}
 use Rattle.avr_tool.proofs.Hosts.AnyExchange.{AfterStep, try_goes}
 use Rattle.avr_tool.proofs.Hosts.OneLink.{Spot, this_link, Runs, on_link, both}
-use Rattle.stk_emu.proofs.Answers.Commands.{steady}
+use Rattle.stk_emu.proofs.Replies.Commands.{steady}
 use Rattle.avr_tool.proofs.WriteOperations.OutsideMode.{gathered_steady}
 use Rattle.avr_tool.proofs.Sure.Exchanges.{IsSure}
 
@@ -66,11 +66,11 @@ same_data a b e = cc
 abbrev Has : List ℕ → Dialog ⊥ Reply → Spot → Type 0
 Has got d z = Runs steady (λ y. ⊤) (λ reply y. (reply ≡ Data got) × AllArriveRight y.1) d z
 
-answered : (go_on : List ℕ → Dialog ⊥ Reply) (go : List ℕ → Reply) (got : List ℕ) (z : Spot) (reply : Reply)
+replied : (go_on : List ℕ → Dialog ⊥ Reply) (go : List ℕ → Reply) (got : List ℕ) (z : Spot) (reply : Reply)
     → ((bytes : List ℕ) → go bytes ≡ Data got → Has got (go_on bytes) z)
     → on_data reply go ≡ Data got → Has got (with_data go_on reply) z
-answered go_on go got z (Data bytes) each has = each bytes has
-answered go_on go got z reply each has = search rules
+replied go_on go got z (Data bytes) each has = each bytes has
+replied go_on go got z reply each has = search rules
 
 attempt_has : (commands : List Command) (before : List ℕ) (z : Spot) (got : List ℕ) → AllArriveRight z.1
     → joined_reply steady commands before z.0 ≡ Data got → Has got (attempt commands before) z
@@ -80,9 +80,9 @@ attempt_has (command ∷ commands) before z got good has =
     let q = steady.after (body command) z.0 in
     let go_on : List ℕ → Dialog ⊥ Reply = λ bytes. attempt commands (before ++ bytes) in
     ask tt (λ move. subst (λ one_exchange. Has got
-    (with_data go_on (reply_from_reading command (reading_of_exchange one_exchange (steady.answer (body command) z.0))))
+    (with_data go_on (reply_from_reading command (reading_of_exchange one_exchange (steady.reply (body command) z.0))))
     (after_exchange one_exchange q z.0 steady.reset, later_exchanges z.1)) (sym (first_good z.1 good))
-    (answered go_on (λ bytes. joined_reply steady commands (before ++ bytes) q) got (q, later_exchanges z.1) _
+    (replied go_on (λ bytes. joined_reply steady commands (before ++ bytes) q) got (q, later_exchanges z.1) _
     (λ bytes f. attempt_has commands (before ++ bytes) (q, later_exchanges z.1) got (others_good z.1 good) f) has))
 
 module _ (Before After : Programmer → Type 0) (commands : List Command) (got : List ℕ)

@@ -14,7 +14,7 @@ use Rattle.stk_host.specs.declared.fault.StepFault.{StepFault}
 use Rattle.stk_host.specs.declared.fault.StepFault.TheVariants.{Refused}
 use Rattle.stk_host.specs.Places.{flash_address}
 use Rattle.stk_host.specs.Steps.{Data, Stop, reply_from_reading}
-use Rattle.stk_host.specs.Tape.{Answered}
+use Rattle.stk_host.specs.Tape.{Replied}
 use Rattle.stk_emu.specs.Programmer.{Programmer, Response, fail, execute, execute_command}
 use Rattle.stk_emu.specs.Device.{device}
 use Rattle.stk_emu.specs.Effect.{Memories}
@@ -22,7 +22,7 @@ use Rattle.stk_emu.specs.Settled.{Ready}
 use Rattle.avr_tool.proofs.Leads.{AllFit, memories_after_steps}
 use Rattle.stk_emu.proofs.Repeatable.{on_data, reply_to, joined_reply, after_commands, IsRepeatable, Settled}
 use Rattle.stk_emu.specs.WriteOperations.{memories_after_step, IsStep, Erases, ProgramsPage, ProgramsEepromRun, ProgramsFuse, ProgramsLock, ReadsFlash, ReadsEeprom, ReadsFuse, ReadsLock, ReadsSignature, ReadsCalibration, AreSteps}
-use Rattle.stk_emu.proofs.Answers.Commands.{executes_command, executed_none, steady, ready_settled, settled_ready, restart_is_settled}
+use Rattle.stk_emu.proofs.Replies.Commands.{executes_command, executed_none, steady, ready_settled, settled_ready, restart_is_settled}
 use Rattle.avr_tool.proofs.WriteOperations.Steps.{step_ready, address_fits}
 
 -- a command that fails and changes nothing
@@ -35,13 +35,13 @@ pub stop_no : (fault : StepFault) (bytes : List ℕ) → Stop fault ≡ Data byt
 stop_no fault bytes e = cc
 
 fails_by : (c : Command) (code : ℕ) (fault : StepFault) (p : Programmer) (done : Response)
-    → execute (body c) p ≡ cond p.mode done (fail code p) → reply_from_reading c (Answered (code ∷ 0xC0 ∷ []))
+    → execute (body c) p ≡ cond p.mode done (fail code p) → reply_from_reading c (Replied (code ∷ 0xC0 ∷ []))
     ≡ Stop fault → p.mode ≡ false → Fails c p
 fails_by c code fault p done is stops off =
     let failed : execute (body c) p ≡ fail code p = is ∙ cond-false p.mode done (fail code p) off in
     record {
       fault = fault;
-      reply = ap (λ (z : Response). reply_from_reading c (Answered z.0)) failed ∙ stops;
+      reply = ap (λ (z : Response). reply_from_reading c (Replied z.0)) failed ∙ stops;
       after = ap (λ (z : Response). z.1) failed;
     }
 

@@ -17,10 +17,10 @@ use Rattle.stk_emu.specs.Settled.{HasMemories, Ready}
 use Rattle.stk_emu.proofs.Repeatable.{IsRepeatable, Settled}
 use Rattle.stk_emu.specs.WriteOperations.{memories_after_step, IsStep, Erases, ProgramsPage, ProgramsEepromRun, ProgramsFuse, ProgramsLock, ReadsFlash, ReadsEeprom, ReadsFuse, ReadsLock, ReadsSignature, ReadsCalibration, IsPage, FitsEepromPage, IsBlock, AreWords}
 use Rattle.stk_emu.proofs.Memories.LaidImages.{laid_twice, and_in_twice, and_byte}
-use Rattle.stk_emu.proofs.Answers.Commands.{one_fits, steady, one_steady, two_steady, settled_idle, ready_settled, ready_idle, restart_keeps_memories, restart_is_settled, enter_does, leave_keeps, load_keeps, fuse_does, lock_does, erase_does, fuse_read_after, lock_read_after, calibration_read_after}
+use Rattle.stk_emu.proofs.Replies.Commands.{one_fits, steady, one_steady, two_steady, settled_idle, ready_settled, ready_idle, restart_keeps_memories, restart_is_settled, enter_does, leave_keeps, load_keeps, fuse_does, lock_does, erase_does, fuse_read_after, lock_read_after, calibration_read_after}
 use Rattle.stk_emu.proofs.Memories.Runs.{run_does}
 use Rattle.stk_emu.proofs.Memories.Pages.{page_does}
-use Rattle.avr_tool.proofs.Given.ReadAnswers.{flash_read_keeps, eeprom_read_keeps}
+use Rattle.avr_tool.proofs.Given.ReadReplies.{flash_read_keeps, eeprom_read_keeps}
 
 pub effect_twice : (part : Part) (item : Item) (m : Memories)
     → effect part item (effect part item m) ≡ effect part item m

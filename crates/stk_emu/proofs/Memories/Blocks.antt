@@ -30,9 +30,9 @@ pub record LooksOn (before : List ℕ) (whole : List ℕ × ChipState) (out : Li
 
 -- one more byte was read: an instruction was sent, and its fourth output byte was appended
 pub record PutsLook (x : List ℕ) (chip after : ChipState) (out new : List ℕ) : Type 0 where
-  pub answer : List ℕ
-  pub executed : (answer, after) ≡ spi_of x chip
-  pub put : new ≡ out ++ get_or answer 3 0 ∷ []
+  pub spi_out : List ℕ
+  pub executed : (spi_out, after) ≡ spi_of x chip
+  pub put : new ≡ out ++ get_or spi_out 3 0 ∷ []
 
 module _ (before : List ℕ) (whole : List ℕ × ChipState) (cmd address i : ℕ) where
   pub flash_look : (wide : Bool) (n m : ℕ) (chip after : ChipState) (out new : List ℕ) → n ≡ suc m
@@ -55,5 +55,5 @@ pub block_done : (code moved : ℕ) (fits : Bool) (p new : Programmer) (loads wr
     → out ≡ code ∷ 0 ∷ []
     → (out, new) ≡ if_programming code p
     (if fits then (code ∷ 0 ∷ [], with_address_moved moved (with_instructions (loads ++ writes) p)) else fail code p)
-block_done code moved fits p new loads writes loaded written out mode fit load write is answer =
+block_done code moved fits p new loads writes loaded written out mode fit load write is filled =
     search (rules, sent-append)

@@ -50,8 +50,8 @@ pub block_is_loads : (wide : Bool) (cmd a last : ℕ) (bytes : List ℕ) (s load
     → cmd ≡ 0x40 → 0 < length bytes → last ≡ word_at a (length bytes - 1)
     → (done, loaded) ≡ load_block (a % 256) bytes s → done ≡ true → new ≡ after_instructions (extension wide last)
     loaded → new ≡ after_instructions (flash_loads wide cmd a 0 bytes) s
-block_is_loads wide cmd a last [] s loaded new done c some l answer is ext = absurd (omega arith)
-block_is_loads wide cmd a last (d ∷ ds) s loaded new done c some l answer is ext =
+block_is_loads wide cmd a last [] s loaded new done c some l is_done is ext = absurd (omega arith)
+block_is_loads wide cmd a last (d ∷ ds) s loaded new done c some l is_done is ext =
     search (rules, keeps_extended, all_loads)
 
 -- if the extended address is right already, reading changes nothing

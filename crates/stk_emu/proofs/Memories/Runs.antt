@@ -17,7 +17,7 @@ use Rattle.stk_emu.specs.Settled.{Ready}
 use Rattle.stk_emu.specs.WriteOperations.{image_at, memories_after_step, FitsEepromPage}
 use Rattle.stk_emu.proofs.Memories.Blocks.{sent-append}
 use Rattle.stk_emu.proofs.Memories.LaidImages.{put, run_laid, length_put}
-use Rattle.stk_emu.proofs.Answers.Commands.{in_mode_is}
+use Rattle.stk_emu.proofs.Replies.Commands.{in_mode_is}
 
 -- a loaded address that needs no extended address
 pub narrow_loaded : (address : ℕ) (p : Programmer) → address < 2147483648

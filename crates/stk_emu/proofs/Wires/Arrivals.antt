@@ -8,9 +8,9 @@ use Rattle.stk_frame.specs.Frame.{frame}
 use Rattle.stk_frame.specs.Cut.{cut, is_good}
 use Rattle.stk_frame.proofs.Laws.{cut_first, frame_is_piece, frame_is_good, body_of_frame}
 use Rattle.stk_host.specs.declared.link.Item.TheVariants.{Silence}
-use Rattle.stk_host.specs.Tape.{Tape, Answered, Silent, answer, on_tape, first_answer, past_skipped, reply_byte_limit}
+use Rattle.stk_host.specs.Tape.{Tape, Replied, Silent, answer, on_tape, first_reply, past_skipped, reply_byte_limit}
 use Rattle.stk_host.specs.Dialog.{next}
-use Rattle.stk_host.proofs.Tapes.Answers.{answer_found, answer_silent, on_tape_append, further_zero}
+use Rattle.stk_host.proofs.Tapes.Readings.{reading_found, reading_silent, on_tape_append, further_zero}
 use Rattle.stk_emu.specs.declared.fate.Fate.{Fate}
 use Rattle.stk_emu.specs.declared.fate.Fate.TheVariants.{Good, HeldAnswer, CommandRefused, AnswerSpoiled}
 use Rattle.stk_emu.specs.Device.{Device, refusal}
@@ -19,7 +19,7 @@ use Rattle.stk_emu.specs.Lawful.{IsLawful, IsFrameBody, Late, no_late_replies, w
 use Rattle.stk_emu.specs.Exchange.{after_exchange, reading_of_exchange}
 
 -- without a good frame there is no reply
-none_good : (n : ℕ) (pieces : List (List ℕ)) → filter is_good pieces ≡ [] → first_answer n pieces ≡ None
+none_good : (n : ℕ) (pieces : List (List ℕ)) → filter is_good pieces ≡ [] → first_reply n pieces ≡ None
 none_good n [] e = refl
 none_good n (piece ∷ pieces) e = elim (cases_Bool (is_good piece)) [
   | inl good ↦ let f = rw good at e in cc
@@ -31,11 +31,11 @@ frame_cut n bytes more b = cut_first (frame n bytes) more (frame_is_piece n byte
 
 -- Skipped bytes don't change how those after them are read.
 pub record Skipped (n : ℕ) (prefix : List ℕ) : Type 0 where
-  pub first : (more : List ℕ) → first_answer n (cut (prefix ++ more))
-      ≡ past_skipped (length prefix) (first_answer n (cut more))
+  pub first : (more : List ℕ) → first_reply n (cut (prefix ++ more))
+      ≡ past_skipped (length prefix) (first_reply n (cut more))
 
 pub none_skipped : (n : ℕ) → Skipped n []
-none_skipped n = record { first = λ more. further_zero (first_answer n (cut more)) }
+none_skipped n = record { first = λ more. further_zero (first_reply n (cut more)) }
 
 pub frame_skipped : (n seq : ℕ) (bytes : List ℕ) → seq ≢ n → IsFrameBody bytes → Skipped n (frame seq bytes)
 frame_skipped n seq bytes other carried = search (rules, frame_cut)
@@ -60,30 +60,30 @@ clear_length : (n : ℕ) (late : Late) → NoneHasNumber n late → length (wait
 clear_length n late c = search (rules, length-append)
 
 pub found_frame : (n : ℕ) (bytes : List ℕ) → IsFrameBody bytes
-    → first_answer n (cut (frame n bytes)) ≡ Some (bytes, length (frame n bytes))
+    → first_reply n (cut (frame n bytes)) ≡ Some (bytes, length (frame n bytes))
 found_frame n bytes b = grind (arith, common_steps)
 
 reads_frame : (n : ℕ) (prefix bytes : List ℕ) (more : Tape) → Skipped n prefix → length prefix ≤ 3 * LARGEST_FRAME
-    → IsFrameBody bytes → answer n ((on_tape prefix ++ on_tape (frame n bytes)) ++ more) ≡ Some (Answered bytes, more)
+    → IsFrameBody bytes → answer n ((on_tape prefix ++ on_tape (frame n bytes)) ++ more) ≡ Some (Replied bytes, more)
 reads_frame n prefix bytes more skipped short b =
-    let found : first_answer n (cut (prefix ++ frame n bytes)) ≡ Some (bytes, length (prefix ++ frame n bytes)) =
+    let found : first_reply n (cut (prefix ++ frame n bytes)) ≡ Some (bytes, length (prefix ++ frame n bytes)) =
     rw (skipped.first (frame n bytes), found_frame n bytes b, length-append prefix (frame n bytes)) refl in
     let few : length (prefix ++ frame n bytes) ≤ reply_byte_limit =
     search (rules, length-append) in
     ap (λ t. answer n (t ++ more)) (sym (on_tape_append prefix (frame n bytes)))
-    ∙ answer_found n (prefix ++ frame n bytes) more bytes found few
+    ∙ reading_found n (prefix ++ frame n bytes) more bytes found few
 
 reads_silence : (n : ℕ) (prefix noise : List ℕ) (more : Tape) → Skipped n prefix → length prefix ≤ 3 * LARGEST_FRAME
     → IsLawful noise → answer n ((on_tape prefix ++ (on_tape noise ++ Silence ∷ [])) ++ more) ≡ Some (Silent, more)
 reads_silence n prefix noise more skipped short lawful =
-    let none : first_answer n (cut (prefix ++ noise)) ≡ None =
+    let none : first_reply n (cut (prefix ++ noise)) ≡ None =
     skipped.first noise ∙ ap (past_skipped (length prefix)) (none_good n (cut noise) lawful.no_frame) in
     let few : length (prefix ++ noise) < reply_byte_limit =
     search (rules, length-append) in
     rw (append_assoc (on_tape prefix) (on_tape noise ++ Silence ∷ []) more)
     (rw (append_assoc (on_tape noise) (Silence ∷ []) more)
     (rw (← append_assoc (on_tape prefix) (on_tape noise) (Silence ∷ more), ← on_tape_append prefix noise)
-    (answer_silent n (prefix ++ noise) more none few)))
+    (reading_silent n (prefix ++ noise) more none few)))
 
 no_noise : IsLawful []
 no_noise = record { few = omega arith; no_frame = refl }
@@ -103,9 +103,9 @@ reads_back n _ late bytes more clear lawful b =
 
 -- The arrival for frame n is read whole, and nothing after it: as the programmer's reply, the refusal or a timeout.
 pub arrival_read : {P : Type 0} (m : Device P) (n : ℕ) (bytes : List ℕ) (w : Wire P) (more : Tape) → IsFrameBody bytes
-    → IsFrameBody (m.answer bytes w.programmer) → NoneHasNumber n w.late → IsLawfulFate (first_fate w.fates)
+    → IsFrameBody (m.reply bytes w.programmer) → NoneHasNumber n w.late → IsLawfulFate (first_fate w.fates)
     → answer n (arrival m (frame n bytes) w ++ more)
-    ≡ Some (reading_of_exchange (exchange_of_fate (first_fate w.fates)) (m.answer bytes w.programmer), more)
+    ≡ Some (reading_of_exchange (exchange_of_fate (first_fate w.fates)) (m.reply bytes w.programmer), more)
 arrival_read m n bytes w more b a clear lawful = search (rules, reads_back, frame_is_good, body_of_frame)
 
 -- and the programmer behind it
@@ -123,6 +123,6 @@ late_is : (n : ℕ) (fate : Fate) (bytes : List ℕ) (late : Late) → IsFrameBo
 late_is n fate bytes late b c = search rules
 
 pub arrival_late : {P : Type 0} (m : Device P) (n : ℕ) (bytes : List ℕ) (w : Wire P) → IsFrameBody bytes
-    → IsFrameBody (m.answer bytes w.programmer) → NoneHasNumber n w.late
+    → IsFrameBody (m.reply bytes w.programmer) → NoneHasNumber n w.late
     → NoneHasNumber (next n) (wire_after_frame m (frame n bytes) w).late
 arrival_late m n bytes w b a clear = search (rules, frame_is_good, body_of_frame, late_is)

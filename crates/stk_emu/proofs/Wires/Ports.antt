@@ -3,7 +3,7 @@ use Rattle.std.proofs.Common.{ℕ, List, ◌++◌, rules}
 use Rattle.stk_emu.specs.Programmer.{Programmer}
 use Rattle.stk_emu.specs.Emulator.{AppendsReplies}
 use Rattle.stk_emu.specs.Port.{PortState, IsPortAfter}
-use Rattle.stk_emu.proofs.Answers.Texts.{appends_fed, appends_all}
+use Rattle.stk_emu.proofs.Replies.Texts.{appends_fed, appends_all}
 
 -- what is written
 pub passed_in : (old new : PortState) (bytes : List ℕ) (p : Programmer) (written given : List ℕ)

@@ -3,7 +3,7 @@ use Rattle.std.proofs.Common.{◌≡◌, ℕ, zero, suc, ◌+◌, ◌-◌, ◌<�
 use Rattle.std.proofs.lemmas.List.{length-take, map-append, drop-map, drop-append-le, take-append-le, drop-drop, drop-take, take_rest, length-map, drop_all}
 use Rattle.stk_host.specs.declared.link.Item.TheVariants.{Byte, Silence, End}
 use Rattle.stk_host.specs.Tape.{Tape, on_tape, leading_bytes}
-use Rattle.stk_host.proofs.Tapes.Answers.{on_tape_append}
+use Rattle.stk_host.proofs.Tapes.Readings.{on_tape_append}
 use Rattle.stk_emu.specs.Waiting.{tape_in, AreWithin, HasNoLeadingByte}
 use Rattle.stk_emu.specs.Wired.{IsReceivedNext}
 

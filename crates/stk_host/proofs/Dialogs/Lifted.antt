@@ -22,12 +22,12 @@ pub played_lifted : {E R : Type 0} (dialog : Dialog ⊥ R) (seq : ℕ) (tape : T
     → played {E = E} (lifted dialog) seq tape ≡ raised_play (played dialog seq tape)
 played_lifted (Done r) seq tape = refl
 played_lifted (Emit e dialog) seq tape = absurd e
-played_lifted {E = E} (Ask body answered) seq tape =
+played_lifted {E = E} (Ask body resume) seq tape =
     ap (prepend_events (Frame (frame seq body) ∷ []))
-    (elim (answer seq tape) as (λ o. continue_with_reading (λ r. played {E = E} (lifted (answered r)) (next seq)) o
-    ≡ raised_play (continue_with_reading (λ r. played (answered r) (next seq)) o)) [
+    (elim (answer seq tape) as (λ o. continue_with_reading (λ r. played {E = E} (lifted (resume r)) (next seq)) o
+    ≡ raised_play (continue_with_reading (λ r. played (resume r) (next seq)) o)) [
       | None ↦ refl
-      | Some got ↦ played_lifted (answered got.0) (next seq) got.1
+      | Some got ↦ played_lifted (resume got.0) (next seq) got.1
     ])
 
 pub bytes_raised : (E : Type 0) (events : List (Event ⊥)) → bytes_sent (raised {E = E} events) ≡ bytes_sent events

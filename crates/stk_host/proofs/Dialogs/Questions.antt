@@ -21,36 +21,36 @@ use Rattle.stk_host.specs.Bound.{AsksAtMost, SendsAtMost, commands_in, opening_s
 asks_within : {E R : Type 0} (n m : ℕ) (d : Dialog E R) → n ≤ m → AsksAtMost n d → AsksAtMost m d
 asks_within n m (Done r) le f = tt
 asks_within n m (Emit e d) le f = asks_within n m d le f
-asks_within zero m (Ask body answered) le f = absurd f
-asks_within (suc n) zero (Ask body answered) le f = absurd (omega arith)
-asks_within (suc n) (suc m) (Ask body answered) le f =
-    λ reading. asks_within n m (answered reading) (omega arith) (f reading)
+asks_within zero m (Ask body resume) le f = absurd f
+asks_within (suc n) zero (Ask body resume) le f = absurd (omega arith)
+asks_within (suc n) (suc m) (Ask body resume) le f =
+    λ reading. asks_within n m (resume reading) (omega arith) (f reading)
 
 asks_bind : {E A B : Type 0} (n k m : ℕ) (d : Dialog E A) (go_on : A → Dialog E B) → n + k ≤ m → AsksAtMost n d
     → ((a : A) → AsksAtMost k (go_on a)) → AsksAtMost m (d >>= go_on)
 asks_bind n k m (Done a) go_on le f g = asks_within k m (go_on a) (omega arith) (g a)
 asks_bind n k m (Emit e d) go_on le f g = asks_bind n k m d go_on le f g
-asks_bind zero k m (Ask body answered) go_on le f g = absurd f
-asks_bind (suc n) k zero (Ask body answered) go_on le f g = absurd (omega arith)
-asks_bind (suc n) k (suc m) (Ask body answered) go_on le f g =
-    λ reading. asks_bind n k m (answered reading) go_on (omega arith) (f reading) g
+asks_bind zero k m (Ask body resume) go_on le f g = absurd f
+asks_bind (suc n) k zero (Ask body resume) go_on le f g = absurd (omega arith)
+asks_bind (suc n) k (suc m) (Ask body resume) go_on le f g =
+    λ reading. asks_bind n k m (resume reading) go_on (omega arith) (f reading) g
 
 -- frames
 
-heard_most : {E R : Type 0} (n : ℕ) (go_on : Reading → Tape → Played E R) (got : Option (Reading × Tape))
+read_most : {E R : Type 0} (n : ℕ) (go_on : Reading → Tape → Played E R) (got : Option (Reading × Tape))
     → ((reading : Reading) (left : Tape) → length (frames_in (go_on reading left).events) ≤ n)
     → length (frames_in (continue_with_reading go_on got).events) ≤ n
-heard_most n go_on got f = search rules
+read_most n go_on got f = search rules
 
 -- a dialog sends no more frames than it asks
 pub sends_most : {E R : Type 0} (n : ℕ) (d : Dialog E R) (seq : ℕ) (tape : Tape) → AsksAtMost n d
     → length (frames_in (played d seq tape).events) ≤ n
 sends_most n (Done r) seq tape f = omega arith
 sends_most n (Emit e d) seq tape f = sends_most n d seq tape f
-sends_most zero (Ask body answered) seq tape f = absurd f
-sends_most (suc n) (Ask body answered) seq tape f =
-    let l = heard_most n (λ reading. played (answered reading) (next seq)) (answer seq tape)
-    (λ reading left. sends_most n (answered reading) (next seq) left (f reading)) in search rules
+sends_most zero (Ask body resume) seq tape f = absurd f
+sends_most (suc n) (Ask body resume) seq tape f =
+    let l = read_most n (λ reading. played (resume reading) (next seq)) (answer seq tape)
+    (λ reading left. sends_most n (resume reading) (next seq) left (f reading)) in search rules
 
 frames_append : {E : Type 0} (x y : List (Event E)) → frames_in (x ++ y) ≡ frames_in x ++ frames_in y
 frames_append [] y = refl

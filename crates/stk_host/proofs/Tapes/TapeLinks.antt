@@ -7,7 +7,7 @@ use Rattle.stk_host.specs.declared.link.LinkFault.{LinkFault}
 use Rattle.stk_host.specs.Links.{TapeState, ConsumesTape, tape_state, next_piece}
 use Rattle.stk_host.specs.Tape.{Tape, leading_bytes, on_tape}
 use Rattle.stk_host.specs.Transcript.{Transcript, Sent, Got, Receives, heard, items_of}
-use Rattle.stk_host.proofs.Transcripts.Laws.{heard_append}
+use Rattle.stk_host.proofs.Transcripts.Laws.{got_append}
 
 -- ---- ends, one after the other
 
@@ -64,7 +64,7 @@ of_tape_on a b c f g = record {
   during = f.during ++ g.during;
   grows = g.grows ∙ ap (λ (t : Transcript). t ++ g.during) f.grows ∙ append_assoc a.transcript f.during g.during;
   ends = f.ends + g.ends;
-  gave = search (rules, heard_append, append_assoc, ends_more);
+  gave = search (rules, got_append, append_assoc, ends_more);
   over = none f.ends g.ends g.gave f.over g.over;
 }
   where
@@ -89,12 +89,12 @@ pub sent_of_tape : (bytes : List ℕ) (b c : TapeState) → c.left ≡ b.left �
     → Preserves ConsumesTape b c
 sent_of_tape bytes b c left transcript = quiet_of_tape (Sent bytes ∷ []) b c refl left transcript
 
-pub heard_of_tape : (result : Result Heard LinkFault) (buffer : List ℕ) (b c : TapeState)
+pub received_of_tape : (result : Result Heard LinkFault) (buffer : List ℕ) (b c : TapeState)
     → Receives buffer (tape_state b) (tape_state c) result
     → IfOk result (λ given. items_of given buffer ≡ next_piece (min b.cut (length buffer)) b.left)
     → IfOk result (λ given. c.left ≡ drop (length (items_of given buffer)) b.left) → OnErr result (c.left ≡ b.left)
     → Preserves ConsumesTape b c
-heard_of_tape (Ok given) buffer b c receives piece left kept =
+received_of_tape (Ok given) buffer b c receives piece left kept =
     let most : ℕ = min b.cut (length buffer) in
     let rest : c.left ≡ drop (length (next_piece most b.left)) b.left =
     left ∙ ap (λ (t : Tape). drop (length t) b.left) piece in
@@ -105,5 +105,5 @@ heard_of_tape (Ok given) buffer b c receives piece left kept =
       gave = search (rules, append-nil, piece_given);
       over = λ some. rest ∙ none_left (length (next_piece most b.left)) b.left some;
     })
-heard_of_tape (Err fault) buffer b c receives piece left kept =
+received_of_tape (Err fault) buffer b c receives piece left kept =
     same_of_tape b c kept (receives.err ∙ append-nil b.transcript)

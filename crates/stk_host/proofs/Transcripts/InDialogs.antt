@@ -9,7 +9,7 @@ use Rattle.stk_host.specs.Transcript.{Transcript, Sent, Taken, Got, NoneTaken, s
 use Rattle.stk_host.specs.Dialog.{Dialog, Done, Emit, Ask, ◌>>=◌, Event, Frame, Emitted, Played, played, prepend_events, continue_with_reading, next, bytes_sent}
 use Rattle.stk_host.specs.Play.{Progress, progress_at, IsDueToListen, InTurnFrom, InTurn, played_over, Plays, Breaks, BreaksSending, BreaksListening, BreaksBy, IsPrefixOfEvents}
 use Rattle.stk_host.specs.Reach.{TranscriptLeads, NothingReceived, WaitsFrom}
-use Rattle.stk_host.proofs.Transcripts.Laws.{sent_append, heard_append, heard_both, heard_quiet, sent_waiting, none_append, none_behind, none_waiting}
+use Rattle.stk_host.proofs.Transcripts.Laws.{sent_append, got_append, got_both, got_quiet, sent_waiting, none_append, none_behind, none_waiting}
 
 -- runs
 
@@ -25,12 +25,12 @@ pub played_bind : {E A B : Type 0} (dialog : Dialog E A) (go_on : A → Dialog E
     → played (dialog >>= go_on) seq tape ≡ followed (played dialog seq tape) (λ a. played (go_on a))
 played_bind (Done a) go_on seq tape = refl
 played_bind (Emit e dialog) go_on seq tape = ap (prepend_events (Emitted e ∷ [])) (played_bind dialog go_on seq tape)
-played_bind (Ask body answered) go_on seq tape =
+played_bind (Ask body resume) go_on seq tape =
     ap (prepend_events (Frame (frame seq body) ∷ []))
-    (elim (answer seq tape) as (λ o. continue_with_reading (λ r. played (answered r >>= go_on) (next seq)) o
-    ≡ followed (continue_with_reading (λ r. played (answered r) (next seq)) o) (λ a. played (go_on a))) [
+    (elim (answer seq tape) as (λ o. continue_with_reading (λ r. played (resume r >>= go_on) (next seq)) o
+    ≡ followed (continue_with_reading (λ r. played (resume r) (next seq)) o) (λ a. played (go_on a))) [
       | None ↦ refl
-      | Some got ↦ played_bind (answered got.0) go_on (next seq) got.1
+      | Some got ↦ played_bind (resume got.0) go_on (next seq) got.1
     ])
 
 pub bytes_append : {E : Type 0} (x y : List (Event E)) → bytes_sent (x ++ y) ≡ bytes_sent x ++ bytes_sent y
@@ -91,21 +91,21 @@ in_turn_bind : {E A B : Type 0} (dialog : Dialog E A) (go_on : A → Dialog E B)
     → InTurn dialog m transcript → InTurn (dialog >>= go_on) m transcript
 in_turn_bind dialog go_on m transcript f = search (rules, in_turn_after, played_bind)
 
-in_turn_waiting : {E R : Type 0} (body : List ℕ) (answered : Reading → Dialog E R) (seq : ℕ) (tape : Tape)
+in_turn_waiting : {E R : Type 0} (body : List ℕ) (resume : Reading → Dialog E R) (seq : ℕ) (tape : Tape)
     (transcript : Transcript)
-    → WaitsFrom seq tape transcript → InTurnFrom (Ask body answered) seq tape (frame seq body) transcript
-in_turn_waiting body answered seq tape [] waits = tt
-in_turn_waiting body answered seq tape (Sent bytes ∷ transcript) waits = absurd waits
-in_turn_waiting body answered seq tape (Taken bytes ∷ transcript) waits = absurd waits
-in_turn_waiting body answered seq tape (Got items ∷ transcript) waits =
-    ((search rules), in_turn_waiting body answered seq (tape ++ items) transcript waits.1)
+    → WaitsFrom seq tape transcript → InTurnFrom (Ask body resume) seq tape (frame seq body) transcript
+in_turn_waiting body resume seq tape [] waits = tt
+in_turn_waiting body resume seq tape (Sent bytes ∷ transcript) waits = absurd waits
+in_turn_waiting body resume seq tape (Taken bytes ∷ transcript) waits = absurd waits
+in_turn_waiting body resume seq tape (Got items ∷ transcript) waits =
+    ((search rules), in_turn_waiting body resume seq (tape ++ items) transcript waits.1)
 
 -- a frame was sent, and its reply is due
-in_turn_asking : {E R : Type 0} (body : List ℕ) (answered : Reading → Dialog E R) (seq : ℕ) (u : List ℕ)
+in_turn_asking : {E R : Type 0} (body : List ℕ) (resume : Reading → Dialog E R) (seq : ℕ) (u : List ℕ)
     (x y : Transcript) → NothingReceived x → NoneTaken x → sent x ≡ frame seq body → WaitsFrom seq (on_tape u) y
-    → InTurn (Ask body answered) (progress_at seq u) (x ++ y)
-in_turn_asking body answered seq u x y quiet none is waits =
-    search (rules, in_turn_joined, in_turn_without_bytes, heard_quiet, in_turn_waiting)
+    → InTurn (Ask body resume) (progress_at seq u) (x ++ y)
+in_turn_asking body resume seq u x y quiet none is waits =
+    search (rules, in_turn_joined, in_turn_without_bytes, got_quiet, in_turn_waiting)
 
 -- prefixes of events
 
@@ -126,7 +126,7 @@ module _ {E R : Type 0} {a b : Dialog E R} {m n : Progress} {x : Transcript} {ev
     (f : TranscriptLeads a m x events b n) where
   -- the run over both transcripts, what they send, and that both listen in turn
   led : (y : Transcript) → played_over a m (x ++ y) ≡ prepend_events events (played_over b n y)
-  led y = ap (λ t. played a m.next (on_tape m.unread ++ t)) (heard_append x y) ∙ f.goes_on (heard y)
+  led y = ap (λ t. played a m.next (on_tape m.unread ++ t)) (got_append x y) ∙ f.goes_on (heard y)
 
   led_bytes : (y : Transcript) (later : List (Event E)) → bytes_sent later ≡ sent y
       → bytes_sent (events ++ later) ≡ sent (x ++ y)
@@ -138,7 +138,7 @@ module _ {E R : Type 0} {a b : Dialog E R} {m n : Progress} {x : Transcript} {ev
   pub leads_on : {c : Dialog E R} {l : Progress} {y : Transcript} {ys : List (Event E)}
       → TranscriptLeads b n y ys c l → TranscriptLeads a m (x ++ y) (events ++ ys) c l
   leads_on {c = c} {l = l} {y = y} {ys = ys} g =
-      search (rules, heard_both, append_assoc, led_bytes, led_in_turn, none_append)
+      search (rules, got_both, append_assoc, led_bytes, led_in_turn, none_append)
 
   pub by_on : (by : HostFault) (y : Transcript) (shown : List (Event E)) → BreaksBy by b n y shown
       → BreaksBy by a m (x ++ y) (events ++ shown)
@@ -209,22 +209,22 @@ by_bind by a m transcript shown go_on f = search (rules, played_bind, in_turn_bi
 
 -- a question
 
-module _ {E R : Type 0} (body : List ℕ) (answered : Reading → Dialog E R) (seq : ℕ) (u : List ℕ) where
+module _ {E R : Type 0} (body : List ℕ) (resume : Reading → Dialog E R) (seq : ℕ) (u : List ℕ) where
   -- its frame was sent and its reply read
   pub leads_ask : (v : List ℕ) (x y : Transcript) (reading : Reading) → NothingReceived x → NoneTaken x → sent x
       ≡ frame seq body → WaitsFrom seq (on_tape u) y
       → ((more : Tape) → answer seq (on_tape u ++ (heard y ++ more)) ≡ Some (reading, on_tape v ++ more))
-      → TranscriptLeads (Ask body answered) (progress_at seq u) (x ++ y) (Frame (frame seq body)
-      ∷ []) (answered reading) (progress_at (next seq) v)
-  leads_ask v x y reading quiet none is waits answers =
-      search (rules, heard_both, heard_quiet, sent_append, sent_waiting, in_turn_asking, none_append, none_waiting)
+      → TranscriptLeads (Ask body resume) (progress_at seq u) (x ++ y) (Frame (frame seq body)
+      ∷ []) (resume reading) (progress_at (next seq) v)
+  leads_ask v x y reading quiet none is waits reads =
+      search (rules, got_both, got_quiet, sent_append, sent_waiting, in_turn_asking, none_append, none_waiting)
 
   -- a part of its frame was sent
   pub breaks_asking : (part unsent : List ℕ) (x : Transcript) → NothingReceived x → sent x ≡ part
       → frame seq body ≡ part ++ unsent → (NoneTaken x → 0 < length unsent)
-      → BreaksSending (Ask body answered) (progress_at seq u) x (Frame part ∷ [])
+      → BreaksSending (Ask body resume) (progress_at seq u) x (Frame part ∷ [])
   breaks_asking part unsent x quiet is frame_is not_whole =
-      let later = (continue_with_reading (λ r. played (answered r) (next seq)) (answer seq (on_tape u
+      let later = (continue_with_reading (λ r. played (resume r) (next seq)) (answer seq (on_tape u
       ++ heard x))).events in
       record {
         whole = [];
@@ -235,12 +235,12 @@ module _ {E R : Type 0} (body : List ℕ) (answered : Reading → Dialog E R) (s
         events_are = ap (λ bs. Frame bs ∷ later) frame_is;
         not_whole = not_whole;
         all_sent = append-nil part ∙ sym is;
-        in_turn = in_turn_without_bytes (Ask body answered) seq (on_tape u) [] x quiet;
+        in_turn = in_turn_without_bytes (Ask body resume) seq (on_tape u) [] x quiet;
       }
 
   -- its frame was sent, and listening broke off
   pub breaks_listening : (x y : Transcript) → NothingReceived x → NoneTaken x → sent x ≡ frame seq body
       → WaitsFrom seq (on_tape u) y → answer seq (on_tape u ++ heard y) ≡ None
-      → BreaksListening (Ask body answered) (progress_at seq u) (x ++ y) (Frame (frame seq body) ∷ [])
-  breaks_listening x y quiet none is waits unanswered =
-      search (rules, heard_append, heard_quiet, sent_append, sent_waiting, in_turn_asking, none_append, none_waiting)
+      → BreaksListening (Ask body resume) (progress_at seq u) (x ++ y) (Frame (frame seq body) ∷ [])
+  breaks_listening x y quiet none is waits no_reply =
+      search (rules, got_append, got_quiet, sent_append, sent_waiting, in_turn_asking, none_append, none_waiting)

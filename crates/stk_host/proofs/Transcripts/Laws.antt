@@ -11,15 +11,15 @@ sent_append (Sent bytes ∷ x) y = ap (λ bs. bytes ++ bs) (sent_append x y) ∙
 sent_append (Taken bytes ∷ x) y = ap (λ bs. bytes ++ bs) (sent_append x y) ∙ sym (append_assoc bytes (sent x) (sent y))
 sent_append (Got tape ∷ x) y = sent_append x y
 
-pub heard_append : (x y : Transcript) → heard (x ++ y) ≡ heard x ++ heard y
-heard_append [] y = refl
-heard_append (Got tape ∷ x) y = ap (λ t. tape ++ t) (heard_append x y) ∙ sym (append_assoc tape (heard x) (heard y))
-heard_append (other ∷ x) y = heard_append x y
+pub got_append : (x y : Transcript) → heard (x ++ y) ≡ heard x ++ heard y
+got_append [] y = refl
+got_append (Got tape ∷ x) y = ap (λ t. tape ++ t) (got_append x y) ∙ sym (append_assoc tape (heard x) (heard y))
+got_append (other ∷ x) y = got_append x y
 
 -- what both parts received, before what follows
-pub heard_both : (u : Tape) (x y : Transcript) (more : Tape)
+pub got_both : (u : Tape) (x y : Transcript) (more : Tape)
     → u ++ (heard (x ++ y) ++ more) ≡ u ++ (heard x ++ (heard y ++ more))
-heard_both u x y more = search (rules, heard_append, append_assoc)
+got_both u x y more = search (rules, got_append, append_assoc)
 
 pub grows_none : (old : Transcript) → Grows old [] old
 grows_none old = sym (append-nil old)
@@ -28,10 +28,10 @@ pub grows_on : (a b c : Transcript) (x y : Transcript) → Grows a x b → Grows
 grows_on a b c x y f g = g ∙ ap (λ (t : Transcript). t ++ y) f ∙ append_assoc a x y
 
 -- in a quiet transcript nothing is received
-pub heard_quiet : (transcript : Transcript) → NothingReceived transcript → heard transcript ≡ []
-heard_quiet [] quiet = refl
-heard_quiet (Sent bytes ∷ transcript) quiet = heard_quiet transcript quiet
-heard_quiet transcript quiet = search rules
+pub got_quiet : (transcript : Transcript) → NothingReceived transcript → heard transcript ≡ []
+got_quiet [] quiet = refl
+got_quiet (Sent bytes ∷ transcript) quiet = got_quiet transcript quiet
+got_quiet transcript quiet = search rules
 
 pub quiet_append : (x y : Transcript) → NoneTaken x → NothingReceived x → NothingReceived y → NothingReceived (x ++ y)
 quiet_append [] y none f g = g

@@ -11,12 +11,12 @@ use Rattle.stk_host.specs.declared.link.Heard.{Heard}
 use Rattle.stk_host.specs.declared.link.Heard.TheVariants as heard
 use Rattle.stk_host.specs.declared.link.Item.{Item}
 use Rattle.stk_host.specs.declared.link.Item.TheVariants.{Silence, End}
-use Rattle.stk_host.specs.Tape.{Tape, Reading, on_tape, answer, first_answer, is_answer, reply_byte_limit, Answered, Silent, Ended, Babbled}
-use Rattle.stk_host.specs.Transcript.{Transcript, LinkState, Got, heard as heard_in, Grows}
+use Rattle.stk_host.specs.Tape.{Tape, Reading, on_tape, answer, first_reply, is_reply, reply_byte_limit, Replied, Silent, Ended, Babbled}
+use Rattle.stk_host.specs.Transcript.{Transcript, LinkState, Got, heard as got_in, Grows}
 use Rattle.stk_host.specs.Reach.{WaitsFrom, ReceivesReply, ReceivesNoReply}
 use Rattle.stk_host.specs.Calls.{ReceivesPiece}
-use Rattle.stk_host.proofs.Tapes.Answers.{on_tape_append, answer_silent, answer_ended, answer_waits, answer_babbled, answer_found, still_none, now_found}
-use Rattle.stk_host.proofs.Transcripts.Laws.{heard_append, heard_both, grows_none, grows_on, waits_append}
+use Rattle.stk_host.proofs.Tapes.Readings.{on_tape_append, reading_silent, reading_ended, reading_waits, reading_babbled, reading_found, still_none, now_found}
+use Rattle.stk_host.proofs.Transcripts.Laws.{got_append, got_both, grows_none, grows_on, waits_append}
 
 -- Listening for a reply. The first `count` bytes of a text were read and contain no reply. A reader holds the rest
 -- of them, and after them come the bytes that are still unread.
@@ -26,11 +26,11 @@ pub record Listening (seq : ℕ) (unread : List ℕ) (old : LinkState) (held : L
   pub stands : MayHaveBeenFed held text
   pub counted : length text ≡ count
   pub few : count + length left ≤ reply_byte_limit
-  pub no_answer : first_answer seq (cut text) ≡ None
+  pub no_reply : first_reply seq (cut text) ≡ None
   pub during : Transcript
   pub grows : Grows old.transcript during new.transcript
   pub waits : WaitsFrom seq (on_tape unread) during
-  pub all_heard : on_tape unread ++ heard_in during ≡ on_tape (text ++ left)
+  pub all_received : on_tape unread ++ got_in during ≡ on_tape (text ++ left)
 
 pub begins : (seq : ℕ) (u : List ℕ) (o : LinkState) → length u ≤ reply_byte_limit → Listening seq u o [] 0 u o
 begins seq u o few = record {
@@ -38,11 +38,11 @@ begins seq u o few = record {
   stands = refl;
   counted = refl;
   few = omega (arith, few);
-  no_answer = refl;
+  no_reply = refl;
   during = [];
   grows = grows_none o.transcript;
   waits = tt;
-  all_heard = append-nil (on_tape u);
+  all_received = append-nil (on_tape u);
 }
 
 -- the unread bytes that one round of reading took
@@ -59,10 +59,10 @@ read_on n most what is within behind fed = (grind (arith, common_steps), grind (
 -- laws of listening
 module _ {seq : ℕ} {u : List ℕ} {o : LinkState} where
   -- how much was received
-  heard_count : {held : List ℕ} {count : ℕ} {left : List ℕ} {p : LinkState} (l : Listening seq u o held count left p)
-      → length u + length (heard_in l.during) ≡ count + length left
-  heard_count {left = left} l =
-      let all : length (on_tape u ++ heard_in l.during) ≡ length (on_tape (l.text ++ left)) = ap length l.all_heard in
+  lengths_agree : {held : List ℕ} {count : ℕ} {left : List ℕ} {p : LinkState} (l : Listening seq u o held count left p)
+      → length u + length (got_in l.during) ≡ count + length left
+  lengths_agree {left = left} l =
+      let all : length (on_tape u ++ got_in l.during) ≡ length (on_tape (l.text ++ left)) = ap length l.all_received in
       search (rules, length-append, length-map)
 
   -- if nothing is left unread, and a piece is received
@@ -71,45 +71,45 @@ module _ {seq : ℕ} {u : List ℕ} {o : LinkState} where
     l : Listening seq u o held count [] p
     l = subst (λ bs. Listening seq u o held count bs p) (nil_from_length left none) of_left
 
-    text_heard : on_tape u ++ heard_in l.during ≡ on_tape l.text
-    text_heard = l.all_heard ∙ ap on_tape (append-nil l.text)
+    text_received : on_tape u ++ got_in l.during ≡ on_tape l.text
+    text_received = l.all_received ∙ ap on_tape (append-nil l.text)
 
     -- the reply isn't there yet, and one more piece may come
-    not_yet : answer seq (on_tape u ++ heard_in l.during) ≡ None
-    not_yet = ap (answer seq) text_heard ∙ answer_waits seq l.text l.no_answer (omega (arith, l.counted))
+    not_yet : answer seq (on_tape u ++ got_in l.during) ≡ None
+    not_yet = ap (answer seq) text_received ∙ reading_waits seq l.text l.no_reply (omega (arith, l.counted))
 
     waits_more : (items : Tape) → WaitsFrom seq (on_tape u) (l.during ++ Got items ∷ [])
     waits_more items = waits_append seq (on_tape u) l.during (Got items ∷ []) l.waits (not_yet, tt)
 
-    pub heard_bytes : {q : LinkState} {what : Heard} {n : ℕ} {new : List ℕ} → count + length new ≤ reply_byte_limit
+    pub received_bytes : {q : LinkState} {what : Heard} {n : ℕ} {new : List ℕ} → count + length new ≤ reply_byte_limit
         → what ≡ heard.Bytes n → ReceivesPiece what new p q → Listening seq u o held count new q
-    heard_bytes {q = q} {new = new} most is piece =
-        search (rules, waits_more, heard_append, append-nil, append_assoc, text_heard, on_tape_append)
+    received_bytes {q = q} {new = new} most is piece =
+        search (rules, waits_more, got_append, append-nil, append_assoc, text_received, on_tape_append)
 
     -- a timeout or an end
     stops : {q : LinkState} {new : List ℕ} (item : Item) (reading : Reading)
         → (new ≡ []) × Grows p.transcript (Got (item ∷ []) ∷ []) q.transcript
         → ((more : Tape) → answer seq (on_tape l.text ++ item ∷ more) ≡ Some (reading, more))
         → ReceivesReply seq u o q reading new
-    stops {q = q} item reading piece answers = rw piece.0 (record {
+    stops {q = q} item reading piece reads = rw piece.0 (record {
       during = l.during ++ Got (item ∷ []) ∷ [];
       grows = grows_on o.transcript p.transcript q.transcript l.during (Got (item ∷ []) ∷ []) l.grows piece.1;
       waits = waits_more (item ∷ []);
-      few = grind (arith, common_steps, heard_append);
-      reading_is = search (rules, heard_both, l, append_assoc, text_heard);
+      few = grind (arith, common_steps, got_append);
+      reading_is = search (rules, got_both, l, append_assoc, text_received);
     })
 
-    pub heard_silence : {q : LinkState} {what : Heard} {new : List ℕ} → what ≡ heard.Silence
+    pub received_silence : {q : LinkState} {what : Heard} {new : List ℕ} → what ≡ heard.Silence
         → ReceivesPiece what new p q → ReceivesReply seq u o q Silent new
-    heard_silence is piece =
+    received_silence is piece =
         stops Silence Silent (rw is at piece)
-        (λ more. answer_silent seq l.text more l.no_answer (omega (arith, l.counted)))
+        (λ more. reading_silent seq l.text more l.no_reply (omega (arith, l.counted)))
 
-    pub heard_end : {q : LinkState} {what : Heard} {new : List ℕ} → what ≡ heard.End → ReceivesPiece what new p q
+    pub received_end : {q : LinkState} {what : Heard} {new : List ℕ} → what ≡ heard.End → ReceivesPiece what new p q
         → ReceivesReply seq u o q Ended new
-    heard_end is piece =
+    received_end is piece =
         stops End Ended (rw is at piece)
-        (λ more. answer_ended seq l.text more l.no_answer (omega (arith, l.counted)))
+        (λ more. reading_ended seq l.text more l.no_reply (omega (arith, l.counted)))
 
     -- nothing is received: the link failed
     pub receives_none : {q : LinkState} → Grows p.transcript [] q.transcript → ReceivesNoReply seq u o q
@@ -118,40 +118,40 @@ module _ {seq : ℕ} {u : List ℕ} {o : LinkState} where
   pub reads_on : {held : List ℕ} {count : ℕ} {left : List ℕ} {p : LinkState} (n : ℕ)
       (new_left new : List ℕ) (what : Event)
       → Listening seq u o held count left p → ReadOn left new_left n held new what
-      → first_answer seq (frames_of_event what new) ≡ None → Listening seq u o new (count + n) new_left p
+      → first_reply seq (frames_of_event what new) ≡ None → Listening seq u o new (count + n) new_left p
   reads_on n new_left new what l read other = search (rules, length-append, still_none, append_assoc)
 
   -- listening whose reading is known
   gives : {held : List ℕ} {count : ℕ} {left : List ℕ} {p : LinkState} (x rest_left : List ℕ) (reading : Reading)
-      → (l : Listening seq u o held count left p) → on_tape u ++ heard_in l.during ≡ on_tape (x ++ rest_left)
+      → (l : Listening seq u o held count left p) → on_tape u ++ got_in l.during ≡ on_tape (x ++ rest_left)
       → ((more : Tape) → answer seq (on_tape x ++ more) ≡ Some (reading, more))
       → ReceivesReply seq u o p reading rest_left
-  gives x rest_left reading l all answers = record {
+  gives x rest_left reading l all reads = record {
     during = l.during;
     grows = l.grows;
     waits = l.waits;
-    few = omega (arith, heard_count l, l.few);
+    few = omega (arith, lengths_agree l, l.few);
     reading_is = search (rules, append_assoc, on_tape_append);
   }
 
   finds_in : {held : List ℕ} {count : ℕ} {p : LinkState} (used left new : List ℕ)
       → Listening seq u o held count (used ++ left) p → Fed held used new (new ∷ []) → HoldsFrame new
-      → is_answer seq new ≡ true → count + length used ≤ reply_byte_limit
-      → ReceivesReply seq u o p (Answered (body_of new)) left
+      → is_reply seq new ≡ true → count + length used ≤ reply_byte_limit
+      → ReceivesReply seq u o p (Replied (body_of new)) left
   finds_in used left new l fed frame good few =
       let whole : rest (l.text ++ used) ≡ [] = fed.stands l.text l.stands ∙ rest_whole new frame.whole in
       let size : length (l.text ++ used) ≤ reply_byte_limit = rw length-append (omega (arith, l.counted)) in
-      gives (l.text ++ used) left (Answered (body_of new)) l
-      (l.all_heard ∙ ap on_tape (sym (append_assoc l.text used left)))
-      (λ more. search (rules, answer_found, now_found))
+      gives (l.text ++ used) left (Replied (body_of new)) l
+      (l.all_received ∙ ap on_tape (sym (append_assoc l.text used left)))
+      (λ more. search (rules, reading_found, now_found))
 
   pub finds : {held : List ℕ} {count : ℕ} {left : List ℕ} {p : LinkState} (n : ℕ) (new_left new : List ℕ) (what : Event)
       → Listening seq u o held count left p → ReadOn left new_left n held new what
-      → (what ≡ event.Frame) × HoldsFrame new × (is_answer seq new ≡ true) → count + n ≤ reply_byte_limit
-      → ReceivesReply seq u o p (Answered (body_of new)) new_left
+      → (what ≡ event.Frame) × HoldsFrame new × (is_reply seq new ≡ true) → count + n ≤ reply_byte_limit
+      → ReceivesReply seq u o p (Replied (body_of new)) new_left
   finds n new_left new what l read is few =
       finds_in read.0 new_left new (rw read.2 at l) (rw is.0 at read.3) is.1 is.2 (omega (arith, read.1))
 
   pub babbles : {held : List ℕ} {count : ℕ} {left : List ℕ} {p : LinkState}
       → Listening seq u o held count left p → count ≡ reply_byte_limit → ReceivesReply seq u o p Babbled left
-  babbles {left = left} l full = grind (arith, common_steps, answer_babbled)
+  babbles {left = left} l full = grind (arith, common_steps, reading_babbled)

@@ -9,7 +9,7 @@ use Rattle.stk_host.specs.Tape.{on_tape, bytes_on_tape}
 use Rattle.stk_host.specs.Transcript as transcript
 use Rattle.stk_host.specs.Transcript.{Transcript, Got, FitsBuffer, items_of, sent}
 use Rattle.stk_host.specs.Log.{received_byte_count, transcript_of, sent_count, received_count}
-use Rattle.stk_host.proofs.Tapes.Answers.{bytes_of_append, bytes_of_on_tape}
+use Rattle.stk_host.proofs.Tapes.Readings.{bytes_of_append, bytes_of_on_tape}
 
 drop_prefix : (n : ℕ) (xs ys : List ℕ) → n ≤ length xs → drop n (xs ++ ys) ≡ drop n xs ++ ys
 drop_prefix zero xs ys le = refl
@@ -62,17 +62,17 @@ sent_in (mark.Sent n ∷ marks) out back o =
     rw (sent_in marks (drop n out) back (rw length-drop (omega arith))) (take-append-drop n out)
 sent_in (mark.Heard h ∷ marks) out back o = sent_in marks out (drop (received_byte_count h) back) o
 
-pub heard_in : (marks : List Mark) (out back : List ℕ) → received_count marks ≡ length back
+pub received_in : (marks : List Mark) (out back : List ℕ) → received_count marks ≡ length back
     → bytes_on_tape (transcript.heard (transcript_of marks out back)) ≡ back
-heard_in [] out [] b = refl
-heard_in [] out (x ∷ back) b = absurd (omega arith)
-heard_in (mark.Sent n ∷ marks) out back b = heard_in marks (drop n out) back b
-heard_in (mark.Heard (heard.Bytes n) ∷ marks) out back b =
+received_in [] out [] b = refl
+received_in [] out (x ∷ back) b = absurd (omega arith)
+received_in (mark.Sent n ∷ marks) out back b = received_in marks (drop n out) back b
+received_in (mark.Heard (heard.Bytes n) ∷ marks) out back b =
     rw (bytes_of_append (on_tape (take n back)) (transcript.heard (transcript_of marks out (drop n back))))
-    (rw (bytes_of_on_tape (take n back), heard_in marks out (drop n back) (rw length-drop (omega arith)))
+    (rw (bytes_of_on_tape (take n back), received_in marks out (drop n back) (rw length-drop (omega arith)))
     (take-append-drop n back))
-heard_in (mark.Heard heard.Silence ∷ marks) out back b = heard_in marks out back (omega (arith, b))
-heard_in (mark.Heard heard.End ∷ marks) out back b = heard_in marks out back (omega (arith, b))
+received_in (mark.Heard heard.Silence ∷ marks) out back b = received_in marks out back (omega (arith, b))
+received_in (mark.Heard heard.End ∷ marks) out back b = received_in marks out back (omega (arith, b))
 
 -- what was received is what is kept of the buffer
 pub items_received : (h : Heard) (buffer : List ℕ) → FitsBuffer h (length buffer)

@@ -14,9 +14,9 @@ pub output_more : (x y : List ℕ) (o p q : Transcript) → SendsExactly x o p �
 output_more x y o p q emits g = grind (arith, common_steps, quiet_append, none_append, sent_append)
 
 -- one more part
-pub says_part : (bytes : List ℕ) (n m : ℕ) (part : List ℕ) (o p q : Transcript) → SendsExactly (take n bytes) o p
+pub sends_part : (bytes : List ℕ) (n m : ℕ) (part : List ℕ) (o p q : Transcript) → SendsExactly (take n bytes) o p
     → part ≡ drop n bytes → Grows p (Sent (take m part) ∷ []) q → SendsExactly (take (n + m) bytes) o q
-says_part bytes n m part o p q emits is g = search (rules, take-add, output_more)
+sends_part bytes n m part o p q emits is g = search (rules, take-add, output_more)
 
 -- what a failed send didn't take
 some_unsent : (last : Transcript) (bytes unsent : List ℕ) → IsNothingOrTaken last → NoneTaken last

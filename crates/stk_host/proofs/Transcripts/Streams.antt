@@ -5,8 +5,8 @@ use Rattle.std.specs.Io.KnownBytes.{Keeps, Appends}
 use Rattle.stk_host.specs.declared.link.Heard.{Heard}
 use Rattle.stk_host.specs.Links.{StreamState, TranscriptIsTrueSince, TakesKnownBytes, ReceivesKnownBytes}
 use Rattle.stk_host.specs.Transcript.{Transcript, Sent, Taken, Got, items_of}
-use Rattle.stk_host.proofs.Transcripts.Laws.{sent_append, heard_append}
-use Rattle.stk_host.proofs.Tapes.Answers.{bytes_of_append, bytes_of_on_tape}
+use Rattle.stk_host.proofs.Transcripts.Laws.{sent_append, got_append}
+use Rattle.stk_host.proofs.Tapes.Readings.{bytes_of_append, bytes_of_on_tape}
 
 -- the writer took the first bytes and nothing more, and the send failed
 pub takes_known : (bytes : List ℕ) (n : ℕ) (before now : Transcript) (a b c : Option (List ℕ))
@@ -37,7 +37,7 @@ module _ {R W : Type 0} (remaining : R → Option (List ℕ)) (contents : W → 
 
   pub true_on : (a b c : StreamState R W) → TranscriptIsTrueSince remaining contents a b
       → TranscriptIsTrueSince remaining contents b c → TranscriptIsTrueSince remaining contents a c
-  true_on a b c f g = search (rules, append_assoc, heard_append, bytes_of_append, sent_append)
+  true_on a b c f g = search (rules, append_assoc, got_append, bytes_of_append, sent_append)
 
   pub true_of_sent : (a b : StreamState R W) (bytes : List ℕ) → b.reader ≡ a.reader → b.failures ≡ a.failures
       → b.transcript ≡ a.transcript ++ Sent bytes ∷ [] → Appends (contents a.writer) (contents b.writer) bytes
@@ -49,8 +49,8 @@ module _ {R W : Type 0} (remaining : R → Option (List ℕ)) (contents : W → 
       → TranscriptIsTrueSince remaining contents a b
   true_of_taken a b bytes reader failures t = search rules
 
-  pub true_of_heard : (a b : StreamState R W) (h : Heard) (buffer : List ℕ) → b.writer ≡ a.writer
+  pub true_of_received : (a b : StreamState R W) (h : Heard) (buffer : List ℕ) → b.writer ≡ a.writer
       → b.failures ≡ a.failures → b.transcript ≡ a.transcript ++ Got (items_of h buffer) ∷ []
       → ReceivesKnownBytes h buffer (remaining a.reader) (remaining b.reader)
       → TranscriptIsTrueSince remaining contents a b
-  true_of_heard a b h buffer writer failures transcript given = search (rules, bytes_of_on_tape)
+  true_of_received a b h buffer writer failures transcript given = search (rules, bytes_of_on_tape)

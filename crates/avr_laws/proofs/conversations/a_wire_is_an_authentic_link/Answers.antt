@@ -1,7 +1,7 @@
 use Rattle.std.proofs.Common.{rules}
 use Rattle.std.proofs.Common.{length, arith}
 use Rattle.stk_emu.specs.Device.{device}
-use Rattle.stk_emu.proofs.Answers.BodySizes.{replies_fit_frames}
+use Rattle.stk_emu.proofs.Replies.BodySizes.{replies_fit_frames}
 use Rattle.avr_laws.proofs.Lines.NoForgedFrame.{prefix_came}
 use Rattle.avr_tool.proofs.Lines.WireTapes.{over_wire}
 use Rattle.avr_laws.proofs.conversations.a_wire_is_an_authentic_link.Goals as goal

@@ -1,5 +1,5 @@
 use Rattle.std.proofs.Common.{[]}
-use Rattle.stk_emu.proofs.Answers.BodySizes.{reply_fits_frame}
+use Rattle.stk_emu.proofs.Replies.BodySizes.{reply_fits_frame}
 use Rattle.stk_emu.specs.Device.{device}
 use Rattle.avr_laws.proofs.Lines.Damaged.{arrived_came, brings_no_frame}
 use Rattle.avr_laws.proofs.damaged_frames.a_link_that_damages_one_byte_forges_no_frame.Goals as goal

@@ -1,14 +1,14 @@
 use Rattle.std.proofs.Common.{◌+◌, ◌≤◌, arith, rules}
 use Rattle.avr_tool.specs.declared.serving_link.Served.TheVariants.{Ended}
 use Rattle.avr_tool.specs.Serving.{Serves}
-use Rattle.avr_tool.proofs.ReadByRead.{serves_none, serves_more, serves_within, read_answered, read_broken}
+use Rattle.avr_tool.proofs.ReadByRead.{serves_none, serves_more, serves_within, read_replied, read_broken}
 use Rattle.avr_tool.proofs.serving_link.serve_link.Goals as goal
 
 pub loop-reads_done-init : goal.loop-reads_done-init
 loop-reads_done-init g c = search (rules, serves_none)
 
 pub loop-reads_done-preserved : goal.loop-reads_done-preserved
-loop-reads_done-preserved g c = search (rules, serves_more, read_answered)
+loop-reads_done-preserved g c = search (rules, serves_more, read_replied)
 
 pub returns-in_default-clause-serves : goal.returns-in_default-clause-serves
 returns-in_default-clause-serves g c =

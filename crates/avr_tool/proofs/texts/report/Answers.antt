@@ -1,9 +1,9 @@
 use Rattle.std.proofs.Common.{rules}
-use Rattle.avr_tool.proofs.Printed.{reported_by, untold}
+use Rattle.avr_tool.proofs.Printed.{reported_by, partly_reported}
 use Rattle.avr_tool.proofs.texts.report.Goals as goal
 
 pub returns-in_err-print_text-clause-reports : goal.returns-in_err-print_text-clause-reports
-returns-in_err-print_text-clause-reports g c = search (rules, untold)
+returns-in_err-print_text-clause-reports g c = search (rules, partly_reported)
 
 pub returns-clause-reports : goal.returns-clause-reports
 returns-clause-reports g c = search (rules, reported_by)

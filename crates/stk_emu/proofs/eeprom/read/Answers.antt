@@ -11,7 +11,7 @@ loop-place-preserved c = record {
       (c.args.count - c.loop-place.place) (c.args.count - (c.loop-place.place + 1)) c.loop-place.chip
       c.spi-bytes.new.self c.loop-place.out.items c.push.new.self.items (omega arith) c.loop-place.invariant.on
       (record {
-        answer = c.spi-bytes.result;
+        spi_out = c.spi-bytes.result;
         executed =
             c.spi-bytes.ensures
             ∙ ap (λ x. spi_of x c.loop-place.chip)

@@ -1,6 +1,6 @@
 use Rattle.std.proofs.Common.{◌≡◌, ap, ◌∙◌}
 use Rattle.stk_emu.specs.Programmer.{execute}
-use Rattle.stk_emu.proofs.Answers.BodySizes.{reply_fits_frame}
+use Rattle.stk_emu.proofs.Replies.BodySizes.{reply_fits_frame}
 use Rattle.stk_emu.proofs.emulator.reply.Goals as goal
 
 pub put_frame-requires-clause-some : goal.put_frame-requires-clause-some

@@ -1,6 +1,6 @@
 use Rattle.std.proofs.Common.{rules, ◌+◌, refl, arith}
 use Rattle.std.proofs.lemmas.Result.{err_from_is_err_and}
-use Rattle.stk_host.proofs.Transcripts.Sending.{says_part, part_of, takes_none, behind, part_fits, fails_since}
+use Rattle.stk_host.proofs.Transcripts.Sending.{sends_part, part_of, takes_none, behind, part_fits, fails_since}
 use Rattle.stk_host.proofs.link.send_all.Goals as goal
 
 pub returns-in_err-count-clause-sends : goal.returns-in_err-count-clause-sends
@@ -18,11 +18,11 @@ pub returns-then-count-eq0-clause-sends : goal.returns-then-count-eq0-clause-sen
 returns-then-count-eq0-clause-sends g c = record {
   ok = tt;
   err = part_of c.args.bytes.now (c.loop-done.done + c.in_ok-count.count) _ _ _ _ (omega arith)
-      (says_part c.args.bytes.now c.loop-done.done c.in_ok-count.count _ _ _ _ c.loop-done.invariant.emits
+      (sends_part c.args.bytes.now c.loop-done.done c.in_ok-count.count _ _ _ _ c.loop-done.invariant.emits
       (behind c.args.bytes.now c.loop-done.done) c.in_ok-count.ensures.sends.ok) refl (takes_none _ _ _ refl);
   counts = fails_since _ _ _ _ c.loop-done.invariant.counted c.in_ok-count.ensures.sends.counted
       (c.in_ok-count.ensures.sends.stuck (omega arith) (omega arith));
 }
 
 pub loop-done-preserved : goal.loop-done-preserved
-loop-done-preserved g c = search (rules, says_part, behind, part_fits)
+loop-done-preserved g c = search (rules, sends_part, behind, part_fits)

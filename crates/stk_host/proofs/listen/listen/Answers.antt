@@ -1,6 +1,6 @@
 use Rattle.std.proofs.Common.{arith, rules, ◌-◌}
 use Rattle.std.proofs.lemmas.Result.{err_from_is_err_and}
-use Rattle.stk_host.proofs.Transcripts.Listening.{Listening, begins, heard_bytes, heard_silence, heard_end, reads_on, read_on, finds, babbles, receives_none}
+use Rattle.stk_host.proofs.Transcripts.Listening.{Listening, begins, received_bytes, received_silence, received_end, reads_on, read_on, finds, babbles, receives_none}
 use Rattle.stk_host.proofs.listen.listen.Goals as goal
 use Rattle.stk_host.proofs.listen.listen.Goals.{then-is_empty+in_ok-receive_piece+in-Bytes, else-is_empty}
 
@@ -9,14 +9,14 @@ loop-count-init g c = search (rules, begins)
 
 pub returns-in-Silence : goal.returns-in-Silence
 returns-in-Silence g c =
-    let receives = heard_silence c.loop-count.invariant.listening (c.is_empty.ensures.0 c.if-is_empty.true)
+    let receives = received_silence c.loop-count.invariant.listening (c.is_empty.ensures.0 c.if-is_empty.true)
     (omega arith)
     c.in-Silence.is c.in_ok-receive_piece.ensures.ok in
     search rules
 
 pub returns-in-End : goal.returns-in-End
 returns-in-End g c =
-    let receives = heard_end c.loop-count.invariant.listening (c.is_empty.ensures.0 c.if-is_empty.true)
+    let receives = received_end c.loop-count.invariant.listening (c.is_empty.ensures.0 c.if-is_empty.true)
     (omega arith)
     c.in-End.is c.in_ok-receive_piece.ensures.ok in
     search rules
@@ -34,19 +34,19 @@ returns-in_err-receive_piece g c = record {
   comes = search rules;
 }
 
-pub returns-then-is_answer : goal.returns-then-is_answer
-returns-then-is_answer g c =
+pub returns-then-is_reply : goal.returns-then-is_reply
+returns-then-is_reply g c =
     let l : Listening c.args.seq c.args.unread.now (g.L.Link.view c.args.link.now) c.loop-count.reader
     c.loop-count.count c.if-is_empty.unread (g.L.Link.view c.if-is_empty.link) =
     elim c.if-is_empty.branch [
       | then-is_empty+in_ok-receive_piece+in-Bytes w ↦ rw (w.unread-is, w.link-is)
-          (heard_bytes c.loop-count.invariant.listening (c.is_empty.ensures.0 w.if-is_empty.true) (omega arith)
+          (received_bytes c.loop-count.invariant.listening (c.is_empty.ensures.0 w.if-is_empty.true) (omega arith)
           (omega (arith, w.in_ok-receive_piece.ensures.within)) w.in-Bytes.is w.in_ok-receive_piece.ensures.ok)
       | else-is_empty w ↦ rw (w.unread-is, w.link-is) c.loop-count.invariant.listening
     ] in
     let read = read_on _ (4096 - c.loop-count.count) _ c.prefix.ensures c.feed-used.ensures.within
     c.consume.ensures.left c.feed-used.ensures.fed in
-    let receives = finds _ _ _ _ l read.0 (c.is_answer.ensures.yes c.if-is_answer.true)
+    let receives = finds _ _ _ _ l read.0 (c.is_reply.ensures.yes c.if-is_reply.true)
     (omega (arith, read.1)) in
     search rules
 
@@ -56,7 +56,7 @@ loop-count-preserved g c =
     c.loop-count.count c.if-is_empty.unread (g.L.Link.view c.if-is_empty.link) =
     elim c.if-is_empty.branch [
       | then-is_empty+in_ok-receive_piece+in-Bytes w ↦ rw (w.unread-is, w.link-is)
-          (heard_bytes c.loop-count.invariant.listening (c.is_empty.ensures.0 w.if-is_empty.true) (omega arith)
+          (received_bytes c.loop-count.invariant.listening (c.is_empty.ensures.0 w.if-is_empty.true) (omega arith)
           (omega (arith, w.in_ok-receive_piece.ensures.within)) w.in-Bytes.is w.in_ok-receive_piece.ensures.ok)
       | else-is_empty w ↦ rw (w.unread-is, w.link-is) c.loop-count.invariant.listening
     ] in
@@ -65,7 +65,7 @@ loop-count-preserved g c =
     record {
       in_range = omega (arith, read.1);
       fits = c.consume.ensures.fits;
-      listening = reads_on _ _ _ _ l read.0 (c.is_answer.ensures.no c.if-is_answer.false);
+      listening = reads_on _ _ _ _ l read.0 (c.is_reply.ensures.no c.if-is_reply.false);
       counted = elim c.if-is_empty.branch [
         | then-is_empty+in_ok-receive_piece+in-Bytes w ↦ rw w.link-is
             (omega (arith, w.in_ok-receive_piece.ensures.counts.sound, c.loop-count.invariant.counted))

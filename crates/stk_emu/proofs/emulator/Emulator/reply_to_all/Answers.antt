@@ -1,7 +1,7 @@
 use Rattle.std.proofs.Common.{rules, [], ◌≡◌, ◌++◌, arith, take_all}
 use Rattle.std.proofs.lemmas.Result.{err_from_is_err_and}
 use Rattle.stk_host.proofs.Transcripts.Sending.{behind, part_fits}
-use Rattle.stk_emu.proofs.Answers.Texts.{appends_none, appends_one, appends_on, appends_prefix, appends_fed, appends_all}
+use Rattle.stk_emu.proofs.Replies.Texts.{appends_none, appends_one, appends_on, appends_prefix, appends_fed, appends_all}
 use Rattle.stk_emu.proofs.emulator.Emulator.reply_to_all.Goals as goal
 
 pub loop-used-init : goal.loop-used-init

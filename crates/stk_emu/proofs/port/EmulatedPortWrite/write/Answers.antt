@@ -1,5 +1,5 @@
 use Rattle.std.proofs.Common.{ap, ◌∙◌, ◌++◌}
-use Rattle.stk_emu.proofs.Answers.Texts.{appends_one}
+use Rattle.stk_emu.proofs.Replies.Texts.{appends_one}
 use Rattle.stk_emu.proofs.Wires.Ports.{passed_in}
 use Rattle.stk_emu.proofs.port.EmulatedPortWrite.write.Goals as goal
 

@@ -1,5 +1,5 @@
 use Rattle.std.proofs.Common.{rules, length-append}
-use Rattle.stk_emu.proofs.Answers.BodySizes.{eeprom_length}
+use Rattle.stk_emu.proofs.Replies.BodySizes.{eeprom_length}
 use Rattle.stk_emu.proofs.programmer.Programmer.read_eeprom.Goals as goal
 
 pub push-requires : goal.push-requires

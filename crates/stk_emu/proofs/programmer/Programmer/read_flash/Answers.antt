@@ -1,5 +1,5 @@
 use Rattle.std.proofs.Common.{rules, length-append}
-use Rattle.stk_emu.proofs.Answers.BodySizes.{flash_length}
+use Rattle.stk_emu.proofs.Replies.BodySizes.{flash_length}
 use Rattle.stk_emu.proofs.programmer.Programmer.read_flash.Goals as goal
 
 pub push-requires : goal.push-requires

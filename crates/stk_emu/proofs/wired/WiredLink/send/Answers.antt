@@ -1,6 +1,6 @@
 use Rattle.std.proofs.Common.{take, rules}
 use Rattle.stk_frame.specs.Reader.{frames_of_event}
-use Rattle.stk_emu.proofs.Answers.Texts.{found_frames}
+use Rattle.stk_emu.proofs.Replies.Texts.{found_frames}
 use Rattle.stk_emu.proofs.Wires.Kept.{keeps_sending}
 use Rattle.stk_emu.proofs.wired.WiredLink.send.Goals as goal
 

@@ -1,7 +1,7 @@
 use Rattle.std.proofs.lemmas.Grind.{common_steps}
 use Rattle.std.proofs.Common.{Ok, arith, rules}
 use Rattle.stk_host.proofs.Tapes.Prefixes.{piece_alone, room_of, from_place}
-use Rattle.stk_host.proofs.Tapes.TapeLinks.{same_of_tape, heard_of_tape}
+use Rattle.stk_host.proofs.Tapes.TapeLinks.{same_of_tape, received_of_tape}
 use Rattle.stk_host.proofs.tape_link.TapeLinkLink.recv.Goals as goal
 
 pub returns-clause-piece : goal.returns-clause-piece
@@ -12,5 +12,5 @@ returns-in_default-clause-comes c = search (rules, same_of_tape)
 
 pub returns-clause-comes : goal.returns-clause-comes
 returns-clause-comes c =
-    heard_of_tape (Ok c.give_piece-heard.result) _ _ _ (search rules) (returns-clause-piece c)
+    received_of_tape (Ok c.give_piece-heard.result) _ _ _ (search rules) (returns-clause-piece c)
     (grind (arith, common_steps)) tt

@@ -8,7 +8,7 @@ use Rattle.stk_frame.proofs.Cuts.{rest_none}
 use Rattle.stk_frame.proofs.Laws.{rest_first}
 use Rattle.stk_host.specs.declared.link.Item.TheVariants.{Byte, Silence, End}
 use Rattle.stk_host.specs.Tape.{Tape, on_tape, bytes_on_tape}
-use Rattle.stk_host.proofs.Tapes.Answers.{on_tape_append}
+use Rattle.stk_host.proofs.Tapes.Readings.{on_tape_append}
 use Rattle.avr_tool.specs.Serving.{HasNoEnd}
 use Rattle.avr_laws.proofs.TwoProcesses.Slots.{Slot, Came, Quiet, slots_tape, came, IsStub}
 use Rattle.avr_tool.proofs.Lines.Plays.{cons_none}

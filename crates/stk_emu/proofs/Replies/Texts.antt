@@ -32,9 +32,9 @@ pub found_few : (event : Event) (held : List ℕ) → length (frames_of_event ev
 found_few event held = search rules
 
 -- a reply belongs to a frame that has arrived whole
-pub answer_ends : (event : Event) (held out : List ℕ) (p : Programmer) → EventMatchesHeld event held
+pub reply_ends : (event : Event) (held out : List ℕ) (p : Programmer) → EventMatchesHeld event held
     → out ≡ replies device (frames_of_event event held) p → 0 < length out → HoldsFrame held
-answer_ends event held out p is_reported e some = search rules
+reply_ends event held out p is_reported e some = search rules
 
 -- the frames of a text with these bytes after it
 pub frames_fed : (old used new : List ℕ) (fs : List (List ℕ)) (text : List ℕ) → Fed old used new fs

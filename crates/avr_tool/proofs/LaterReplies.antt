@@ -13,7 +13,7 @@ use Rattle.stk_host.proofs.Transcripts.Laws.{sent_append, none_behind}
 use Rattle.stk_emu.specs.Programmer.{Programmer}
 use Rattle.stk_emu.specs.Device.{device, replies, after_frames}
 use Rattle.stk_emu.specs.Emulator.{EmulatorState, WasFedText, RepliesToFrame, emulate}
-use Rattle.stk_emu.proofs.Answers.Texts.{replies_append, frames_fed, is_fed, emulated}
+use Rattle.stk_emu.proofs.Replies.Texts.{replies_append, frames_fed, is_fed, emulated}
 use Rattle.avr_tool.specs.Serving.{RepliesToAll, LastReplyFailed}
 
 pub all_nothing : (p : Programmer) (text : List ℕ) (machine : EmulatorState) → WasFedText p text machine
@@ -34,9 +34,9 @@ pub breaks_more : (p : Programmer) (text a b : List ℕ) (x y : Transcript) (mid
     → LastReplyFailed p (text ++ a) b y now → LastReplyFailed p text (a ++ b) (x ++ y) now
 breaks_more p text a b x y mid now first then = search (rules, append_assoc, sent_append, none_behind)
 
-pub breaks_heard : (p : Programmer) (text bytes : List ℕ) (tape : Tape) (transcript : Transcript) (now : EmulatorState)
+pub breaks_got : (p : Programmer) (text bytes : List ℕ) (tape : Tape) (transcript : Transcript) (now : EmulatorState)
     → LastReplyFailed p text bytes transcript now → LastReplyFailed p text bytes (Got tape ∷ transcript) now
-breaks_heard p text bytes tape transcript now b = search rules
+breaks_got p text bytes tape transcript now b = search rules
 
 -- a reply whose send failed belongs to a frame, the last that was fed
 breaks_found : (p : Programmer) (text used unused part unsent : List ℕ) (transcript : Transcript) (now : EmulatorState)
@@ -61,8 +61,8 @@ breaks_here p text used unused out b c old now a f s =
     (rw (← s.bytes_are) s.some) s.bytes_sent s.not_whole
 
 -- the replies to a prefix are a prefix of the replies
-answers_prefix : (p : Programmer) (x y : List ℕ) → IsBytePrefixOf (emulate p x) (emulate p (x ++ y))
-answers_prefix p x y =
+replies_prefix : (p : Programmer) (x y : List ℕ) → IsBytePrefixOf (emulate p x) (emulate p (x ++ y))
+replies_prefix p x y =
     let later : List (List ℕ) = filter is_frame (cut (rest x ++ y)) in
     let all : frames (x ++ y) ≡ frames x ++ later =
     ap (filter is_frame) (cut_append x y) ∙ filter-append is_frame (cut x) (cut (rest x ++ y)) in (
@@ -74,5 +74,5 @@ pub breaks_prefix : (p : Programmer) (text bytes : List ℕ) (transcript : Trans
     → LastReplyFailed p text bytes transcript now
     → IsBytePrefixOf (emulate p text ++ sent transcript) (emulate p (text ++ bytes))
 breaks_prefix p text bytes transcript now b =
-    let prefix = answers_prefix p (text ++ b.used) b.unused in
+    let prefix = replies_prefix p (text ++ b.used) b.unused in
     search (rules, replies_append, append-nil, append_assoc)

@@ -53,7 +53,7 @@ module _ {P : Type 0} (m : Device P) where
 
 -- the device, if it never restarts
 abbrev pub steady : Device Programmer
-steady = record { answer = device.answer; after = device.after; reset = λ p. p }
+steady = record { reply = device.reply; after = device.after; reset = λ p. p }
 
 pub one_steady : (c : Command) (Before After : Programmer → Type 0)
     → ((p : Programmer) → Before p → After (device.after (body c) p))

@@ -10,7 +10,7 @@ use Rattle.std.specs.Prelude.{filter}
 use Rattle.stk_frame.specs.Cut.{cut, rest, is_frame, body_of}
 use Rattle.stk_frame.proofs.Cuts.{cut_append, cut_joined}
 use Rattle.stk_host.specs.declared.link.Item.TheVariants.{Byte, Silence, End}
-use Rattle.stk_host.specs.Tape.{Tape, on_tape, bytes_on_tape, leading_bytes, answer, reading_from_first, timeout_or_end, first_answer, is_answer, past_skipped, reply_byte_limit, Answered, Silent, Ended, Babbled}
+use Rattle.stk_host.specs.Tape.{Tape, on_tape, bytes_on_tape, leading_bytes, answer, reading_from_first, timeout_or_end, first_reply, is_reply, past_skipped, reply_byte_limit, Replied, Silent, Ended, Babbled}
 
 -- the bytes of two tapes joined, and of a tape of bytes alone
 pub bytes_of_append : (x y : Tape) → bytes_on_tape (x ++ y) ≡ bytes_on_tape x ++ bytes_on_tape y
@@ -38,40 +38,40 @@ take_over : (n : ℕ) (x y : List ℕ) → length x ≤ n → take n (x ++ y) �
 take_over n x y le = ap (λ m. take m (x ++ y)) (omega arith) ∙ take-append-add x y (n - length x)
 
 -- the reply, by the bytes looked at
-pub answer_by : (seq : ℕ) (tape : Tape) (bytes : List ℕ) → take reply_byte_limit (leading_bytes tape) ≡ bytes
-    → answer seq tape ≡ reading_from_first (first_answer seq (cut bytes)) bytes tape
+pub reads_by : (seq : ℕ) (tape : Tape) (bytes : List ℕ) → take reply_byte_limit (leading_bytes tape) ≡ bytes
+    → answer seq tape ≡ reading_from_first (first_reply seq (cut bytes)) bytes tape
 unfolding answer
-answer_by seq tape bytes is = ap (λ bs. reading_from_first (first_answer seq (cut bs)) bs tape) is
+reads_by seq tape bytes is = ap (λ bs. reading_from_first (first_reply seq (cut bs)) bs tape) is
 
 -- no reply yet, and more may come
-stopped_at : (seq : ℕ) (x : List ℕ) (tape : Tape) → first_answer seq (cut x) ≡ None → length x < reply_byte_limit
+stopped_at : (seq : ℕ) (x : List ℕ) (tape : Tape) → first_reply seq (cut x) ≡ None → length x < reply_byte_limit
     → leading_bytes tape ≡ [] → answer seq (on_tape x ++ tape) ≡ timeout_or_end tape
 stopped_at seq x tape none few no_bytes =
     let bytes : take reply_byte_limit (leading_bytes (on_tape x ++ tape)) ≡ x =
     rw (bytes_in_tape x tape, no_bytes, append-nil x) (take_all reply_byte_limit x (omega arith)) in
-    answer_by seq (on_tape x ++ tape) x bytes ∙ rw (none, lt-leb reply_byte_limit (length x) few, drop_tape x tape) refl
+    reads_by seq (on_tape x ++ tape) x bytes ∙ rw (none, lt-leb reply_byte_limit (length x) few, drop_tape x tape) refl
 
-pub answer_silent : (seq : ℕ) (x : List ℕ) (more : Tape) → first_answer seq (cut x) ≡ None → length x < reply_byte_limit
+pub reading_silent : (seq : ℕ) (x : List ℕ) (more : Tape) → first_reply seq (cut x) ≡ None → length x < reply_byte_limit
     → answer seq (on_tape x ++ Silence ∷ more) ≡ Some (Silent, more)
-answer_silent seq x more none few = stopped_at seq x (Silence ∷ more) none few refl
+reading_silent seq x more none few = stopped_at seq x (Silence ∷ more) none few refl
 
-pub answer_ended : (seq : ℕ) (x : List ℕ) (more : Tape) → first_answer seq (cut x) ≡ None → length x < reply_byte_limit
+pub reading_ended : (seq : ℕ) (x : List ℕ) (more : Tape) → first_reply seq (cut x) ≡ None → length x < reply_byte_limit
     → answer seq (on_tape x ++ End ∷ more) ≡ Some (Ended, more)
-answer_ended seq x more none few = stopped_at seq x (End ∷ more) none few refl
+reading_ended seq x more none few = stopped_at seq x (End ∷ more) none few refl
 
-pub answer_waits : (seq : ℕ) (x : List ℕ) → first_answer seq (cut x) ≡ None → length x < reply_byte_limit
+pub reading_waits : (seq : ℕ) (x : List ℕ) → first_reply seq (cut x) ≡ None → length x < reply_byte_limit
     → answer seq (on_tape x) ≡ None
-answer_waits seq x none few = ap (answer seq) (sym (append-nil (on_tape x))) ∙ stopped_at seq x [] none few refl
+reading_waits seq x none few = ap (answer seq) (sym (append-nil (on_tape x))) ∙ stopped_at seq x [] none few refl
 
 -- if the limit is reached
-pub answer_babbled : (seq : ℕ) (x : List ℕ) (more : Tape) → first_answer seq (cut x) ≡ None → length x
+pub reading_babbled : (seq : ℕ) (x : List ℕ) (more : Tape) → first_reply seq (cut x) ≡ None → length x
     ≡ reply_byte_limit → answer seq (on_tape x ++ more) ≡ Some (Babbled, more)
-answer_babbled seq x more none full =
+reading_babbled seq x more none full =
     let bytes : take reply_byte_limit (leading_bytes (on_tape x ++ more)) ≡ x =
     ap (take reply_byte_limit) (bytes_in_tape x more) ∙
     (take-append-le reply_byte_limit x (leading_bytes more) (omega arith) ∙ take_all reply_byte_limit x (omega arith))
     in
-    answer_by seq (on_tape x ++ more) x bytes ∙ rw (none, le-leb reply_byte_limit (length x) (omega arith))
+    reads_by seq (on_tape x ++ more) x bytes ∙ rw (none, le-leb reply_byte_limit (length x) (omega arith))
     (ap (λ t. Some (Babbled, t)) (ap (λ n. drop n (on_tape x ++ more)) (sym full) ∙ drop_tape x more))
 
 pub further_zero : (o : Option (List ℕ × ℕ)) → o ≡ past_skipped 0 o
@@ -87,16 +87,16 @@ further_none a None e = refl
 further_none a (Some (body, used)) e = cc
 
 -- after pieces without a reply
-pub first_answer_behind : (seq : ℕ) (xs ys : List (List ℕ)) → first_answer seq xs ≡ None
-    → first_answer seq (xs ++ ys) ≡ past_skipped (length (concat xs)) (first_answer seq ys)
-first_answer_behind seq [] ys none = further_zero (first_answer seq ys)
-first_answer_behind seq (x ∷ xs) ys none = elim (cases_Bool (is_answer seq x)) [
+pub first_reply_behind : (seq : ℕ) (xs ys : List (List ℕ)) → first_reply seq xs ≡ None
+    → first_reply seq (xs ++ ys) ≡ past_skipped (length (concat xs)) (first_reply seq ys)
+first_reply_behind seq [] ys none = further_zero (first_reply seq ys)
+first_reply_behind seq (x ∷ xs) ys none = elim (cases_Bool (is_reply seq x)) [
   | inl is_it ↦ let e = rw is_it at none in cc
   | inr is_not ↦
-      let none' = further_none (length x) (first_answer seq xs) (rw is_not at none) in
-      rw is_not (ap (past_skipped (length x)) (first_answer_behind seq xs ys none')
-      ∙ (further_further (length x) (length (concat xs)) (first_answer seq ys)
-      ∙ ap (λ n. past_skipped n (first_answer seq ys)) (sym (length-append x (concat xs)))))
+      let none' = further_none (length x) (first_reply seq xs) (rw is_not at none) in
+      rw is_not (ap (past_skipped (length x)) (first_reply_behind seq xs ys none')
+      ∙ (further_further (length x) (length (concat xs)) (first_reply seq ys)
+      ∙ ap (λ n. past_skipped n (first_reply seq ys)) (sym (length-append x (concat xs)))))
 ]
 
 some_inside : (a : ℕ) (o : Option (List ℕ × ℕ)) (v : List ℕ × ℕ) → past_skipped a o ≡ Some v
@@ -105,56 +105,56 @@ some_inside a None v e = absurd (none-some v e)
 some_inside a (Some w) v e = (w, refl)
 
 -- what follows a reply doesn't matter
-pub first_answer_stays : (seq : ℕ) (xs ys : List (List ℕ)) (found : List ℕ × ℕ) → first_answer seq xs ≡ Some found
-    → first_answer seq (xs ++ ys) ≡ Some found
-first_answer_stays seq [] ys found some = absurd (none-some found some)
-first_answer_stays seq (x ∷ xs) ys found some = elim (cases_Bool (is_answer seq x)) [
+pub first_reply_stays : (seq : ℕ) (xs ys : List (List ℕ)) (found : List ℕ × ℕ) → first_reply seq xs ≡ Some found
+    → first_reply seq (xs ++ ys) ≡ Some found
+first_reply_stays seq [] ys found some = absurd (none-some found some)
+first_reply_stays seq (x ∷ xs) ys found some = elim (cases_Bool (is_reply seq x)) [
   | inl is_it ↦ rw is_it (rw is_it at some)
   | inr is_not ↦
       let inner = rw is_not at some in
-      let at = some_inside (length x) (first_answer seq xs) found inner in
-      rw is_not (ap (past_skipped (length x)) (first_answer_stays seq xs ys at.0 at.1 ∙ sym at.1) ∙ inner)
+      let at = some_inside (length x) (first_reply seq xs) found inner in
+      rw is_not (ap (past_skipped (length x)) (first_reply_stays seq xs ys at.0 at.1 ∙ sym at.1) ∙ inner)
 ]
 
 -- pieces that aren't frames contain no reply
-pub first_answer_skipped : (seq : ℕ) (xs : List (List ℕ)) → filter is_frame xs ≡ [] → first_answer seq xs ≡ None
-first_answer_skipped seq [] none = refl
-first_answer_skipped seq (x ∷ xs) none = elim (cases_Bool (is_frame x)) [
+pub first_reply_skipped : (seq : ℕ) (xs : List (List ℕ)) → filter is_frame xs ≡ [] → first_reply seq xs ≡ None
+first_reply_skipped seq [] none = refl
+first_reply_skipped seq (x ∷ xs) none = elim (cases_Bool (is_frame x)) [
   | inl is_it ↦ let e = rw is_it at none in cc
-  | inr is_not ↦ rw is_not (ap (past_skipped (length x)) (first_answer_skipped seq xs (rw is_not at none)))
+  | inr is_not ↦ rw is_not (ap (past_skipped (length x)) (first_reply_skipped seq xs (rw is_not at none)))
 ]
 
 -- more bytes that bring no frame, or one that isn't the reply
-pub still_none : (seq : ℕ) (x y : List ℕ) (skipped found : List (List ℕ)) → first_answer seq (cut x) ≡ None
-    → filter is_frame skipped ≡ [] → cut (x ++ y) ≡ cut x ++ (skipped ++ found) → first_answer seq found ≡ None
-    → first_answer seq (cut (x ++ y)) ≡ None
+pub still_none : (seq : ℕ) (x y : List ℕ) (skipped found : List (List ℕ)) → first_reply seq (cut x) ≡ None
+    → filter is_frame skipped ≡ [] → cut (x ++ y) ≡ cut x ++ (skipped ++ found) → first_reply seq found ≡ None
+    → first_reply seq (cut (x ++ y)) ≡ None
 still_none seq x y skipped found none no_frames pieces other =
-    rw (pieces, first_answer_behind seq (cut x) (skipped ++ found) none)
-    (rw (first_answer_behind seq skipped found (first_answer_skipped seq skipped no_frames), other) refl)
+    rw (pieces, first_reply_behind seq (cut x) (skipped ++ found) none)
+    (rw (first_reply_behind seq skipped found (first_reply_skipped seq skipped no_frames), other) refl)
 
 -- more bytes that bring the reply, and end with it
-pub now_found : (seq : ℕ) (x y : List ℕ) (skipped : List (List ℕ)) (frame : List ℕ) → first_answer seq (cut x) ≡ None
-    → filter is_frame skipped ≡ [] → cut (x ++ y) ≡ cut x ++ (skipped ++ frame ∷ []) → is_answer seq frame ≡ true
-    → rest (x ++ y) ≡ [] → first_answer seq (cut (x ++ y)) ≡ Some (body_of frame, length (x ++ y))
+pub now_found : (seq : ℕ) (x y : List ℕ) (skipped : List (List ℕ)) (frame : List ℕ) → first_reply seq (cut x) ≡ None
+    → filter is_frame skipped ≡ [] → cut (x ++ y) ≡ cut x ++ (skipped ++ frame ∷ []) → is_reply seq frame ≡ true
+    → rest (x ++ y) ≡ [] → first_reply seq (cut (x ++ y)) ≡ Some (body_of frame, length (x ++ y))
 now_found seq x y skipped frame none no_frames pieces is_it whole =
     let joined = rw (pieces, whole, append-nil, concat-append, concat-append) at (cut_joined (x ++ y)) in
     let total = rw (length-append, length-append, length-append) at (ap length joined) in
-    rw (pieces, first_answer_behind seq (cut x) (skipped ++ frame ∷ []) none)
-    (rw (first_answer_behind seq skipped (frame ∷ []) (first_answer_skipped seq skipped no_frames), is_it)
+    rw (pieces, first_reply_behind seq (cut x) (skipped ++ frame ∷ []) none)
+    (rw (first_reply_behind seq skipped (frame ∷ []) (first_reply_skipped seq skipped no_frames), is_it)
     (ap (λ n. Some (body_of frame, n)) (omega (arith, total))))
 
 -- the reply, if the bytes end with it
-pub answer_found : (seq : ℕ) (x : List ℕ) (more : Tape) (body : List ℕ)
-    → first_answer seq (cut x) ≡ Some (body, length x) → length x ≤ reply_byte_limit
-    → answer seq (on_tape x ++ more) ≡ Some (Answered body, more)
-answer_found seq x more body found few =
+pub reading_found : (seq : ℕ) (x : List ℕ) (more : Tape) (body : List ℕ)
+    → first_reply seq (cut x) ≡ Some (body, length x) → length x ≤ reply_byte_limit
+    → answer seq (on_tape x ++ more) ≡ Some (Replied body, more)
+reading_found seq x more body found few =
     let bytes : take reply_byte_limit (leading_bytes (on_tape x ++ more)) ≡ x
     ++ take (reply_byte_limit - length x) (leading_bytes more) =
     ap (take reply_byte_limit) (bytes_in_tape x more) ∙ take_over reply_byte_limit x (leading_bytes more) few in
-    answer_by seq (on_tape x ++ more) (x ++ take (reply_byte_limit - length x) (leading_bytes more)) bytes
+    reads_by seq (on_tape x ++ more) (x ++ take (reply_byte_limit - length x) (leading_bytes more)) bytes
     ∙ (ap (λ o. reading_from_first o (x ++ take (reply_byte_limit - length x) (leading_bytes more)) (on_tape x ++ more))
-    (ap (first_answer seq) (cut_append x (take (reply_byte_limit - length x) (leading_bytes more)))
-    ∙ first_answer_stays seq (cut x) (cut (rest x ++ take (reply_byte_limit - length x) (leading_bytes more))) (
+    (ap (first_reply seq) (cut_append x (take (reply_byte_limit - length x) (leading_bytes more)))
+    ∙ first_reply_stays seq (cut x) (cut (rest x ++ take (reply_byte_limit - length x) (leading_bytes more))) (
       body,
       length x,
-    ) found) ∙ ap (λ t. Some (Answered body, t)) (drop_tape x more))
+    ) found) ∙ ap (λ t. Some (Replied body, t)) (drop_tape x more))

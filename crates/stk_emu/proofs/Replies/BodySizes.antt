@@ -10,7 +10,7 @@ use Rattle.stk_emu.specs.Device.{Device, device}
 use Rattle.stk_emu.specs.Lawful.{IsFrameBody}
 
 abbrev pub RepliesFitFrames : {P : Type 0} → Device P → Type 0
-RepliesFitFrames {P} m = (bytes : List ℕ) (p : P) → IsFrameBody bytes → IsFrameBody (m.answer bytes p)
+RepliesFitFrames {P} m = (bytes : List ℕ) (p : P) → IsFrameBody bytes → IsFrameBody (m.reply bytes p)
 
 two : (x y : ℕ) → IsFrameBody (x ∷ y ∷ [])
 two x y = record { some = omega arith; few = omega arith }

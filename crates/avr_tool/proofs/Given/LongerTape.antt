@@ -8,8 +8,8 @@ use Rattle.std.specs.Prelude.{nat_le as leb}
 use Rattle.stk_frame.specs.Cut.{cut, rest, body_of}
 use Rattle.stk_frame.proofs.Cuts.{cut_append, cut_joined}
 use Rattle.stk_host.specs.declared.link.Item.TheVariants.{Byte}
-use Rattle.stk_host.specs.Tape.{Tape, on_tape, leading_bytes, answer, reading_from_first, timeout_or_end, first_answer, is_answer, past_skipped, reply_byte_limit, Reading, Babbled}
-use Rattle.stk_host.proofs.Tapes.Answers.{answer_silent, answer_ended, first_answer_stays, drop_tape, answer_by}
+use Rattle.stk_host.specs.Tape.{Tape, on_tape, leading_bytes, answer, reading_from_first, timeout_or_end, first_reply, is_reply, past_skipped, reply_byte_limit, Reading, Babbled}
+use Rattle.stk_host.proofs.Tapes.Readings.{reading_silent, reading_ended, first_reply_stays, drop_tape, reads_by}
 
 pub record Split (tape : Tape) : Type 0 where
   pub tail : Tape
@@ -45,9 +45,9 @@ further_used : (a n : ℕ) (o : Option (List ℕ × ℕ)) (body : List ℕ) (use
 further_used a n o body used e each = search rules
 
 pub used_within : (seq : ℕ) (pieces : List (List ℕ)) (body : List ℕ) (used : ℕ)
-    → first_answer seq pieces ≡ Some (body, used) → used ≤ length (concat pieces)
+    → first_reply seq pieces ≡ Some (body, used) → used ≤ length (concat pieces)
 used_within seq [] body used e = absurd (none-some (body, used) e)
-used_within seq (piece ∷ pieces) body used e = elim (cases_Bool (is_answer seq piece)) [
+used_within seq (piece ∷ pieces) body used e = elim (cases_Bool (is_reply seq piece)) [
   | inl is_it ↦
       let f : ◌≡◌ {A = Option (List ℕ × ℕ)} (Some (body_of piece, length piece)) (Some (body, used)) =
       search (rules, cond-true) in
@@ -55,14 +55,14 @@ used_within seq (piece ∷ pieces) body used e = elim (cases_Bool (is_answer seq
       let g : length piece ≡ used = ap (λ x. x.1) p in
       rw (length-append piece (concat pieces)) (omega arith)
   | inr is_not ↦
-      let f : past_skipped (length piece) (first_answer seq pieces) ≡ Some (body, used) =
+      let f : past_skipped (length piece) (first_reply seq pieces) ≡ Some (body, used) =
       search (rules, cond-false) in
       rw (length-append piece (concat pieces))
-      (further_used (length piece) (length (concat pieces)) (first_answer seq pieces) body used f
+      (further_used (length piece) (length (concat pieces)) (first_reply seq pieces) body used f
       (λ b k g. used_within seq pieces b k g))
 ]
 
-used_few : (seq : ℕ) (x body : List ℕ) (used : ℕ) → first_answer seq (cut x) ≡ Some (body, used) → used ≤ length x
+used_few : (seq : ℕ) (x body : List ℕ) (used : ℕ) → first_reply seq (cut x) ≡ Some (body, used) → used ≤ length x
 used_few seq x body used e =
     let joined : length (concat (cut x)) + length (rest x) ≡ length x =
     sym (length-append (concat (cut x)) (rest x)) ∙ ap length (cut_joined x) in
@@ -73,12 +73,12 @@ some_tape : (a b : Reading) (s t : Tape) → ◌≡◌ {A = Option (Reading × T
 some_tape a b s t e = search rules
 
 stops_more : (seq : ℕ) (b : List ℕ) (tail u : Tape) (reading : Reading) (left : Tape) → leading_bytes tail ≡ []
-    → first_answer seq (cut b) ≡ None → length b < reply_byte_limit → timeout_or_end tail ≡ Some (reading, left)
+    → first_reply seq (cut b) ≡ None → length b < reply_byte_limit → timeout_or_end tail ≡ Some (reading, left)
     → answer seq ((on_tape b ++ tail) ++ u) ≡ Some (reading, left ++ u)
-stops_more seq b tail u reading left stops none few e = search (rules, append_assoc, answer_silent, answer_ended)
+stops_more seq b tail u reading left stops none few e = search (rules, append_assoc, reading_silent, reading_ended)
 
 given_more : (seq : ℕ) (t u : Tape) (o : Option (List ℕ × ℕ)) (reading : Reading) (left : Tape)
-    → first_answer seq (cut (take reply_byte_limit (leading_bytes t))) ≡ o
+    → first_reply seq (cut (take reply_byte_limit (leading_bytes t))) ≡ o
     → reading_from_first o (take reply_byte_limit (leading_bytes t)) t ≡ Some (reading, left) → answer seq (t ++ u)
     ≡ Some (reading, left ++ u)
 given_more seq t u (Some (body, used)) reading left found e =
@@ -89,10 +89,10 @@ given_more seq t u (Some (body, used)) reading left found e =
     let a : used ≤ length x = used_few seq x body used found in
     let b : length x ≤ length (leading_bytes t) = simp length-take (omega arith) in
     let c : length (leading_bytes t) ≤ length t = bytes_few t in
-    answer_by seq (t ++ u) (x ++ y.0) bytes
+    reads_by seq (t ++ u) (x ++ y.0) bytes
     ∙ (ap (λ o. reading_from_first o (x ++ y.0) (t ++ u))
-    (ap (first_answer seq) (cut_append x y.0)
-    ∙ first_answer_stays seq (cut x) (cut (rest x ++ y.0)) (body, used) found)
+    (ap (first_reply seq) (cut_append x y.0)
+    ∙ first_reply_stays seq (cut x) (cut (rest x ++ y.0)) (body, used) found)
     ∙ (search (rules, drop_more_tape)))
 given_more seq t u None reading left none e =
     let x : List ℕ = take reply_byte_limit (leading_bytes t) in
@@ -107,7 +107,7 @@ given_more seq t u None reading left none e =
           ap (take reply_byte_limit) z.1 ∙ take-append-le reply_byte_limit (leading_bytes t) z.0 (omega arith) in
           let f = some_tape Babbled reading (drop reply_byte_limit t) left
           (search rules) in
-          answer_by seq (t ++ u) x bytes
+          reads_by seq (t ++ u) x bytes
           ∙ (ap (λ o. reading_from_first o x (t ++ u)) none
           ∙ (cond-true (leb reply_byte_limit (length x)) (Some (Babbled, drop reply_byte_limit (t ++ u)))
           (timeout_or_end (drop (length x) (t ++ u))) full
@@ -122,12 +122,12 @@ given_more seq t u None reading left none e =
           let at : drop (length x) t ≡ s.tail = search (rules, drop_tape) in
           ap (λ w. answer seq (w ++ u)) s.is
           ∙ stops_more seq (leading_bytes t) s.tail u reading left s.stops
-          (ap (λ y. first_answer seq (cut y)) (sym same) ∙ none) (subst (λ y. length y < reply_byte_limit) same lt)
+          (ap (λ y. first_reply seq (cut y)) (sym same) ∙ none) (subst (λ y. length y < reply_byte_limit) same lt)
           (ap timeout_or_end (sym at) ∙ stop)
     ]
 
-pub answer_extends : (seq : ℕ) (t u : Tape) (reading : Reading) (left : Tape) → answer seq t ≡ Some (reading, left)
+pub reading_extends : (seq : ℕ) (t u : Tape) (reading : Reading) (left : Tape) → answer seq t ≡ Some (reading, left)
     → answer seq (t ++ u) ≡ Some (reading, left ++ u)
-answer_extends seq t u reading left e =
-    given_more seq t u (first_answer seq (cut (take reply_byte_limit (leading_bytes t)))) reading left refl
-    (sym (answer_by seq t (take reply_byte_limit (leading_bytes t)) refl) ∙ e)
+reading_extends seq t u reading left e =
+    given_more seq t u (first_reply seq (cut (take reply_byte_limit (leading_bytes t)))) reading left refl
+    (sym (reads_by seq t (take reply_byte_limit (leading_bytes t)) refl) ∙ e)
