@@ -398,8 +398,8 @@ def devices():
 
 
 def what_is_missing():
-    """If the program avrstk is missing, avrstk-serial reports that. If no program is named, it runs the one beside it.
-    (tests/build.py has that of a clone.)"""
+    """avrstk-serial reports if the program, its own modules or its part file are missing. If no program is named, it
+    runs the one beside it. (tests/build.py has that of a clone.)"""
     needed = "is not there, or can't be run: avrstk is needed beside this script, or named by AVRSTK"
     line, device = terminal()
     same("no avrstk", run([*FLASH, "-P", device], env={"AVRSTK": "/nowhere/it"})[::3], (1, [f"/nowhere/it {needed}"]))
