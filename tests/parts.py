@@ -42,8 +42,8 @@ HEAD = """\
 
 HEAD_OF_BITS = """\
 # The bits that the fuses and the lock of the parts in classic.toml have: lfuse, hfuse, efuse, lock. Made by
-# tests/parts.py --write of the write instructions in the configuration of AVRDUDE 7.1. A part reads the others as 1.
-# A memory whose other bits are read as 0 there has a dash.
+# tests/parts.py --write of the write instructions in the configuration of AVRDUDE 7.1. A part reads its other bits as 1.
+# A dash stands for a memory whose other bits are read as 0.
 """
 HEAD_OF_UNSUPPORTED = """\
 # Parts that classic.toml doesn't have, with the reason. Made by tests/parts.py --write of docs/PARTS.
