@@ -21,8 +21,8 @@ from kept import TOP, kept
 PAGE, README = TOP / "docs/PROOFS.md", TOP / "README.md"
 # the documents whose names are looked for
 NAMING = ("PROOFS", "PROMISES", "CHECK", "LIBRARY")
-TABLE = "| Sentence | Definition | Definitions | Lines |"
-WORLDS = "| Definition | Met by | Refuses |"
+TABLE = "| Sentence | Where it is defined | Definitions | Lines |"
+WORLDS = "| Definition | Lemma: an example meets it | Lemma: a wrong example doesn't |"
 PROMISE = "a_program_with_status_0_kept_its_plan"
 
 HEADER = re.compile(r"^\s*(?:(?:abbrev|unfoldable) pub|pub (?:record|data)) (\S+)")
