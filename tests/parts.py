@@ -229,7 +229,7 @@ def files_of_parts():
 
 
 def loaded():
-    """By each name that the file has, the program reads the part's signature from a chip of the part's sizes. A run
+    """For each part name in parts/classic.toml the program reads the part's signature from a chip of its sizes. A run
     checks its whole part file, so only two names get the whole file, and the others their own line."""
     room = Room()
     file = tomllib.loads(CLASSIC.read_text())["parts"]
