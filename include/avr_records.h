@@ -108,8 +108,8 @@ struct avr_records_outcome avr_records_read(uint8_t format, const uint8_t *file,
                                             uint8_t *bytes, size_t size, uint8_t *present, size_t octets);
 
 /*
- * Puts the next piece of a memory's file, in a format (AVR_RECORDS_IHEX or _SREC), into the buffer `room`: as many bytes
- * as the buffer takes, or as are left. The cursor keeps the position in the file; at the beginning it is
+ * Puts the next piece of a memory's file, in a format (AVR_RECORDS_IHEX or _SREC), into the buffer `room`: as many
+ * bytes as the buffer takes, or as are left. The cursor keeps the position in the file; at the beginning it is
  * AVR_RECORDS_START. So the pieces of calls with one cursor, joined, are the file, whatever the sizes of the buffers. A
  * piece that is shorter than its buffer is the last one.
  *
@@ -130,9 +130,9 @@ struct avr_records_piece avr_records_write(uint8_t format, const uint8_t *bytes,
                                            struct avr_records_cursor *cursor, uint8_t *room, size_t length);
 
 /*
- * Returns the length in bytes of a memory's file, in a format (AVR_RECORDS_IHEX or _SREC), to get a buffer for the whole
- * file. The fault is AVR_RECORDS_MISFIT for the same arguments as in avr_records_write; the length is then 0. A call
- * allocates nothing and takes the time of writing the file.
+ * Returns the length in bytes of a memory's file, in a format (AVR_RECORDS_IHEX or _SREC), to get a buffer for the
+ * whole file. The fault is AVR_RECORDS_MISFIT for the same arguments as in avr_records_write; the length is then 0. A
+ * call allocates nothing and takes the time of writing the file.
  */
 struct avr_records_piece avr_records_length(uint8_t format, const uint8_t *bytes, size_t size,
                                             const uint8_t *present, size_t octets);
