@@ -104,8 +104,9 @@ def is_safe(what, old, status, calls):
 
 
 def each_power_cut():
-    """After each call of a run a power cut leaves the old chip or the new one, and after status 0 the new one. This
-    holds too if a call fails, or finds no file or no descriptor. It wouldn't hold if one of both syncs were missing."""
+    """After each system call of a run a power cut leaves the old chip or the new one, and after status 0 the new one.
+    This holds too if a call fails, or finds no file or no descriptor. It wouldn't hold if one of both syncs were
+    missing."""
     for prepare, old in STARTS:
         new, what = with_fuse(old, 0x62), f"chip {bool(old)}"
         status, _, calls = traced(prepare, writes_fuse(0x62))
@@ -125,8 +126,8 @@ def each_power_cut():
 
 
 def ended_anywhere():
-    """Ends a run at each of its system calls in turn. The chip is then the old one or the new one with its permissions,
-    and the next run works as usual."""
+    """Ends a run at each of its system calls in turn: the chip file stays whole. The chip is then the old one or the
+    new one with its permissions, and the next run works as usual."""
     for prepare, old in STARTS:
         left = set()
         for call in traced(prepare, writes_fuse(0x62))[2]:
@@ -223,8 +224,8 @@ def held_by_a_session():
 
 
 def without_a_lock():
-    """The lock file of a waiting run is removed, and another run starts. The one that saves first ends well, and the
-    other one fails: what a run with status 0 saved isn't lost."""
+    """If the lock file of a waiting run is removed, another run starts, and of both only the one that saves first ends
+    well. The other one fails: what a run with status 0 saved isn't lost."""
     for prepare, old in STARTS:
         prepare()
         with waiting(["-U", "lfuse:w:0x11:m"], last=(1, UNWRITABLE)):

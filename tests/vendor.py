@@ -112,7 +112,7 @@ def copied(top, *crates):
 
 
 def all_that_it_stands_on():
-    """Copies the named crates and all crates that they use."""
+    """tools/vendor.sh copies the named crates and all crates that they use."""
     with repository() as top:
         status, text = vendor("avr_records", "avr_part", top)
         same("status", status, 0)
@@ -131,7 +131,7 @@ def the_network_is_named():
 
 
 def what_is_there_stays():
-    """A crate that is there already, with its line, stays as it is."""
+    """tools/vendor.sh leaves a crate that is there already, with its line, as it is."""
     with repository() as top:
         lines = "own:\navr_image:   arrayvec thiserror # by hand"
         (top / "crates.txt").write_text(lines)
