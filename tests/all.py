@@ -38,13 +38,13 @@ PROGRAMS = {it.parent.parent.name: it.parent.parent / "out" for it in TOP.glob("
 # scripts of tools/, which only read
 CHECKED = ("measure --check", "reach --check", "site --check", "man_pages", "promises", "tests_page")
 # scripts that run no program of this project, or compile it themselves; the longest first
-SOURCES = ("rattle tests", "build", "rattle examples", "rattle refused", "rattle programs", "vendor", "rattle names", "documents", *CHECKED)
+SOURCES = ("rattle tests", "build", "rattle examples", "rattle refused", "vendor", "rattle names", "documents", *CHECKED)
 # scripts over the library for C, which takes minutes to prove and build, so that only --all runs them
 LIBRARY = ("from_c",)
 # scripts that take seconds
 SHORT = ("bad_lines", "made_frames", "manual")
-# scripts that ./test runs with the unproved program; the longest first
-QUICK = ("serial", "serve", "chips", "why", "hostile", "parts", "recipes", "avrdude", "runs", "lines", *SHORT)
+# scripts that ./test runs with the unproved program; the longest first, the longest of all as two
+QUICK = ("serial 1/2", "serial 2/2", "serve", "chips", "why", "hostile", "parts", "recipes", "avrdude", "runs", "lines", *SHORT)
 # those that --all runs with both programs: two compilers made what these compare byte for byte
 BOTH = ("runs", "lines")
 # counts of bench/run.py

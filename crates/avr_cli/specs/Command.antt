@@ -25,9 +25,11 @@ list_rule id short = record (value_rule id short) { action = Some Append }
 abbrev pub number_rule : Bytes → ℕ → Rule
 number_rule id short = record (value_rule id short) { parser = Some (Signed (pos 0) (pos 4294967295)) }
 
+-- an option of one letter without a value
 abbrev pub flag_rule : Bytes → ℕ → Rule
 flag_rule id short = record (new_rule id) { short = Some short; action = Some SetTrue }
 
+-- the same, which counts how often it is given
 abbrev pub count_rule : Bytes → ℕ → Rule
 count_rule id short = record (new_rule id) { short = Some short; action = Some Count }
 
@@ -57,6 +59,7 @@ message_rules = count_rule (codes "quiet") 113 ∷ number_rule (codes "baud") 98
 unfoldable pub file_rules : List Rule
 file_rules = long_rule (codes "parts") ∷ long_rule (codes "serve") ∷ long_rule (codes "chip") ∷ []
 
+-- the command with these options, too
 abbrev pub with_rules : App → List Rule → App
 with_rules = fold with_rule
 
@@ -69,6 +72,7 @@ pub record IsOption (arg : Arg) (rule : Rule) : Type 0 where
   pub shape : rule_of arg ≡ rule
   pub local : arg.global ≡ false
 
+-- The command. If an option is given again, its last value counts.
 unfoldable pub avrstk : App
 avrstk =
     let new = new_app (codes "avrstk") in
@@ -76,9 +80,11 @@ avrstk =
     with_rules (with_rules (with_rules (with_rules (with_rules bare target_rules) write_rules) run_rules) message_rules)
     file_rules
 
+-- the option of this id was given
 abbrev pub is_on : Bytes → List Row → Bool
 is_on id rows = option_map_or (λ text. bytes_eq text (codes "true")) (first_of id rows) false
 
+-- the switches among the options given
 abbrev pub switches_of : List Row → Switches
 switches_of rows = record {
   erase = is_on (codes "erase") rows;

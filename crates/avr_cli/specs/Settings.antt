@@ -49,6 +49,7 @@ abbrev pub checked_programmer : Option Bytes → Result ⊤ SettingsFault
 checked_programmer None = Ok tt
 checked_programmer (Some name) = if bytes_eq name (codes "stk500v2") then Ok tt else Err (BadProgrammer name)
 
+-- an update, or its fault with its number
 abbrev pub update_at : ℕ → Result Update UpdateFault → Result Update SettingsFault
 update_at n = result_map_both (λ update. update) (BadUpdate n)
 
@@ -64,9 +65,11 @@ updates_from n (text ∷ rest) = do
 abbrev pub updates_of : List Bytes → Result (List Update) SettingsFault
 updates_of texts = if nat_lt 16 (length texts) then Err TooMany else updates_from 1 texts
 
+-- no standard stream is asked for twice
 abbrev pub checked_streams : Port → List Update → Option Bytes → Option Bytes → Result ⊤ SettingsFault
 checked_streams port updates parts chip = if is_taken port updates parts chip then Err StandardTaken else Ok tt
 
+-- the settings of a run
 abbrev pub run_settings : Bytes → Entries → Result Settings SettingsFault
 run_settings part e = do
   programmer ← checked_programmer e.programmer
@@ -75,6 +78,7 @@ run_settings part e = do
   streams ← checked_streams port updates e.parts e.chip
   Ok (record { part = part; port = port; parts = e.parts; updates = updates; switches = e.switches })
 
+-- no switch is given
 abbrev pub no_switches : Switches
 no_switches =
     record { erase = false; keep_flash = false; no_verify = false; dry = false; force = false; all = false; quiet = 0 }
@@ -90,6 +94,7 @@ serve_settings part text e = do
   streams ← checked_streams port [] e.parts e.chip
   Ok (record { part = part; port = port; parts = e.parts; updates = []; switches = no_switches })
 
+-- the settings of a service if `--serve` is given, else of a run
 abbrev pub settings_of : Entries → Result Settings SettingsFault
 settings_of e = do
   part ← ok_or e.part NoPart

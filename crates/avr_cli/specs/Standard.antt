@@ -10,6 +10,7 @@ use Rattle.avr_cli.specs.declared.update.Format.TheVariants.{Immediate}
 use Rattle.avr_cli.specs.declared.settings.Port.{Port}
 use Rattle.avr_cli.specs.declared.settings.Port.TheVariants.{Stdio, Emulated, Network, Served}
 
+-- `-` is a standard stream
 abbrev pub is_standard : Bytes → Bool
 is_standard name = bytes_eq name (codes "-")
 
@@ -17,9 +18,11 @@ is_standard name = bytes_eq name (codes "-")
 abbrev pub uses_standard : Update → Bool
 uses_standard u = is_standard u.file && elim (u.format) [ Immediate ↦ false | format ↦ true ]
 
+-- the update reads standard input
 abbrev pub uses_input : Update → Bool
 uses_input u = uses_standard u && elim (u.op) [ Read ↦ false | op ↦ true ]
 
+-- a file is given, and it is a standard stream
 abbrev pub is_given_standard : Option Bytes → Bool
 is_given_standard file = option_map_or is_standard file false
 

@@ -20,6 +20,7 @@ use Rattle.avr_cli.specs.declared.update.UpdateFault.TheVariants.{BadMemory, Bad
 abbrev pub GivesUpdateUnlessOutOfMemory : Result Update UpdateFault → Result Update UpdateFault → Type 0
 GivesUpdateUnlessOutOfMemory want got = (got ≡ want) ⊎ (IsOk want × (got ≡ Err Memory))
 
+-- the letter of an operation
 abbrev pub op_name : Op → Bytes
 op_name Read = codes "r"
 op_name Write = codes "w"
@@ -32,6 +33,7 @@ op_named name =
     else if bytes_eq name (op_name Verify) then Some Verify
     else None
 
+-- the letter of a format
 abbrev pub letter_of : Format → ℕ
 letter_of Auto = 97
 letter_of Ihex = 105
@@ -48,13 +50,16 @@ abbrev pub formats_of : Op → List Format
 formats_of Read = Ihex ∷ Srec ∷ Raw ∷ Decimal ∷ Hexadecimal ∷ Octal ∷ Binary ∷ []
 formats_of op = Ihex ∷ Srec ∷ Raw ∷ Immediate ∷ Auto ∷ []
 
+-- the format if none is given
 abbrev pub default_format : Op → Format
 default_format Read = Raw
 default_format op = Auto
 
+-- the format with this letter, if it is one of these
 abbrev pub format_named : List Format → ℕ → Option Format
 format_named formats letter = find (λ format. letter_of format == letter) formats
 
+-- the format given or the default one, if the operation can have it
 abbrev pub format_of : Op → Option ℕ → Option Format
 format_of op None = Some (default_format op)
 format_of op (Some letter) = format_named (formats_of op) letter
@@ -66,6 +71,7 @@ file_and_letter rest =
     then (take (length rest - 2) rest, Some (slice_index rest (length rest - 1)))
     else (rest, None)
 
+-- an update with this file and format
 abbrev pub update_by : Mem → Op → Bytes × Option ℕ → Result Update UpdateFault
 update_by memory op named = do
   format ← if length named.0 == 0 then Err NoFile else ok_or (format_of op named.1) BadFormat
@@ -83,5 +89,6 @@ update_of text =
     option_map_or (λ parts. ok_or (memory_named parts.0) BadMemory >>= (λ memory. update_after memory parts.1))
     (split_first text) (update_by Flash Write (text, None))
 
+-- the text of an update with all four parts
 abbrev pub update_text : Mem → Op → Bytes → ℕ → Bytes
 update_text memory op file letter = name_of memory ++ (colon ∷ (op_name op ++ (colon ∷ (file ++ colon ∷ letter ∷ []))))

@@ -65,6 +65,7 @@ There is no -C (no configuration file), no -B (the programmer has its own clock)
 clone, --parts /usr/share/avrstk/classic.toml from the package (PREFIX/share by install.sh).
 Values in place of a file need the format m. Manual: man avrstk. This is avrstk 0.9.0.";
 
+/// An option of one letter with a value.
 fn value<'a>(alloc: Global, id: &'a str, short: char, value_name: &'a str, help: &'a str) -> Arg<'a>
     ensures { IsOption result (value_rule id.entry.now short) }
 {
@@ -74,6 +75,7 @@ fn value<'a>(alloc: Global, id: &'a str, short: char, value_name: &'a str, help:
         .help(help)
 }
 
+/// An option named by its id, with a value.
 fn long_value<'a>(alloc: Global, id: &'a str, value_name: &'a str, help: &'a str) -> Arg<'a>
     ensures { IsOption result (long_rule id.entry.now) }
 {
@@ -83,6 +85,7 @@ fn long_value<'a>(alloc: Global, id: &'a str, value_name: &'a str, help: &'a str
         .help(help)
 }
 
+/// An option of one letter without a value.
 fn flag<'a>(alloc: Global, id: &'a str, short: char, help: &'a str) -> Arg<'a>
     ensures { IsOption result (flag_rule id.entry.now short) }
 {
@@ -92,6 +95,7 @@ fn flag<'a>(alloc: Global, id: &'a str, short: char, help: &'a str) -> Arg<'a>
         .help(help)
 }
 
+/// An option of one letter, which counts how often it is given.
 fn counted<'a>(alloc: Global, id: &'a str, short: char, help: &'a str) -> Arg<'a>
     ensures { IsOption result (count_rule id.entry.now short) }
 {
@@ -115,6 +119,7 @@ fn baud<'a>(alloc: Global) -> Arg<'a>
     value(alloc, "baud", 'b', "N", BAUD).value_parser(value_parser!(u32))
 }
 
+/// `-A`.
 fn all<'a>(alloc: Global) -> Arg<'a>
     ensures { IsOption result (flag_rule (codes "all") 65) }
 {
@@ -133,6 +138,7 @@ fn add<'a>(
     command?.arg(arg)
 }
 
+/// Adds `-p`, `-c`, `-P` and `-U`.
 fn with_target<'a>(
     alloc: Global,
     command: Result<Command<'a>, AllocError>,
@@ -145,6 +151,7 @@ fn with_target<'a>(
     add(command, update(alloc))
 }
 
+/// Adds `-e`, `-D` and `-V`.
 fn with_write<'a>(
     alloc: Global,
     command: Result<Command<'a>, AllocError>,
@@ -156,6 +163,7 @@ fn with_write<'a>(
     add(command, flag(alloc, "no-verify", 'V', NO_VERIFY))
 }
 
+/// Adds `-n`, `-F` and `-A`.
 fn with_run<'a>(
     alloc: Global,
     command: Result<Command<'a>, AllocError>,
@@ -167,6 +175,7 @@ fn with_run<'a>(
     add(command, all(alloc))
 }
 
+/// Adds `-q`, `-b` and `-v`.
 fn with_message_options<'a>(
     alloc: Global,
     command: Result<Command<'a>, AllocError>,
@@ -178,6 +187,7 @@ fn with_message_options<'a>(
     add(command, counted(alloc, "verbose", 'v', VERBOSE))
 }
 
+/// Adds `--parts`, `--serve` and `--chip`.
 fn with_files<'a>(
     alloc: Global,
     command: Result<Command<'a>, AllocError>,

@@ -21,6 +21,7 @@ pub(crate) fn text_of<'a>(matches: &ArgMatches<'a>, id: &str) -> Option<&'a str>
     matches.get_str(id)
 }
 
+/// Returns all values given.
 pub(crate) fn texts_of<'m, 'a>(matches: &'m ArgMatches<'a>, id: &str) -> Option<&'m [&'a str]>
     ensures { option_map (λ t. map (λ s. s.now) t.now) result ≡ all_of id.now (rows_of (found_of matches.now)) }
 {
@@ -76,6 +77,7 @@ fn update_at(alloc: Global, number: u8, text: &str) -> Result<Update, SettingsFa
     }
 }
 
+/// Reads the updates, at most 16, up to the first fault.
 fn updates_given(alloc: Global, texts: Option<&[&str]>) -> Result<Updates, SettingsFault>
     ensures { GivesUnlessOutOfMemory (updates_of (unwrap_or (option_map (λ t. map (λ s. s.now) t.now) texts.entry) []))
         result }
@@ -94,6 +96,7 @@ fn updates_given(alloc: Global, texts: Option<&[&str]>) -> Result<Updates, Setti
     Ok(updates)
 }
 
+/// Reads the settings of a run.
 fn run_settings(
     alloc: Global,
     part: &str,
@@ -117,6 +120,7 @@ fn run_settings(
     })
 }
 
+/// Reads the settings of a service at the port `at`.
 fn serve_settings(
     alloc: Global,
     part: &str,

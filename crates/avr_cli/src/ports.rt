@@ -35,6 +35,7 @@ pub fn port_number(text: &str) -> Option<u16>
     }
 }
 
+/// Returns whether the text is a host, a colon and a port number.
 fn is_address(text: &str) -> bool
     ensures { result ≡ is_address text.now }
 {
@@ -44,6 +45,7 @@ fn is_address(text: &str) -> bool
     }
 }
 
+/// Returns the fault of a text that names no port.
 fn bad_port(alloc: Global, text: &str) -> SettingsFault
     ensures { (result ≡ SettingsFault.BadPort (Some text.now)) ⊎ (result ≡ SettingsFault.Memory) }
 {
@@ -53,6 +55,7 @@ fn bad_port(alloc: Global, text: &str) -> SettingsFault
     }
 }
 
+/// Reads the text of `-P`.
 fn port_of(alloc: Global, text: &str) -> Result<Port, SettingsFault>
     ensures { GivesUnlessOutOfMemory (port_of text.now) result }
 {

@@ -29,6 +29,7 @@ fn uses_standard(update: &Update) -> bool
     is_standard(update.file.as_str()) && !matches!(update.format, Format::Immediate)
 }
 
+/// Returns whether the update reads standard input.
 fn uses_input(update: &Update) -> bool
     ensures { result ≡ uses_input update.now }
 {
@@ -41,6 +42,7 @@ fn any_standard(updates: &[Update]) -> bool
     updates.iter().any(|update| uses_standard(update))
 }
 
+/// Returns how many updates read standard input.
 fn inputs(updates: &[Update]) -> usize
     ensures { result ≡ count_by uses_input updates.now }
 {

@@ -24,9 +24,11 @@ failing view d = showing (view d.inner).kept (counted ((view d.inner).failures +
 abbrev pub of_inner : {D Start : Type 0} → (Start → D → Type 0) → Start → Failing D → Type 0
 of_inner started_as start d = started_as start d.inner
 
+-- one more than this count if the call is the due one
 abbrev pub count_after : {D : Type 0} → Failing D → ℕ → ℕ
 count_after d count = if d.due == 1 then counted (count + 1) else count
 
+-- the count of failures at the messages after a call for this stream
 abbrev pub message_failures_after : {D : Type 0} → Stream → Failing D → ℕ
 message_failures_after Messages d = count_after d d.message_failures
 message_failures_after stream d = d.message_failures

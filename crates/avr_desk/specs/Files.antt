@@ -14,9 +14,11 @@ file_fault_number NotOpened = 2
 file_fault_number NotRead = 3
 file_fault_number Memory = 4
 
+-- the open file gave these bytes, and its end was seen if `ended`
 abbrev pub after_reading : Bytes → Bool → Record → Record
 after_reading bytes ended r = record r { current = noted bytes ended r.current }
 
+-- a file was opened and gave these bytes
 abbrev pub with_read : Bytes → Bytes → Bool → Record → Record
 with_read name bytes ended r = with_open (ToRead (record { name = name; bytes = bytes; ended = ended })) r
 
@@ -35,6 +37,7 @@ FileBreaks name old new NotOpened = new.kept ≡ old.kept
 FileBreaks name old new NotRead = (bytes : Bytes) × ChangesRecord (with_read name bytes false) old new
 FileBreaks name old new Memory = (bytes : Bytes) × (ended : Bool) × ChangesRecord (with_read name bytes ended) old new
 
+-- The desk failed only if the file could not be opened or read.
 abbrev pub CountsFileFault : DeskState → DeskState → FileFault → Type 0
 CountsFileFault old new NotOpened = HasFailedAt File old new
 CountsFileFault old new NotRead = HasFailedAt File old new

@@ -39,7 +39,7 @@ TookFile {F = F} system writes now writing =
     (first : F) × system.is_of first writing.name
     × Appends (writes.contents first) (writes.contents now) writing.bytes
 
--- The open handle gave or took what the record says.
+-- The open handle gave or took what the record has.
 abbrev pub IsTrueOpen : {S F I H : Type 0} → Ghosts S F I H → Reads F → Writes F → Reads I → OpenFile F I
     → Open → Type 0
 IsTrueOpen system reads writes input Nothing current = current ≡ is.Closed
@@ -52,7 +52,8 @@ IsTrueOpen system reads writes input (ToWrite now) current =
 IsTrueOpen system reads writes input Output current =
     (writing : Writing) × (current ≡ is.ToWrite writing) × (is_dash writing.name ≡ true)
 
--- The same for a finished use. A written file was closed as it was then, and `-` is the output.
+-- The same for a finished use: the name was absent, or the file gave these bytes. A written file took these bytes and
+-- was closed, or was replaced by them; `-` is the output.
 abbrev pub IsTrueUse : {S F I H : Type 0} → Ghosts S F I H → Reads F → Writes F → Reads I → FileUse → Type 0
 IsTrueUse system reads writes input (Opened (Absent name)) = system.lacks name
 IsTrueUse {F = F} {I = I} system reads writes input (Opened (Found reading)) =
@@ -61,6 +62,7 @@ IsTrueUse {F = F} system reads writes input (Created writing) =
     (is_dash writing.name ≡ true) ⊎ ((now : F) × system.closed now × TookFile system writes now writing)
     ⊎ system.replaced writing.name writing.bytes
 
+-- the handle holds the file of this name, or there is neither
 abbrev pub IsHeldBy : {S F I H : Type 0} → Ghosts S F I H → Option H → Option Bytes → Type 0
 IsHeldBy system None None = Unit {0}
 IsHeldBy system (Some hold) (Some name) = system.holds hold name
@@ -73,7 +75,7 @@ CrashLeaves system now tried = (name : Bytes) (found : Option Bytes) → system.
     ⊎ ((bytes : Bytes) × (found ≡ Some bytes) × Contains tried (record { name = name; bytes = bytes }))
 
 -- The record of files and standard input is what the system returned for the names asked. The system did nothing else:
--- its calls are those of the uses in order, and it holds what the record says. A crash leaves only bytes of a held
+-- its calls are those of the uses in order, and it holds what the record has. A crash leaves only bytes of a held
 -- file that the record has.
 pub record IsTrueRecord {S F I H : Type 0} (system : Ghosts S F I H) (reads : Reads F) (writes : Writes F)
     (input : Reads I) (now : S) (opened : OpenFile F I) (hold : Option H) (kept : Record) : Type 0 where

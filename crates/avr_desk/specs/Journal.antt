@@ -18,6 +18,7 @@ pub record SystemCalls : Type 0 where
   pub calls : List FileCall
   pub holds : ℕ
 
+-- what a new system has done
 abbrev pub no_calls : SystemCalls
 no_calls = record { calls = []; holds = 0 }
 
@@ -25,9 +26,11 @@ no_calls = record { calls = []; holds = 0 }
 abbrev pub made : Bytes → List FileCall
 made name = if is_dash name then [] else Makes name ∷ []
 
+-- these calls were made after the others
 abbrev pub with_calls : List FileCall → SystemCalls → SystemCalls
 with_calls calls done = record done { calls = done.calls ++ calls }
 
+-- one more file is held
 abbrev pub with_one_more_held : SystemCalls → SystemCalls
 with_one_more_held done = record done { holds = done.holds + 1 }
 
@@ -51,29 +54,35 @@ abbrev pub CrashMayAlsoLeave : {S : Type 0} → (S → Bytes → Option Bytes �
 CrashMayAlsoLeave left name More old new = (other : Bytes) (found : Option Bytes) → left new other found
     → left old other found ⊎ ((other ≡ name) × More found)
 
--- The call adds nothing to what the system has done, nor to what a crash may leave.
+-- A call that isn't among the calls of a system: what the system has done is the same, and a crash may leave nothing
+-- more.
 pub record IsUncounted {S : Type 0} (has_done : SystemCalls → S → Type 0) (left : S → Bytes → Option Bytes → Type 0)
     (old new : S) : Type 0 where
   pub done : Preserves has_done old new
   pub kept : CrashLeavesNoMore left old new
 
+-- 1 if there is one, else 0
 abbrev pub count_of : {A : Type 0} → Option A → ℕ
 count_of None = 0
 count_of (Some it) = 1
 
+-- The system holds this many files, after some calls.
 abbrev pub Counts : {S : Type 0} → (SystemCalls → S → Type 0) → ℕ → S → Type 0
 Counts has_done holds now = (done : SystemCalls) × has_done done now × (done.holds ≡ holds)
 
 -- ---- the calls that a record shows
 
+-- The call of a use. Opening an absent file isn't counted.
 abbrev pub calls_of : FileUse → List FileCall
 calls_of (Opened (Absent name)) = []
 calls_of (Opened (Found reading)) = (if is_dash reading.name then Gives else Opens reading.name) ∷ []
 calls_of (Created writing) = made writing.name
 
+-- the calls of these uses, in order
 abbrev pub all_calls : List FileUse → List FileCall
 all_calls [] = []
 all_calls (used ∷ uses) = calls_of used ++ all_calls uses
 
+-- the calls of all uses in a record, and the number of held files
 abbrev pub calls_of_record : Record → SystemCalls
 calls_of_record r = record { calls = all_calls (all_uses r); holds = count_of r.held }

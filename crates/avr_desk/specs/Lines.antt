@@ -20,6 +20,7 @@ spaced_digits [] = []
 spaced_digits (b ∷ []) = digits (b ∷ [])
 spaced_digits (b ∷ bytes) = digits (b ∷ []) ++ 32 ∷ spaced_digits bytes
 
+-- the text that a piece of a line stands for
 abbrev pub text_of : Piece → Bytes
 text_of (Text text) = text.now
 text_of (Byte byte) = digits (byte ∷ [])
@@ -27,9 +28,11 @@ text_of (Signature bytes) = spaced_digits bytes
 text_of (Address address) = digits (big_bytes 4 address)
 text_of (Number number) = decimal number
 
+-- a line: its mark, its pieces and LF
 abbrev pub line : Bytes → List Bytes → Bytes
 line mark pieces = mark ++ (concat pieces ++ 10 ∷ [])
 
+-- a line of information; below, a warning and an error
 abbrev pub information : List Bytes → Bytes
 information pieces = line (codes "avrstk: ") pieces
 

@@ -18,7 +18,8 @@ locked file (Ok done) = Ok (Some file)
 locked file (Err lock.WouldBlock) = Ok None
 locked file (Err (lock.Error error)) = Err error
 
--- a file created by this name may be the held one
+-- A file created by a name may be the held one: the name is that of the held place, or leads to the file seen there. Or
+-- it is a link that leads nowhere while the place is empty.
 abbrev pub leads : Option Identity → Option Identity → Bool → Bool → Bool
 leads seen (Some there) is_link is_place = is_place || is_same_file seen (Some there)
 leads seen None is_link is_place = is_place || (is_link && is_none seen)

@@ -13,6 +13,7 @@ pub record MemDeskState : Type 0 where
   pub stored : List Writing
   pub opened : Bytes
 
+-- a desk in memory with this standard input and no files
 abbrev pub fresh_desk : Bytes → MemDeskState
 fresh_desk input =
     record { kept = nothing_kept; failures = 0; message_failures = 0; input = input; stored = []; opened = [] }
@@ -21,7 +22,7 @@ fresh_desk input =
 abbrev pub memory_state : MemDeskState → DeskState
 memory_state m = showing m.kept m.failures m.message_failures
 
--- `old` with this record and the failures of `new`
+-- `old` with this record and the count of failures of `new`. All else stays, the failures at the messages, too.
 abbrev pub updated : Record → MemDeskState → MemDeskState → MemDeskState
 updated kept old new = record old { kept = kept; failures = new.failures }
 
@@ -30,6 +31,7 @@ pub record Stock : Type 0 where
   pub input : Bytes
   pub files : List Writing
 
+-- what this desk began with
 abbrev pub stock_of : MemDeskState → Stock
 stock_of m = record { input = m.input; files = m.stored }
 
@@ -37,9 +39,10 @@ stock_of m = record { input = m.input; files = m.stored }
 abbrev pub content_of_name : Stock → List Writing → Bytes → Option Bytes
 content_of_name stock made name = if is_dash name then Some stock.input else newest name None (stock.files ++ made)
 
--- the same for the desk's own files
+-- the same, after all files that the desk has made
 abbrev pub contents : Bytes → MemDeskState → Option Bytes
 contents name m = content_of_name (stock_of m) (all_files m.kept) name
 
+-- what the open file has not given yet
 abbrev pub unread_bytes : MemDeskState → Bytes
 unread_bytes m = drop (length (bytes_given m.kept.current)) m.opened

@@ -7,9 +7,11 @@ use Rattle.avr_desk.specs.declared.record.Open.{Open}
 use Rattle.avr_desk.specs.declared.record.Open.TheVariants.{ToRead}
 use Rattle.avr_desk.specs.declared.record.Writing.{Writing}
 
+-- `-` means standard input or output, not a file
 abbrev pub is_dash : Bytes → Bool
 is_dash name = bytes_eq name (codes "-")
 
+-- this file's bytes if it has the name, else `older`
 abbrev pub or_older : Bytes → Option Bytes → Writing → Option Bytes
 or_older name older f = if bytes_eq f.name name then Some f.bytes else older
 
@@ -18,9 +20,11 @@ abbrev pub newest : Bytes → Option Bytes → List Writing → Option Bytes
 newest name older [] = older
 newest name older (f ∷ fs) = newest name (or_older name older f) fs
 
+-- the file of this name is held
 abbrev pub holds : Bytes → Record → Bool
 holds name r = unwrap_or (option_map (λ (held : Bytes). bytes_eq held name) r.held) false
 
+-- what an open file has given so far
 abbrev pub bytes_given : Open → Bytes
 bytes_given (ToRead x) = x.bytes
 bytes_given o = []

@@ -7,10 +7,12 @@ use Rattle.avr_desk.specs.declared.record.Open.{Open}
 use Rattle.avr_desk.specs.declared.system.OpenFile.{OpenFile}
 use Rattle.avr_desk.specs.declared.system.OpenFile.TheVariants.{Input, ToRead, ToWrite, Output}
 
+-- `-` was created: it is standard output
 abbrev pub is_output : {F I : Type 0} → OpenFile F I → Bool
 is_output Output = true
 is_output opened = false
 
+-- the file is open to read; below, to write
 abbrev pub gives : {F I : Type 0} → OpenFile F I → Bool
 gives (Input i) = true
 gives (ToRead f) = true
@@ -21,6 +23,7 @@ takes (ToWrite f) = true
 takes Output = true
 takes opened = false
 
+-- By the record a file is open to read exactly if one is, and to write exactly if one is.
 pub record IsOpenAsRecorded {F I : Type 0} (opened : OpenFile F I) (current : Open) : Type 0 where
   pub reads : is_to_read current ≡ gives opened
   pub writes : is_to_write current ≡ takes opened
@@ -30,6 +33,7 @@ pub record GivesBytes {H : Type 0} (reads : Reads H) (old new : H) (buf : Bytes)
   pub gave : Consumes (reads.remaining old) (reads.remaining new) (take n buf)
   pub ends : n ≡ 0 → 0 < length buf → IsAtEnd (reads.remaining new)
 
+-- The same of the open file, which stays open.
 abbrev pub OpenFileGives : {F I : Type 0} → Reads F → Reads I → OpenFile F I → OpenFile F I → Bytes → ℕ → Type 0
 OpenFileGives {I = I} reads input (Input old) new buf n = (now : I) × (new ≡ Input now) × GivesBytes input old now buf n
 OpenFileGives {F = F} reads input (ToRead old) new buf n = (now : F) × (new ≡ ToRead now)
@@ -44,6 +48,7 @@ OpenFileGivesNothing {F = F} reads input (ToRead old) new =
     (now : F) × (new ≡ ToRead now) × Keeps (reads.remaining old) (reads.remaining now)
 OpenFileGivesNothing reads input old new = new ≡ old
 
+-- a file that was open to write is closed
 abbrev pub IsClosed : {F I : Type 0} → (F → Type 0) → OpenFile F I → Type 0
 IsClosed closed (ToWrite f) = closed f
 IsClosed closed opened = Unit {0}

@@ -8,8 +8,8 @@ use Rattle.avr_desk.specs.declared.record.Opening.TheVariants.{Absent, Found}
 use Rattle.avr_desk.specs.declared.record.Open.TheVariants.{ToRead, ToWrite}
 use Rattle.avr_desk.specs.declared.stream.Stream.TheVariants.{File, Messages}
 
--- A file is opened, with what it gives; a line is printed to the messages; a file of this name is created; bytes are
--- written to it; or bytes are written to standard output.
+-- A file is opened, with what it gives; a line is printed to the messages; or a file of this name is created. Or bytes
+-- are written to that file, or to standard output.
 pub data OutputEvent : Type 0 where
   Opens : Opening → OutputEvent
   PrintsLine : Bytes → OutputEvent
@@ -17,6 +17,7 @@ pub data OutputEvent : Type 0 where
   WritesFile : Bytes → OutputEvent
   WritesOutput : Bytes → OutputEvent
 
+-- the record after a file was opened or found absent
 abbrev pub after_opening : Opening → Record → Record
 after_opening (Absent name) r = with_absent name r
 after_opening (Found reading) r = with_open (ToRead reading) r
@@ -29,6 +30,7 @@ after (CreatesFile name) r = with_open (ToWrite (record { name = name; bytes = [
 after (WritesFile bytes) r = after_write bytes r
 after (WritesOutput bytes) r = after_out bytes r
 
+-- the record after these events, in order
 abbrev pub after_events : List OutputEvent → Record → Record
 after_events [] r = r
 after_events (event ∷ events) r = after_events events (after event r)

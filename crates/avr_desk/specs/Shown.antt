@@ -1,4 +1,4 @@
--- The state of a program's desk, and what its record says of writers and files.
+-- The state of a program's desk, and how its record agrees with writers and files.
 use Rattle.std.specs.Prelude.{◌≡◌, ◌++◌, ℕ, Bool, false, ◌≤◌, length, List, Option, None, IsSome, Result, Ok, Err, take}
 use Rattle.std.specs.Io.KnownBytes.{Appends}
 use Rattle.std.specs.List.{list_any}
@@ -31,6 +31,7 @@ pub record Shown (S F H I O E : Type 0) : Type 0 where
   pub hold : Option H
   pub kept : Record
 
+-- what contracts see of any desk
 abbrev pub system_desk_view : {S F H I O E : Type 0} → Shown S F H I O E → DeskState
 system_desk_view d = showing d.kept d.failures d.message_failures
 
@@ -67,6 +68,7 @@ abbrev pub writes_to_output_after_open : Result (Unit {0}) DeskFault → Bool �
 writes_to_output_after_open (Err Failed) before = before
 writes_to_output_after_open result before = false
 
+-- one of these files is `-`
 abbrev pub has_dash : List Writing → Bool
 has_dash = list_any (λ file. is_dash file.name)
 

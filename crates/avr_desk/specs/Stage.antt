@@ -6,8 +6,8 @@ use Rattle.avr_desk.specs.declared.record.Opening.TheVariants.{Absent, Found}
 use Rattle.avr_desk.specs.Lines.{not_opened_line}
 use Rattle.avr_desk.specs.OutputEvents.{OutputEvent, Opens, PrintsLine}
 
--- How a stage ends: with a result; with a refusal, whose line this is; or without a result, because a file was not
--- read to its end or past its limit.
+-- How a stage ends: with a result, or with a refusal, whose line this is. Or it ends without a result, because a file
+-- was not read to its end or past its limit.
 pub data StageOutcome (A : Type 0) : Type 0 where
   Produced : A → StageOutcome A
   Refused : Bytes → StageOutcome A
@@ -25,15 +25,19 @@ events_with_refusal output_events (Produced a) = output_events
 events_with_refusal output_events (Refused line) = output_events ++ PrintsLine line ∷ []
 events_with_refusal output_events NotReadToEnd = output_events
 
+-- all events of a stage's result
 abbrev pub all_events_of : {A : Type 0} → StageResult A → List OutputEvent
 all_events_of p = events_with_refusal p.output_events p.stage_outcome
 
+-- A stage is a function of what opening files gives.
 abbrev pub Stage : Type 0 → Type 0
 Stage A = List Opening → StageResult A
 
+-- the result with these events before its own
 abbrev pub with_events_before : {A : Type 0} → List OutputEvent → StageResult A → StageResult A
 with_events_before output_events p = record p { output_events = output_events ++ p.output_events }
 
+-- after these events: the next stage if there is a result, else the same end
 abbrev pub continued_stage : {A B : Type 0} → List OutputEvent → List Opening → (A → Stage B) → StageOutcome A
     → StageResult B
 continued_stage output_events openings_left go_on (Produced a) =
@@ -50,6 +54,7 @@ abbrev pub ◌>>=◌ : {A B : Type 0} → Stage A → (A → Stage B) → Stage 
     let p = stage openings in
     continued_stage p.output_events p.openings_left go_on p.stage_outcome
 
+-- a stage that only has these events
 abbrev pub output_stage : List OutputEvent → Stage ⊤
 output_stage output_events openings =
     record { output_events = output_events; stage_outcome = Produced tt; openings_left = openings }
@@ -69,11 +74,13 @@ abbrev pub next_opening : Bytes → List Opening → Opening
 next_opening name [] = Absent name
 next_opening name (opening ∷ openings) = renamed_opening name opening
 
+-- the stage that opens a file by this name
 abbrev pub open_stage : Bytes → Stage Opening
 open_stage name openings =
     let opening = next_opening name openings in
     record { output_events = Opens opening ∷ []; stage_outcome = Produced opening; openings_left = drop 1 openings }
 
+-- the stage that checks what an opening gave, if that is the whole file or goes past `limit`
 abbrev pub content_stage : {A : Type 0} → Bytes → ℕ → (Bytes → Result A Bytes) → Opening → Stage A
 content_stage name limit judge (Absent other) = result_stage (Err (not_opened_line name))
 content_stage name limit judge (Found reading) =

@@ -29,6 +29,7 @@ pub data BreakCause : Type 0 where
   NoMemory : BreakCause
   NoMemoryForFile : Reading → BreakCause
 
+-- a file of this name was opened, and gave these bytes before reading failed
 abbrev pub opened_and_read_in_part : Bytes → Bytes → OutputEvent
 opened_and_read_in_part name bytes = Opens (Found (record { name = name; bytes = bytes; ended = false }))
 
@@ -38,6 +39,7 @@ events_of_break (NotRead name bytes) notice = opened_and_read_in_part name bytes
 events_of_break (NoMemoryForFile reading) notice = Opens (Found reading) ∷ PrintsLine notice ∷ []
 events_of_break break notice = PrintsLine notice ∷ []
 
+-- this event is the first of those left
 abbrev pub IsNextEvent : OutputEvent → List OutputEvent → Type 0
 IsNextEvent event later = (behind : List OutputEvent) × (later ≡ event ∷ behind)
 
@@ -58,6 +60,7 @@ AllocationPoints = List Opening → List OutputEvent → Type 0
 abbrev pub OnlyAtStart : Bool → AllocationPoints
 OnlyAtStart allocates passed emitted = (allocates ≡ true) × (passed ≡ []) × (emitted ≡ [])
 
+-- a failed allocation without an open file is at one of these points
 abbrev pub AllocatesThere : AllocationPoints → BreakCause → List Opening → List OutputEvent → Type 0
 AllocatesThere taking NoMemory passed emitted = taking passed emitted
 AllocatesThere taking break passed emitted = Unit {0}
@@ -78,8 +81,8 @@ pub record RestOfStage {A : Type 0} (played : StageResult A) (whole : List Outpu
   pub output_events_are : played.output_events ≡ whole ++ later
   pub broken : BreakFitsNext break more (events_with_refusal later played.stage_outcome)
 
--- The stage broke off. For the openings that passed, a prefix of its events was done, whatever later openings would
--- give. Then the reason was reported. An allocation failed only where the stage allocates.
+-- The stage broke off. For the openings that passed, a prefix of its events, `whole`, was done, whatever later openings
+-- would give. Then the reason was reported as `notice`. An allocation failed only where the stage allocates.
 pub record StageBrokeOff {A : Type 0} (taking : AllocationPoints) (stage : Stage A) (old new : DeskState) : Type 0 where
   pub passed : List Opening
   pub whole : List OutputEvent

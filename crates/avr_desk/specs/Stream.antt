@@ -6,6 +6,7 @@ use Rattle.avr_desk.specs.Record.{DeskState, Record, Bytes, ChangesRecord, after
 use Rattle.avr_desk.specs.declared.stream.Stream.{Stream}
 use Rattle.avr_desk.specs.declared.stream.Stream.TheVariants.{File, Output, Messages}
 
+-- the record after these bytes were sent to this stream
 abbrev pub after_sent : Stream → Bytes → Record → Record
 after_sent File bytes r = after_write bytes r
 after_sent Output bytes r = after_out bytes r

@@ -28,6 +28,7 @@ OpeningsAreTrue stock made [] = Unit {0}
 OpeningsAreTrue stock made (Opened opening ∷ uses) = IsTrueOpening stock made opening × OpeningsAreTrue stock made uses
 OpeningsAreTrue stock made (Created file ∷ uses) = OpeningsAreTrue stock (made ++ file ∷ []) uses
 
+-- The open file has the bytes that its name meant when it was opened, and gave a prefix of them.
 abbrev pub IsOpenTrue : Stock → MemDeskState → Open → Type 0
 IsOpenTrue stock m (ToRead reading) =
     (content_of_name stock (files_among m.kept.uses) reading.name ≡ Some m.opened)

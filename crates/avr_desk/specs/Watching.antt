@@ -16,6 +16,7 @@ pub data ReportedDeskCall : Type 0 where
   Read : Bytes → Result ℕ DeskFault → ReportedDeskCall
   Wrote : Stream → Bytes → Result ℕ DeskFault → ReportedDeskCall
 
+-- a call that the code reports, as a value for contracts
 abbrev pub reported_desk_call : DeskCall → ReportedDeskCall
 reported_desk_call (call.Opened name outcome) = Opened name.now outcome
 reported_desk_call (call.Created name outcome) = Created name.now outcome

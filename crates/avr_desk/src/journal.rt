@@ -26,6 +26,7 @@ pub(crate) enum Call<'a> {
     Sent(Stream, &'a [u8], usize),
 }
 
+/// The record of a desk.
 #[derive(Debug, Drop)]
 pub(crate) struct Journal {
     pub ghost kept: { Record },
@@ -38,12 +39,14 @@ impl Model for Journal {
 impl Journal {
     ghost use Rattle.avr_desk.specs.Calls.{after_call};
 
+    /// Creates an empty record.
     pub(crate) fn new() -> Journal
         ensures { result.kept ≡ nothing_kept }
     {
         Journal {}
     }
 
+    /// Returns the record after one more call.
     #[inline(always)]
     pub(crate) fn then(&self, call: &Call<'_>) -> Journal
         ensures { result.kept ≡ after_call call.now self.now.kept }

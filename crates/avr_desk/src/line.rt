@@ -29,6 +29,7 @@ pub enum Piece<'a> {
     Number(u32),
 }
 
+/// Returns a byte as two upper-case hexadecimal digits.
 #[tactic(auto, unfolding(crate::specs::Lines::digits))]
 fn digits(byte: u8) -> [u8; 2]
     ensures { result ≡ digits (byte ∷ []) }
@@ -52,6 +53,7 @@ fn address_digits(address: u32) -> [u8; 8]
     [a, b, c, d, e, f, g, h]
 }
 
+/// Returns three bytes as digits, with blanks between them.
 fn spaced(signature: [u8; 3]) -> [u8; 8]
     ensures { result ≡ spaced_digits signature }
 {
@@ -62,6 +64,7 @@ fn spaced(signature: [u8; 3]) -> [u8; 8]
     [a, b, b' ', c, d, b' ', e, f]
 }
 
+/// Prints one piece of a line.
 fn write_piece<D: Desk>(desk: &mut D, piece: &Piece<'_>) -> Result<(), DeskFault>
     ensures printed { IsPrinted (D.view desk.old) (D.view desk.new) (text_of piece.now) result }
     ensures call { IsCall D.view D.started_as (CountsFailure Stream.Messages) desk.old desk.new result }
@@ -78,6 +81,7 @@ fn write_piece<D: Desk>(desk: &mut D, piece: &Piece<'_>) -> Result<(), DeskFault
     }
 }
 
+/// Appends one piece to a line.
 fn add_piece(line: &mut Gathered, piece: &Piece<'_>) -> Result<(), CapacityError>
     ensures added { OnOk result (line.new.items ≡ line.old.items ++ text_of piece.now) }
     ensures full { OnErr result (AT_ONCE < length line.old.items + length (text_of piece.now)) }
@@ -93,6 +97,7 @@ fn add_piece(line: &mut Gathered, piece: &Piece<'_>) -> Result<(), CapacityError
     }
 }
 
+/// Returns the whole line, or an error if it is longer than one write.
 fn gathered(mark: &str, pieces: &[Piece<'_>]) -> Result<Gathered, CapacityError>
     ensures whole { IfOk result (λ it. it.items ≡ line mark.now (map text_of pieces.now)) }
     ensures long { OnErr result (AT_ONCE < length (line mark.now (map text_of pieces.now))) }

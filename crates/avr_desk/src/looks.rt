@@ -95,8 +95,8 @@ pub(crate) fn synced(waited: io::Result<()>) -> io::Result<()>
     }
 }
 
-/// Returns whether a file created by a name may be the held one: the name is that of the held place, leads to the file
-/// seen there, or is a link that leads nowhere while the place is empty.
+/// Returns whether a file created by a name may be the held one: the name is that of the held place, or leads to the
+/// file seen there. Or it is a link that leads nowhere while the place is empty.
 pub(crate) fn leads(
     seen: Option<Identity>,
     there: Option<Identity>,

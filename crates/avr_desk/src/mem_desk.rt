@@ -62,6 +62,7 @@ fn next_bytes(bytes: &[u8], at: usize, room: usize) -> &[u8]
     &rest[..rest.len().min(room)]
 }
 
+/// Returns whether a read of `count` bytes into `room` found the end.
 fn is_end(count: usize, room: usize) -> bool
     ensures { result ≡ (count == 0 && not (room == 0)) }
 {
@@ -158,6 +159,7 @@ impl MemDesk {
         self.uses.as_slice()
     }
 
+    /// Returns the bytes that a name means; `-` is standard input.
     fn contents(&self, name: &str) -> Option<&[u8]>
         ensures { option_copied result ≡ contents name.now self.now }
     {
@@ -195,6 +197,7 @@ impl MemDesk {
         matches!(&self.held, Some(held) if held.as_slice() == name.as_bytes())
     }
 
+    /// Counts a failure, and returns its fault.
     fn fail(&mut self) -> DeskFault
         ensures fault { result ≡ DeskFault.Failed }
         ensures same { self.new ≡ record self.old { failures = self.new.failures } }

@@ -51,6 +51,7 @@ impl Open {
     ghost use Rattle.avr_desk.specs.Named.{bytes_given};
     ghost use Rattle.avr_desk.specs.Record.{noted, written_on};
 
+    /// Returns what a file that is open to read has given so far.
     pub(crate) fn given(&self) -> &[u8]
         ensures { result.now ≡ bytes_given self.now }
     {
@@ -60,6 +61,7 @@ impl Open {
         }
     }
 
+    /// Notes bytes that the open file gave, and whether its end was seen.
     pub(crate) fn read_on(&mut self, bytes: &[u8], ends: bool) -> Result<(), AllocError>
         ensures { self.new ≡ (if is_ok result then noted bytes.now ends self.old else self.old) }
     {
@@ -70,6 +72,7 @@ impl Open {
         Ok(())
     }
 
+    /// Notes bytes that were written to the open file.
     pub(crate) fn write_on(&mut self, bytes: &[u8]) -> Result<(), AllocError>
         ensures { self.new ≡ (if is_ok result then written_on bytes.now self.old else self.old) }
     {
@@ -83,6 +86,7 @@ impl Open {
 impl Writing {
     ghost use Rattle.avr_desk.specs.Named.{or_older};
 
+    /// Returns this file's bytes if it has the name, else `older`.
     pub(crate) fn or_older<'a>(&'a self, older: Option<&'a [u8]>, name: &[u8]) -> Option<&'a [u8]>
         ensures { option_copied result ≡ or_older name.now (option_copied older.entry) self.now }
     {
@@ -94,6 +98,7 @@ impl Writing {
     }
 }
 
+/// Returns the bytes of the last file of this name, else `older`.
 pub(crate) fn newest<'a>(
     older: Option<&'a [u8]>,
     files: &'a [Writing],

@@ -23,6 +23,7 @@ pub struct Place {
     new: String,
 }
 
+/// A place with its lock file, open and locked.
 #[derive(Drop)]
 pub struct Held {
     place: Place,
@@ -65,6 +66,7 @@ fn target<R: Files<File = File> + Alloc<A = Global>>(rt: &R, name: &str) -> io::
     }
 }
 
+/// Returns the folder of a path.
 fn folder_of(path: &str) -> &str {
     match Path::new(path).parent() {
         Some(folder) if !folder.as_str().is_empty() => folder.as_str(),

@@ -24,6 +24,7 @@ use std::io::{ErrorKind, Read, Write};
 use std::marker::Model;
 use std::{fmt, io, mem};
 
+/// What is open; `-` is the input or the output.
 #[derive(Drop)]
 enum OpenFile<F, I> {
     Nothing,
@@ -76,6 +77,7 @@ impl<R: FileSystem + Drop, O: Write + Drop, E: Write + Drop> Model for SystemDes
     ghost invariant = { λ desk. IsOpenAsRecorded desk.opened desk.journal.kept.current };
 }
 
+/// Reads once from what is open.
 fn read_opened<F: Read, I: Read>(opened: &mut OpenFile<F, I>, buf: &mut [u8]) -> io::Result<usize>
     ensures bound { IfOk result (λ n. n ≤ length buf.new) }
     ensures ok { IfOk result (λ n. OpenFileGives F.Read I.Read opened.old opened.new buf.new n) }
@@ -122,6 +124,7 @@ fn write_through<W: Outlet>(
     Ok(count)
 }
 
+/// Counts a failure, keeps its error kind, and returns its fault.
 fn fail(failures: &mut u64, last: &mut Option<ErrorKind>, error: &io::Error) -> DeskFault
     ensures fault { result ≡ Failed }
     ensures rises { failures.old ≤ failures.new }
@@ -170,6 +173,7 @@ impl<R: FileSystem + Drop, O: Write + Drop, E: Write + Drop> SystemDesk<R, O, E>
         self.last_error
     }
 
+    /// Unlocks the held file, if there is one.
     fn leave_replacement(&mut self)
         ensures none { self.new ≡ record self.old { system = self.new.system; hold = None } }
         ensures left { ReleasesHeld R.has_done self.old.hold self.old.system self.new.system }

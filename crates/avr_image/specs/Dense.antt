@@ -3,6 +3,7 @@ use Rattle.std.specs.Prelude.{◌≡◌, ℕ, ◌*◌, ◌^◌, ◌<◌, ◌≤�
 use Rattle.avr_image.specs.Image.{with_gaps}
 use Rattle.avr_image.specs.Present.{is_present}
 
+-- The image that these words of presence bits and these bytes store.
 abbrev pub dense_image : List ℕ → List ℕ → List (Option ℕ)
 dense_image words bytes = with_gaps (is_present words) 0 bytes
 
@@ -13,5 +14,6 @@ pub record IsSoundStorage (words bytes : List ℕ) : Type 0 where
   pub small : (i : ℕ) → slice_index bytes i < 256
   pub blank : (i : ℕ) → i < length bytes → is_present words i ≡ false → slice_index bytes i ≡ 255
 
+-- These bytes in place of those from `start` on.
 abbrev pub with_span : ℕ → List ℕ → List ℕ → List ℕ
 with_span start span bytes = take start bytes ++ (span ++ drop (start + length span) bytes)

@@ -8,6 +8,7 @@ use Rattle.std.specs.List.{list_any, position_from, prefix_len}
 abbrev pub empty : ℕ → List (Option ℕ)
 empty size = replicate size None
 
+-- Both images have the same size, bytes and gaps: what `==` returns.
 abbrev pub is_same : List (Option ℕ) → List (Option ℕ) → Bool
 is_same = pointwise (option_eq nat_eq)
 
@@ -15,6 +16,7 @@ is_same = pointwise (option_eq nat_eq)
 abbrev pub byte_at : List (Option ℕ) → ℕ → Option ℕ
 byte_at image addr = slice_index_or image addr None
 
+-- The image with this byte at this address, if that is inside.
 abbrev pub with_byte : List (Option ℕ) → ℕ → ℕ → List (Option ℕ)
 with_byte image addr byte = slice_set image addr (Some byte)
 
@@ -32,6 +34,7 @@ with_pairs image = fold (λ image place. with_byte image place.0 place.1) image
 abbrev pub image_of_pairs : ℕ → List (ℕ × ℕ) → List (Option ℕ)
 image_of_pairs size = with_pairs (empty size)
 
+-- The image of these bytes from address 0 on, with gaps up to the size.
 abbrev pub from_zero : List ℕ → ℕ → List (Option ℕ)
 from_zero bytes size = map (λ byte. Some byte) bytes ++ replicate (size - length bytes) None
 
@@ -61,6 +64,7 @@ holds_any image start count = list_any is_some (take count (drop start image))
 abbrev pub run_end : List (Option ℕ) → ℕ → ℕ → ℕ
 run_end image addr end = addr + prefix_len is_some (take (end - addr) (drop addr image))
 
+-- A gap is read as FF.
 abbrev pub byte_or_ff : Option ℕ → ℕ
 byte_or_ff byte = unwrap_or byte 255
 

@@ -5,6 +5,7 @@ use Rattle.std.specs.Fmt.{digits}
 use Rattle.avr_image.specs.declared.list.Base.{Base}
 use Rattle.avr_image.specs.declared.list.Base.TheVariants.{Dec, Hex, Oct, Bin}
 
+-- How many digits a base has.
 abbrev pub radix : Base → ℕ
 radix Dec = 10
 radix Hex = 16
@@ -18,9 +19,11 @@ prefix Hex n = 48 ∷ 120 ∷ []
 prefix Oct n = if nat_lt n 8 then [] else 48 ∷ []
 prefix Bin n = 48 ∷ 98 ∷ []
 
+-- One number, with its prefix.
 abbrev pub number_text : Base → ℕ → List ℕ
 number_text base n = prefix base n ++ digits (radix base) false n
 
+-- The numbers joined by commas.
 abbrev pub list_line : Base → List ℕ → List ℕ
 list_line base bytes = join_with_byte 44 (map (number_text base) bytes)
 

@@ -2,9 +2,11 @@
 use Rattle.std.specs.Prelude.{◌≡◌, ◌<◌, ◌&&◌, ℕ, Bool, true, false, List, Option, is_some}
 use Rattle.avr_image.specs.Image.{byte_at}
 
+-- Both images hold a byte at this address.
 abbrev pub hold_both : List (Option ℕ) → List (Option ℕ) → ℕ → Bool
 hold_both first second addr = is_some (byte_at first addr) && is_some (byte_at second addr)
 
+-- They do so at no address.
 abbrev pub AreDisjoint : List (Option ℕ) → List (Option ℕ) → Type 0
 AreDisjoint first second = (addr : ℕ) → hold_both first second addr ≡ false
 

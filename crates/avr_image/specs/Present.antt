@@ -2,9 +2,11 @@
 use Rattle.std.specs.Prelude.{◌≡◌, ℕ, Bool, ◌-◌, ◌*◌, ◌/◌, ◌%◌, ◌^◌, ◌<◌, ◌≤◌, ◌==◌, ◌&&◌, nat_le, nat_lt, not, List, slice_index, slice_set, bit_and, bit_or}
 use Rattle.std.specs.Int.{bit_at}
 
+-- The address holds a byte.
 abbrev pub is_present : List ℕ → ℕ → Bool
 is_present words addr = bit_at (slice_index words (addr / 64)) (addr % 64) == 1
 
+-- The address holds a byte now; below, none.
 abbrev pub with_mark : List ℕ → ℕ → List ℕ
 with_mark words addr = slice_set words (addr / 64)
     (bit_or (slice_index words (addr / 64)) (1 * 2 ^ (addr % 64) % 2 ^ 64))
@@ -13,6 +15,7 @@ abbrev pub without_mark : List ℕ → ℕ → List ℕ
 without_mark words addr = slice_set words (addr / 64)
     (bit_and (slice_index words (addr / 64)) (2 ^ 64 - 1 - 1 * 2 ^ (addr % 64) % 2 ^ 64))
 
+-- The address is at `from` or above, and below `end`.
 abbrev pub is_within : ℕ → ℕ → ℕ → Bool
 is_within from end addr = nat_le from addr && nat_lt addr end
 

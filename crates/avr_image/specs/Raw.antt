@@ -4,6 +4,7 @@ use Rattle.avr_image.specs.Image.{from_zero}
 use Rattle.avr_image.specs.declared.fault.ImageFault.{ImageFault}
 use Rattle.avr_image.specs.declared.fault.ImageFault.TheVariants.{OutOfRange}
 
+-- The image of a raw file, or the first address past the memory.
 abbrev pub raw : List ℕ → ℕ → Result (List (Option ℕ)) ImageFault
 raw bytes size = if nat_le (length bytes) size then Ok (from_zero bytes size) else Err (OutOfRange size)
 

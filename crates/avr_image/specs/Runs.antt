@@ -20,5 +20,6 @@ leading_run [] = []
 leading_run (None ∷ image) = []
 leading_run (Some b ∷ image) = b ∷ leading_run image
 
+-- The bytes of a run with their addresses.
 abbrev pub places_of : ℕ × List ℕ → List (ℕ × ℕ)
 places_of run = enumerate_from run.0 run.1

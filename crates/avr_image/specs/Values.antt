@@ -8,6 +8,7 @@ use Rattle.avr_image.specs.Image.{from_zero}
 use Rattle.avr_image.specs.declared.fault.ImageFault.{ImageFault}
 use Rattle.avr_image.specs.declared.fault.ImageFault.TheVariants.{OutOfRange, BadNumber, TooLarge}
 
+-- A comma, a space or a tab.
 abbrev pub is_separator : ℕ → Bool
 is_separator c = c == 44 || c == 32 || c == 9
 
@@ -15,6 +16,7 @@ is_separator c = c == 44 || c == 32 || c == 9
 abbrev pub pieces : List ℕ → List (List ℕ)
 pieces text = filter (λ piece. nat_lt 0 (length piece)) (slice_split is_separator text)
 
+-- The character is a digit of this base.
 abbrev pub is_digit_of : ℕ → ℕ → Bool
 is_digit_of base c = nat_lt (digit_value c) base
 
@@ -45,17 +47,21 @@ fitting size addr (Some value) =
     else if not (nat_lt addr size) then Err (OutOfRange addr)
     else Ok value
 
+-- The byte of a value with its address, or the value's fault.
 abbrev pub byte_of_value : ℕ → ℕ × List ℕ → Result ℕ ImageFault
 byte_of_value size piece = fitting size piece.0 (value_of piece.1)
 
+-- A byte before others, or the first fault.
 abbrev pub onto_ok : Result ℕ ImageFault → Result (List ℕ) ImageFault → Result (List ℕ) ImageFault
 onto_ok (Err fault) rest = Err fault
 onto_ok (Ok byte) rest = result_map_both (λ bytes. byte ∷ bytes) (λ fault. fault) rest
 
+-- All bytes, or the first fault.
 abbrev pub all_ok : List (Result ℕ ImageFault) → Result (List ℕ) ImageFault
 all_ok [] = Ok []
 all_ok (r ∷ rs) = onto_ok r (all_ok rs)
 
+-- The image of these bytes, if there was no fault.
 abbrev pub image_of_bytes : ℕ → Result (List ℕ) ImageFault → Result (List (Option ℕ)) ImageFault
 image_of_bytes size = result_map_both (λ bytes. from_zero bytes size) (λ fault. fault)
 

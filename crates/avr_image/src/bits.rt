@@ -25,6 +25,7 @@ pub(crate) fn unmark(words: &mut Vec<u64>, addr: usize)
     words[addr / 64] &= !(1 << (addr % 64));
 }
 
+/// Returns the place of the lowest 1 from `from` on, or 64 if there is none.
 fn next_one(word: u64, from: u32) -> u32
     requires { from < 64 }
     ensures { NextOne word from result }
@@ -32,6 +33,7 @@ fn next_one(word: u64, from: u32) -> u32
     (word & (u64::MAX << from)).trailing_zeros()
 }
 
+/// Returns a word with a 1 for each address whose presence is `wanted`.
 fn matching(word: u64, wanted: bool) -> u64
     ensures { (i : ℕ) → i < 64 → (bit_at result i == 1) ≡ (if wanted then bit_at word i == 1
         else not (bit_at word i == 1)) }
@@ -57,6 +59,7 @@ pub(crate) fn first_place(words: &[u64], wanted: bool, from: usize, end: usize) 
     end
 }
 
+/// Marks the addresses from `from` on, up to `end`.
 pub(crate) fn mark_span(words: &mut Vec<u64>, from: usize, end: usize)
     requires within { (from ≤ end) × (end ≤ length words.old.items * 64) }
     requires below { end < 2 ^ 32 }

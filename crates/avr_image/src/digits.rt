@@ -29,6 +29,7 @@ fn write_digits(radix: u8, byte: u8, buffer: &mut [u8; 8]) -> usize
     }
 }
 
+/// Returns the characters before a number's digits.
 fn prefix_of(base: Base, byte: u8) -> &'static [u8]
     ensures { result.now ≡ prefix base byte }
 {
@@ -51,6 +52,7 @@ fn radix_of(base: Base) -> u8
     }
 }
 
+/// Appends a number with its prefix.
 pub(crate) fn push_number(base: Base, byte: u8, out: &mut ArrayVec<u8, 80>)
     requires { array_vec_len out.old + 10 ≤ 80 }
     ensures written { out.new.items ≡ out.old.items ++ number_text base byte }

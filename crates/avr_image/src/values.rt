@@ -15,6 +15,7 @@ fn separates(c: u8) -> bool
     c == b',' || c == b' ' || c == b'\t'
 }
 
+/// Returns the length of the text up to the next separator.
 fn piece_len(text: &[u8]) -> usize
     ensures counted { result ≡ position_or_len is_separator text.now }
     ensures within { result ≤ length text.now }
@@ -45,6 +46,7 @@ fn read_number(base: u32, digits: &[u8]) -> Option<u32>
     Some(value)
 }
 
+/// Returns the number of a value, or 256 if it is larger; `None` if it is no number.
 fn read_value(piece: &[u8]) -> Option<u32>
     ensures { result ≡ option_map (λ n. min n 256) (value_of piece.now) }
 {
@@ -56,6 +58,7 @@ fn read_value(piece: &[u8]) -> Option<u32>
     }
 }
 
+/// Returns the byte of the value for an address, or the value's fault.
 fn judge(size: u32, addr: u32, piece: &[u8]) -> Result<u8, ImageFault>
     ensures { result ≡ byte_of_value size (addr, piece.now) }
 {

@@ -19,6 +19,7 @@ abbrev pub ItemKeepsEeprom : Part → Item → Type 0
 ItemKeepsEeprom part (Write Hfuse image) = byte_keeps_eeprom part (byte_at image 0) ≡ true
 ItemKeepsEeprom part item = ⊤
 
+-- Each of these items does so.
 abbrev pub ItemsKeepEeprom : Part → List Item → Type 0
 ItemsKeepEeprom part [] = ⊤
 ItemsKeepEeprom part (item ∷ items) = ItemKeepsEeprom part item × ItemsKeepEeprom part items

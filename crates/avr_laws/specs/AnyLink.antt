@@ -1,4 +1,4 @@
--- What holds of a session over a link that forges no frame, besides what avr_tool's OverFaultyLink says of it: its
+-- What holds of a session over a link that forges no frame, besides what avr_tool's OverFaultyLink states: its
 -- reports are true and expected, and few bad frames change nothing.
 use Rattle.std.specs.Prelude.{ℕ, ◌≡◌, ◌⊎◌, true, List}
 use Rattle.avr_desk.specs.Record.{DeskState, ChangesRecord}

@@ -23,6 +23,7 @@ abbrev pub exchange_with_reply : Execution → List ℕ → Exchange
 exchange_with_reply Executed body = if bytes_eq body refusal then Disturbed Executed Refusal else AsIntended
 exchange_with_reply execution body = Disturbed execution Refusal
 
+-- The exchange of a command, by what happened to it and what was read.
 abbrev pub exchange_by : Execution → Reading → Exchange
 exchange_by execution (Answered body) = exchange_with_reply execution body
 exchange_by execution Silent = Disturbed execution NoReply
@@ -68,6 +69,8 @@ pub record GoesAlongExchanges {E R P : Type 0} (m : Device P) (d : Dialog E R) (
 abbrev pub FramesByRestart : Type 0
 FramesByRestart = List (List ℕ) × List (List (List ℕ))
 
+-- Puts a frame before those received later, if it was executed. If the programmer restarted then, those are a part of
+-- their own.
 abbrev pub adding_received : Execution → List ℕ → FramesByRestart → FramesByRestart
 adding_received NotExecuted piece got = got
 adding_received Executed piece got = (piece ∷ got.0, got.1)
@@ -79,6 +82,7 @@ received_frames [] sent = ([], [])
 received_frames (execution ∷ more) [] = ([], [])
 received_frames (execution ∷ more) (piece ∷ sent) = adding_received execution piece (received_frames more sent)
 
+-- The good frames cut from these bytes.
 abbrev pub good_frames : List ℕ → List (List ℕ)
 good_frames bytes = filter is_good (frames bytes)
 

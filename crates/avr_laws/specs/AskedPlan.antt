@@ -42,6 +42,7 @@ HasImage Gives name format size image =
     (text : Bytes) × (ending : Ending) × Gives name text × (length text ≤ 4194304)
     × (image_of_file (kind_of format text) text size ≡ Ok (image, ending))
 
+-- The task of this update.
 abbrev pub IsTaskOf : GivesText → Part → Update → Task → Type 0
 IsTaskOf Gives part u (task.Write mem image) =
     (u.op ≡ op.Write) × (u.memory ≡ mem) × HasImage Gives u.file u.format (size_of mem part) image
@@ -50,6 +51,7 @@ IsTaskOf Gives part u (task.Verify mem image) =
 IsTaskOf Gives part u (task.Read mem format name) =
     (u.op ≡ op.Read) × (u.memory ≡ mem) × (u.format ≡ format) × (u.file ≡ name)
 
+-- One task for each update, in order.
 abbrev pub AreTasksOf : GivesText → Part → List Update → List Task → Type 0
 AreTasksOf Gives part [] [] = Unit {0}
 AreTasksOf Gives part (u ∷ updates) (task ∷ tasks) = IsTaskOf Gives part u task × AreTasksOf Gives part updates tasks

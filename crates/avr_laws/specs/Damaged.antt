@@ -16,7 +16,7 @@ DifferInOne [] came = ⊥
 DifferInOne (a ∷ sent) [] = ⊥
 DifferInOne (a ∷ sent) (b ∷ came) = ((a ≢ b) × (sent ≡ came)) ⊎ ((a ≡ b) × DifferInOne sent came)
 
--- The frame arrived with one byte changed, but with its own start, size and token. These say how long it is.
+-- The frame arrived with one byte changed, but with its own start, size and token, so with its own length.
 abbrev pub IsDamaged : List ℕ → List ℕ → Type 0
 IsDamaged (start ∷ seq ∷ high ∷ low ∷ token ∷ more) came =
     (other : ℕ) × (rest : List ℕ) × (came ≡ start ∷ other ∷ high ∷ low ∷ token ∷ rest)
@@ -38,6 +38,7 @@ pub data Arrival : Type 0 where
   PauseArrives : Arrival
   EndArrives : Arrival
 
+-- What arrives, byte by byte.
 abbrev pub tape_of_arrivals : List Arrival → Tape
 tape_of_arrivals [] = []
 tape_of_arrivals (FrameArrives piece ∷ more) = on_tape piece ++ tape_of_arrivals more
@@ -59,7 +60,8 @@ IsReplyOfFirst (suc k) (first ∷ sent) piece = (piece ≡ first) ⊎ (IsDamaged
 abbrev pub IsSomeRefusal : List ℕ → Type 0
 IsSomeRefusal piece = (n : ℕ) × ((piece ≡ frame n refusal) ⊎ IsDamaged (frame n refusal) piece)
 
--- Each piece up to the reply to frame `n` is a refusal, or the reply to one of the last 256 frames, perhaps damaged.
+-- Each piece up to the reply to frame `n` is a refusal, or the reply to one of the last 256 frames sent, perhaps
+-- damaged.
 abbrev pub AreRecentReplies : ℕ → List (List ℕ) → List (List ℕ) → Type 0
 AreRecentReplies n sent [] = Unit {0}
 AreRecentReplies n sent (piece ∷ pieces) =
@@ -78,12 +80,13 @@ first_reading n (FrameArrives piece ∷ more) =
 first_reading n (PauseArrives ∷ more) = Some (Silent, more)
 first_reading n (EndArrives ∷ more) = Some (Ended, more)
 
+-- A reply that hasn't come meets any claim; one that was read must meet this claim.
 abbrev pub IfRead : (Reading → List Arrival → Type 0) → Option (Reading × List Arrival) → Type 0
 IfRead Claim None = Unit {0}
 IfRead Claim (Some (reading, more)) = Claim reading more
 
--- AT EACH COMMAND of this dialog the link brings refusals and replies to the last 256 frames, in any order and number.
--- Each is whole or has one byte changed. Up to the awaited reply they have fewer than 4,096 bytes.
+-- AT EACH COMMAND of this dialog the link brings refusals and replies to the last 256 frames sent, in any order and
+-- number. Each is whole or has one byte changed. Up to the awaited reply they have fewer than 4,096 bytes.
 abbrev pub BringsReplies : {E R P : Type 0} → Device P → Dialog E R → ℕ → List Arrival → P → List Execution
     → List (List ℕ) → Type 0
 BringsReplies m (Done r) n come p executions before = Unit {0}

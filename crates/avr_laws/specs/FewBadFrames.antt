@@ -15,6 +15,7 @@ badness_of_reading NoReply = 0
 badness_of_reading Babble = 0
 badness_of_reading Ending = 3
 
+-- For how many bad frames an exchange counts.
 abbrev pub badness : Exchange → ℕ
 badness AsIntended = 0
 badness (Disturbed execution instead) = badness_of_execution execution + badness_of_reading instead
@@ -35,6 +36,7 @@ AtMostThreeBadOf n (one_exchange ∷ exchanges) = (badness_of_first n (one_excha
 abbrev pub AtMostThreeBadOfSeven : List Exchange → Type 0
 AtMostThreeBadOfSeven = AtMostThreeBadOf 7
 
+-- The command is lost, so the host times out.
 abbrev pub lost_command : Exchange
 lost_command = Disturbed NotExecuted NoReply
 

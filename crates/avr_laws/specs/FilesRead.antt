@@ -17,6 +17,7 @@ use Rattle.avr_part.specs.Mem.{is_writable}
 use Rattle.avr_plan.specs.Plan.{Plan}
 use Rattle.avr_plan.specs.Planning.{planned}
 
+-- The part file, if one is named.
 abbrev pub part_file : Option Bytes → List Bytes
 part_file None = []
 part_file (Some file) = file ∷ []
@@ -32,6 +33,7 @@ file_of_op u op.Write = if is_writable u.memory then image_file u.file u.format 
 file_of_op u op.Verify = image_file u.file u.format
 file_of_op u op.Read = []
 
+-- The files of updates, in order.
 abbrev pub files_of : List Update → List Bytes
 files_of [] = []
 files_of (u ∷ updates) = file_of_op u u.op ++ files_of updates
@@ -45,6 +47,7 @@ abbrev pub read_whole : Bytes → Option Bytes → Opening
 read_whole name None = Absent name
 read_whole name (Some bytes) = Found (record { name = name; bytes = bytes; ended = true })
 
+-- The openings of these names, each read whole.
 abbrev pub openings_of_files : Stock → List Bytes → List Opening
 openings_of_files stock names = map (λ name. read_whole name (content_of_name stock [] name)) names
 
@@ -52,6 +55,7 @@ openings_of_files stock names = map (λ name. read_whole name (content_of_name s
 abbrev pub planned_from_files : Settings → Stock → StageResult Plan
 planned_from_files s stock = planned s (openings_of_files stock (files_read s))
 
+-- The lines printed among these events.
 abbrev pub lines_in : List OutputEvent → List Bytes
 lines_in [] = []
 lines_in (PrintsLine bytes ∷ events) = bytes ∷ lines_in events

@@ -24,6 +24,7 @@ pub record RunOutcome : Type 0 where
   pub output : Bytes
   pub files : List Writing
 
+-- What a run leaves, by its status, the bytes sent and the desk's record.
 abbrev pub outcome_shown : ℕ → Bytes → Record → RunOutcome
 outcome_shown status sent kept = record {
   status = status;

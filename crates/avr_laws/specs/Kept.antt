@@ -60,6 +60,7 @@ saved_files plan m = actions_files plan.part plan.switches (actions plan) m
 abbrev pub named_files : List Writing → List Writing
 named_files files = filter (λ file. not (is_dash file.name)) files
 
+-- The bytes that `-` gets, in order.
 abbrev pub dash_output : List Writing → Bytes
 dash_output [] = []
 dash_output (file ∷ files) = if is_dash file.name then file.bytes ++ dash_output files else dash_output files

@@ -21,7 +21,7 @@ IsAmongFirst (suc k) [] piece = ⊥
 IsAmongFirst (suc k) (first ∷ sent) piece = (piece ≡ first) ⊎ IsAmongFirst k sent piece
 
 -- This piece isn't forged, given the replies so far, the last one first. It is the reply to one of the last 256 frames
--- sent, the refusal of a damaged frame with any number, or no good frame.
+-- sent, the one that waits included; the refusal of a damaged frame with any number; or no good frame.
 abbrev pub IsNotForged : List (List ℕ) → List ℕ → Type 0
 IsNotForged sent piece = is_good piece ≡ true → (body_of piece ≡ refusal) ⊎ IsAmongFirst 256 sent piece
 

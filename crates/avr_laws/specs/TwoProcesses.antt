@@ -82,6 +82,7 @@ all_executed (suc h) = Executed ∷ all_executed h
 
 -- ---- 4. What the host receives
 
+-- No timeout is on the tape.
 abbrev pub HasNoTimeout : Tape → Type 0
 HasNoTimeout [] = Unit {0}
 HasNoTimeout (Byte byte ∷ tape) = HasNoTimeout tape
@@ -90,6 +91,7 @@ HasNoTimeout (End ∷ tape) = HasNoTimeout tape
 
 -- ---- 5. Such a run exists
 
+-- A link over which this has passed, without a failure.
 abbrev pub passed : Transcript → LinkState
 passed transcript = record { transcript = transcript; failures = 0 }
 

@@ -1,5 +1,5 @@
--- Worked runs: `-p m328p` over a programmer that replies at once, and with a part file that doesn't exist.
--- Also a session over a link that forges a frame.
+-- Worked runs: `-p m328p` over a programmer that replies at once, and with a part file that doesn't exist. Also a
+-- session over a link that forges a frame.
 use Rattle.std.specs.Prelude.{ℕ, List, [], ◌∷◌, ◌++◌, Some, None, false, codes}
 use Rattle.avr_cli.specs.declared.settings.Settings.{Settings}
 use Rattle.avr_cli.specs.declared.settings.Port.TheVariants.{Stdio}
@@ -15,6 +15,7 @@ use Rattle.stk_frame.specs.Frame.{frame}
 use Rattle.stk_host.specs.Tape.{Tape, on_tape}
 use Rattle.avr_laws.specs.InMemory.{RunOutcome}
 
+-- The settings of `-p m328p -P stdio:`.
 abbrev pub worked_settings : Settings
 worked_settings = record {
   part = codes "m328p";
@@ -75,9 +76,11 @@ worked_outcome = record {
 abbrev pub absent_settings : Settings
 absent_settings = record worked_settings { parts = Some (codes "parts.toml") }
 
+-- A desk with an empty standard input and no files.
 abbrev pub no_stock : Stock
 no_stock = record { input = []; files = [] }
 
+-- What a run with a missing part file leaves: its line, and status 1.
 abbrev pub absent_outcome : RunOutcome
 absent_outcome = record {
   status = 1;

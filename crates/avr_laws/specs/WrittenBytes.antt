@@ -12,14 +12,17 @@ abbrev pub WritesFlashByte : Item → ℕ → ℕ → Type 0
 WritesFlashByte (Write Flash image) addr byte = byte_at image addr ≡ Some byte
 WritesFlashByte item addr byte = ⊥
 
+-- One of these items writes this byte of flash.
 abbrev pub IsWrittenAt : List Item → ℕ → ℕ → Type 0
 IsWrittenAt [] addr byte = ⊥
 IsWrittenAt (item ∷ items) addr byte = WritesFlashByte item addr byte ⊎ IsWrittenAt items addr byte
 
+-- Each of these bytes is written there by one of the items.
 abbrev pub AreWrittenAt : List Item → ℕ → List ℕ → Type 0
 AreWrittenAt items addr [] = ⊤
 AreWrittenAt items addr (byte ∷ bytes) = IsWrittenAt items addr byte × AreWrittenAt items addr bytes
 
+-- The first byte AND all others.
 abbrev pub and_all : ℕ → List ℕ → ℕ
 and_all first [] = first
 and_all first (byte ∷ bytes) = and_all (bit_and first byte) bytes

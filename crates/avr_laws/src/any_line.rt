@@ -135,7 +135,7 @@ pub fn a_session_over_a_wire_can_be_believed()
 ///
 /// `bytes` states this in bytes. The programmer may have got any bytes whose good frames are some of those sent, in
 /// order, each at most once: a frame that arrives twice is forged. On the tape that came back each good frame that the
-/// host cuts is the reply to one of the last 256 frames, or a refusal.
+/// host cuts is the reply to one of the last 256 frames sent, or a refusal.
 ///
 /// `end` holds however a session ends, so that any prefix of its bytes was sent. The memories are those of its first
 /// write operations. Its output is the expected run's, up to the line of a failed step.

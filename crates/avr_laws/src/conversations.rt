@@ -72,7 +72,7 @@ pub fn over_any_tape_a_conversation_follows_its_exchanges<E, R>()
 {}
 
 /// States that over a link that forges no frame each reply taken is what the programmer sent to that command, or a
-/// refusal. The reply taken has the number of its command, and of the last 256 frames only that command has it.
+/// refusal. The reply taken has the number of its command, and of the last 256 frames sent only that command has it.
 // Proof: `no_forged_frame_authentic` (Lines/NoForgedFrame).
 pub fn a_link_that_forges_no_frame_is_authentic<E, R>()
     ensures { (d : Dialog E R) (n : ℕ) (tape : Tape) (p : Programmer) (executions : List Execution)

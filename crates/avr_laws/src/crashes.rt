@@ -20,7 +20,7 @@ use std::io::Write;
 
 /// States that a crash of a run over the emulator or a server leaves the old or the new chip file, unless it is written
 /// in place. The program began with a new desk. Whenever it is killed or the machine stops, the file is as it was when
-/// it was locked, or it holds the chip that the run or the server states with its status.
+/// it was locked, or it holds the chip as the run or the server has left it.
 // Proof: `run_killed` and `server_killed` (ChipFile/KilledRuns), from what avr_desk's `RecordsAll` says of a crash.
 pub fn a_crash_leaves_the_old_chip_or_the_new_one<
     R: FileSystem + Drop,

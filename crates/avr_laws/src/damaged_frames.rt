@@ -22,11 +22,11 @@ ghost use Rattle.avr_laws.specs.Damaged.{Arrived, Arrival, BringsReplies, tape_o
 ghost use Rattle.avr_laws.specs.Kept.{HasGeometryOf, KeepsOnPart};
 ghost use Rattle.avr_laws.specs.NoForgedFrame.{ForgesNoFrame};
 
-/// States that a link forges no frame, under conditions, if it only loses or delays frames, or changes one byte of
-/// each. That byte isn't of the start, the size or the token: so the XOR is wrong.
+/// States that a link forges no frame, under conditions, if it only loses or delays whole frames and changes at most
+/// one byte of each. That byte isn't of the start, the size or the token, so the XOR is wrong.
 ///
 /// `programmer`: the good frames that arrive are those that arrived whole. `host`: at each command what comes are
-/// replies to the last 256 frames and refusals, damaged or not, of fewer than 4,096 bytes up to the awaited reply.
+/// replies to the last 256 frames sent and refusals, damaged or not, of fewer than 4,096 bytes up to the awaited reply.
 // Proof: `arrived_came` and `brings_no_frame` (Lines/Damaged).
 pub fn a_link_that_damages_one_byte_forges_no_frame<E, R>()
     ensures programmer { (sent : List (List ℕ)) (through : List Bool) (got : List ℕ) → All IsPiece sent
@@ -37,9 +37,9 @@ pub fn a_link_that_damages_one_byte_forges_no_frame<E, R>()
         [] }
 {}
 
-/// States that with status 0 the chip is as the plan makes it, if the link only loses or delays frames, or damages one
-/// byte of each. If the run was verified, it holds the images. Of the frames sent, in order, each arrived whole,
-/// damaged or not at all. The replies came as in [`a_link_that_damages_one_byte_forges_no_frame`].
+/// States that with status 0 the chip is as the plan makes it, if the link only loses or delays whole frames and
+/// changes at most one byte of each. If the run was verified, it holds the images. Of the frames sent, in order, each
+/// arrived whole, damaged or not at all. The replies came as in [`a_link_that_damages_one_byte_forges_no_frame`].
 ///
 /// The chip has the sizes and pages of the plan's part, and EESAVE at the same bit of the high fuse. Its id and
 /// signature may be others: the plan that was kept is the one for the chip's own part. Without `-F` status 0 means that

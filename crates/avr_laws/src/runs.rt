@@ -7,7 +7,6 @@ ghost use Rattle.avr_desk.specs.Truth.{HoldsTrue};
 ghost use Rattle.avr_session.specs.Run.{RunsBetween};
 ghost use Rattle.ghosts.specs.Preserves.{Preserves};
 ghost use Rattle.stk_host.specs.Links.{ConsumesTape, TranscriptIsTrueSince, StreamState, TapeState, stream_state, tape_state};
-ghost use Rattle.avr_desk.specs.Stage.{Produced};
 ghost use Rattle.avr_desk.specs.Record.{DeskState, ChangesRecord, Record};
 ghost use Rattle.avr_laws.specs.Again.{AgreesOnTwoChips, ItemsKeepEeprom};
 ghost use Rattle.avr_tool.specs.OverFaultyLink.{SessionStopped, SessionOverWire, OverExchanges, Weight, total_weight, bodies_in, memories, events_over, wire_and_desk};
@@ -22,8 +21,7 @@ ghost use Rattle.avr_part.specs.Part.{IsPart};
 ghost use Rattle.avr_part.specs.Sound.{IsSoundChip};
 ghost use Rattle.avr_part.specs.State.{ChipState as Chip};
 ghost use Rattle.avr_plan.specs.Plan.{Plan, IsFitted};
-ghost use Rattle.avr_plan.specs.Planning.{planned};
-ghost use Rattle.avr_session.specs.Runs.{AllocationFailed, Devices, devices, cause_line};
+ghost use Rattle.avr_session.specs.Runs.{AllocationFailed, devices, cause_line};
 ghost use Rattle.avr_session.specs.Session.{session};
 ghost use Rattle.avr_session.specs.Stopping.{IsSound, EndWithLine, keeping, link_state};
 ghost use Rattle.avr_tool.specs.Headline.{IsRun, IsStopped};
@@ -115,7 +113,7 @@ pub fn an_ended_run_and_one_with_status_0_are_as_one()
 {}
 
 /// States that no session over the emulated link has status 0 with wrong memories or output, changes a chip without a
-/// frame, or sends too many. Wrong are memories that the plan's writes don't leave, and output other than over a
+/// frame, or sends too many frames. Wrong are memories that the plan's writes don't leave, and output other than over a
 /// perfect link. Too many are more than four frames for each command, by any weight.
 // Proof: `not_all_written`, `output_otherwise`, `touched_in_silence` and `too_much` (Outcomes/Refused).
 pub fn a_wrong_outcome_is_refused()

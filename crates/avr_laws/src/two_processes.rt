@@ -42,7 +42,7 @@ pub fn a_server_sends_the_replies_to_what_it_received()
         → ServingLeaves served p [] transcript left → HasServed p transcript left.programmer }
 {}
 
-/// States that a host takes from a server only its command's reply or a refusal, if all bytes arrive in order and
+/// States that a host takes from a server only the reply to its command or a refusal, if all bytes arrive in order and
 /// timeouts come only between replies. The frames that the server took were executed, and the others never arrived; the
 /// server's programmer is as they left it. This holds at any moment of a session, however it ends.
 pub fn what_a_host_receives_of_a_server_is_authentic()
@@ -110,8 +110,8 @@ pub fn a_session_and_a_server_are_one_run()
         → SavesChip serves.reported_desk new.desk file (chip_file serves.left.programmer.chip) (Ok tt) }
 {}
 
-/// States that for every plan there is a run of a session with a server over a link without timeouts. So the laws of
-/// two processes apply.
+/// States that for every plan and every chip of its part there is a run of a session with a server over a link without
+/// timeouts. So the laws of two processes apply.
 pub fn two_processes_have_a_run()
     ensures { (plan : Plan) (s : Chip) (file : Bytes)
         → IsSoundChip s → s.part ≡ plan.part → All (IsFitted plan.part) plan.tasks → HasPromptRun plan s file }

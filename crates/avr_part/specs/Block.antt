@@ -15,9 +15,11 @@ loaded_one_by_one word i [] s = s
 loaded_one_by_one word i (b ∷ bytes) s =
     loaded_one_by_one word (suc i) bytes (after_instruction (LoadFlash (half_at i) ((word + i / 2) % 256) b) s)
 
+-- a block of n bytes ends within the page that it begins in
 abbrev pub is_in_page : ℕ → ℕ → ChipState → Bool
 is_in_page word n s = nat_le (word % (s.part.flash_page / 2) * 2 + n) s.part.flash_page
 
+-- `true` and the chip with the block loaded, or `false` and the same chip if the block isn't within one page
 abbrev pub load_block : ℕ → List ℕ → ChipState → Bool × ChipState
 load_block word bytes s =
     if is_in_page word (length bytes) s then (true, loaded_one_by_one word 0 bytes s) else (false, s)
@@ -31,5 +33,6 @@ read_one_by_one word i (suc n) s = flash_byte (half_at i) (word + i / 2) s ∷ r
 abbrev pub is_in_flash : ℕ → ℕ → ChipState → Bool
 is_in_flash word n s = nat_le (word * 2 + n) 131072 && nat_le (word_address s word + n) s.part.flash_size
 
+-- the bytes of the block at `word`, if it is in flash and within one extended address
 abbrev pub flash_block : ℕ → ℕ → ChipState → Option (List ℕ)
 flash_block word n s = if is_in_flash word n s then Some (read_one_by_one word 0 n s) else None

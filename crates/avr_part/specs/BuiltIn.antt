@@ -43,6 +43,7 @@ m2560 = record {
 abbrev pub built_in_parts : List Part
 built_in_parts = m328p ∷ t85 ∷ m2560 ∷ []
 
+-- the part has this id
 abbrev pub has_id : List ℕ → Part → Bool
 has_id id p = bytes_eq p.id id
 
@@ -50,5 +51,6 @@ has_id id p = bytes_eq p.id id
 abbrev pub part_of_id : List ℕ → List Part → Result Part PartFault
 part_of_id id parts = ok_or (find (has_id id) (parts ++ built_in_parts)) NoSuchPart
 
+-- the parts of the part file, if there is one
 abbrev pub parts_of_file : Option (Vec Part) → List Part
 parts_of_file file = option_map_or (λ v. v.items) file []

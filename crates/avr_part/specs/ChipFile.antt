@@ -24,6 +24,7 @@ state_from_file p bytes =
       lock = slice_index bytes (fuses + 3);
     }
 
+-- the chip in a file of the part's length, or its length as a fault
 abbrev pub chip_from_file : Part → List ℕ → Result ChipState PartFault
 chip_from_file p bytes =
     if length bytes == chip_file_size p then Ok (state_from_file p bytes) else Err (BadChipFile (length bytes))

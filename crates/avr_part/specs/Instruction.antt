@@ -16,6 +16,7 @@ decode_write b d =
     else if b == 0xE0 then WriteLock d
     else Nothing
 
+-- the instruction of four bytes; any others are `Nothing`
 abbrev pub decode_bytes : ℕ → ℕ → ℕ → ℕ → Instruction
 decode_bytes a b c d =
     if a == 0xAC then decode_write b d
@@ -38,5 +39,6 @@ decode_bytes a b c d =
     else if a == 0x58 && b == 0x00 then ReadLock
     else Nothing
 
+-- the instruction of a list of four bytes
 abbrev pub instruction_of : List ℕ → Instruction
 instruction_of x = decode_bytes (slice_index x 0) (slice_index x 1) (slice_index x 2) (slice_index x 3)

@@ -17,9 +17,11 @@ name_of Calibration = codes "calibration"
 abbrev pub all_memories : List Mem
 all_memories = Flash ∷ Eeprom ∷ Lfuse ∷ Hfuse ∷ Efuse ∷ Lock ∷ Signature ∷ Calibration ∷ []
 
+-- the memory that a name of the command line means
 abbrev pub memory_named : List ℕ → Option Mem
 memory_named name = find (λ memory. bytes_eq (name_of memory) name) all_memories
 
+-- signature and calibration can only be read
 abbrev pub is_writable : Mem → Bool
 is_writable Signature = false
 is_writable Calibration = false

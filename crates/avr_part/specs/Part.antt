@@ -21,14 +21,16 @@ is_between low high n = nat_le low n && nat_le n high
 abbrev pub is_id_byte : ℕ → Bool
 is_id_byte b = is_between 65 90 b || is_between 97 122 b || is_between 48 57 b || b == 95 || b == 45
 
+-- 1 to 31 such bytes
 abbrev pub is_id : List ℕ → Bool
 is_id text = is_between 1 31 (length text) && list_all is_id_byte text
 
+-- the text, if it is a valid id
 abbrev pub id_of : List ℕ → Option (List ℕ)
 id_of text = if is_id text then Some text else None
 
--- A valid id, and sizes that a part can have: a page divides 256, so it is a power of two, and a memory is whole
--- pages.
+-- A valid id, and sizes that a part can have. A page divides 256, so it is a power of two, and a memory is whole pages.
+-- Flash has at most 262,144 bytes and pages of whole words. EEPROM has at most 4,096 bytes.
 pub record IsPart (p : Part) : Type 0 where
   pub id : is_id p.id ≡ true
   pub signature : length p.signature ≡ 3
@@ -45,6 +47,7 @@ pub record IsPart (p : Part) : Type 0 where
   pub eeprom_most : p.eeprom_size ≤ 4096
   pub eesave_bit : p.eesave_bit < 8
 
+-- the size of a memory in bytes
 abbrev pub size_of : Mem → Part → ℕ
 size_of Flash p = p.flash_size
 size_of Eeprom p = p.eeprom_size

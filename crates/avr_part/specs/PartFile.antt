@@ -21,11 +21,13 @@ use Rattle.avr_part.specs.declared.fault.PartFault.TheVariants.{NotToml, Missing
 abbrev pub Bytes : Type 0
 Bytes = List ℕ
 
+-- goes on with a result, unless it is a fault
 infixl 10 ◌>>=◌
 abbrev pub ◌>>=◌ : {A B E : Type 0} → Result A E → (A → Result B E) → Result B E
 Ok x >>= f = f x
 Err e >>= f = Err e
 
+-- a field that is a number from `least` to `most`
 abbrev pub number_field : Field → ℕ → ℕ → Option Data → Result ℕ PartFault
 number_field f least most d = do
   value ← ok_or d (Missing f)
@@ -36,6 +38,7 @@ number_field f least most d = do
 abbrev pub page_field : Field → ℕ → Option Data → Result ℕ PartFault
 page_field f least d = number_field f least 256 d >>= (λ n. if is_power_of_two n then Ok n else Err (BadValue f))
 
+-- a field that is three bytes in hexadecimal digits
 abbrev pub signature_field : Option Data → Result Bytes PartFault
 signature_field d = do
   value ← ok_or d (Missing field.Signature)
@@ -69,9 +72,11 @@ pub record NamedFault : Type 0 where
   pub part : Option Bytes
   pub fault : PartFault
 
+-- a fault of the whole file
 abbrev pub of_file : PartFault → NamedFault
 of_file fault = record { part = None; fault = fault }
 
+-- a part, or its fault with its id
 abbrev pub in_part : Bytes → Result Part PartFault → Result Part NamedFault
 in_part key = result_map_both (λ part. part) (λ fault. record { part = id_of key; fault = fault })
 
@@ -83,12 +88,14 @@ parts_in (member key d rest) = do
   parts ← parts_in rest
   Ok (part ∷ parts)
 
+-- the parts in the document's table `parts`
 abbrev pub document_parts : Members → Result (List Part) NamedFault
 document_parts ms = do
   parts ← ok_or (get_member (codes "parts") ms) (of_file (Missing field.Parts))
   members ← ok_or (as_table parts) (of_file (BadValue field.Parts))
   parts_in members
 
+-- how many lines a text has, the last one perhaps empty
 abbrev pub line_count : Bytes → ℕ
 line_count text = count_by (λ byte. byte == 10) text + 1
 
@@ -101,6 +108,7 @@ pub record FaultWithLine : Type 0 where
   pub why : NamedFault
   pub line : Option ℕ
 
+-- the fault of a text that stops being TOML at this line; below, any other fault
 abbrev pub not_toml_at : ℕ → FaultWithLine
 not_toml_at line = record { why = of_file NotToml; line = Some line }
 
@@ -112,15 +120,19 @@ abbrev pub IsPlaced : Bytes → FaultWithLine → Type 0
 IsPlaced text f =
     MatchOption f.line (f.why.fault ≢ NotToml) (λ line. (f.why.fault ≡ NotToml) × (1 ≤ line) × (line ≤ line_count text))
 
+-- the result without the fault's line
 abbrev pub unplaced : {T : Type 0} → Result T FaultWithLine → Result T NamedFault
 unplaced = result_map_both (λ t. t) (λ f. f.why)
 
+-- the result without the id of the part at fault
 abbrev pub unnamed : {T : Type 0} → Result T NamedFault → Result T PartFault
 unnamed = result_map_both (λ t. t) (λ f. f.fault)
 
+-- the bytes, if they are a text in UTF-8
 abbrev pub utf8_text : Bytes → Option Bytes
 utf8_text bytes = if is_utf8 bytes then Some bytes else None
 
+-- the parts of a part file with these bytes, or why it is refused
 abbrev pub parts_of : Bytes → Result (List Part) NamedFault
 parts_of bytes = do
   text ← ok_or (utf8_text bytes) (of_file NotToml)
@@ -131,13 +143,14 @@ parts_of bytes = do
 abbrev pub GivesPartUnlessOutOfMemory : {T : Type 0} → Result T PartFault → Result T PartFault → Type 0
 GivesPartUnlessOutOfMemory want got = (got ≡ want) ⊎ (got ≡ Err Memory)
 
+-- the same for calls that read a part file
 abbrev pub ReadsUnlessOutOfMemory : {T : Type 0} → Result T NamedFault → Result T NamedFault → Type 0
 ReadsUnlessOutOfMemory want got = (got ≡ want) ⊎ (got ≡ Err (of_file Memory))
 
 abbrev pub listed_items : Result (Vec Part) NamedFault → Result (List Part) NamedFault
 listed_items = result_map_both (λ v. v.items) (λ e. e)
 
--- the document, or allocation failed
+-- the document of a text, or why there is none: it isn't TOML, or allocation failed
 abbrev pub ReadsDocument : Option Members → Result (BTreeMap (String Global) Value) FaultWithLine → Type 0
 ReadsDocument want (Ok t) = want ≡ Some (table_view t)
 ReadsDocument want (Err e) = (e.why ≡ of_file Memory) ⊎ ((e.why ≡ of_file NotToml) × (want ≡ None))

@@ -13,6 +13,7 @@ use Rattle.avr_part.specs.declared.instruction.Fuse.TheVariants as fuse
 use Rattle.avr_part.specs.declared.instruction.Instruction.{Instruction}
 use Rattle.avr_part.specs.declared.instruction.Instruction.TheVariants.{Enable, Erase, LoadFlash, WriteFlashPage, ReadFlash, ReadEeprom, WriteEeprom, LoadEeprom, WriteEepromPage, WriteFuse, WriteLock, ReadFuse, ReadLock, ReadSignature, ReadCalibration, Poll, Extend}
 
+-- The memories and the page buffers. A gap in the EEPROM buffer is a place without a loaded byte.
 pub record ChipState : Type 0 where
   pub part : Part
   pub flash : List ℕ
@@ -40,7 +41,7 @@ fresh_state p = record {
   extended = 0;
 }
 
--- FF in all of the flash buffer, nothing in the EEPROM buffer
+-- Only the memories stay: FF in the flash buffer, nothing in the EEPROM buffer, extended address 0.
 abbrev pub with_empty_buffers : ChipState → ChipState
 with_empty_buffers s =
     record s { flash_buffer = blank s.flash_buffer; eeprom_buffer = nothing_loaded s.eeprom_buffer; extended = 0 }
@@ -55,10 +56,12 @@ with_erased s =
 abbrev pub is_locked : ChipState → Bool
 is_locked s = bit_at s.lock 0 == 0
 
+-- the place of a half in its word
 abbrev pub half_offset : Half → ℕ
 half_offset half.Low = 0
 half_offset half.High = 1
 
+-- a byte loaded into the flash buffer, at the place of this half of the word
 abbrev pub with_load : Half → ℕ → ℕ → ChipState → ChipState
 with_load h word byte s =
     record s { flash_buffer = slice_set s.flash_buffer (word % (s.part.flash_page / 2) * 2 + half_offset h) byte }
@@ -67,9 +70,11 @@ with_load h word byte s =
 abbrev pub word_address : ChipState → ℕ → ℕ
 word_address s word = (s.extended * 65536 + word) % (s.part.flash_size / 2) * 2
 
+-- addresses wrap around at the EEPROM's size
 abbrev pub eeprom_address : ChipState → ℕ → ℕ
 eeprom_address s address = address % s.part.eeprom_size
 
+-- The page of this word becomes itself AND the flash buffer, unless the chip is locked. The buffer is FF afterwards.
 abbrev pub with_flash_page : ℕ → ChipState → ChipState
 with_flash_page word s = record s {
   flash = if is_locked s then s.flash
@@ -78,14 +83,17 @@ with_flash_page word s = record s {
   flash_buffer = blank s.flash_buffer;
 }
 
+-- one byte is written to EEPROM, unless the chip is locked
 abbrev pub with_eeprom_byte : ℕ → ℕ → ChipState → ChipState
 with_eeprom_byte address byte s =
     record s { eeprom = if is_locked s then s.eeprom else slice_set s.eeprom (eeprom_address s address) byte }
 
+-- a byte is loaded into the EEPROM buffer
 abbrev pub with_eeprom_load : ℕ → ℕ → ChipState → ChipState
 with_eeprom_load place byte s =
     record s { eeprom_buffer = slice_set s.eeprom_buffer (place % s.part.eeprom_page) (Some byte) }
 
+-- The loaded bytes are written to their page of EEPROM, unless the chip is locked. The buffer is empty afterwards.
 abbrev pub with_eeprom_page : ℕ → ChipState → ChipState
 with_eeprom_page address s = record s {
   eeprom = if is_locked s then s.eeprom else map_indexed (overlaid_byte
@@ -93,14 +101,17 @@ with_eeprom_page address s = record s {
   eeprom_buffer = nothing_loaded s.eeprom_buffer;
 }
 
+-- a fuse is written, unless the chip is locked
 abbrev pub with_fuse : Fuse → ℕ → ChipState → ChipState
 with_fuse fuse.Low byte s = record s { lfuse = if is_locked s then s.lfuse else byte }
 with_fuse fuse.High byte s = record s { hfuse = if is_locked s then s.hfuse else byte }
 with_fuse fuse.Extended byte s = record s { efuse = if is_locked s then s.efuse else byte }
 
+-- a write only clears bits of the lock
 abbrev pub with_lock : ℕ → ChipState → ChipState
 with_lock byte s = record s { lock = bit_and s.lock byte }
 
+-- a byte of flash, by its word and half
 abbrev pub flash_byte : Half → ℕ → ChipState → ℕ
 flash_byte h word s = slice_index s.flash (word_address s word + half_offset h)
 
@@ -109,6 +120,7 @@ fuse_of fuse.Low s = s.lfuse
 fuse_of fuse.High s = s.hfuse
 fuse_of fuse.Extended s = s.efuse
 
+-- the signature at places 0 to 2, FF at 3; places repeat after that
 abbrev pub signature_byte : ℕ → ChipState → ℕ
 signature_byte place s = if place % 4 == 3 then 255 else slice_index s.part.signature (place % 4)
 
@@ -123,6 +135,7 @@ output_byte ReadCalibration third s = 255
 output_byte Poll third s = 0
 output_byte i third s = third
 
+-- the chip after an instruction; one that isn't here changes nothing
 abbrev pub after_instruction : Instruction → ChipState → ChipState
 after_instruction Enable s = with_empty_buffers s
 after_instruction Erase s = with_erased s
@@ -136,11 +149,13 @@ after_instruction (WriteLock byte) s = with_lock byte s
 after_instruction (Extend byte) s = record s { extended = byte }
 after_instruction i s = s
 
+-- the four bytes that an instruction of these bytes shifts out, and the chip after it
 abbrev pub spi_of : List ℕ → ChipState → List ℕ × ChipState
 spi_of x s =
     let i = instruction_of x in
     (0 ∷ slice_index x 0 ∷ slice_index x 1 ∷ output_byte i (slice_index x 2) s ∷ [], after_instruction i s)
 
+-- the bytes of a memory; the calibration is FF
 abbrev pub memory_of : Mem → ChipState → List ℕ
 memory_of Flash s = s.flash
 memory_of Eeprom s = s.eeprom

@@ -13,6 +13,7 @@ fn id_from(id: &str) -> ArrayString<31>
     text
 }
 
+/// Returns the built-in part at this place, counted from 0.
 pub fn built_in_at(place: usize) -> Option<Part>
     ensures { result ≡ slice_get built_in_parts place }
 {

@@ -70,6 +70,7 @@ impl Chip {
         Chip::make(alloc, part).map_err(|_| PartFault::Memory)
     }
 
+    /// Creates a chip whose memories are all FF.
     fn make(alloc: Global, part: Part) -> Result<Chip, AllocError>
         ensures { IfOk result (λ c. c ≡ fresh_state part) }
     {
@@ -148,6 +149,7 @@ impl Chip {
         self.extended = 0;
     }
 
+    /// Erases flash and lock, and EEPROM unless the EESAVE bit is 0.
     #[inline(never)]
     fn erase(&mut self)
         ensures { self.new ≡ with_erased self.old }
@@ -160,6 +162,7 @@ impl Chip {
         }
     }
 
+    /// Returns the place of a word's low byte in the flash buffer.
     fn buffer_place(&self, word: u8) -> usize
         ensures value { result ≡ word % (self.now.part.flash_page / 2) * 2 }
         ensures inside { result + 1 < self.now.part.flash_page }
@@ -167,6 +170,7 @@ impl Chip {
         usize::from(word) % (self.flash_page() / 2) * 2
     }
 
+    /// Loads a byte into the flash buffer.
     fn load(&mut self, half: Half, word: u8, byte: u8)
         ensures { self.new ≡ with_load half word byte self.old }
     {
@@ -186,6 +190,7 @@ impl Chip {
         (usize::from(self.extended) * 65536 + usize::from(word)) % words * 2
     }
 
+    /// Returns the address in EEPROM; it wraps at the size.
     fn eeprom_address(&self, address: u16) -> usize
         ensures value { result ≡ eeprom_address self.now address }
         ensures inside { result < self.now.part.eeprom_size }
@@ -200,6 +205,7 @@ impl Chip {
         self.lock & LB1 == 0
     }
 
+    /// ANDs the flash buffer into the page that holds the word, unless the chip is locked. Then empties the buffer.
     #[inline(never)]
     fn write_flash_page(&mut self, word: u16)
         ensures { self.new ≡ with_flash_page word self.old }
@@ -238,6 +244,7 @@ impl Chip {
         self.eeprom_buffer.load(place, byte);
     }
 
+    /// Writes the loaded bytes to the page that holds the address, unless the chip is locked. Then empties the buffer.
     #[inline(never)]
     fn write_eeprom_page(&mut self, address: u16)
         ensures { self.new ≡ with_eeprom_page address self.old }
@@ -305,6 +312,7 @@ impl Chip {
         }
     }
 
+    /// Does what the instruction does to the chip.
     #[inline(always)]
     fn execute(&mut self, instruction: Instruction)
         ensures { self.new ≡ after_instruction instruction self.old }

@@ -10,6 +10,7 @@ use std::error::Error;
 use std::fmt;
 use std::marker::Model;
 
+/// A fault, with the id of the part at fault if it has one.
 #[derive(Drop)]
 pub(crate) struct NamedFault {
     part: Option<ArrayString<31>>,
@@ -81,8 +82,8 @@ impl PartFileFault {
         PartFileFault { why, line: None }
     }
 
-    /// Returns the id of the part at fault, or `None` if the file is not TOML, `parts` is missing or no table, the key
-    /// of the part is no id, or allocation failed.
+    /// Returns the id of the part at fault. It is `None` if the file is not TOML, if `parts` is missing or no table, if
+    /// the key of the part is no id, or if allocation failed.
     ///
     /// ```text
     /// if let Err(fault) = parse_part_file(alloc, b"parts = 3") {

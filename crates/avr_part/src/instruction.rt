@@ -174,6 +174,7 @@ impl fmt::Debug for Instruction {
     }
 }
 
+/// Decodes an instruction that begins with AC.
 fn decode_write(second: u8, last: u8) -> Instruction
     ensures { result ≡ decode_write second last }
 {

@@ -26,6 +26,7 @@ fn has_id_bytes(text: &[u8]) -> bool
     text.iter().all(|byte| is_id_byte(*byte))
 }
 
+/// Returns the key as an id, if it is one.
 pub(crate) fn id_of(key: &str) -> Option<ArrayString<31>>
     ensures value { option_map (λ t. t.bytes) result ≡ id_of key.now }
     ensures is_id { IfSome result (λ t. is_id t.bytes ≡ true) }
@@ -44,6 +45,7 @@ pub(crate) fn at_key<'a>(table: &'a Table, key: &str) -> Option<&'a Value>
     table.get(key)
 }
 
+/// Reads a field that is a number from `least` to `most`.
 fn number(table: &Table, key: &str, field: Field, least: u32, most: u32) -> Result<u32, PartFault>
     ensures value { result ≡ number_field field least most (get_member key.now (table_view table.now)) }
     ensures fits { MatchResult result (λ n. (least ≤ n) × (n ≤ most)) (λ fault. fault ≢ NotToml) }
@@ -70,6 +72,7 @@ fn page(table: &Table, key: &str, field: Field, least: u32) -> Result<u32, PartF
     }
 }
 
+/// Reads the signature: three bytes in hexadecimal digits.
 fn signature(table: &Table) -> Result<[u8; 3], PartFault>
     ensures value { result ≡ signature_field (get_member (codes "signature") (table_view table.now)) }
     ensures toml { IfErr result (λ fault. fault ≢ NotToml) }

@@ -46,7 +46,7 @@ impl Loads {
 }
 
 /// ANDs each byte of the page into the bytes from `start` on.
-// (a slice, since a loop over a vector loads its pointer anew for each byte)
+// It takes a slice, because a loop over a vector loads its pointer anew for each byte.
 fn and_bytes(bytes: &mut [u8], start: usize, page: &[u8])
     requires { start + length page.now ≤ length bytes.old }
     ensures { Becomes AreBytes (map_indexed (byte_and_page start page.now) bytes.old) (length bytes.old) bytes.new }
@@ -56,6 +56,7 @@ fn and_bytes(bytes: &mut [u8], start: usize, page: &[u8])
     }
 }
 
+/// The bytes of flash or EEPROM, or of the flash page buffer.
 #[derive(Drop)]
 pub struct Memory {
     bytes: Vec<u8>,

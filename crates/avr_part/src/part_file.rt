@@ -15,6 +15,7 @@ use std::alloc::Global;
 use std::str;
 use toml::Table;
 
+/// Reads all parts of the table, up to the first fault.
 fn check_members(alloc: Global, table: &Table) -> Result<Vec<Part>, NamedFault>
     ensures reads { ReadsUnlessOutOfMemory (parts_in (table_view table.now)) (listed_items result) }
     ensures toml { IfErr result (λ e. e.fault ≢ PartFault.NotToml) }
@@ -29,6 +30,7 @@ fn check_members(alloc: Global, table: &Table) -> Result<Vec<Part>, NamedFault>
     Ok(parts)
 }
 
+/// Finds the table of parts, and reads it.
 fn check_document(alloc: Global, document: &Table) -> Result<Vec<Part>, NamedFault>
     ensures reads { ReadsUnlessOutOfMemory (document_parts (table_view document.now)) (listed_items result) }
     ensures toml { IfErr result (λ e. e.fault ≢ PartFault.NotToml) }

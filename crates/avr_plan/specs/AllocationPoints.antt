@@ -15,6 +15,7 @@ use Rattle.avr_part.specs.Part.{Part}
 use Rattle.avr_plan.specs.Planning.{planned, tasks_stage}
 use Rattle.avr_plan.specs.declared.planned.Task.{Task}
 
+-- The update has its values on the command line.
 abbrev pub has_immediate_values : Format → Bool
 has_immediate_values Immediate = true
 has_immediate_values format = false

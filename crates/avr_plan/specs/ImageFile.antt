@@ -28,6 +28,7 @@ image_of_file file.Srec bytes size = result_map_both (λ good. good) Record (ima
 image_of_file file.Elf bytes size = Err Elf
 image_of_file file.Raw bytes size = result_map_both (λ image. (image, Ended)) Raw (raw_file.raw bytes size)
 
+-- This fault, if there is one, else `TooLong`.
 abbrev pub or_too_long : Option RecordFault → BadFile
 or_too_long fault = unwrap_or (option_map Record fault) TooLong
 
@@ -37,15 +38,18 @@ fault_of_long_file file.Ihex prefix size = or_too_long (ended_lines_fault record
 fault_of_long_file file.Srec prefix size = or_too_long (ended_lines_fault records.Srec prefix size)
 fault_of_long_file found prefix size = TooLong
 
+-- The image of a file that may be longer than `limit`. Then it has a fault.
 abbrev pub image_of_file_within : ℕ → Found → Bytes → ℕ → ImageOrBadFile
 image_of_file_within limit found bytes size = if nat_le (length bytes) limit then image_of_file found bytes size
     else Err (fault_of_long_file found (take limit bytes) size)
 
+-- The kind of file that a format means, or else the one that the first bytes show.
 abbrev pub kind_of : Format → Bytes → Found
 kind_of letter.Ihex bytes = file.Ihex
 kind_of letter.Srec bytes = file.Srec
 kind_of letter.Raw bytes = file.Raw
 kind_of format bytes = format_of_file bytes
 
+-- The image of a file in this format, or its fault.
 abbrev pub image_within : ℕ → Format → Bytes → ℕ → ImageOrBadFile
 image_within limit format bytes size = image_of_file_within limit (kind_of format bytes) bytes size

@@ -13,14 +13,17 @@ use Rattle.avr_plan.specs.declared.image_file.FirstBytes.{FirstBytes}
 use Rattle.avr_plan.specs.declared.image_file.ReadFault.{ReadFault}
 use Rattle.avr_plan.specs.declared.image_file.ReadFault.TheVariants.{File, Image}
 
+-- An image and whether its file had an end record, or why there is none.
 abbrev pub ImageOrFault : Type 0
 ImageOrFault = Result (List (Option ℕ) × Ending) ReadFault
 
+-- The result is this image, or the fault of this file. The desk hasn't failed.
 abbrev pub IsImageResult : ImageOrBadFile → ImageOrFault → Type 0
 IsImageResult given (Ok good) = Ok good ≡ given
 IsImageResult given (Err (Image bad)) = Err bad ≡ given
 IsImageResult given (Err (File fault)) = ⊥
 
+-- Only a fault of the desk is counted, not one of the image.
 abbrev pub CountsReadFault : DeskState → DeskState → ReadFault → Type 0
 CountsReadFault old new (File fault) = CountsFileFault old new fault
 CountsReadFault old new (Image bad) = HasSameCounts old new
@@ -30,9 +33,11 @@ pub record ReadsFirstBytes (old new : DeskState) (prefix : FirstBytes) : Type 0 
   pub kept : ChangesRecord (after_reading prefix.bytes.items prefix.ended) old new
   pub enough : MatchBool prefix.ended (length prefix.bytes.items ≤ 1024) (length prefix.bytes.items ≡ 1024)
 
+-- Some bytes of the open file were read, and its end wasn't seen.
 abbrev pub IsReadInPart : DeskState → DeskState → Type 0
 IsReadInPart old new = (bytes : Bytes) × ChangesRecord (after_reading bytes false) old new
 
+-- The first bytes were read, or reading failed.
 abbrev pub FirstBytesAreRead : DeskState → DeskState → Result FirstBytes FileFault → Type 0
 FirstBytesAreRead old new (Ok prefix) = ReadsFirstBytes old new prefix
 FirstBytesAreRead old new (Err fault) = (fault ≡ NotRead) × IsReadInPart old new
@@ -46,6 +51,7 @@ pub record ReadsRest (limit : ℕ) (found : Found) (size : ℕ) (before : Bytes)
   pub whole : EndsOrExceedsLimit limit (record { bytes = before ++ bytes; ended = ended })
   pub gives : given ≡ image_of_file_within limit found (before ++ bytes) size
 
+-- The rest was read and the result is the file's, or reading failed.
 abbrev pub RestIsRead : ℕ → Found → ℕ → Bytes → DeskState → DeskState → ImageOrFault → Type 0
 RestIsRead limit found size before old new (Ok good) = ReadsRest limit found size before old new (Ok good)
 RestIsRead limit found size before old new (Err (Image bad)) = ReadsRest limit found size before old new (Err bad)
@@ -60,6 +66,7 @@ pub record ReadsImage (limit : ℕ) (format : Format) (size : ℕ) (name : Bytes
   pub whole : EndsOrExceedsLimit limit (record { bytes = bytes; ended = ended })
   pub gives : given ≡ image_within limit format bytes size
 
+-- The file was read and the result is its image or fault, or opening or reading failed.
 abbrev pub ImageIsRead : ℕ → Format → ℕ → Bytes → DeskState → DeskState → ImageOrFault → Type 0
 ImageIsRead limit format size name old new (Ok good) = ReadsImage limit format size name old new (Ok good)
 ImageIsRead limit format size name old new (Err (Image bad)) = ReadsImage limit format size name old new (Err bad)

@@ -13,6 +13,7 @@ use Rattle.avr_plan.specs.declared.intake.BadFile.TheVariants.{Record, TooLong}
 use Rattle.avr_plan.specs.declared.intake.Intake.{Intake}
 use Rattle.avr_plan.specs.declared.intake.Intake.TheVariants as intake
 
+-- A kind of record file among the kinds of files.
 abbrev pub found_as : Kind → Found
 found_as records.Ihex = file.Ihex
 found_as records.Srec = file.Srec
@@ -27,11 +28,13 @@ pub record HasCertainFault (found : Found) (size : ℕ) (fault : BadFile) (text 
   pub whole : (more : Bytes) → image_of_file found (text ++ more) size ≡ Err fault
   pub long : (more : Bytes) → fault_of_long_file found (text ++ more) size ≡ in_long_file fault
 
+-- This reader of records was fed this text of a file of this kind.
 pub record RecordReaderWasFed (found : Found) (size : ℕ) (reader : ReaderState) (text : Bytes) : Type 0 where
   pub of_kind : found ≡ found_as reader.kind
   pub of_size : memory_size reader ≡ size
   pub stands : MayHaveRead reader text
 
+-- This reader of raw bytes was fed this text.
 pub record RawReaderWasFed (found : Found) (size : ℕ) (reader : raw_file.RawReaderState) (text : Bytes) : Type 0 where
   pub of_kind : found ≡ file.Raw
   pub of_size : length reader.image ≡ size
@@ -43,6 +46,7 @@ WasFed found size (intake.Records reader) text = RecordReaderWasFed found size r
 WasFed found size (intake.Raw reader) text = RawReaderWasFed found size reader text
 WasFed found size (intake.Faulty fault) text = HasCertainFault found size fault text
 
+-- How many bytes a reader of records was fed.
 abbrev pub record_bytes_fed : Intake → ℕ
 record_bytes_fed (intake.Records reader) = reader.fed
 record_bytes_fed other = 0

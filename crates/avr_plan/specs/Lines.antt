@@ -27,7 +27,7 @@ no_end_line file = warning (file ∷ codes ": no end record" ∷ [])
 abbrev pub field_pieces : Bytes → Field → Bytes → List Bytes
 field_pieces file field text = file ∷ codes ": " ∷ field_name field ∷ text ∷ []
 
--- A part file has no other fault.
+-- Any other fault of a part file is a failed allocation.
 abbrev pub part_file_pieces : Bytes → PartFault → List Bytes
 part_file_pieces file part_fault.NotToml = file ∷ codes ": not TOML" ∷ []
 part_file_pieces file (part_fault.Missing field) = field_pieces file field (codes " is missing")
@@ -54,7 +54,7 @@ line_range_pieces file line address =
     file ∷ codes ": line " ∷ decimal line ∷ codes ": address " ∷ digits (big_bytes 4 address)
     ∷ codes " out of range" ∷ []
 
--- A file that is read in pieces has no other fault.
+-- Any other fault of a record file read in pieces is a failed allocation.
 abbrev pub record_pieces : Bytes → RecordFault → List Bytes
 record_pieces file (record_fault.BadMark line) = in_line_pieces file line (codes ": no record mark")
 record_pieces file (record_fault.BadDigit line) = in_line_pieces file line (codes ": bad digit")
@@ -70,7 +70,7 @@ record_pieces file fault = memory_pieces
 abbrev pub range_pieces : Bytes → ℕ → List Bytes
 range_pieces name address = name ∷ codes ": address " ∷ digits (big_bytes 4 address) ∷ codes " out of range" ∷ []
 
--- Raw bytes have no fault but going past the memory.
+-- Raw bytes go past the memory. Any other fault of them is a failed allocation.
 abbrev pub raw_pieces : Bytes → ImageFault → List Bytes
 raw_pieces file (image_fault.OutOfRange address) = range_pieces file address
 raw_pieces file fault = memory_pieces
@@ -94,7 +94,7 @@ image_line file fault = error (image_pieces file fault)
 abbrev pub value_pieces : Mem → ℕ → Bytes → List Bytes
 value_pieces memory place text = name_of memory ∷ codes ": value " ∷ decimal place ∷ text ∷ []
 
--- Values have no other fault.
+-- Any other fault of values is a failed allocation.
 abbrev pub values_pieces : Mem → ImageFault → List Bytes
 values_pieces memory (image_fault.OutOfRange address) = range_pieces (name_of memory) address
 values_pieces memory (image_fault.BadNumber place) = value_pieces memory place (codes ": not a number")

@@ -6,6 +6,7 @@ use Rattle.avr_part.specs.Part.{Part, size_of}
 use Rattle.avr_plan.specs.declared.planned.Task.{Task}
 use Rattle.avr_plan.specs.declared.planned.Task.TheVariants.{Write, Verify}
 
+-- The part, what is to be done, in order, and the switches.
 pub record Plan : Type 0 where
   pub part : Part
   pub tasks : List Task

@@ -16,6 +16,7 @@ use Rattle.avr_plan.specs.declared.plan_fault.PlanFault.TheVariants.{PartFile, N
 use Rattle.avr_plan.specs.declared.plan_fault.TaskFault.{TaskFault}
 use Rattle.avr_plan.specs.declared.plan_fault.TaskFault.TheVariants.{ReadOnly, Values, File, Memory, Unwarned}
 
+-- The result, with status 1 in place of its fault.
 abbrev pub with_status : {A E : Type 0} → Result A E → Result A ℕ
 with_status result = result_map_both (λ a. a) (λ fault. 1) result
 
@@ -38,11 +39,13 @@ ReportsTaskFault u old new (File fault) = ReportsLast (image_line u.file fault) 
 ReportsTaskFault u old new Memory = ReportsLast memory_line old new
 ReportsTaskFault u old new Unwarned = HasFailedToReport old new
 
+-- The fault of one update, by its index, was reported.
 abbrev pub ReportsTasksFault : List Update → DeskState → DeskState → PlanFault → Type 0
 ReportsTasksFault updates old new (OfUpdate index fault) =
     (u : Update) × ((slice_get updates index ≡ Some u) × ReportsTaskFault u old new fault)
 ReportsTasksFault updates old new fault = ⊥
 
+-- The line of each fault of a plan was reported.
 abbrev pub ReportsPlanFault : Settings → DeskState → DeskState → PlanFault → Type 0
 ReportsPlanFault s old new (PartFile fault) = ReportsPartsFault s.parts old new fault
 ReportsPlanFault s old new NoPart = ReportsLast (no_part_line s.part) old new

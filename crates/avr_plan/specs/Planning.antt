@@ -34,11 +34,13 @@ use Rattle.avr_plan.specs.declared.planned.Task.TheVariants.{Write, Verify, Read
 abbrev pub or_line : {A E : Type 0} → (E → Bytes) → Result A E → Result A Bytes
 or_line line result = result_map_both (λ good. good) line result
 
+-- The parts of a part file with these bytes, or the line that refuses it.
 abbrev pub checked_parts : Bytes → Bytes → Result (List Part) Bytes
 checked_parts file bytes =
     if nat_le (length bytes) LARGEST_PART_FILE then or_line (λ bad. part_file_line file bad.fault) (parts_of bytes)
     else Err (too_long_line file LARGEST_PART_FILE)
 
+-- The parts of the part file. Without one there are none.
 abbrev pub parts_stage : Option Bytes → Stage (List Part)
 parts_stage None = result_stage (Ok [])
 parts_stage (Some file) = file_stage file LARGEST_PART_FILE (checked_parts file)
@@ -47,6 +49,7 @@ parts_stage (Some file) = file_stage file LARGEST_PART_FILE (checked_parts file)
 abbrev pub part_stage : Bytes → List Part → Stage Part
 part_stage id parts = result_stage (or_line (λ fault. no_part_line id) (part_of_id id parts))
 
+-- No part has this id, and this was reported.
 abbrev pub LacksPart : Bytes → List Part → DeskState → DeskState → Type 0
 LacksPart id parts old new = IsErr (part_of_id id parts) × ReportsLine old new (no_part_line id)
 
@@ -57,12 +60,15 @@ abbrev pub is_warned : Switches → Ending → Bool
 is_warned switches Ended = false
 is_warned switches NoEnd = nat_lt switches.quiet 2
 
+-- The warning about a missing end record, if it is due.
 abbrev pub warning_events : Switches → Bytes → Ending → List OutputEvent
 warning_events switches file ending = if is_warned switches ending then PrintsLine (no_end_line file) ∷ [] else []
 
+-- The image of a file with these bytes, or the line that refuses it.
 abbrev pub checked_image : Bytes → Format → ℕ → Bytes → Result (List (Option ℕ) × Ending) Bytes
 checked_image file format size bytes = or_line (bad_file_line file) (image_within LARGEST_IMAGE_FILE format bytes size)
 
+-- Reads the image of a file, and warns of a missing end record.
 abbrev pub file_image_stage : Switches → Bytes → Format → ℕ → Stage (List (Option ℕ))
 file_image_stage switches file format size = do
   given ← file_stage file LARGEST_IMAGE_FILE (checked_image file format size)
@@ -77,14 +83,17 @@ image_stage switches memory size file format = file_image_stage switches file fo
 
 -- ---- the tasks
 
+-- Reads the image of an update, of its memory's size.
 abbrev pub update_image : Switches → Part → Update → Stage (List (Option ℕ))
 update_image switches part u = image_stage switches u.memory (size_of u.memory part) u.file u.format
 
+-- The task of an update that writes. A read-only memory is refused before its file is opened.
 abbrev pub write_stage : Switches → Part → Update → Stage Task
 write_stage switches part u =
     if is_writable u.memory then (update_image switches part u >>= λ image. result_stage (Ok (Write u.memory image)))
     else result_stage (Err (read_only_line u.memory))
 
+-- The task of an update with this operation.
 abbrev pub op_stage : Switches → Part → Update → Op → Stage Task
 op_stage switches part u op.Write = write_stage switches part u
 op_stage switches part u op.Verify = update_image switches part u >>= λ image. result_stage (Ok (Verify u.memory image))
@@ -99,6 +108,7 @@ tasks_stage switches part tasks [] = result_stage (Ok tasks)
 tasks_stage switches part tasks (u ∷ updates) =
     task_stage switches part u >>= λ task. tasks_stage switches part (tasks ++ task ∷ []) updates
 
+-- The plan of these settings.
 abbrev pub planned : Settings → Stage Plan
 planned s = do
   parts ← parts_stage s.parts

@@ -19,6 +19,7 @@ use avr_records::{Ending, FIRST_BYTES, Found, detect};
 use std::alloc::Global;
 use thiserror::Error;
 
+/// The most bytes of an image file.
 pub(crate) const LARGEST_IMAGE_FILE: usize = 4_194_304;
 
 /// The most bytes read at a time. With the file's first bytes, 4,096 bytes are in memory.
@@ -66,6 +67,7 @@ fn file_kind(format: Format, prefix: &[u8]) -> Found
     }
 }
 
+/// Reads the open file's first 1,024 bytes, or all if there are fewer.
 fn read_first_bytes<D: Desk>(desk: &mut D) -> Result<FirstBytes, FileFault>
     ensures kept { FirstBytesAreRead (D.view desk.old) (D.view desk.new) result }
     ensures follows { CountsNeverFall (D.view desk.old) (D.view desk.new) }

@@ -12,6 +12,7 @@ use avr_desk::{Desk, file_message, read_file, refuse, too_long_message};
 use avr_part::{Part, Parts, parse_part_file};
 use std::alloc::Global;
 
+/// The most bytes of a part file.
 const LARGEST_PART_FILE: usize = 65_536;
 
 /// Returns the parts of the part file, or an empty list if no file is given.

@@ -65,6 +65,7 @@ fn update_task<D: Desk>(
     }
 }
 
+/// Makes the tasks of all updates, in order.
 fn update_tasks<D: Desk>(
     alloc: Global,
     desk: &mut D,

@@ -19,6 +19,7 @@ use avr_part::Part;
 use avr_records::Ending;
 use std::alloc::Global;
 
+/// Returns whether a warning about this ending is due.
 fn is_warned(switches: Switches, ending: Ending) -> bool
     ensures { result ≡ is_warned switches ending }
 {
@@ -50,7 +51,7 @@ fn warn_of_ending<D: Desk>(
     }
 }
 
-/// Reads the image in a file, and makes room for its task as soon as the file is read.
+/// Reads the image in a file and makes room for its task, and then warns about a missing end record.
 fn file_image<D: Desk>(
     alloc: Global,
     desk: &mut D,

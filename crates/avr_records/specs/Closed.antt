@@ -5,6 +5,7 @@ use Rattle.avr_records.specs.Reading.{LineResult, up_to_end, with_lines_before, 
 use Rattle.avr_records.specs.declared.kind.Kind.{Kind}
 use Rattle.avr_records.specs.declared.fault.RecordFault.{RecordFault}
 
+-- The lines that have ended. The last one may go on.
 abbrev pub all_but_last : List (List ℕ) → List (List ℕ)
 all_but_last [] = []
 all_but_last (line ∷ []) = []

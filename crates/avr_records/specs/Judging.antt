@@ -10,6 +10,7 @@ use Rattle.avr_records.specs.declared.record.LineRecord.{LineRecord}
 use Rattle.avr_records.specs.declared.line.Line.{Line}
 use Rattle.avr_records.specs.declared.line.Line.TheVariants as line
 
+-- A record of the code, as a value for contracts; below, what a line means.
 abbrev pub record_of : LineRecord → RecordFields
 record_of r = record { type = r.record_type; address = r.address; bytes = r.bytes.now }
 
@@ -37,5 +38,6 @@ FitsKind Srec (line.Data offset bytes) = length bytes.now ≤ 255
 FitsKind Srec (line.Rebase base) = ⊥
 FitsKind kind line = Unit {0}
 
+-- The low byte of the sum.
 abbrev pub low_sum : List ℕ → ℕ
 low_sum = fold (λ total byte. (total + byte) % 256) 0

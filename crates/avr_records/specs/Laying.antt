@@ -7,6 +7,7 @@ use Rattle.avr_records.specs.declared.kind.AddressBase.{AddressBase}
 use Rattle.avr_records.specs.declared.kind.AddressBase.TheVariants.{Linear, Segment}
 use Rattle.avr_records.specs.declared.spans.Spans.{Spans}
 
+-- All bytes with their addresses.
 abbrev pub spans_places : Spans → List (ℕ × ℕ)
 spans_places s = enumerate_from s.addr s.bytes.now ++ enumerate_from s.start s.wrapped.now
 

@@ -20,6 +20,7 @@ abbrev pub rebase : (ℕ → AddressBase) → List ℕ → Meaning
 rebase base (high ∷ low ∷ []) = Rebase (base (high * 256 + low))
 rebase base bytes = Nothing
 
+-- What a record means, by its type.
 abbrev pub means : Kind → RecordFields → Meaning
 means Ihex r =
     if r.type == 0 then Data r.address r.bytes

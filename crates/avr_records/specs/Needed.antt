@@ -5,6 +5,7 @@ use Rattle.avr_records.specs.Reading.{LineResult, line_result, up_to_end, with_l
 use Rattle.avr_records.specs.declared.kind.Kind.{Kind}
 use Rattle.avr_records.specs.declared.fault.RecordFault.{RecordFault}
 
+-- The most bytes of a memory that a file can be read into.
 abbrev pub largest_memory : ℕ
 largest_memory = 2 ^ 32 - 1
 

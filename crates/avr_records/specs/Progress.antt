@@ -7,6 +7,7 @@ use Rattle.avr_records.specs.Reading.{LineResult, is_end_record, is_data_record,
 use Rattle.avr_records.specs.declared.extent.Extent.{Extent}
 use Rattle.avr_records.specs.declared.progress.Progress.{Progress}
 
+-- The size of the memory that is read into.
 abbrev pub image_size : Progress → ℕ
 image_size p = length p.image
 

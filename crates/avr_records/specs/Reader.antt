@@ -20,8 +20,8 @@ pub record ReadsLines (kind : Kind) (progress : Progress) (part text : List ℕ)
   pub holds : HoldsLines progress (map (line_result kind) prefix)
   pub keeps : progress.extent.ended ≡ false → part ≡ kept_of_line last
 
--- The state of a reader: its kind of file, what it keeps of the ended lines and of the last one, how many bytes it was
--- fed, and whether it has failed.
+-- The state of a reader: its kind of file, and what it keeps of the ended lines and of the last one. Also how many
+-- bytes it was fed, and whether it has failed.
 pub record ReaderState : Type 0 where
   pub kind : Kind
   pub progress : Progress

@@ -33,6 +33,7 @@ abbrev pub new_upper : Kind → ℕ → ℕ → Option ℕ
 new_upper Ihex in_force addr = if addr / 65536 == in_force then None else Some (addr / 65536)
 new_upper Srec in_force addr = None
 
+-- The data record of a row.
 abbrev pub row_text : Kind → AddressSize → ℕ → List ℕ → List ℕ
 row_text Ihex size addr bytes = ihex_record 0 (addr % 65536) bytes
 row_text Srec size addr bytes = srec_record (width_of size - 1) (low_bytes (width_of size) addr ++ bytes)

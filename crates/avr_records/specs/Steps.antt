@@ -15,6 +15,7 @@ use Rattle.avr_records.specs.declared.kind.AddressBase.TheVariants.{Linear}
 use Rattle.avr_records.specs.declared.fault.RecordFault.{RecordFault}
 use Rattle.avr_records.specs.declared.progress.Progress.{Progress}
 
+-- The extent after one more line.
 abbrev pub extended : Extent → LineResult → Extent
 extended e meant = record {
   base = next_base e.base meant;
@@ -30,6 +31,7 @@ next_extent size e meant =
     let fault = option_map (in_line (e.lines + 1)) (fault_under_base size e.base e.data_records meant) in
     ok_unless fault (extended e meant)
 
+-- The image with the bytes of one more line, and the extent after it.
 abbrev pub with_extent : Progress → LineResult → Result Extent RecordFault → Result Progress RecordFault
 with_extent p meant (Err fault) = Err fault
 with_extent p meant (Ok e) = Ok (record {
@@ -41,6 +43,7 @@ with_extent p meant (Ok e) = Ok (record {
 abbrev pub next_progress : Progress → LineResult → Result Progress RecordFault
 next_progress p meant = if p.extent.ended then Ok p else with_extent p meant (next_extent (image_size p) p.extent meant)
 
+-- Whether there was an end record.
 abbrev pub ending_of : Extent → Ending
 ending_of e = if e.ended then Ended else NoEnd
 
@@ -67,5 +70,6 @@ pub record TakesLine (kind : Kind) (p : Progress) (line : List ℕ) (new : Progr
   pub range : OnOk result (InRange kind new.extent)
   pub lines : OnOk result (new.extent.lines ≤ p.extent.lines + 1)
 
+-- The extent of no lines.
 abbrev pub no_lines : Extent
 no_lines = record { base = Linear 0; data_records = 0; lines = 0; end = 0; ended = false }

@@ -11,6 +11,7 @@ use crate::line::LONGEST;
 /// The most decoded bytes of a line.
 pub(crate) const ROOM: usize = LONGEST / 2;
 
+/// Returns the first `count` bytes, or all if there are fewer.
 pub(crate) fn first(count: usize, text: &[u8]) -> &[u8]
     ensures { result.now ≡ take count text.now }
 {
@@ -47,6 +48,7 @@ pub(crate) fn decode_digits<'b>(
     }
 }
 
+/// Returns the low byte of the sum.
 #[tactic(auto, using(crate::proofs::Texts::Sums::low_sum_is))]
 pub(crate) fn low_sum_of(bytes: &[u8]) -> u8
     ensures { result ≡ sum bytes.now % 256 }

@@ -121,6 +121,7 @@ impl Cursor {
         true
     }
 
+    /// Puts the end record.
     fn put_end(&self, out: &mut ArrayVec<u8, 80>)
         ensures { IsThisLine out.new.items (file_rows self.now.kind self.now.upper self.now.address_size []) }
     {
@@ -142,6 +143,7 @@ impl Cursor {
         }
     }
 
+    /// Returns the most bytes of a row at this address.
     fn row_size(&self, addr: u32) -> usize
         ensures size { result ≡ spec_row_size self.now.kind addr }
         ensures most { result ≤ 32 }
@@ -152,6 +154,7 @@ impl Cursor {
         }
     }
 
+    /// Puts the data record of a row.
     fn put_row(&self, addr: u32, row: &[u8], out: &mut ArrayVec<u8, 80>)
         requires { length row.now ≤ 32 }
         ensures { IsThisLine out.new.items (row_text self.now.kind self.now.address_size addr row.now) }

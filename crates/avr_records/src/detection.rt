@@ -27,6 +27,7 @@ fn has_digits(n: usize, text: &[u8]) -> bool
     n <= text.len() && are_digits(&text[..n])
 }
 
+/// Returns the format that a line shows.
 fn shown_by(line: &[u8]) -> Found
     ensures { result ≡ format_of_line (Some line.now) }
 {
@@ -43,6 +44,7 @@ fn is_blank_line(line: &[u8]) -> bool
     line.iter().all(|c| is_blank_byte(*c))
 }
 
+/// Returns the format that a line shows, unless it is blank.
 fn shown_unless_blank(line: &[u8]) -> Option<Found>
     ensures { MatchOption result (list_all is_blank line.now ≡ true)
         (λ found. (list_all is_blank line.now ≡ false) × (found ≡ format_of_line (Some line.now))) }

@@ -21,6 +21,7 @@ pub(crate) const EXTENDED_LINEAR_ADDRESS: u8 = 4;
 
 const START_LINEAR_ADDRESS: u8 = 5;
 
+/// Returns the record, if it has `n` data bytes.
 fn with_size(n: usize, good: LineRecord<'_>) -> Result<LineRecord<'_>, LineFault>
     requires { FitsFields Kind.Ihex good }
     ensures { ReturnsRecord Kind.Ihex (spec_with_size n good.entry.bytes.now (Ok (record_of good.entry))) result }

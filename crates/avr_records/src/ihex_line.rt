@@ -26,6 +26,7 @@ pub(crate) fn put_record(kind: u8, offset: u16, row: &[u8], out: &mut ArrayVec<u
     put_line(b":", fields.as_slice(), out);
 }
 
+/// Writes the record that sets the upper 16 bits of the addresses after it.
 pub(crate) fn put_upper(upper: u16, out: &mut ArrayVec<u8, 80>)
     ensures { IsThisLine out.new.items (spec_record 4 0 (two_bytes upper)) }
 {

@@ -43,12 +43,14 @@ pub enum Line<'a> {
     End,
 }
 
+/// Returns whether the byte is a space, a tab or CR.
 pub(crate) fn is_blank_byte(c: u8) -> bool
     ensures { result ≡ is_blank c }
 {
     c == b' ' || c == b'\t' || c == b'\r'
 }
 
+/// Returns the line without the blanks at its end.
 fn trim(line: &[u8]) -> &[u8]
     ensures value { result.now ≡ trimmed_line line.now }
     ensures bound { length result.now ≤ length line.now }
@@ -123,6 +125,7 @@ pub(crate) fn line_meaning<'b>(
     }
 }
 
+/// Returns what a record of Intel HEX means, by its type.
 fn ihex_meaning(found: LineRecord<'_>) -> Line<'_>
     requires { FitsFields Kind.Ihex found }
     ensures means { meaning_of result ≡ means Kind.Ihex (record_of found.entry) }
@@ -141,6 +144,7 @@ fn ihex_meaning(found: LineRecord<'_>) -> Line<'_>
     }
 }
 
+/// Returns what an S-record means, by its type.
 fn srec_meaning(found: LineRecord<'_>) -> Line<'_>
     requires { FitsFields Kind.Srec found }
     ensures means { meaning_of result ≡ means Kind.Srec (record_of found.entry) }

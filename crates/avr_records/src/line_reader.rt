@@ -19,6 +19,7 @@ use avr_image::Image;
 /// is too long.
 const KEPT: usize = LONGEST + 1;
 
+/// Appends to the kept beginning of a line, as far as there is room.
 fn extend(part: &mut ArrayVec<u8, KEPT>, more: &[u8])
     ensures kept { part.new.items ≡ kept_of_line (part.old.items ++ more.now) }
     ensures count { length part.new.items ≤ length part.old.items + length more.now }
@@ -26,6 +27,7 @@ fn extend(part: &mut ArrayVec<u8, KEPT>, more: &[u8])
     let _ = part.try_extend_from_slice(first(part.remaining_capacity(), more));
 }
 
+/// What is known of the lines that have ended, and the beginning of the next one.
 #[derive(Drop)]
 pub struct LineReader {
     pub(crate) kind: Kind,
@@ -115,6 +117,7 @@ impl LineReader {
         Ok(self.read())
     }
 
+    /// Returns the image and the ending of the lines read.
     fn read(self) -> (Image, Ending)
         ensures { result ≡ (self.progress.image, ending_of self.progress.extent) }
     {

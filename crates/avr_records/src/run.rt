@@ -46,6 +46,7 @@ impl<'a> Run<'a> {
     }
 }
 
+/// Returns the least address from `addr` on that holds a byte.
 fn next_in(base: u32, bytes: &[u8], addr: u64) -> Option<u32>
     requires { base + length bytes.now ≤ 2 ^ 32 }
     ensures next { result ≡ first_from (run_at base bytes.now) addr }

@@ -30,6 +30,7 @@ pub struct Spans<'a> {
 }
 
 impl<'a> Spans<'a> {
+    /// Returns bytes that don't wrap, from `addr` on.
     fn one(addr: u32, bytes: &'a [u8]) -> Spans<'a>
         ensures { spans_places result ≡ enumerate_from addr bytes.now }
     {
@@ -47,6 +48,7 @@ impl<'a> Spans<'a> {
         Spans::one(0, &[])
     }
 
+    /// Returns the bytes of a data record with this offset, under this base.
     pub(crate) fn of_record(base: AddressBase, offset: u32, bytes: &'a [u8]) -> Spans<'a>
         requires short { length bytes.now ≤ 255 }
         requires near { StartsInRange base offset }

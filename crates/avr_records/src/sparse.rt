@@ -17,13 +17,14 @@ use avr_image::Image;
 /// assert_eq!(rt; image.row_at(8, 32).len(), 2);
 /// ```
 pub trait Sparse {
+    /// The memory: for each address an optional byte.
     ghost held: { Self → List (Option ℕ) };
 
     /// Returns the least byte address from `addr` on that holds a byte.
     fn next_held(&self, addr: u64) -> Option<u32>
         ensures next { result ≡ first_from (held self.now) addr }
 
-        // The list alone doesn't show that its values are bytes, and at most 2 to the power 32.
+        // The list alone doesn't show that its values are bytes, nor that there are at most 2 to the power 32.
         ensures memory { IsMemory (held self.now) };
 
     /// Returns the bytes from the byte address `addr` on up to the next gap, but at most `most`.
@@ -32,6 +33,7 @@ pub trait Sparse {
         ensures few { length result.now ≤ most };
 }
 
+/// Returns the address after the row that begins at `place` and has at most `most` bytes.
 fn row_end(image: &Image, place: u32, most: usize) -> u32
     ensures { result ≡ place + min most (length (leading_run (drop place image.now))) }
 {

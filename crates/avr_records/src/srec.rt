@@ -9,6 +9,7 @@ use crate::fault::LineFault;
 use crate::kind::Kind;
 use crate::record::LineRecord;
 
+/// Reads an address of this size, and the data after it.
 fn addressed(record_type: u8, size: AddressSize, bytes: &[u8]) -> Result<LineRecord<'_>, LineFault>
     requires { length bytes.now ≤ 255 }
     ensures { ReturnsRecord Kind.Srec (spec_addressed record_type (width_of size) bytes.now) result }
@@ -25,6 +26,7 @@ fn addressed(record_type: u8, size: AddressSize, bytes: &[u8]) -> Result<LineRec
     }
 }
 
+/// Reads an address of this size that nothing follows.
 fn without_data(
     record_type: u8,
     size: AddressSize,

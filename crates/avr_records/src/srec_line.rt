@@ -10,6 +10,7 @@ use crate::bytes::low_sum_of;
 use crate::written_line::{Fields, append, put_line};
 use arrayvec::ArrayVec;
 
+/// Writes a record. `kind` is the digit of its type.
 #[tactic(auto, using(crate::proofs::Writers::Pieces::length_low_bytes))]
 pub(crate) fn put_record(
     kind: u8,

@@ -15,6 +15,7 @@ pub(crate) const ROW_SIZE: usize = 32;
 /// The bytes of a record: at most a count, four address bytes, 32 data bytes and a checksum.
 pub(crate) type Fields = ArrayVec<u8, 38>;
 
+/// Appends bytes. There has to be room.
 pub(crate) fn append<const N: usize>(out: &mut ArrayVec<u8, N>, bytes: &[u8])
     requires { length out.old.items + length bytes.now ≤ N }
     ensures { out.new.items ≡ out.old.items ++ bytes.now }
@@ -31,6 +32,7 @@ fn uppercase(digits: &mut [u8])
     }
 }
 
+/// Writes bytes as upper-case hexadecimal digits.
 #[tactic(auto, using(crate::proofs::Writers::Pieces::raised_encode))]
 fn put_digits(bytes: &[u8], digits: &mut [u8])
     requires { length digits.old ≡ 2 * length bytes.now }

@@ -10,6 +10,7 @@ use Rattle.avr_records.specs.declared.kind.Kind.{Kind}
 use Rattle.avr_records.specs.declared.kind.Kind.TheVariants.{Ihex, Srec}
 use Rattle.avr_records_c.specs.declared.cursor.Cursor.{Cursor}
 
+-- Whether the file has ended, by a cursor's number.
 abbrev pub ended_of : ℕ → Option Bool
 ended_of n = if n == 0 then Some false else if n == 1 then Some true else None
 
@@ -24,6 +25,7 @@ size_in_force Srec n image =
     else if n == 4 then Some Four
     else None
 
+-- The position that a cursor stands for, if its numbers are ones that calls leave.
 abbrev pub position_of : Kind → Cursor → List (Option ℕ) → Option Position
 position_of kind cursor image =
     option_map (λ p. record { kind = kind; addr = cursor.addr; upper = cursor.upper; address_size = p.1; ended = p.0 })

@@ -10,6 +10,7 @@ use Rattle.avr_records_c.specs.declared.outcome.Outcome.{Outcome}
 use Rattle.avr_records_c.specs.Numbers.{kind_to_read, outcome_of_end, outcome_of_fault, misfit}
 use Rattle.avr_records_c.specs.Bitmap.{octets_of, bitmap}
 
+-- The outcome of a read, and the caller's memory after it.
 pub record ReadResult : Type 0 where
   pub outcome : Outcome
   pub bytes : List ℕ

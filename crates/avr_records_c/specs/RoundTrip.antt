@@ -6,6 +6,7 @@ use Rattle.avr_records_c.specs.Numbers.{outcome_of_end}
 use Rattle.avr_records_c.specs.Bitmap.{bitmap, image_of}
 use Rattle.avr_records_c.specs.Reading.{ReadResult}
 
+-- Each value is below 256.
 abbrev pub EachIsByte : List ℕ → Type 0
 EachIsByte bytes = (i : ℕ) → i < length bytes → slice_index bytes i < 256
 

@@ -10,6 +10,7 @@ use Rattle.avr_records_c.specs.Cursor.{position_of}
 use Rattle.avr_records_c.specs.Numbers.{kind_numbered}
 use Rattle.avr_records_c.specs.Bitmap.{octets_of, image_of}
 
+-- What a call put, and the caller's cursor and room after it.
 pub record Put : Type 0 where
   pub piece : Piece
   pub cursor : Cursor
@@ -33,6 +34,7 @@ abbrev pub file_rest : Kind → List (Option ℕ) → Cursor → Option (List �
 file_rest kind image cursor =
     option_map (λ lines. drop cursor.gone (text_left lines image)) (position_of kind cursor image)
 
+-- The cursor at the beginning of a file.
 abbrev pub file_start : Cursor
 file_start = record { addr = 0; gone = 0; upper = 0; address_size = 0; ended = 0 }
 
@@ -43,6 +45,7 @@ pub record PutsNextPiece (kind : Kind) (image : List (Option ℕ)) (text room : 
   pub puts : PutsPrefix text rest room put.piece.length put.room
   pub left : file_rest kind image put.cursor ≡ Some rest
 
+-- Nothing was put, because the arguments don't fit one another.
 abbrev pub put_none : Cursor → List ℕ → Put
 put_none cursor room = record { piece = record { length = 0; fault = 11 }; cursor = cursor; room = room }
 

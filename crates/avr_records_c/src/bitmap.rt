@@ -18,6 +18,7 @@ fn bit(image: &Image, addr: u32) -> u8
     u8::from(image.get(addr).is_some())
 }
 
+/// Returns the octet for the eight addresses from `addr` on.
 fn octet(image: &Image, addr: u32) -> u8
     requires { addr + 8 ≤ 2 ^ 32 }
     ensures { result ≡ octet image.now addr }
@@ -32,6 +33,7 @@ fn octet(image: &Image, addr: u32) -> u8
         + 128 * bit(image, addr + 7)
 }
 
+/// Puts octets without a gap.
 fn fill_octets(present: &mut [u8], first: usize, end: usize)
     requires { (first ≤ end) × (end ≤ length present.old) }
     ensures { present.new ≡ take first present.old ++ (replicate (end - first) 255 ++ drop end present.old) }

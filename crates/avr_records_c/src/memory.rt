@@ -36,6 +36,7 @@ impl<'a> Memory<'a> {
     }
 }
 
+/// Returns the least address from `addr` on that holds a byte.
 fn next_there(present: &[u8], bytes: &[u8], addr: usize) -> Option<usize>
     requires { HasBitmap present.now bytes.now }
     ensures next { result ≡ first_from (image_of present.now bytes.now) addr }
@@ -56,6 +57,7 @@ fn next_there(present: &[u8], bytes: &[u8], addr: usize) -> Option<usize>
     None
 }
 
+/// Returns the address after the row that begins at `addr` and has at most `most` bytes.
 fn row_end(present: &[u8], bytes: &[u8], addr: usize, most: usize) -> usize
     requires octets { length present.now ≡ octets_of (length bytes.now) }
     requires inside { addr ≤ length bytes.now }

@@ -7,6 +7,7 @@ use crate::outcome::{MISFIT, Outcome};
 use avr_records::{Kind, read_records};
 use std::alloc::Global;
 
+/// Returns the kind of file if the arguments fit one another, else the outcome.
 fn checked_read_kind(kind: u8, text: usize, size: usize, present: usize) -> Result<Kind, Outcome>
     ensures { result ≡ spec_checked_read_kind kind text size present }
 {

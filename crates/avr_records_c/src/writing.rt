@@ -11,6 +11,7 @@ use crate::piece::Piece;
 use arrayvec::ArrayVec;
 use avr_records::{Cursor as Position, Kind};
 
+/// Returns the kind of file, if the arguments fit one another.
 fn checked_write_kind(kind: u8, size: usize, present: usize) -> Option<Kind>
     ensures { result ≡ spec_checked_write_kind kind size present }
 {
@@ -60,6 +61,7 @@ fn put_rest(lines: &mut Position, gone: &mut u32, memory: &Memory<'_>, room: &mu
     put
 }
 
+/// Returns how many bytes of the file are left.
 fn count_rest(lines: Position, memory: &Memory<'_>) -> usize
     requires { length (text_left lines memory.now) < 2 ^ 64 }
     ensures { result ≡ length (text_left lines memory.now) }

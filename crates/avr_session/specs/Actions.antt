@@ -15,6 +15,7 @@ pub data SkippedByDryRun : Type 0 where
   SkippedErase : SkippedByDryRun
   SkippedWrite : Mem → List (Option ℕ) → SkippedByDryRun
 
+-- What a session does for a plan: one operation of the host, or the report of what a dry run skips.
 pub data Action : Type 0 where
   OpenSession : Action
   EraseChip : Action
@@ -27,6 +28,7 @@ abbrev pub writes_flash : Task → Bool
 writes_flash (Write Flash image) = true
 writes_flash task = false
 
+-- The chip is to be erased: by `-e`, or before flash is written unless `-D` is given.
 abbrev pub is_erase_due : Switches → List Task → Bool
 is_erase_due s tasks = s.erase || (list_any writes_flash tasks && not s.keep_flash)
 
@@ -39,10 +41,12 @@ erase_actions s tasks = if s.dry then (if s.erase then SkipAction SkippedErase �
 abbrev pub read_back_actions : Switches → Mem → List (Option ℕ) → List Action
 read_back_actions s mem image = if s.no_verify then [] else CompareImage mem image ∷ []
 
+-- A write and its comparison, or what a dry run reports in place of them.
 abbrev pub write_actions : Switches → Mem → List (Option ℕ) → List Action
 write_actions s mem image =
     if s.dry then SkipAction (SkippedWrite mem image) ∷ [] else WriteImage mem image ∷ read_back_actions s mem image
 
+-- The actions of one task; below, of tasks in order.
 abbrev pub task_actions : Switches → Task → List Action
 task_actions s (Write mem image) = write_actions s mem image
 task_actions s (Verify mem image) = CompareImage mem image ∷ []
@@ -62,5 +66,6 @@ action_allocates (CompareImage mem image) = true
 action_allocates (SaveMemory mem format file) = true
 action_allocates action = false
 
+-- The session of this plan allocates.
 abbrev pub plan_allocates : Plan → Bool
 plan_allocates plan = list_any action_allocates (actions plan)

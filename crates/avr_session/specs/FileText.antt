@@ -18,6 +18,7 @@ file_text Octal bytes = list_text Oct bytes
 file_text Binary bytes = list_text Bin bytes
 file_text format bytes = bytes
 
+-- The length without the FF at the end.
 abbrev pub used_length : Bytes → ℕ
 used_length [] = 0
 used_length (byte ∷ bytes) = if used_length bytes == 0 && byte == 255 then 0 else 1 + used_length bytes

@@ -18,6 +18,7 @@ informs quiet pieces = if nat_lt 0 quiet then [] else PrintsLine (information pi
 abbrev pub warns : ℕ → List Bytes → List OutputEvent
 warns quiet pieces = if nat_lt 1 quiet then [] else PrintsLine (warning pieces) ∷ []
 
+-- The signature found, and the part's.
 abbrev pub other_signature : Part → Bytes → List Bytes
 other_signature part found =
     codes "signature is " ∷ spaced_digits found ∷ codes ", " ∷ part.id ∷ codes " has " ∷ spaced_digits part.signature
@@ -42,6 +43,7 @@ unsent_pieces = codes "link cannot be written" ∷ []
 abbrev pub unreceived_pieces : List Bytes
 unreceived_pieces = codes "link cannot be read" ∷ []
 
+-- The message of each fault of the host.
 abbrev pub fault_pieces : Part → HostFault → List Bytes
 fault_pieces part NoAnswer = codes "no answer" ∷ []
 fault_pieces part LinkEnded = codes "link ended" ∷ []

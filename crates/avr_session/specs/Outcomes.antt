@@ -13,6 +13,7 @@ use Rattle.avr_session.specs.Runs.{Devices}
 use Rattle.avr_session.specs.Session.{session}
 use Rattle.avr_session.specs.Stopping.{EndWithLine, RanToStatus}
 
+-- The status of an outcome.
 abbrev pub outcome_status : Outcome → ℕ
 outcome_status outcome.Done = 0
 outcome_status _ = 1
@@ -33,6 +34,7 @@ EndsWithFaultLine part view (Err (ends.Faulty fault)) = EndWithLine (fault_line 
 EndsWithFaultLine part view (Err (ends.Over fault)) = EndWithLine (fault_line part fault) view.kept.messages
 EndsWithFaultLine part view result = ⊤
 
+-- The outcome of a session that ended like this.
 abbrev pub outcome_of : Result ⊤ End → Outcome
 outcome_of (Ok done) = outcome.Done
 outcome_of (Err (ends.Faulty fault)) = outcome.Faulty fault

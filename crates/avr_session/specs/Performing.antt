@@ -14,6 +14,7 @@ use Rattle.avr_session.specs.Runs.{Devices, RunAllocationPoints, Terms, before_f
 use Rattle.avr_session.specs.Session.{actions_dialog, ending, session_dialog}
 use Rattle.avr_session.specs.AllocationPoints.{AtStartOnly, AtAllocation}
 
+-- A fault was reported.
 abbrev pub has_fault : Standing → Bool
 has_fault NoFault = false
 has_fault standing = true
@@ -24,7 +25,8 @@ abbrev pub Runs : {R : Type 0} → Dialog OutputEvent R → Progress → Devices
 Runs dialog before old new terms points (Ok result) after = RanWhole dialog before old new result after
 Runs dialog before old new terms points (Err stopped) after = BrokeOff dialog before old new terms points
 
--- A host ran this action on these terms, between these states of the devices.
+-- A host ran this dialog on these terms, between these states of the devices. Then it can be used, unless the link has
+-- ended, programming mode was left or the run has stopped.
 pub record PerformsOnTerms (terms : Terms) (points : RunAllocationPoints) (dialog : Dialog OutputEvent Standing)
     (host_old host_new : HostState) (old new : Devices) (result : Result Standing ⊤) : Type 0 where
   pub runs : Runs dialog host_old.progress old new terms points result host_new.progress
@@ -48,6 +50,7 @@ abbrev pub EndsSession : Plan → Standing → Performing
 EndsSession plan standing = PerformsOnTerms (record { allocates = false; has_reported = has_fault standing })
     (AtStartOnly false) (ending plan.part plan.switches standing)
 
+-- The whole session of a plan.
 abbrev pub PlaysSession : Plan → Performing
 PlaysSession plan =
     PerformsOnTerms (before_fault (plan_allocates plan)) (AtAllocation plan.part plan.switches (actions plan))

@@ -17,6 +17,7 @@ action_steps part (CompareImage mem image) = read_steps part mem
 action_steps part (SaveMemory mem format file) = read_steps part mem
 action_steps part action = []
 
+-- The steps of actions, in order.
 abbrev pub actions_steps : Part → List Action → List (List Command)
 actions_steps part [] = []
 actions_steps part (action ∷ actions) = action_steps part action ++ actions_steps part actions

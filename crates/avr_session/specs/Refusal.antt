@@ -7,6 +7,7 @@ use Rattle.avr_cli.specs.declared.update.UpdateFault.{UpdateFault}
 use Rattle.avr_cli.specs.declared.update.UpdateFault.TheVariants as update
 use Rattle.avr_desk.specs.Lines.{error, memory_pieces}
 
+-- The fault of the update with this number.
 abbrev pub in_update_pieces : ℕ → Bytes → List Bytes
 in_update_pieces n text = codes "update " ∷ decimal n ∷ text ∷ []
 
@@ -17,6 +18,7 @@ update_pieces n update.BadFormat = in_update_pieces n (codes ": no such format h
 update_pieces n update.NoFile = in_update_pieces n (codes ": no file named")
 update_pieces n update.Memory = memory_pieces
 
+-- There is no programmer or port of this name.
 abbrev pub unknown_pieces : Bytes → Bytes → List Bytes
 unknown_pieces what name = what ∷ name ∷ codes " is not known" ∷ []
 
@@ -24,6 +26,7 @@ abbrev pub port_pieces : Option Bytes → List Bytes
 port_pieces None = codes "no port given (-P)" ∷ []
 port_pieces (Some text) = unknown_pieces (codes "port ") text
 
+-- The message of each fault of the settings.
 abbrev pub refusal_pieces : SettingsFault → List Bytes
 refusal_pieces NoPart = codes "no part given (-p)" ∷ []
 refusal_pieces (BadProgrammer name) = unknown_pieces (codes "programmer ") name

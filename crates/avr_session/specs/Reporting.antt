@@ -42,6 +42,7 @@ abbrev pub OutputsOrStops : (DeskState → DeskState → Cause → Bytes → Typ
 OutputsOrStops By old new events (Ok done) = ChangesRecord (after_events events) old new × HasSameCounts old new
 OutputsOrStops By old new events (Err _) = OutputsPrefixAndReports By old new events
 
+-- Output events were done, or a prefix of them; the counts never fall.
 pub record Reports (By : DeskState → DeskState → Cause → Bytes → Type 0) (old new : DeskState)
     (events : List OutputEvent) (result : Result ⊤ DeskFault) : Type 0 where
   pub emits : OutputsOrStops By old new events result
@@ -58,6 +59,7 @@ pub record Outputs {D : Type 0} (desk : Ghosts D) (By : DeskState → DeskState 
   pub reports : Reports By (desk.view old) (desk.view new) events result
   pub stays : Preserves desk.started_as old new
 
+-- Lines were printed, or a write to the messages failed.
 abbrev pub Prints : {D : Type 0} → Ghosts D → List OutputEvent → D → D → Result ⊤ DeskFault → Type 0
 Prints desk events old new result = Outputs desk PrintStops events old new result
 
@@ -65,6 +67,7 @@ Prints desk events old new result = Outputs desk PrintStops events old new resul
 abbrev pub FileStops : DeskState → DeskState → Bytes → FileTrouble → Bytes → Type 0
 FileStops old new file trouble notice = ReportsFailureAs (cause_line (FileFailed file trouble)) notice old new
 
+-- The desk failed at a file or at the messages.
 abbrev pub DeskStops : DeskState → DeskState → Cause → Bytes → Type 0
 DeskStops old new (FileFailed file trouble) notice = FileStops old new file trouble notice
 DeskStops old new cause notice = PrintStops old new cause notice

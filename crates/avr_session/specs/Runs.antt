@@ -30,6 +30,7 @@ NoDeviceFailed old new = (new.link.failures ≡ old.link.failures) × HasSameCou
 abbrev pub start : Progress
 start = record { next = 1; unread = [] }
 
+-- What failed at a file: its creation, or a write to it.
 pub data FileTrouble : Type 0 where
   NotCreated : FileTrouble
   NotWritten : FileTrouble
@@ -52,10 +53,12 @@ cause_line (FileFailed file NotWritten) = error (not_written_pieces file)
 cause_line PrintingFailed = []
 cause_line AllocationFailed = memory_line
 
+-- The event prints an error's line.
 abbrev pub is_error : OutputEvent → Bool
 is_error (PrintsLine bytes) = starts_with nat_eq bytes (codes "avrstk: error: ")
 is_error event = false
 
+-- A line of an error is among these output events.
 abbrev pub reports_fault : List OutputEvent → Bool
 reports_fault events = list_any is_error events
 
@@ -68,7 +71,7 @@ pub record StopsInFrame (during : Transcript) (begun later : List (Event OutputE
   pub part : begun ≡ Frame done ∷ []
   pub not_whole : NoneTaken during → 0 < length unsent
 
--- A prefix of the next bytes was printed or written.
+-- A prefix of the next bytes was printed or written; `begun` has it, and `later` has all of them.
 pub record StopsInOutput (event : Bytes → OutputEvent) (begun later : List (Event OutputEvent)) : Type 0 where
   pub bytes : Bytes
   pub done : Bytes
@@ -83,6 +86,7 @@ pub record StopsAtCreation (file : Bytes) (begun later : List (Event OutputEvent
   pub due : later ≡ Emitted (CreatesFile file) ∷ more
   pub none : begun ≡ []
 
+-- The last of these events created this file.
 abbrev pub EndsWithCreation : Bytes → List (Event OutputEvent) → Type 0
 EndsWithCreation file whole = (before : List (Event OutputEvent)) × (whole ≡ before ++ Emitted (CreatesFile file) ∷ [])
 
@@ -99,7 +103,7 @@ StopsAt (FileFailed file NotWritten) during whole begun later =
 StopsAt PrintingFailed during whole begun later = StopsInOutput PrintsLine begun later
 StopsAt AllocationFailed during whole begun later = begun ≡ []
 
--- If receiving failed, all events so far have happened, and the run waits.
+-- If receiving failed, the run waits for a reply.
 abbrev pub Listens : {A : Type 0} → Cause → Option A → Type 0
 Listens ReceivingFailed outcome = outcome ≡ None
 Listens cause outcome = Unit {0}
@@ -128,6 +132,7 @@ pub record Terms : Type 0 where
   pub allocates : Bool
   pub has_reported : Bool
 
+-- The terms of a run that has reported no fault yet.
 abbrev pub before_fault : Bool → Terms
 before_fault allocates = record { allocates = allocates; has_reported = false }
 

@@ -49,6 +49,7 @@ unless_fault next fault = Done fault
 
 -- ---- the output for outcomes
 
+-- The line of a fault, or the output for a result.
 abbrev pub fault_line_or : {A : Type 0} → Part → (A → List OutputEvent) → Result A HostFault → List OutputEvent
 fault_line_or part good (Ok a) = good a
 fault_line_or part good (Err fault) = PrintsLine (fault_line part fault) ∷ []
@@ -61,18 +62,21 @@ abbrev pub warns_of_signature : ℕ → Part → Bytes → List OutputEvent
 warns_of_signature quiet part found =
     if bytes_eq found part.signature then [] else warns quiet (other_signature part found)
 
+-- The output after the session was opened: the signature, and what is wrong with it.
 abbrev pub opening_output : ℕ → Part → Result Bytes HostFault → List OutputEvent
 opening_output quiet part (Ok found) = signature_output quiet found ++ warns_of_signature quiet part found
 opening_output quiet part (Err (WrongSignature found)) =
     signature_output quiet found ++ PrintsLine (fault_line part (WrongSignature found)) ∷ []
 opening_output quiet part (Err fault) = PrintsLine (fault_line part fault) ∷ []
 
+-- What was done with the bytes of a memory.
 abbrev pub done_text : reports.Done → Bytes
 done_text Written = codes " bytes written"
 done_text NotWritten = codes " bytes not written"
 done_text Verified = codes " bytes verified"
 done_text Read = codes " bytes read"
 
+-- The line for this number of bytes of a memory.
 abbrev pub bytes_output : ℕ → Mem → ℕ → Bytes → List OutputEvent
 bytes_output quiet mem count done = informs quiet (name_of mem ∷ codes ": " ∷ decimal count ∷ done ∷ [])
 
@@ -86,6 +90,7 @@ abbrev pub bytes_to_save : Mem → Bool → Bytes → Bytes
 bytes_to_save Flash false bytes = trimmed bytes
 bytes_to_save mem all bytes = bytes
 
+-- The output after an erase; below, after each other operation.
 abbrev pub erased_output : ℕ → Part → Result ⊤ HostFault → List OutputEvent
 erased_output quiet part = fault_line_or part (λ _. informs quiet (codes "chip erased" ∷ []))
 
@@ -122,6 +127,7 @@ action_dialog part s (SaveMemory mem format file) =
     reported (reading part mem) (fault_line_or part (read_output s mem format file))
 action_dialog part s (SkipAction what) = emits (skipped_output s.quiet what) (Done NoFault)
 
+-- Actions in order, up to the first fault.
 abbrev pub actions_dialog : Part → Switches → List Action → Dialog OutputEvent Standing
 actions_dialog part s [] = Done NoFault
 actions_dialog part s (action ∷ actions) = action_dialog part s action >>= unless_fault (actions_dialog part s actions)

@@ -8,6 +8,7 @@ use Rattle.stk_host.specs.Play.{Progress}
 use Rattle.avr_desk.specs.OutputEvents.{OutputEvent}
 use Rattle.avr_session.specs.Runs.{Devices, start, RanWhole}
 
+-- A desk with this record and these counts; below, a link with this transcript.
 abbrev pub keeping : Record → ℕ × ℕ → DeskState
 keeping kept counts = showing kept counts.0 counts.1
 

@@ -30,6 +30,7 @@ fn write_pieces<D: Desk, P: Pieces + Drop>(
     write_all(desk, stream, rest)
 }
 
+/// Writes bytes as the text of a format. Raw bytes are written as they are, and so are formats of input files alone.
 #[tactic(auto, unfolding(crate::specs::FileText::file_text))]
 pub(crate) fn write_text<D: Desk>(
     desk: &mut D,

@@ -21,6 +21,7 @@ const CLOSING: u64 = 1;
 /// The bytes that one command reads.
 const BLOCK: u32 = 256;
 
+/// Returns how many frames read a memory.
 fn read_frames(part: &Part, mem: Mem) -> u64
     ensures value { result ≡ commands_in (read_steps part.now mem) }
     ensures few { result ≤ 2 ^ 20 }
@@ -33,7 +34,7 @@ fn read_frames(part: &Part, mem: Mem) -> u64
     }
 }
 
-/// Two frames write a page, if the image holds a byte in it.
+/// Counts two frames for each page in which the image holds a byte.
 fn flash_frames(part: &Part, image: &Image) -> u64
     ensures value { result ≡ commands_in (write_steps part.now Mem.Flash image.now) }
     ensures few { result ≤ 2 ^ 20 }
@@ -49,7 +50,7 @@ fn flash_frames(part: &Part, image: &Image) -> u64
     count
 }
 
-/// Two frames write a run of bytes within a page.
+/// Counts two frames for each run of bytes within a page.
 fn eeprom_frames(part: &Part, image: &Image) -> u64
     ensures value { result ≡ commands_in (write_steps part.now Mem.Eeprom image.now) }
     ensures few { result ≤ 2 ^ 20 }
@@ -66,6 +67,7 @@ fn eeprom_frames(part: &Part, image: &Image) -> u64
     count
 }
 
+/// Returns how many frames write an image to a memory.
 fn write_frames(part: &Part, mem: Mem, image: &Image) -> u64
     ensures value { result ≡ commands_in (write_steps part.now mem image.now) }
     ensures few { result ≤ 2 ^ 20 }
@@ -78,6 +80,7 @@ fn write_frames(part: &Part, mem: Mem, image: &Image) -> u64
     }
 }
 
+/// Returns how many frames a task takes.
 fn task_frames(switches: Switches, part: &Part, task: &Task) -> u64
     ensures { result ≡ commands_in (actions_steps part.now (task_actions switches task.now)) }
 {

@@ -31,6 +31,7 @@ impl Outcome {
     }
 }
 
+/// Returns the outcome of a session that ended like this.
 pub(crate) fn outcome_of(session: Result<(), End>) -> Outcome
     ensures { result ≡ outcome_of session }
 {

@@ -38,6 +38,7 @@ pub(crate) fn is_erase_due(switches: Switches, tasks: &[Task]) -> bool
     switches.erase || (any_writes_flash(tasks) && !switches.keep_flash)
 }
 
+/// A session: its plan, its host, and the devices that it works on.
 #[derive(Drop)]
 pub(crate) struct Session<'a, D, L> {
     pub(crate) alloc: Global,
@@ -68,6 +69,7 @@ impl<'a, D: Desk, L: Link> Session<'a, D, L> {
         }
     }
 
+    /// Opens the session, and reports how that ended.
     pub(crate) fn open(&mut self) -> Result<(), End>
         requires { IsReady self.old }
         ensures { Does L.Link D.Desk (OpenSession ∷ []) self.old self.new result }
@@ -101,6 +103,7 @@ impl<'a, D: Desk, L: Link> Session<'a, D, L> {
         Ok(())
     }
 
+    /// Compares a memory with an image, and reports how that ended.
     fn verify(&mut self, mem: Mem, image: &Image) -> Result<(), End>
         requires ready { IsReady self.old }
         requires fits { length image.now ≤ size_of mem self.old.plan.now.part }
@@ -111,6 +114,7 @@ impl<'a, D: Desk, L: Link> Session<'a, D, L> {
         conclude(&verified, reported)
     }
 
+    /// Writes an image, and reports how that ended.
     fn write(&mut self, mem: Mem, image: &Image) -> Result<(), End>
         requires ready { IsReady self.old }
         requires fits { length image.now ≤ size_of mem self.old.plan.now.part }
@@ -139,6 +143,7 @@ impl<'a, D: Desk, L: Link> Session<'a, D, L> {
         self.verify(mem, image)
     }
 
+    /// Reads a memory, saves it, and reports how that ended.
     fn read(&mut self, mem: Mem, target: Target<'_>) -> Result<(), End>
         requires { IsReady self.old }
         ensures { Does L.Link D.Desk (SaveMemory mem target.entry.format target.entry.file.now ∷ [])
@@ -157,6 +162,7 @@ impl<'a, D: Desk, L: Link> Session<'a, D, L> {
         conclude(&outcome, reported)
     }
 
+    /// Does one task, up to the first fault.
     fn perform(&mut self, task: &Task) -> Result<(), End>
         requires ready { IsReady self.old }
         requires fits { IsFitted self.old.plan.now.part task.now }
@@ -179,6 +185,7 @@ impl<'a, D: Desk, L: Link> Session<'a, D, L> {
         }
     }
 
+    /// Does tasks in order, up to the first fault.
     pub(crate) fn perform_all(&mut self, tasks: &[Task]) -> Result<(), End>
         requires ready { IsReady self.old }
         requires fits { All (IsFitted self.old.plan.now.part) tasks.now }

@@ -96,6 +96,7 @@ fn report_found<D: Desk>(desk: &mut D, quiet: u8, found: [u8; 3]) -> Result<(), 
     inform(desk, quiet, &pieces)
 }
 
+/// Warns if the signature isn't the part's.
 fn warn_of_signature<D: Desk>(
     desk: &mut D,
     quiet: u8,
@@ -147,6 +148,7 @@ pub(crate) fn report_erased<D: Desk>(
     }
 }
 
+/// Reports what was done with an image, or why it failed.
 pub(crate) fn report_image<D: Desk>(
     desk: &mut D,
     plan: &Plan,

@@ -64,6 +64,7 @@ fn write_file<D: Desk>(
     }
 }
 
+/// Writes bytes to a new file, or to standard output. Reports a failure.
 pub(crate) fn save<D: Desk>(desk: &mut D, target: Target<'_>, bytes: &[u8]) -> Result<(), DeskFault>
     requires { length bytes.now ≤ 2 ^ 32 }
     ensures { Outputs D.Desk (SaveStops target.entry.file.now)
@@ -91,6 +92,7 @@ fn bytes_to_save(mem: Mem, all: bool, bytes: &[u8]) -> &[u8]
     }
 }
 
+/// Saves the bytes read and reports them, or reports why they weren't read.
 pub(crate) fn report_read<D: Desk>(
     desk: &mut D,
     plan: &Plan,

@@ -19,6 +19,7 @@ use std::alloc::Global;
 use stk_host::{HostFault, Link};
 
 impl<'a, D: Desk, L: Link> Session<'a, D, L> {
+    /// Does all actions of the plan, up to the first fault.
     fn work(&mut self) -> Result<(), End>
         requires { IsReady self.old }
         ensures { Does L.Link D.Desk (actions self.old.plan.now) self.old self.new result }
@@ -54,6 +55,7 @@ impl<'a, D: Desk, L: Link> Session<'a, D, L> {
         }
     }
 
+    /// Runs the session to its end: also after a fault it leaves programming mode, if the link can be used.
     fn play(&mut self) -> Result<(), End>
         requires { IsReady self.old }
         ensures { RunsSessionPart L.Link D.Desk (PlaysSession self.old.plan.now) self.old self.new result }

@@ -38,6 +38,7 @@ ReportsOnlyAllocation error old new (Ok status) =
     (kind_of error ≡ OutOfMemory) × ReportsLine old new (refusal_line Memory) × (status ≡ 1)
 ReportsOnlyAllocation error old new (Err left) = (kind_of error ≢ OutOfMemory) × (left ≡ error) × (new ≡ old)
 
+-- The number of a reason why there are no settings.
 abbrev pub not_asked_number : NotAsked → ℕ
 not_asked_number (Words error) = 1
 not_asked_number (Refused status) = 2

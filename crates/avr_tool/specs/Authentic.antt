@@ -10,6 +10,7 @@ abbrev pub first_execution : List Execution → Execution
 first_execution [] = NotExecuted
 first_execution (execution ∷ executions) = execution
 
+-- What happened to it at the others.
 abbrev pub later_executions : List Execution → List Execution
 later_executions [] = []
 later_executions (execution ∷ executions) = executions

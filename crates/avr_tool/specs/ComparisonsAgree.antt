@@ -12,6 +12,7 @@ use Rattle.avr_tool.specs.Items.{action_items}
 abbrev pub MemoryHoldsImage : Part → Mem → Image → Memories → Type 0
 MemoryHoldsImage part mem image m = HoldsImage image (memory_in part mem m)
 
+-- If the action is a comparison, the memory holds its image.
 abbrev pub ComparisonAgrees : Part → Action → Memories → Type 0
 ComparisonAgrees part (CompareImage mem image) m = MemoryHoldsImage part mem image m
 ComparisonAgrees part action m = ⊤

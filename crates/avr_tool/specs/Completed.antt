@@ -1,4 +1,4 @@
--- How many write operations of a plan were completed along a link, each by all of its commands.
+-- How many write operations of a plan were completed over a link, each by all of its commands.
 use Rattle.std.specs.Prelude.{ℕ, suc, List, [], ◌∷◌, Ok}
 use Rattle.avr_cli.specs.declared.settings.Switches.{Switches}
 use Rattle.avr_part.specs.Part.{Part}
@@ -22,13 +22,13 @@ abbrev pub step_count : Dialog ⊥ StepOutcome → ℕ → ℕ
 step_count (Done (Ok bytes)) more = suc more
 step_count dialog more = 0
 
--- The number of steps completed after `k` commands along the link, by what its exchanges bring, not by what was
--- received.
+-- The number of steps completed after `k` commands, by what the link's exchanges bring, not by what was received.
 abbrev pub steps_completed : {P : Type 0} → Device P → List (List Command) → ℕ → P → List Exchange → ℕ
 steps_completed m [] k p exchanges = 0
 steps_completed m (commands ∷ steps) k p exchanges = let s = state_after m k (step commands) p exchanges in
     step_count s.dialog (steps_completed m steps s.left s.programmer s.exchanges)
 
+-- None was completed.
 abbrev pub none_completed : Count Programmer
 none_completed k p exchanges = 0
 
@@ -36,16 +36,18 @@ none_completed k p exchanges = 0
 abbrev pub action_completed : Part → Action → Count Programmer
 action_completed part action = steps_completed device (steps_of_items part (action_items action))
 
+-- The count of the actions that follow. After a fault none follow.
 abbrev pub completed_unless_fault : Count Programmer → Standing → Count Programmer
 completed_unless_fault next NoFault = next
 completed_unless_fault next _ = none_completed
 
+-- The number of write operations of these actions that were completed.
 abbrev pub actions_completed : Part → Switches → List Action → Count Programmer
 actions_completed part s [] = none_completed
 actions_completed part s (action ∷ actions) =
     then_count device (action_dialog part s action) (action_completed part action)
     (completed_unless_fault (actions_completed part s actions))
 
--- The number of the plan's write operations completed after `k` commands along the link. The end of a session has none.
+-- The number of the plan's write operations completed after `k` commands. The end of a session has none.
 abbrev pub operations_completed : Plan → Count Programmer
 operations_completed plan = actions_completed plan.part plan.switches (actions plan)

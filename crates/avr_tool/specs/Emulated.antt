@@ -35,7 +35,8 @@ new_wire chip fates =
 -- A plan was made, whose images have the sizes of their memories. The file was locked, and a chip of the plan's part,
 -- with memories of its sizes, was loaded from it. The session ran to a status over a new wire to that chip, on which
 -- no frame goes wrong. Unless it stopped, it is the expected run. If anything was sent, the chip as the wire left it
--- was saved to the file, which was then unlocked.
+-- was saved to the file, which was then unlocked. The desk after planning, loading and the session is `planned_desk`,
+-- `loaded_desk` and `played_desk`.
 pub record RunsOverEmulator (settings : Settings) (file : Bytes) (old now : DeskState) (status : ℕ) : Type 0 where
   pub plan : Plan
   pub chip : Chip

@@ -17,6 +17,7 @@ pub record Expected : Type 0 where
   pub standing : Standing
   pub memories : Memories
 
+-- This output and these memories, without a fault.
 abbrev pub fine : List OutputEvent → Memories → Expected
 fine output_events m = record { output_events = output_events; standing = NoFault; memories = m }
 
@@ -32,6 +33,7 @@ then_from first NoFault next =
     record (next first.memories) { output_events = first.output_events ++ (next first.memories).output_events }
 then_from first _ next = first
 
+-- One action, then the next.
 infixl 10 ◌then◌
 abbrev pub ◌then◌ : Expected → (Memories → Expected) → Expected
 first then next = then_from first first.standing next
@@ -48,6 +50,7 @@ action_expected part s (SaveMemory mem format file) m =
     reported_expected (fault_line_or part (read_output s mem format file)) (Ok (memory_in part mem m)) m
 action_expected part s (SkipAction what) m = fine (skipped_output s.quiet what) m
 
+-- What actions lead to, in order; below, those of a plan.
 abbrev pub actions_expected : Part → Switches → List Action → Memories → Expected
 actions_expected part s [] m = fine [] m
 actions_expected part s (action ∷ actions) m = action_expected part s action m then actions_expected part s actions
@@ -60,6 +63,7 @@ abbrev pub ending_output : Plan → Standing → List OutputEvent
 ending_output plan NoFault = closing_output plan.switches.quiet plan.part (Ok tt)
 ending_output plan _ = []
 
+-- What a run outputs, its status, and what it leaves in the memories.
 pub record ExpectedRun : Type 0 where
   pub output_events : List OutputEvent
   pub status : ℕ

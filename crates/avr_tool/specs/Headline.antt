@@ -81,6 +81,7 @@ pub record StoppedPlanning (settings : Settings) (before now : Devices) : Type 0
   pub bare : settings.parts ≡ None → settings.updates ≡ [] → LacksPart settings.part [] before.desk now.desk
   pub same : now.link ≡ before.link
 
+-- The run stopped, in its session or in planning, and its status is 1.
 abbrev pub IsStopped : Settings → Devices → Devices → ℕ → Type 0
 IsStopped settings before now status =
     (StoppedInSession settings before now ⊎ StoppedPlanning settings before now) × (status ≡ 1)
@@ -105,8 +106,8 @@ opened_at (InPlanning (NoMemoryForFile reading)) = Opens (Found reading) ∷ []
 opened_at reason = []
 
 -- What a stopped run did is a prefix of the run over what was received; only the last event may be incomplete. At the
--- desk this was done, then perhaps a part of the next file was read, then the line of the reason was reported, or a
--- prefix of it; and nothing else.
+-- desk this was done, and then perhaps a part of the next file was read. Then the line of the reason was reported, or a
+-- prefix of it, and nothing else.
 pub record IsPrefixOfRun (settings : Settings) (before now : Devices) : Type 0 where
   pub openings : List Opening
   pub during : Transcript

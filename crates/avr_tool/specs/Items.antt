@@ -12,6 +12,7 @@ action_items EraseChip = Erase ∷ []
 action_items (WriteImage mem image) = Write mem image ∷ []
 action_items action = []
 
+-- What actions do, in order.
 abbrev pub actions_items : List Action → List Item
 actions_items [] = []
 actions_items (action ∷ actions) = action_items action ++ actions_items actions
@@ -26,6 +27,7 @@ has_erase [] = false
 has_erase (Erase ∷ more) = true
 has_erase (Write mem image ∷ more) = has_erase more
 
+-- A task that writes changes a memory. Other tasks don't.
 abbrev pub task_item : Task → Option Item
 task_item (task.Write mem image) = Some (Write mem image)
 task_item (task.Verify mem image) = None

@@ -1,4 +1,4 @@
--- what callers of the front door cite
+-- of the crates below, the definitions that contracts of public calls cite
 pub use Rattle.avr_session.specs.PlanSteps
 pub use Rattle.avr_desk.specs.Fault
 pub use Rattle.avr_desk.specs.Memory
@@ -33,7 +33,7 @@ pub use Rattle.stk_host.specs.Links
 pub use Rattle.stk_host.specs.Play
 pub use Rattle.stk_host.specs.Transcript
 pub use Rattle.stk_host.specs.Tape
--- what a plan makes of a chip, over any link
+-- what a plan does to a chip, over any link
 pub mod Items
 pub mod Tallies
 pub mod ComparisonsAgree

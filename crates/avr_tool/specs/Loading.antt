@@ -28,6 +28,7 @@ abbrev pub chip_given : Part → Bytes → Opening → Stage ChipState
 chip_given part file (Absent name) = result_stage (Ok (fresh_state part))
 chip_given part file (Found reading) = content_stage file LARGEST_CHIP_FILE (checked_chip part file) (Found reading)
 
+-- Loads the chip of a file.
 abbrev pub chip_stage : Part → Bytes → Stage ChipState
 chip_stage part file = open_stage file >>= chip_given part file
 

@@ -1,5 +1,5 @@
--- What the session of a plan did over a link, whatever the link loses, delays and corrupts: first by the exchanges of
--- its frames, then over a wire to the emulated programmer, by their fates.
+-- What the session of a plan did over a link, whatever the link loses, delays and corrupts. It is stated first by the
+-- exchanges of its frames, then over a wire to the emulated programmer, by their fates.
 use Rattle.std.specs.Prelude.{ℕ, ◌+◌, ◌*◌, ◌≡◌, ◌≤◌, ◌⊎◌, false, List, [], ◌∷◌, ◌++◌, map, length}
 use Rattle.avr_cli.specs.declared.settings.Switches.{Switches}
 use Rattle.avr_desk.specs.Record.{DeskState, ChangesRecord}
@@ -29,10 +29,12 @@ use Rattle.avr_tool.specs.Written.{IsWritten, comparing}
 abbrev pub Weight : Type 0
 Weight = List ℕ → ℕ
 
+-- The weight of all bodies together.
 abbrev pub total_weight : Weight → List (List ℕ) → ℕ
 total_weight weight [] = 0
 total_weight weight (first ∷ bodies) = weight first + total_weight weight bodies
 
+-- The bodies of all commands of these steps.
 abbrev pub bodies_in : List (List Command) → List (List ℕ)
 bodies_in [] = []
 bodies_in (commands ∷ steps) = map body commands ++ bodies_in steps

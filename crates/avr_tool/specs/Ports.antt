@@ -3,6 +3,7 @@ use Rattle.std.specs.Prelude.{ℕ, List, []}
 use Rattle.avr_cli.specs.declared.settings.Port.{Port}
 use Rattle.avr_cli.specs.declared.settings.Port.TheVariants.{Emulated, Network, Served}
 
+-- The port is the emulator; below, a connection and a service.
 abbrev pub IsEmulated : Port → Type 0
 IsEmulated (Emulated file) = Unit {0}
 IsEmulated port = ⊥
@@ -21,6 +22,7 @@ HasChip (Emulated file) = Unit {0}
 HasChip (Served port chip) = Unit {0}
 HasChip port = ⊥
 
+-- The chip file of a port, if it has one.
 abbrev pub chip_file_of : Port → List ℕ
 chip_file_of (Emulated file) = file
 chip_file_of (Served port chip) = chip

@@ -75,6 +75,7 @@ usage_status DisplayHelp (Ok (suc more)) = 0
 usage_status DisplayVersion (Ok (suc more)) = 0
 usage_status kind printed = 1
 
+-- Help and the version go to the output, all else to the messages.
 abbrev pub usage_stream : ErrorKind → Stream
 usage_stream DisplayHelp = Output
 usage_stream DisplayVersion = Output

@@ -52,6 +52,7 @@ ChecksPart settings file old new (Ok checked_part) =
 ChecksPart settings file old new (Err status) = FindsNoPart settings old new status
     ⊎ WithPart settings old (λ part desk. LocksAndLoads part file desk new (Err status))
 
+-- An emulator with this chip that was fed nothing.
 abbrev pub fresh_machine : chips.ChipState → EmulatorState
 fresh_machine chip = record { held = []; programmer = fresh_programmer chip }
 
@@ -67,6 +68,7 @@ abbrev pub ReportsIfAny : Option (List Bytes) → DeskState → DeskState → Ty
 ReportsIfAny None old new = new ≡ old
 ReportsIfAny (Some pieces) old new = ReportsLine old new (error pieces)
 
+-- The status after serving ended like this.
 abbrev pub status_of_end : Served → ℕ
 status_of_end Ended = 0
 status_of_end served = 1
@@ -108,5 +110,6 @@ RunsServedFor settings file most_reads old new status =
     WithPart settings old.desk (λ part desk. ServesPart part file most_reads (devices old.link desk) new status)
     ⊎ (FindsNoPart settings old.desk new.desk status × (new.link ≡ old.link))
 
+-- The same in at most 2 to the power 24 reads.
 abbrev pub RunsServed : Settings → Bytes → Devices → Devices → ℕ → Type 0
 RunsServed settings file = RunsServedFor settings file 16777216

@@ -11,11 +11,13 @@ use Rattle.stk_emu.specs.Emulator.{EmulatorState, WasFedText, emulate}
 use Rattle.avr_tool.specs.declared.serving_link.Served.{Served}
 use Rattle.avr_tool.specs.declared.serving_link.Served.TheVariants.{Ended, RecvFailed, SendFailed, TooManyReads}
 
+-- The link's end is not on the tape.
 abbrev pub HasNoEnd : Tape → Type 0
 HasNoEnd [] = Unit {0}
 HasNoEnd (End ∷ tape) = ⊥
 HasNoEnd (item ∷ tape) = HasNoEnd tape
 
+-- How many reads there were: of pieces, timeouts and ends.
 abbrev pub reads : Transcript → ℕ
 reads [] = 0
 reads (Got tape ∷ transcript) = reads transcript + 1

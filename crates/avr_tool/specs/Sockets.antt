@@ -65,6 +65,7 @@ pub record Peers : Type 1 where
   pub at_port : Option ℕ → Option LinkState → Type 0
   pub unused : Type 0
 
+-- What is known of a network, by the ghost members of its traits.
 abbrev pub peers_of : {N S L : Type 0} → Networks N S L → Called L S → Reads S → Writes S → (S → Type 0) → Peers
 peers_of network called reads writes closed = record {
   at_address = IsOverAddress network reads writes closed;

@@ -14,6 +14,7 @@ abbrev pub with_next : {E A : Type 0} → Dialog E A → ℕ → (A → ℕ) →
 with_next (Done a) so_far more = so_far + more a
 with_next dialog so_far more = so_far
 
+-- The count of a dialog and the next one, after `k` commands.
 abbrev pub then_count : {E A P : Type 0} → Device P → Dialog E A → Count P → (A → Count P) → Count P
 then_count m d first more k p exchanges = let s = state_after m k d p exchanges in
     with_next s.dialog (first k p exchanges) (λ a. more a s.left s.programmer s.exchanges)

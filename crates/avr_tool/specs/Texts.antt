@@ -1,4 +1,4 @@
--- Texts of `clap` and of the system, printed at a desk part by part. No clause says which text a value has.
+-- Texts of `clap` and of the system, printed at a desk part by part. No clause states which text a value has.
 use Rattle.std.specs.Prelude.{◌≡◌, ◌⊎◌, ◌<◌, ◌+◌, ◌^◌, ℕ, ⊤, List, Result, Ok, Err, [], ◌∷◌, ◌++◌, codes, length}
 use Rattle.std.specs.List.{concat}
 use Rattle.avr_desk.specs.Fault.{CountsNeverFall, HasFailedAt, HasFailedToReport, HasSameCounts}

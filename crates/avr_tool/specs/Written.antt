@@ -11,6 +11,7 @@ use Rattle.stk_emu.specs.Effect.{Image, Item, Erase, Write, Memories, erase_keep
 use Rattle.avr_tool.specs.ComparisonsAgree.{MemoryHoldsImage}
 use Rattle.avr_tool.specs.Items.{asked_items, has_erase}
 
+-- A number for each memory, to compare memories by.
 abbrev pub memory_number : Mem → ℕ
 memory_number Flash = 0
 memory_number Eeprom = 1
@@ -29,6 +30,7 @@ written_to part mem (Write other image ∷ items) =
     if memory_number other == memory_number mem then over image (written_to part mem items)
     else written_to part mem items
 
+-- The byte of a memory at an address.
 abbrev pub byte_in : Part → Mem → ℕ → Memories → ℕ
 byte_in part mem addr m = slice_index (memory_in part mem m) addr
 

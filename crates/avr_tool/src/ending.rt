@@ -7,6 +7,7 @@ use crate::serving_link::Served;
 use avr_desk::{Desk, Message, refuse};
 use avr_session::{unreceived_message, unsent_message};
 
+/// Returns the message for how serving ended; the end of the link has none.
 fn end_message(served: Served) -> Option<Message<'static>>
     ensures { result ≡ end_pieces served }
 {
@@ -29,6 +30,7 @@ pub(crate) fn report_end<D: Desk>(desk: &mut D, served: Served)
     }
 }
 
+/// Returns the status for how serving ended: 0 if the link ended, otherwise 1.
 pub(crate) fn status_of_served(served: Served) -> u8
     ensures { result ≡ status_of_end served }
 {

@@ -1,4 +1,4 @@
-//! The front door: AVRDUDE over a programmer of the STK500 protocol, version 2, as one crate.
+//! The front door: what AVRDUDE does with `-c stk500v2`, as far as `avrstk` has it, in one crate.
 //!
 //! A command line becomes settings, the settings a plan, and the plan a run over a link. A run returns a status: 0 if
 //! there was no fault, otherwise 1. The crates below do most of it; this one gathers their calls and adds the

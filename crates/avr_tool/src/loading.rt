@@ -12,8 +12,10 @@ use avr_desk::{
 use avr_part::{Chip, Part, PartFault};
 use std::alloc::Global;
 
+/// The most bytes of a chip file, whatever the part.
 const LARGEST_CHIP_FILE: usize = 4_194_304;
 
+/// Creates a fresh chip, or reports that allocation failed.
 fn fresh_chip<D: Desk>(alloc: Global, part: &Part, desk: &mut D) -> Result<Chip, u8>
     ensures goes { RunsStage (OnlyAtStart true) (result_stage (Ok (fresh_state part.now))) (D.view desk.old)
         (D.view desk.new) result }
@@ -26,6 +28,7 @@ fn fresh_chip<D: Desk>(alloc: Global, part: &Part, desk: &mut D) -> Result<Chip,
     }
 }
 
+/// Creates the chip in the bytes of a file, or reports why they hold none.
 fn chip_of<D: Desk>(
     alloc: Global,
     part: &Part,

@@ -16,8 +16,7 @@ use std::alloc::Global;
 /// be [`Port::Network`](avr_cli::Port::Network).
 ///
 /// Returns the status: 0 if there was no fault, otherwise 1. Every fault has its line, and a refusal is reported
-/// without a connection. A read times out after one second. A connection that was reset is a failure of the
-/// link.
+/// without a connection. A read times out after one second. A connection that was reset is a failure of the link.
 ///
 /// ```text
 /// let mut settings = Settings::for_link(alloc, "nobody")?;

@@ -31,7 +31,7 @@ fn take_closed_streams(rt: &HostRuntime) -> [io::Result<File>; 3] {
 }
 
 /// Runs what the command line asks for. The port `stdio:` is `input` and `replies`.
-// (The borrow checker covers a desk over any system, but in `main` none over the runtime's own.)
+// Not part of `main`: the borrow checker refuses a desk over the runtime's own system, but accepts one over any system.
 fn start<
     E: CommandLine + Alloc<A = Global>,
     N: Network,

@@ -18,6 +18,7 @@ use Rattle.avr_plan.specs.declared.planned.Task.TheVariants.{Write}
 use Rattle.avr_session.specs.PlanSteps.{run_steps}
 use Rattle.stk_host.specs.Bound.{commands_in}
 
+-- A number and the character after it.
 abbrev pub number_line : ℕ → ℕ → Bytes
 number_line number end = decimal number ++ end ∷ []
 
@@ -26,10 +27,12 @@ abbrev pub page_text : Part → List (Option ℕ) → ℕ → Bytes
 page_text part image page = if holds_any image (page * part.flash_page) part.flash_page
     then codes "flash " ++ (number_line (page * part.flash_page) 32 ++ number_line part.flash_page 10) else []
 
+-- The lines of the pages from this one on.
 abbrev pub pages_text : Part → List (Option ℕ) → ℕ → ℕ → Bytes
 pages_text part image page zero = []
 pages_text part image page (suc count) = page_text part image page ++ pages_text part image (page + 1) count
 
+-- The pages that a task writes. Only writes of flash have some.
 abbrev pub task_text : Part → Task → Bytes
 task_text part (Write Flash image) = pages_text part image 0 (part.flash_size / part.flash_page)
 task_text part task = []
@@ -49,6 +52,7 @@ PrintsOutline text old new zero = ChangesRecord (after_sent Output text) old new
 PrintsOutline text old new status =
     (status ≡ 1) × (SendsPart Output old new text ⊎ ReportsLine old new (error memory_pieces))
 
+-- The outline of the plan was printed. Without a plan nothing more was done.
 abbrev pub AfterPlan : Result Plan ℕ → DeskState → DeskState → ℕ → Type 0
 AfterPlan (Ok plan) old new status = PrintsOutline (outline_text plan) old new status
 AfterPlan (Err failed) old new status = (new ≡ old) × (status ≡ failed)

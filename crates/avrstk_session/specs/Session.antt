@@ -18,6 +18,7 @@ use Rattle.avr_part.specs.Part.{Part}
 use Rattle.avr_session.specs.Runs.{Devices}
 use Rattle.avrstk_session.specs.Outline.{Outlines}
 
+-- How the program is used.
 abbrev pub usage_pieces : List Bytes
 usage_pieces = codes "usage: avrstk_session -p PART [--parts FILE] -P emu:CHIPFILE [-n], or AVRSTK'S OPTIONS -P stdio:"
     ∷ []
@@ -35,6 +36,7 @@ pub record IsCommandLineRefused (words : List Bytes) (old new : DeskState) (stat
   pub memory : takes avrstk words ≡ true → kind_of error ≡ OutOfMemory
   pub notice : ReportsUsage (kind_of error) old new status
 
+-- The status after a check.
 abbrev pub verdict_status : Result Part ℕ → ℕ
 verdict_status (Ok part) = 0
 verdict_status (Err status) = status

@@ -1,8 +1,8 @@
 //! Serves an emulated programmer with an emulated part to one client, over standard input and output.
 //!
 //! It takes avrstk's options `-p`, `--parts` and `-P emu:CHIPFILE`. With `-n` it only checks that this part and chip
-//! file can be served, and writes nothing. With `-P stdio:` it reads the files of a whole command line, and prints how
-//! many frames its session sends and which pages of flash it writes, for callers that draw progress.
+//! file can be served, and writes nothing. With `-P stdio:` it reads the files of a whole command line, for callers
+//! that draw progress. It prints how many frames the session sends, and which pages of flash it writes.
 #![tactic(auto)]
 
 ghost use Rattle.std.specs.Prelude.{◌≡◌, map, string_bytes};
@@ -64,6 +64,7 @@ fn usage_message<'a>() -> Message<'a>
     )
 }
 
+/// Prints the outline of a session, and returns the status.
 fn print_outline<D: Desk>(alloc: Global, desk: &mut D, plan: &Plan) -> u8
     ensures prints { PrintsOutline (outline_text plan.now) (D.view desk.old) (D.view desk.new) result }
     ensures stays { Preserves D.started_as desk.old desk.new }
@@ -149,7 +150,7 @@ fn serve_words<D: ChipDesk, L: Link>(
 }
 
 /// Serves what the command line asks for, to the client behind `input` and `replies`.
-// (The borrow checker covers a desk over any system, but in `main` none over the runtime's own.)
+// Not part of `main`: the borrow checker refuses a desk over the runtime's own system, but accepts one over any system.
 fn start<
     E: CommandLine + Alloc<A = Global>,
     S: FileSystem + Drop,
@@ -163,6 +164,7 @@ fn start<
     run(rt, rt.alloc(), &mut desk, &mut link)
 }
 
+/// Serves what the command line of the process asks for, as [`serve_words`] does.
 fn run<C: CommandLine, S: FileSystem + Drop, O: Outlet + Drop, M: Outlet + Drop, L: Link>(
     line: &C,
     alloc: Global,

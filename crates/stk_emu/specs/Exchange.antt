@@ -29,6 +29,7 @@ after_execution NotExecuted executed kept reset = kept
 after_execution Executed executed kept reset = executed
 after_execution (ThenRestarted execution) executed kept reset = reset (after_execution execution executed kept reset)
 
+-- The programmer after an exchange.
 abbrev pub after_exchange : {P : Type 0} → Exchange → P → P → (P → P) → P
 after_exchange AsIntended executed kept reset = executed
 after_exchange (Disturbed execution instead) executed kept reset = after_execution execution executed kept reset

@@ -29,6 +29,7 @@ no_late_replies = record { first = []; second = []; third = [] }
 abbrev pub with_late_reply : Late → List ℕ → Late
 with_late_reply late answered = record { first = late.second; second = late.third; third = answered }
 
+-- All late replies, joined in order.
 abbrev pub waiting : Late → List ℕ
 waiting late = late.first ++ (late.second ++ late.third)
 

@@ -18,7 +18,7 @@ pub record Programmer : Type 0 where
   pub mode : Bool
   -- 31 bits
   pub address : ℕ
-  -- The extended address is sent too.
+  -- whether the extended address is sent before instructions for flash
   pub wide : Bool
   pub parameters : List ℕ
   pub chip : ChipState
@@ -43,6 +43,7 @@ fail code p = (code ∷ 0xC0 ∷ [], p)
 abbrev pub if_programming : ℕ → Programmer → Response → Response
 if_programming code p done = if p.mode then done else fail code p
 
+-- The chip after these instructions; below, the programmer.
 abbrev pub after_instructions : List (List ℕ) → ChipState → ChipState
 after_instructions [] chip = chip
 after_instructions (x ∷ xs) chip = after_instructions xs ((spi_of x chip).1)
@@ -54,6 +55,7 @@ with_instructions xs p = record p { chip = after_instructions xs p.chip }
 abbrev pub bit_31 : ℕ
 bit_31 = 2147483648
 
+-- A block moves the address past what it covers.
 abbrev pub with_address_moved : ℕ → Programmer → Programmer
 with_address_moved count p = record p { address = (p.address + count) % bit_31 }
 
@@ -64,6 +66,7 @@ high address = address / 256 % 256
 abbrev pub low : ℕ → ℕ
 low address = address % 256
 
+-- An instruction with this first byte, this address and this last byte.
 abbrev pub at_address : ℕ → ℕ → ℕ → List ℕ
 at_address cmd address byte = cmd ∷ high address ∷ low address ∷ byte ∷ []
 
@@ -91,6 +94,7 @@ get_parameter number p = (0x03 ∷ 0 ∷ slice_index p.parameters number ∷ [],
 abbrev pub load_address : ℕ → Programmer → Response
 load_address address p = (0x06 ∷ 0 ∷ [], record p { address = address % bit_31; wide = nat_le bit_31 address })
 
+-- The programmer is then in programming mode exactly if entering succeeded.
 abbrev pub enter_response : Bool → Programmer → Response
 enter_response ok p = (0x10 ∷ (if ok then 0 else 0xC0) ∷ [], record p { mode = ok })
 
@@ -108,7 +112,7 @@ leave_progmode p = (0x11 ∷ 0 ∷ [], record p { mode = false })
 abbrev pub chip_erase : List ℕ → Programmer → Response
 chip_erase instruction p = if_programming 0x12 p (0x12 ∷ 0 ∷ [], with_instructions (instruction ∷ []) p)
 
--- Writes a fuse or the lock.
+-- Writes a fuse or the lock by this instruction.
 abbrev pub program_byte : ℕ → List ℕ → Programmer → Response
 program_byte code instruction p = if_programming code p (code ∷ 0 ∷ 0 ∷ [], with_instructions (instruction ∷ []) p)
 
@@ -123,12 +127,14 @@ read_byte code f p =
     )
     else fail code p)
 
+-- The instructions that load these bytes into the page buffer, from byte `i` of a block on.
 abbrev pub flash_loads : Bool → ℕ → ℕ → ℕ → List ℕ → List (List ℕ)
 flash_loads wide cmd address i [] = []
 flash_loads wide cmd address i (b ∷ bytes) =
     extension wide (word_at address i)
     ++ (at_address (for_half cmd i) (word_at address i) b ∷ flash_loads wide cmd address (suc i) bytes)
 
+-- The instructions that write the page, if that is asked for.
 abbrev pub flash_writes : Bool → ℕ → ℕ → Bool → List (List ℕ)
 flash_writes wide cmd address written =
     if written then extension wide address ++ (at_address cmd address 0 ∷ []) else []
@@ -140,6 +146,8 @@ is_paged f = bit_at f.mode 0 == 1
 abbrev pub is_written : ProgramBlock → Bool
 is_written f = bit_at f.mode 7 == 1
 
+-- Loads a block of flash into the page buffer, and writes the page if asked. It fails without page mode, or if the
+-- count is 0, odd or not that of the bytes.
 abbrev pub program_flash : ProgramBlock → Programmer → Response
 program_flash f p =
     if_programming 0x13 p
@@ -151,14 +159,17 @@ program_flash f p =
     )
     else fail 0x13 p)
 
+-- The instructions that take these bytes to EEPROM or its page buffer, from byte `i` of a block on.
 abbrev pub eeprom_loads : ℕ → ℕ → ℕ → List ℕ → List (List ℕ)
 eeprom_loads cmd address i [] = []
 eeprom_loads cmd address i (b ∷ bytes) = at_address cmd (byte_address address i) b
     ∷ eeprom_loads cmd address (suc i) bytes
 
+-- The instruction that writes the page, if that is asked for.
 abbrev pub eeprom_writes : ℕ → ℕ → Bool → List (List ℕ)
 eeprom_writes cmd address written = if written then at_address cmd address 0 ∷ [] else []
 
+-- Sends the first instruction with each byte of a block of EEPROM. In page mode it then writes the page if asked.
 abbrev pub program_eeprom : ProgramBlock → Programmer → Response
 program_eeprom f p =
     if_programming 0x15 p
@@ -170,6 +181,7 @@ program_eeprom f p =
     )
     else fail 0x15 p)
 
+-- Bytes that instructions read, and the chip after these.
 abbrev pub BytesAndChip : Type 0
 BytesAndChip = List ℕ × ChipState
 
@@ -177,6 +189,7 @@ BytesAndChip = List ℕ × ChipState
 abbrev pub read_then : List ℕ → ChipState → (ChipState → BytesAndChip) → BytesAndChip
 read_then x chip more = (slice_index (spi_of x chip).0 3 ∷ (more (spi_of x chip).1).0, (more (spi_of x chip).1).1)
 
+-- The bytes of flash from byte `i` of a block on; below, of EEPROM.
 abbrev pub flash_reads : Bool → ℕ → ℕ → ℕ → ℕ → ChipState → BytesAndChip
 flash_reads wide cmd address i zero chip = ([], chip)
 flash_reads wide cmd address i (suc n) chip =
@@ -195,9 +208,11 @@ eeprom_reads cmd address i zero chip = ([], chip)
 eeprom_reads cmd address i (suc n) chip =
     read_then (at_address cmd (byte_address address i) 0) chip (eeprom_reads cmd address (suc i) n)
 
+-- The reply with the bytes of a block.
 abbrev pub block_response : ℕ → BytesAndChip → Programmer → Response
 block_response code bytes_and_chip p = (code ∷ 0 ∷ (bytes_and_chip.0 ++ 0 ∷ []), record p { chip = bytes_and_chip.1 })
 
+-- Reads a block of flash. A count that is 0, odd or too large fails.
 abbrev pub read_flash : ReadBlock → Programmer → Response
 read_flash f p =
     if_programming 0x14 p
@@ -205,6 +220,7 @@ read_flash f p =
     then block_response 0x14 (flash_reads p.wide f.cmd1 p.address 0 f.count p.chip) (with_address_moved (f.count / 2) p)
     else fail 0x14 p)
 
+-- Reads a block of EEPROM. A count that is 0 or too large fails.
 abbrev pub read_eeprom : ReadBlock → Programmer → Response
 read_eeprom f p =
     if_programming 0x16 p
@@ -212,6 +228,7 @@ read_eeprom f p =
     then block_response 0x16 (eeprom_reads f.cmd1 p.address 0 f.count p.chip) (with_address_moved f.count p)
     else fail 0x16 p)
 
+-- Sends one instruction of four bytes, and returns some of the bytes that it shifts out.
 abbrev pub spi_multi : ℕ → ℕ → ℕ → List ℕ → Programmer → Response
 spi_multi send_count receive_count receive_start bytes p =
     if_programming 0x1D p
@@ -222,6 +239,7 @@ spi_multi send_count receive_count receive_start bytes p =
     )
     else fail 0x1D p)
 
+-- What each command does.
 abbrev pub execute_command : Command → Programmer → Response
 execute_command SignOn p = (0x01 ∷ 0 ∷ 8 ∷ 0x53 ∷ 0x54 ∷ 0x4B ∷ 0x35 ∷ 0x30 ∷ 0x30 ∷ 0x5F ∷ 0x32 ∷ [], p)
 execute_command (SetParameter number value) p = set_parameter number value p
@@ -243,6 +261,7 @@ execute_command (ReadOsccal f) p = read_byte 0x1C f p
 execute_command (SpiMulti send_count receive_count receive_start bytes) p =
     spi_multi send_count receive_count receive_start bytes p
 
+-- The byte is the code of a command.
 abbrev pub is_known : ℕ → Bool
 is_known code = nat_le 0x01 code && nat_le code 0x03 || code == 0x06 || nat_le 0x10 code && nat_le code 0x1D
 

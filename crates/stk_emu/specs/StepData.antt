@@ -29,6 +29,7 @@ data_of_step part (ReadSignature f ∷ []) m = read_by part (instruction_of f.in
 data_of_step part (ReadOsccal f ∷ []) m = read_by part (instruction_of f.instruction) m
 data_of_step part commands m = []
 
+-- The data of steps, each over the memories that those before it leave.
 abbrev pub data_of_steps : Part → List (List Command) → Memories → List ℕ
 data_of_steps part [] m = []
 data_of_steps part (commands ∷ steps) m = data_of_step part commands m

@@ -10,6 +10,7 @@ use Rattle.stk_emu.specs.Lawful.{IsLawful, Late, no_late_replies, with_late_repl
 use Rattle.stk_emu.specs.Exchange.{Exchange, Execution, execution_in, NotExecuted, Executed, ThenRestarted, Refusal, NoReply, AsIntended, Disturbed, after_exchange}
 use Rattle.stk_emu.specs.Device.{Device, refusal, reply_frame, after_frame}
 
+-- If the fate is noise in place of a reply, the noise is lawful.
 abbrev pub IsLawfulFate : Fate → Type 0
 IsLawfulFate (AnswerSpoiled noise) = IsLawful noise.items
 IsLawfulFate _ = Unit {0}
@@ -26,6 +27,7 @@ abbrev pub other_fates : List Fate → List Fate
 other_fates [] = []
 other_fates (fate ∷ fates) = fates
 
+-- The exchange that a fate makes of a frame.
 abbrev pub exchange_of_fate : Fate → Exchange
 exchange_of_fate Good = AsIntended
 exchange_of_fate LostCommand = Disturbed NotExecuted NoReply
@@ -49,6 +51,7 @@ brought_by_fate CommandRefused answered refused = on_tape refused
 brought_by_fate (AnswerSpoiled noise) answered refused = on_tape noise.items ++ Silence ∷ []
 brought_by_fate _ answered refused = Silence ∷ []
 
+-- The fate keeps the late replies waiting.
 abbrev pub holds_replies : Fate → Bool
 holds_replies HeldAnswer = true
 holds_replies _ = false
@@ -69,11 +72,13 @@ pub record Wire (P : Type 0) : Type 0 where
   pub fates : List Fate
   pub late : Late
 
+-- What arrives for a frame: the late replies, then what its fate brings.
 abbrev pub arrival : {P : Type 0} → Device P → List ℕ → Wire P → Tape
 arrival m piece w =
     on_tape (released_replies (first_fate w.fates) w.late)
     ++ brought_by_fate (first_fate w.fates) (reply_frame m piece w.programmer) (frame (seq_of piece) refusal)
 
+-- The wire after a frame.
 abbrev pub wire_after_frame : {P : Type 0} → Device P → List ℕ → Wire P → Wire P
 wire_after_frame m piece w = record {
   programmer = after_exchange (exchange_of_fate (first_fate w.fates)) (after_frame m piece w.programmer)
@@ -91,5 +96,6 @@ abbrev pub wire_after_frames : {P : Type 0} → Device P → List (List ℕ) →
 wire_after_frames m [] w = w
 wire_after_frames m (piece ∷ pieces) w = wire_after_frames m pieces (wire_after_frame m piece w)
 
+-- A wire over which nothing has passed.
 abbrev pub fresh_wire : {P : Type 0} → P → List Fate → Wire P
 fresh_wire p fates = record { programmer = p; fates = fates; late = no_late_replies }

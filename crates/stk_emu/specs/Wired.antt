@@ -18,6 +18,7 @@ pub record WiredState : Type 0 where
   pub transcript : Transcript
   pub failures : ℕ
 
+-- What contracts of links see of a wire.
 abbrev pub wired_link : WiredState → LinkState
 wired_link wired = record { transcript = wired.transcript; failures = wired.failures }
 
@@ -42,6 +43,7 @@ pub record Start : Type 0 where
   pub programmer : Programmer
   pub fates : List Fate
 
+-- `started_as` of a wire.
 abbrev pub ComesOf : Start → WiredState → Type 0
 ComesOf start w = FollowsFates start.programmer start.fates w
 

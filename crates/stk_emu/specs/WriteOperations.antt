@@ -20,6 +20,7 @@ use Rattle.stk_emu.specs.Effect.{Image, Item, Erase, Write, Memories, effects}
 abbrev pub image_at : ℕ → List ℕ → Image
 image_at start bytes = replicate start None ++ map Some bytes
 
+-- The memory that a fuse is.
 abbrev pub memory_of_fuse : instruction_fuse.Fuse → Mem
 memory_of_fuse fuse.Low = Lfuse
 memory_of_fuse fuse.High = Hfuse
@@ -47,9 +48,11 @@ abbrev pub write_operations_of : List (List Command) → List Item
 write_operations_of [] = []
 write_operations_of (commands ∷ steps) = write_operation_of commands ++ write_operations_of steps
 
+-- The memories after a step.
 abbrev pub memories_after_step : Part → List Command → Memories → Memories
 memories_after_step part commands m = effects part (write_operation_of commands) m
 
+-- The steps by which a host makes a change; below, changes in order.
 abbrev pub steps_of_item : Part → Item → List (List Command)
 steps_of_item part Erase = (erase ∷ []) ∷ []
 steps_of_item part (Write mem image) = write_steps part mem image
@@ -71,12 +74,13 @@ pub record FitsEepromPage (part : Part) (address : ℕ) (bytes : List ℕ) : Typ
   pub within : address % part.eeprom_page + length bytes ≤ part.eeprom_page
   pub inside : address + length bytes ≤ part.eeprom_size
 
+-- The bytes that one step reads: at most 256, inside the memory.
 pub record IsBlock (part : Part) (mem : Mem) (start count : ℕ) : Type 0 where
   pub some : 0 < count
   pub few : count ≤ 256
   pub inside : start + count ≤ size_of mem part
 
--- Flash is read in words.
+-- Flash is read in whole words.
 pub record AreWords (start count : ℕ) : Type 0 where
   pub start_even : start % 2 ≡ 0
   pub count_even : count % 2 ≡ 0

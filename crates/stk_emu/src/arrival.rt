@@ -76,6 +76,7 @@ impl Arrivals {
         Ok(())
     }
 
+    /// Appends bytes that arrive. There has to be room.
     pub fn put(&mut self, bytes: &[u8])
         requires { length bytes.now ≤ self.old.byte_room }
         ensures tape { self.new.tape ≡ self.old.tape ++ on_tape bytes.now }
@@ -85,6 +86,7 @@ impl Arrivals {
         let _there_is_room = self.bytes.extend_from_slice(bytes);
     }
 
+    /// Appends a timeout. There has to be room.
     pub fn put_timeout(&mut self)
         requires { 0 < self.old.timeout_room }
         ensures { self.new.tape ≡ self.old.tape ++ Silence ∷ [] }

@@ -20,6 +20,7 @@ pub(crate) fn load_bytes(chip: &mut Chip, command: u8, address: u32, bytes: &[u8
     }
 }
 
+/// Writes the page, if that is asked for.
 pub(crate) fn write_page(chip: &mut Chip, command: u8, address: u32, is_asked: bool)
     ensures { chip.new ≡ after_instructions (eeprom_writes command address is_asked) chip.old }
 {
@@ -28,6 +29,7 @@ pub(crate) fn write_page(chip: &mut Chip, command: u8, address: u32, is_asked: b
     }
 }
 
+/// Reads `count` bytes and appends them to `out`.
 pub(crate) fn read(chip: &mut Chip, command: u8, address: u32, count: u16, out: &mut Body)
     requires address { address < bit_31 }
     requires room { length out.old.items + count ≤ LARGEST_BODY }

@@ -12,7 +12,7 @@ use stk_frame::{Event, FrameReader};
 /// fates.push(Fate::LateAnswer)?;
 /// fates.push(Fate::Reset)?;
 /// let mut wire = Wired::with_fates(alloc, Chip::fresh(alloc, part.copied())?, fates);
-/// // SIGN_ON is asked again, and its late reply passed over; then the programmer began afresh
+/// // the first SIGN_ON times out, and its late reply is skipped; at the second the programmer restarts
 /// assert!(rt; Host::new(part).open(&mut wire, false).is_ok());
 /// ```
 #[derive(Debug, Drop, PartialEq, Eq)]

@@ -42,6 +42,7 @@ pub(crate) fn load_page(chip: &mut Chip, block: Block, bytes: &[u8])
     }
 }
 
+/// Writes the page, if that is asked for.
 pub(crate) fn write_page(chip: &mut Chip, block: Block, is_asked: bool)
     ensures { chip.new ≡ after_instructions (flash_writes block.wide block.command block.address is_asked) chip.old }
 {
@@ -59,7 +60,7 @@ pub(crate) fn read(chip: &mut Chip, block: Block, count: u16, out: &mut Body)
     ensures chip { chip.new ≡ (block_reads block count chip.old).1 }
 {
     if block.command == READ && count != 0 {
-        // The first instruction sends the extended address again.
+        // The loop below, if it comes to that, sends the extended address again.
         extend(chip, block.wide, block.address);
         if let Some(bytes) = chip.flash_block((block.address % 65_536) as u16, count) {
             let _ = out.try_extend_from_slice(bytes);

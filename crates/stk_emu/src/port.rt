@@ -45,6 +45,7 @@ impl Model for EmulatedPort {
     ghost view = { λ port. record { machine = port.emulator; waits = port.waits.items } };
 }
 
+/// Appends a reply to those that wait. There has to be room.
 fn append(waits: &mut VecDeque<u8>, bytes: &[u8])
     requires { deque_len waits.old + length bytes.now ≤ deque_capacity waits.old }
     ensures { waits.new.items ≡ waits.old.items ++ bytes.now }

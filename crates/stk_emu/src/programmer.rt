@@ -32,10 +32,13 @@ const MODE_PAGE: u8 = 0x01;
 
 const MODE_WRITE: u8 = 0x80;
 
+/// The emulated programmer, with the chip at its pins.
 #[derive(Drop)]
 pub(crate) struct Programmer {
+    /// Whether it is in programming mode.
     mode: bool,
     address: u32,
+    /// Whether the extended address is sent before instructions for flash.
     wide: bool,
     parameters: [u8; 256],
     chip: Chip,
@@ -58,6 +61,7 @@ impl Model for Programmer {
     ghost invariant = { λ p. p.address < bit_31 };
 }
 
+/// Makes these bytes the body of the reply.
 fn reply_with(out: &mut Body, bytes: &[u8])
     requires { length bytes.now ≤ LARGEST_BODY }
     ensures { out.new.items ≡ bytes.now }
@@ -66,12 +70,14 @@ fn reply_with(out: &mut Body, bytes: &[u8])
     let _ = out.try_extend_from_slice(bytes);
 }
 
+/// Replies that the command failed.
 fn fail(out: &mut Body, code: u8)
     ensures { out.new.items ≡ code ∷ STATUS_CMD_FAILED ∷ [] }
 {
     reply_with(out, &[code, STATUS_CMD_FAILED]);
 }
 
+/// Returns whether a command has this byte.
 fn is_known(code: u8) -> bool
     ensures { result ≡ is_known code }
 {
@@ -220,12 +226,14 @@ impl Programmer {
         );
     }
 
+    /// Moves the address past a block.
     fn advance_address(&mut self, count: u16)
         ensures { self.new ≡ record self.old { address = (self.old.address + count) % bit_31 } }
     {
         self.address = (self.address + u32::from(count)) % EXTENDED_ADDRESS;
     }
 
+    /// Returns the block at the current address, with this instruction.
     fn block(&self, command: u8) -> Block
         ensures { result ≡ record { wide = self.now.wide; command = command; address = self.now.address } }
     {

@@ -15,6 +15,7 @@ pub(crate) fn at_address(command: u8, address: u32, byte: u8) -> [u8; 4]
     [command, high, low, byte]
 }
 
+/// Returns the instruction for a byte of a word: bit 3 is set for the high one.
 pub(crate) fn for_half(command: u8, place: u16) -> u8
     ensures { result ≡ for_half command place }
 {

@@ -215,6 +215,7 @@ impl<R: Recorder> Wired<R> {
         self.failures
     }
 
+    /// Counts a failure, and returns its fault.
     fn fail(&mut self) -> LinkFault
         ensures fails { self.new ≡ record self.old { failures = counted (self.old.failures + 1) } }
         ensures counted { self.old.failures ≤ self.new.failures }

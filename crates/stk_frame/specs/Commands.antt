@@ -34,6 +34,7 @@ code (ReadSignature f) = CMD_READ_SIGNATURE_ISP
 code (ReadOsccal f) = CMD_READ_OSCCAL_ISP
 code (SpiMulti send_count receive_count receive_start bytes) = CMD_SPI_MULTI
 
+-- The fields of each command whose fields are a struct, in AVR068's order.
 abbrev pub enter_progmode_fields : EnterFields → List ℕ
 enter_progmode_fields f =
     f.timeout ∷ f.stab_delay ∷ f.command_delay ∷ f.synch_loops ∷ f.byte_delay ∷ f.poll_value ∷ f.poll_index
@@ -70,6 +71,7 @@ fields (ReadSignature f) = read_byte_fields f
 fields (ReadOsccal f) = read_byte_fields f
 fields (SpiMulti send_count receive_count receive_start bytes) = send_count ∷ receive_count ∷ receive_start ∷ bytes
 
+-- The body of a command's frame.
 abbrev pub body : Command → List ℕ
 body command = code command ∷ fields command
 

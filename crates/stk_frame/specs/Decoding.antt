@@ -68,6 +68,7 @@ abbrev pub read_block_of : List ℕ → Option ReadBlock
 read_block_of (high ∷ low ∷ cmd1 ∷ []) = Some (record { count = big_number 2 (high ∷ low ∷ []); cmd1 = cmd1 })
 read_block_of _ = None
 
+-- An instruction has four bytes.
 abbrev pub instruction : List ℕ → Option (List ℕ)
 instruction (a ∷ b ∷ c ∷ d ∷ []) = Some (a ∷ b ∷ c ∷ d ∷ [])
 instruction _ = None
@@ -82,6 +83,7 @@ spi_multi_of (send_count ∷ receive_count ∷ receive_start ∷ bytes) =
     Some (SpiMulti send_count receive_count receive_start bytes)
 spi_multi_of _ = None
 
+-- The command with this code and these fields.
 abbrev pub with_fields : ℕ → List ℕ → Option Command
 with_fields code bytes =
     if code == CMD_SIGN_ON then sign_on_of bytes

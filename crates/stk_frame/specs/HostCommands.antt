@@ -7,6 +7,7 @@ use Rattle.stk_frame.specs.declared.command.ReadByte.{ReadByte}
 use Rattle.stk_frame.specs.declared.host_command.Fuse.{Fuse}
 use Rattle.stk_frame.specs.declared.host_command.Fuse.TheVariants.{Low, High, Extended}
 
+-- Enters programming mode: `AC 53 00 00` is sent, and the third byte that returns has to be 53.
 abbrev pub enter : Command
 enter =
     EnterProgmode (record {
@@ -20,9 +21,11 @@ enter =
       instruction = 0xAC ∷ 0x53 ∷ 0x00 ∷ 0x00 ∷ [];
     })
 
+-- Leaves programming mode.
 abbrev pub leave : Command
 leave = LeaveProgmode 0x01 0x01
 
+-- Erases the chip.
 abbrev pub erase : Command
 erase = ChipErase 0x09 0x00 (0xAC ∷ 0x80 ∷ 0x00 ∷ 0x00 ∷ [])
 
@@ -41,23 +44,27 @@ page_mode_block cmd1 cmd2 cmd3 bytes =
       bytes = bytes;
     }
 
+-- Loads these bytes into the flash buffer, and writes its page.
 abbrev pub program_page : List ℕ → Command
 program_page bytes = ProgramFlash (page_mode_block 0x40 0x4C 0x20 bytes)
 
 abbrev pub read_flash_block : ℕ → Command
 read_flash_block count = ReadFlash (record { count = count; cmd1 = 0x20 })
 
+-- Loads these bytes into the EEPROM buffer, and writes its page.
 abbrev pub program_eeprom_block : List ℕ → Command
 program_eeprom_block bytes = ProgramEeprom (page_mode_block 0xC1 0xC2 0xA0 bytes)
 
 abbrev pub read_eeprom_block : ℕ → Command
 read_eeprom_block count = ReadEeprom (record { count = count; cmd1 = 0xA0 })
 
+-- The second byte of the instruction that writes this fuse.
 abbrev pub write_address : Fuse → ℕ
 write_address Low = 0xA0
 write_address High = 0xA8
 write_address Extended = 0xA4
 
+-- The instruction that reads this fuse.
 abbrev pub read_instruction : Fuse → List ℕ
 read_instruction Low = 0x50 ∷ 0x00 ∷ 0x00 ∷ 0x00 ∷ []
 read_instruction High = 0x58 ∷ 0x08 ∷ 0x00 ∷ 0x00 ∷ []
@@ -79,6 +86,7 @@ program_lock value = ProgramLock (0xAC ∷ 0xE0 ∷ 0x00 ∷ value ∷ [])
 abbrev pub read_lock : Command
 read_lock = ReadLock (read_fourth_byte (0x58 ∷ 0x00 ∷ 0x00 ∷ 0x00 ∷ []))
 
+-- Reads one of the three bytes of the signature.
 abbrev pub read_signature : ℕ → Command
 read_signature place = ReadSignature (read_fourth_byte (0x30 ∷ 0x00 ∷ place ∷ 0x00 ∷ []))
 

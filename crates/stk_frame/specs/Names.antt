@@ -35,5 +35,6 @@ status_names =
     ∷ (0xC9, codes "STATUS_CMD_UNKNOWN")
     ∷ []
 
+-- The name of this byte, if the table has one.
 abbrev pub name_in : List (ℕ × List ℕ) → ℕ → Option (List ℕ)
 name_in rows byte = option_map (λ row. row.1) (find (λ row. byte == row.0) rows)

@@ -168,6 +168,7 @@ fn spi_multi(fields: &[u8]) -> Option<Command<'_>>
     }
 }
 
+/// Reads the fields of the command with this byte.
 fn with_fields(code: u8, fields: &[u8]) -> Option<Command<'_>>
     ensures { result ≡ with_fields code fields.now }
 {

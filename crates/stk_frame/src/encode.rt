@@ -25,6 +25,7 @@ fn put_both<const CAP: usize>(out: &mut ArrayVec<u8, CAP>, front: &[u8], back: &
     put(out, back);
 }
 
+/// Appends a count of two bytes, and what follows it.
 fn put_count<const CAP: usize>(out: &mut ArrayVec<u8, CAP>, count: u16, back: &[u8])
     requires { length out.old.items + 2 + length back.now ≤ CAP }
     ensures { out.new.items ≡ out.old.items ++ (big_bytes 2 count ++ back.now) }
@@ -119,6 +120,7 @@ impl Command<'_> {
         self.put_fields(out);
     }
 
+    /// Appends the command's fields.
     fn put_fields<const CAP: usize>(&self, out: &mut ArrayVec<u8, CAP>)
         requires { length out.old.items + length (fields self.now) ≤ CAP }
         ensures { out.new.items ≡ out.old.items ++ fields self.now }

@@ -5,7 +5,8 @@ use crate::protocol::{HEADER_SIZE, LARGEST_BODY, LARGEST_FRAME, MESSAGE_START, T
 use arrayvec::ArrayVec;
 use byteorder::{BigEndian, ByteOrder};
 
-// (not inlined: in a comparison with 0 the compiler would not vectorize the fold)
+/// Returns the XOR of all bytes.
+// It isn't inlined, because in a comparison with 0 the compiler would not vectorize the fold.
 #[inline(never)]
 pub(crate) fn xor_of(bytes: &[u8]) -> u8
     ensures { result ≡ xor_all bytes.now }

@@ -11,7 +11,7 @@ use crate::protocol::{
     CMD_READ_SIGNATURE_ISP, LARGEST_BLOCK,
 };
 
-/// Names a fuse byte.
+/// One of the three fuse bytes.
 #[derive(Clone, Copy, Debug, PartialEq, Eq)]
 pub enum Fuse {
     Low,
@@ -19,6 +19,7 @@ pub enum Fuse {
     Extended,
 }
 
+/// Returns a block in page mode: it is written at its end, and RDY/BSY is polled.
 fn page_mode_block<'a>(cmd1: u8, cmd2: u8, cmd3: u8, bytes: &'a [u8]) -> ProgramBlock<'a>
     requires { length bytes.now ≤ LARGEST_BLOCK }
     ensures { result ≡ page_mode_block cmd1 cmd2 cmd3 bytes.now }

@@ -57,6 +57,7 @@ impl Model for FrameReader {
     ghost invariant = { λ reader. IsHeld reader.held.items };
 }
 
+/// Returns the size of the body, if the header is one of a frame.
 fn size_in(high: u8, low: u8, token: u8) -> Option<usize>
     ensures { result ≡ (if is_header high low token then Some (body_size high low) else None) }
 {
@@ -68,6 +69,7 @@ fn size_in(high: u8, low: u8, token: u8) -> Option<usize>
     }
 }
 
+/// Returns the size of the piece that these bytes begin, as far as they show it.
 fn size_of_piece(bytes: &[u8]) -> usize
     ensures size { result ≡ piece_size bytes.now }
     ensures bound { result ≤ LARGEST_FRAME }

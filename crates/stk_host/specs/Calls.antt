@@ -55,13 +55,14 @@ pub record ReceivesNextPiece {L : Type 0} (link : Ghosts L) (most : ℕ) (old ne
   pub counts : LinkCounts (link.view old) (link.view new) result
   pub comes : Preserves link.started_as old new
 
--- How listening ended; the reader holds the reply.
+-- How listening ended, with the body of the reply that the reader holds.
 abbrev pub reading_of : Reading → List ℕ → tape.Reading
 reading_of read.Answered held = tape.Answered (body_of held)
 reading_of read.Silent held = tape.Silent
 reading_of read.Ended held = tape.Ended
 reading_of read.Babbled held = tape.Babbled
 
+-- If a reply was received, the reader holds its frame.
 abbrev pub HoldsReply : Reading → List ℕ → Type 0
 HoldsReply read.Answered held = HoldsFrame held
 HoldsReply _ held = Unit {0}
@@ -119,6 +120,7 @@ data_count Name = 0
 data_count (Bytes n) = n
 data_count (Closed n) = n
 
+-- The shape fixes how many bytes a reply brings.
 abbrev pub IsSizedShape : Shape → Type 0
 IsSizedShape Name = ⊥
 IsSizedShape _ = Unit {0}
@@ -154,6 +156,7 @@ EndsCall allocates dialog before old new (Err RecvFailed) after = BreaksOverLink
 EndsCall allocates dialog before old new (Err Memory) after = (allocates ≡ true) × (new ≡ old) × (after ≡ before)
 EndsCall allocates dialog before old new result after = RunsOverLink dialog before old new result after
 
+-- The command's body fits a frame.
 abbrev pub FitsFrame : Command → Type 0
 FitsFrame command = length (body command) ≤ LARGEST_BODY
 
@@ -179,6 +182,7 @@ pub record Calls {A : Type 0} (allocates : Bool) (dialog : Dialog ⊥ (Result A 
   pub counted : before.failures ≤ after.failures
   pub bound : old.broken ≡ None → HasFewUnread new.progress
 
+-- The number of a fault, which never changes.
 abbrev pub host_fault_number : HostFault → ℕ
 host_fault_number NoAnswer = 1
 host_fault_number LinkEnded = 2
@@ -202,10 +206,12 @@ abbrev pub status_named : HostFault → Option (List ℕ)
 status_named (Refused command status) = name_in status_names status
 status_named fault = None
 
+-- The result of `Host::open`: the signature found if it is accepted, or a fault.
 abbrev pub opening_result : List ℕ → Bool → Result (List ℕ) HostFault → Result (List ℕ) HostFault
 opening_result wanted force (Ok found) = signature_checked wanted force found
 opening_result wanted force (Err fault) = Err fault
 
+-- The bytes of a read, or none after a fault.
 abbrev pub emptied_on_fault : Result (Unit {0}) HostFault → List ℕ → List ℕ
 emptied_on_fault (Ok done) bytes = bytes
 emptied_on_fault (Err fault) bytes = []

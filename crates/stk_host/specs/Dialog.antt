@@ -43,6 +43,7 @@ abbrev pub continue_with_reading : {E R : Type 0} → (Reading → Tape → Play
 continue_with_reading go_on None = record { events = []; outcome = None }
 continue_with_reading go_on (Some (reading, tape)) = go_on reading tape
 
+-- The sequence number of the next frame.
 abbrev pub next : ℕ → ℕ
 next seq = (seq + 1) % 256
 
@@ -54,6 +55,7 @@ played (Ask body answered) seq tape =
     prepend_events (Frame (frame seq body) ∷ [])
     (continue_with_reading (λ reading. played (answered reading) (next seq)) (answer seq tape))
 
+-- The frames among the events.
 abbrev pub frames_in : {E : Type 0} → List (Event E) → List (List ℕ)
 frames_in [] = []
 frames_in (Frame bytes ∷ events) = bytes ∷ frames_in events

@@ -35,6 +35,7 @@ pub record ConsumesTape (old new : TapeState) : Type 0 where
   pub gave : heard during ++ new.left ≡ old.left ++ replicate ends End
   pub over : 0 < ends → new.left ≡ []
 
+-- What contracts of links see of a tape link.
 abbrev pub tape_state : TapeState → LinkState
 tape_state link = record { transcript = link.transcript; failures = link.failures }
 
@@ -56,6 +57,7 @@ pub record StreamState (R W : Type 0) : Type 0 where
   pub last_error : Option ErrorKind
   pub transcript : Transcript
 
+-- What contracts of links see of a stream link.
 abbrev pub stream_state : {R W : Type 0} → StreamState R W → LinkState
 stream_state link = record { transcript = link.transcript; failures = link.failures }
 
@@ -93,6 +95,7 @@ pub record FailingState (L : Type 0) : Type 0 where
   pub cut : ℕ
   pub failed : ℕ
 
+-- A call of a failing link was counted. `is_due` states whether it is the one that fails.
 pub record CountsCall {L : Type 0} (old new : FailingState L) (is_due : Bool) : Type 0 where
   pub value : is_due ≡ (old.due == 1)
   pub due : new.due ≡ old.due - 1
@@ -110,6 +113,7 @@ pub record FailsAsPlanned {A L : Type 0} (view : L → LinkState) (old new : Fai
   pub chosen : old.due ≡ 1 → (result ≡ Err Failed) × (new.inner ≡ old.inner)
   pub others : old.due ≢ 1 → (new.failed ≡ old.failed) × OnErr result (HasFailed (view old.inner) (view new.inner))
 
+-- The inner link's transcript, and the failures of both.
 abbrev pub failing_link_state : {L : Type 0} → (L → LinkState) → FailingState L → LinkState
 failing_link_state view link =
     record { transcript = (view link.inner).transcript; failures = counted ((view link.inner).failures + link.failed) }

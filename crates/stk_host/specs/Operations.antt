@@ -35,16 +35,20 @@ abbrev pub checked_by : {A : Type 0} → (List ℕ → Result A HostFault) → S
 checked_by judge (Ok bytes) = judge bytes
 checked_by judge (Err fault) = Err (host_fault fault)
 
+-- The signature found, if it is the wanted one or any is accepted.
 abbrev pub signature_checked : List ℕ → Bool → List ℕ → Result (List ℕ) HostFault
 signature_checked wanted force found =
     if force then Ok found else if bytes_eq found wanted then Ok found else Err (WrongSignature found)
 
+-- The dialog of `Host::open`.
 unfoldable pub opening : List ℕ → Bool → Dialog ⊥ (Result (List ℕ) HostFault)
 opening wanted force = handshake >>= λ outcome. Done (checked_by (signature_checked wanted force) outcome)
 
+-- The result of steps whose data aren't asked for.
 abbrev pub no_result : List ℕ → Result ⊤ HostFault
 no_result bytes = Ok tt
 
+-- The dialog of `Host::close`.
 unfoldable pub closing : Dialog ⊥ (Result ⊤ HostFault)
 closing = step (leave ∷ []) >>= λ outcome. Done (checked_by no_result outcome)
 
@@ -53,13 +57,16 @@ unfoldable pub operation : {A : Type 0} → List (List Command) → (List ℕ �
     → Dialog ⊥ (Result A HostFault)
 operation steps judge = play steps [] >>= λ outcome. Done (checked_by judge outcome)
 
+-- The dialog of `Host::erase`.
 abbrev pub erasing : Dialog ⊥ (Result ⊤ HostFault)
 erasing = operation ((erase ∷ []) ∷ []) no_result
 
+-- The dialog of `Host::write`. A memory that can't be written is refused before any frame.
 abbrev pub writing : Part → Mem → List (Option ℕ) → Dialog ⊥ (Result ⊤ HostFault)
 writing part mem image =
     if is_writable mem then operation (write_steps part mem image) no_result else Done (Err (ReadOnly mem))
 
+-- The dialog of `Host::read`.
 abbrev pub reading : Part → Mem → Dialog ⊥ (Result (List ℕ) HostFault)
 reading part mem = operation (read_steps part mem) Ok
 
@@ -79,6 +86,7 @@ difference_from addr (Some want ∷ image) (found ∷ bytes) =
     if found == want then difference_from (addr + 1) image bytes
     else Some (record { addr = addr; want = want; found = found })
 
+-- The fault for a difference, if there is one.
 abbrev pub differs : Mem → Option Difference → Result ⊤ HostFault
 differs mem None = Ok tt
 differs mem (Some d) = Err (Differs mem d.addr d.want d.found)
@@ -87,5 +95,6 @@ differs mem (Some d) = Err (Differs mem d.addr d.want d.found)
 abbrev pub comparison : Mem → List (Option ℕ) → List ℕ → Result ⊤ HostFault
 comparison mem image bytes = differs mem (difference_from 0 image bytes)
 
+-- The dialog of `Host::verify`.
 abbrev pub verifying : Part → Mem → List (Option ℕ) → Dialog ⊥ (Result ⊤ HostFault)
 verifying part mem image = operation (read_steps part mem) (comparison mem image)

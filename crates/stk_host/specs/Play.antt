@@ -46,6 +46,7 @@ pub record Plays {E R : Type 0} (dialog : Dialog E R) (before : Progress) (trans
   pub none_taken : NoneTaken transcript
   pub in_turn : InTurn dialog before transcript
 
+-- These bytes are the first of those.
 abbrev pub IsBytePrefixOf : List ℕ → List ℕ → Type 0
 IsBytePrefixOf prefix bytes = (back : List ℕ) × (prefix ++ back ≡ bytes)
 
@@ -56,7 +57,7 @@ IsPartOfFirst IsPartOfEvent (Frame part ∷ []) (Frame whole ∷ events) = IsByt
 IsPartOfFirst IsPartOfEvent (Emitted part ∷ []) (Emitted whole ∷ events) = IsPartOfEvent part whole
 IsPartOfFirst IsPartOfEvent _ _ = ⊥
 
--- A prefix of the events, and perhaps a part of the next one.
+-- A prefix of the events, and perhaps a part of the next one: `whole` and `begun`. The events left are `later`.
 pub record IsPrefixOfEvents {E : Type 0} (IsPartOfEvent : E → E → Type 0) (shown events : List (Event E)) : Type 0 where
   pub whole : List (Event E)
   pub begun : List (Event E)
@@ -101,7 +102,7 @@ BreaksBy SendFailed dialog before transcript shown = BreaksSending dialog before
 BreaksBy RecvFailed dialog before transcript shown = BreaksListening dialog before transcript shown
 BreaksBy fault dialog before transcript shown = ⊥
 
--- For dialogs without output events.
+-- For dialogs without output events: none can be done in part.
 abbrev pub NoPart : ⊥ → ⊥ → Type 0
 NoPart part whole = ⊥
 
@@ -114,7 +115,7 @@ pub record RunsOverLink {R : Type 0} (dialog : Dialog ⊥ R) (before : Progress)
   pub plays : Plays dialog before during events result after
   pub sound : new.failures ≡ old.failures
 
--- A call broke off because the link failed, with this fault.
+-- A call broke off because the link failed, with this fault. `shown` is what happened up to then.
 pub record BreaksOverLink {R : Type 0} (fault : HostFault) (dialog : Dialog ⊥ R) (before : Progress)
     (old new : LinkState) : Type 0 where
   pub during : Transcript

@@ -1,5 +1,4 @@
--- How far a call has come in a dialog: for contracts of private functions, and of code that sends and listens
--- without a host.
+-- How far a call has come in a dialog: for contracts of private functions, and of code without a host.
 use Rattle.std.specs.Prelude.{ℕ, List, [], ◌∷◌, ◌++◌, ◌+◌, ◌≡◌, ◌<◌, ◌≤◌, length, Some, None, Result, OnOk, OnErr}
 use Rattle.stk_host.specs.Tape.{Tape, Reading, on_tape, answer, reply_byte_limit}
 use Rattle.stk_host.specs.Transcript.{Transcript, LinkState, Sent, Taken, Got, NoneTaken, sent, heard, Grows, LinkCounts}
@@ -75,7 +74,7 @@ pub record ReceivesReply (seq : ℕ) (unread : List ℕ) (old new : LinkState) (
   pub reading_is : (more : Tape) → answer seq (on_tape unread ++ (heard during ++ more))
       ≡ Some (reading, on_tape left ++ more)
 
--- The wait broke off before the reply arrived.
+-- The wait broke off before the reply arrived, within the limit of bytes.
 pub record ReceivesNoReply (seq : ℕ) (unread : List ℕ) (old new : LinkState) : Type 0 where
   pub during : Transcript
   pub grows : Grows old.transcript during new.transcript

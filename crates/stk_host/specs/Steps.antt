@@ -17,6 +17,7 @@ pub data Reply : Type 0 where
   Again : StepFault → Reply
   Stop : StepFault → Reply
 
+-- What follows from the check of a reply's body.
 abbrev pub reply_from_check : Command → Result (List ℕ) FrameFault → Reply
 reply_from_check command (Ok bytes) = Data bytes
 reply_from_check command (Err CheckSum) = Again (Refused (code command) STATUS_CKSUM_ERROR)
@@ -34,6 +35,7 @@ reply_from_reading command Ended = Stop LinkEnded
 unfoldable pub exchange : Command → Dialog ⊥ Reply
 exchange command = Ask (body command) (λ reading. Done (reply_from_reading command reading))
 
+-- Goes on with a good reply's data.
 abbrev pub with_data : (List ℕ → Dialog ⊥ Reply) → Reply → Dialog ⊥ Reply
 with_data go_on (Data bytes) = go_on bytes
 with_data go_on (Again fault) = Done (Again fault)
@@ -46,9 +48,11 @@ attempt [] data_before = Done (Data data_before)
 attempt (command ∷ commands) data_before =
     exchange command >>= with_data (λ bytes. attempt commands (data_before ++ bytes))
 
+-- All data of steps, or the fault that ended them.
 abbrev pub StepOutcome : Type 0
 StepOutcome = Result (List ℕ) StepFault
 
+-- Ends a step, or attempts it again.
 abbrev pub retry_or_end : (StepFault → Dialog ⊥ StepOutcome) → Reply → Dialog ⊥ StepOutcome
 retry_or_end again (Data bytes) = Done (Ok bytes)
 retry_or_end again (Again fault) = again fault
@@ -59,6 +63,7 @@ unfoldable pub attempts_or_fault : ℕ → List Command → StepFault → Dialog
 attempts_or_fault zero commands fault = Done (Err fault)
 attempts_or_fault (suc more) commands fault = attempt commands [] >>= retry_or_end (attempts_or_fault more commands)
 
+-- The one or two commands of a step.
 abbrev pub commands_by : Option Command → Command → List Command
 commands_by None last = last ∷ []
 commands_by (Some first) last = first ∷ last ∷ []

@@ -10,6 +10,7 @@ pub data LinkCallReport : Type 0 where
   Sent : List ℕ → Result ℕ LinkFault → LinkCallReport
   Received : List ℕ → Result Heard LinkFault → LinkCallReport
 
+-- A call that the code reports, as a value for contracts.
 abbrev pub link_call_report : LinkCall → LinkCallReport
 link_call_report (call.Sent bytes outcome) = Sent bytes.now outcome
 link_call_report (call.Received buffer outcome) = Received buffer.now outcome

@@ -19,6 +19,7 @@ page_steps part image number =
     if holds_any image (number * part.flash_page) part.flash_page
     then page_step part image (number * part.flash_page) ∷ [] else []
 
+-- The address after the page that this address is in.
 abbrev pub page_end : ℕ → ℕ → ℕ
 page_end page addr = addr - addr % page + page
 
@@ -33,6 +34,7 @@ run_step part image addr =
     load_eeprom addr ∷ program_eeprom_block
     (filled_bytes image addr (run_end image addr (page_end part.eeprom_page addr) - addr)) ∷ []
 
+-- Programs the run that begins here, if one does.
 abbrev pub run_steps_at : Part → List (Option ℕ) → ℕ → List (List Command)
 run_steps_at part image addr = if begins_run part.eeprom_page image addr then run_step part image addr ∷ [] else []
 
@@ -41,10 +43,12 @@ abbrev pub place_count : Part → Mem → ℕ
 place_count part Flash = part.flash_size / part.flash_page
 place_count part mem = part.eeprom_size
 
+-- The steps at one place.
 abbrev pub place_steps : Part → Mem → List (Option ℕ) → ℕ → List (List Command)
 place_steps part Flash image number = page_steps part image number
 place_steps part mem image addr = run_steps_at part image addr
 
+-- Programs a fuse or the lock, if the image has its byte.
 abbrev pub byte_steps : (ℕ → Command) → Option ℕ → List (List Command)
 byte_steps program None = []
 byte_steps program (Some byte) = (program byte ∷ []) ∷ []

@@ -13,6 +13,7 @@ use std::marker::Model;
 use stk_frame::protocol::STATUS_CKSUM_ERROR;
 use stk_frame::{Answer, Command, FrameFault, FrameReader};
 
+/// How often the commands of a step are tried.
 const ATTEMPTS: u8 = 4;
 
 /// What follows from the reply to a command.
@@ -25,6 +26,7 @@ pub(crate) enum Reply {
     Stop(StepFault),
 }
 
+/// What goes on from frame to frame: the frame reader, the unread bytes, and the next sequence number.
 #[derive(Drop)]
 pub(crate) struct Conversation {
     reader: FrameReader,
@@ -48,6 +50,7 @@ impl Model for Conversation {
     ghost invariant = { λ conversation. length conversation.unread ≤ LARGEST_FRAME };
 }
 
+/// Returns what follows from how listening for a reply ended.
 fn reply_to(reader: &FrameReader, reading: Reading, command: &Command<'_>) -> Reply
     ensures reply { reply_of result (data_held command.now reader.now)
         ≡ reply_from_reading command.now (reading_of reading reader.now) }
@@ -93,6 +96,7 @@ impl Conversation {
         }
     }
 
+    /// Sends a command once, and waits for its reply.
     fn exchange<L: Link>(&mut self, link: &mut L, command: &Command<'_>) -> Result<Reply, HostFault>
         requires { FitsFrame command.now }
         ensures { ReturnsReply L.Link (exchange command.now) command.now self.old self.new link.old link.new result }

@@ -10,8 +10,8 @@ use std::marker::Model;
 /// Wraps a link, fails at one call, and cuts what passes into short pieces.
 ///
 /// Calls of `send` and `recv` are counted together from 1. The chosen call returns [`LinkFault::Failed`], counts as a
-/// failure and changes nothing else. All other calls go to the inner link: `send` with at most `cut` bytes,
-/// `recv` with a buffer of at most `cut` bytes.
+/// failure and changes nothing else. All other calls go to the inner link: `send` with at most `cut` bytes, `recv` with
+/// a buffer of at most `cut` bytes.
 ///
 /// ```text
 /// let tape = TapeLink::new(alloc, Vec::new(alloc), 281);
@@ -44,8 +44,8 @@ impl<L> Model for FailingLink<L> {
 }
 
 impl<L> FailingLink<L> {
-    /// Wraps `inner`, in pieces of at most `cut` bytes, so that call `n` fails. Calls are counted from 1; if
-    /// `n` is 0, none fails. `cut` must be at least 1.
+    /// Wraps `inner`, in pieces of at most `cut` bytes, so that call `n` fails. Calls are counted from 1; if `n` is 0,
+    /// none fails. `cut` must be at least 1.
     ///
     /// ```text
     /// let tape = TapeLink::new(alloc, Vec::new(alloc), 281);

@@ -42,7 +42,7 @@ impl StepFault {
 /// ```text
 /// let fault = HostFault::Differs(Mem::Eeprom, 0x10, 0x55, 0xFF);
 /// assert_eq!(rt; (fault.number(), fault.command_name()), (8, None));
-/// // a line on which nobody replies
+/// // a link over which nobody replies
 /// let part = Parts::none().find("m328p")?;
 /// let mut silent = TapeLink::new(alloc, vec![in alloc; Item::Silence; 8]?, 281);
 /// assert_eq!(rt; Host::new(part).open(&mut silent, false), Err(HostFault::NoAnswer));

@@ -70,6 +70,7 @@ impl Model for Host {
     ghost invariant = { λ host. length host.conversation.progress.unread ≤ LARGEST_FRAME };
 }
 
+/// Returns the signature found, if it is the wanted one or any is accepted.
 fn check_signature(
     wanted: [u8; 3],
     force: bool,
@@ -85,6 +86,7 @@ fn check_signature(
     }
 }
 
+/// Empties the vector after a fault.
 fn clear_on_fault(outcome: &Result<(), HostFault>, out: &mut Vec<u8>)
     ensures { out.new.items ≡ emptied_on_fault outcome.now out.old.items }
 {
@@ -93,6 +95,7 @@ fn clear_on_fault(outcome: &Result<(), HostFault>, out: &mut Vec<u8>)
     }
 }
 
+/// Compares the bytes of a memory with an image, if they were read.
 fn compare_if_read(
     taken: Result<(), HostFault>,
     mem: Mem,
@@ -106,6 +109,7 @@ fn compare_if_read(
     compare(mem, image, found)
 }
 
+/// Returns the fault, if every later call has to return it, too.
 fn lasting<T>(outcome: &Result<T, HostFault>) -> Option<HostFault>
     ensures { result ≡ lasting_fault outcome.now }
 {

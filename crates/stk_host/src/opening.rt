@@ -10,6 +10,7 @@ use crate::fault::HostFault;
 use crate::link::Link;
 use stk_frame::Command;
 
+/// Reads one byte of the signature.
 fn signature_byte<L: Link>(
     talk: &mut Conversation,
     link: &mut L,
@@ -35,6 +36,7 @@ pub(crate) fn begin<L: Link>(talk: &mut Conversation, link: &mut L) -> Result<[u
     Ok([first, second, third])
 }
 
+/// Leaves programming mode.
 pub(crate) fn end<L: Link>(talk: &mut Conversation, link: &mut L) -> Result<(), HostFault>
     ensures { Converses L.Link (EndsSteps (step (leave ∷ [])) (λ done. [])) talk.old talk.new link.old link.new result }
 {

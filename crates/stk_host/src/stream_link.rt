@@ -77,6 +77,7 @@ fn put_bytes<W: Outlet>(writer: &mut W, bytes: &[u8], history: &mut History) -> 
     }
 }
 
+/// Reads once. If the read times out or would block, a timeout is received.
 fn receive_bytes<R: Inlet>(reader: &mut R, buffer: &mut [u8]) -> io::Result<Heard>
     requires { 0 < length buffer.old }
     ensures within { IfOk result (λ heard. FitsBuffer heard (length buffer.new)) }

@@ -13,8 +13,8 @@ use std::marker::Model;
 
 /// A link that gives the items of a tape in order, and keeps the transcript.
 ///
-/// `send` takes at most `cut` bytes, and `recv` gives at most `cut`. A timeout or an end comes alone.
-/// After the last item every `recv` gives an end. The link fails only if allocation for the transcript fails.
+/// `send` takes at most `cut` bytes, and `recv` gives at most `cut`. A timeout or an end comes alone. After the last
+/// item every `recv` gives an end. The link fails only if allocation for the transcript fails.
 ///
 /// ```text
 /// let mut link = TapeLink::new(alloc, vec![in alloc; Item::Silence; 1]?, 281);
@@ -48,6 +48,7 @@ impl Model for TapeLink {
     ghost invariant = { λ link. (0 < link.cut) × (link.at ≤ length link.items.items) };
 }
 
+/// Returns the byte at a place of the tape, if there is one.
 fn byte_at(tape: &[Item], place: usize) -> Option<u8>
     ensures { result ≡ byte_of (slice_get tape.now place) }
 {
@@ -86,6 +87,7 @@ fn give_piece(tape: &[Item], buffer: &mut [u8]) -> Heard
     }
 }
 
+/// Returns how many items of the tape were received.
 fn item_count(heard: Heard) -> usize
     ensures { (buffer : List ℕ) → FitsBuffer heard (length buffer) → result ≡ length (items_of heard buffer) }
 {

@@ -24,6 +24,7 @@ fn place_count(part: &Part, mem: Mem) -> u32
     }
 }
 
+/// The most bytes of a page.
 const LARGEST_PAGE: usize = 256;
 
 fn flash_page(part: &Part) -> usize
@@ -74,6 +75,7 @@ fn program_run<L: Link>(
     play_step(talk, link, &Some(load), &program)
 }
 
+/// Returns whether a run begins here: at a byte after a gap, or at the first byte of a page.
 fn begins_run(page: u32, image: &Image, addr: u32) -> bool
     requires { 0 < page }
     ensures { result ≡ begins_run page image.now addr }
@@ -132,6 +134,7 @@ fn write_places<L: Link>(
     Ok(())
 }
 
+/// Writes a fuse, if the image has its byte.
 fn write_fuse<L: Link>(
     talk: &mut Conversation,
     link: &mut L,
