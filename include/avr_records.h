@@ -88,7 +88,7 @@ struct avr_records_cursor {
 
 /* How much of a file was put, or how long it is; valid if `fault` is 0. */
 struct avr_records_piece {
-    size_t length; /* in bytes; at the file's end less than the room takes, or 0 */
+    size_t length; /* in bytes; at the file's end fewer than the buffer takes, or 0 */
     uint8_t fault; /* 0, or the number of the fault */
 };
 
@@ -108,20 +108,20 @@ struct avr_records_outcome avr_records_read(uint8_t format, const uint8_t *file,
                                             uint8_t *bytes, size_t size, uint8_t *present, size_t octets);
 
 /*
- * Puts the next piece of a memory's file, in a format (AVR_RECORDS_IHEX or _SREC), into a room: as many bytes as the
- * room takes, or as are left. The cursor keeps the position in the file; at the beginning it is AVR_RECORDS_START. So
- * the pieces of calls with one cursor, joined, are the file, whatever their rooms. A piece shorter than its room is
- * the last one.
+ * Puts the next piece of a memory's file, in a format (AVR_RECORDS_IHEX or _SREC), into the buffer `room`: as many
+ * bytes as the buffer takes, or as are left. The cursor keeps the position in the file; at the beginning it is
+ * AVR_RECORDS_START. So the pieces of calls with one cursor, joined, are the file, whatever the sizes of the buffers. A
+ * piece that is shorter than its buffer is the last one.
  *
- * A call allocates nothing. It takes the time of the bytes that it puts, of the gap before them, and of a line that a
- * room cut, which is made again. At the beginning S-records also need the address of the memory's last byte.
+ * A call allocates nothing. It takes the time of the bytes that it puts, of the gap before them, and of a line that the
+ * last buffer cut, which is made again. At the beginning S-records also need the address of the memory's last byte.
  *
  * The file has the bytes that the bitmap marks, in records of at most 32 bytes, and the end record. It has no header
  * and no start address, which is 0 in the end record of S-records.
  *
  * AVR_RECORDS_MISFIT: the format is another one, the memory has 2 to the power 32 bytes or more, the bitmap doesn't
  * have AVR_RECORDS_BITMAP(size) octets, or the cursor is invalid. It is invalid if `ended` is above 1, or for
- * AVR_RECORDS_SREC if `address_size` is 1 or above 4. Room and cursor are then unchanged. A cursor that was otherwise
+ * AVR_RECORDS_SREC if `address_size` is 1 or above 4. Buffer and cursor are then unchanged. A cursor that was otherwise
  * changed, or comes from another memory or format, is taken by its numbers: the result may be no file, but all else
  * that this header states holds.
  */
@@ -130,9 +130,9 @@ struct avr_records_piece avr_records_write(uint8_t format, const uint8_t *bytes,
                                            struct avr_records_cursor *cursor, uint8_t *room, size_t length);
 
 /*
- * Returns the length in bytes of a memory's file, in a format (AVR_RECORDS_IHEX or _SREC), to get a room for all of
- * it. The fault is AVR_RECORDS_MISFIT for the same arguments as in avr_records_write; the length is then 0. A call
- * allocates nothing and takes the time of writing the file.
+ * Returns the length in bytes of a memory's file, in a format (AVR_RECORDS_IHEX or _SREC), to get a buffer for the
+ * whole file. The fault is AVR_RECORDS_MISFIT for the same arguments as in avr_records_write; the length is then 0. A
+ * call allocates nothing and takes the time of writing the file.
  */
 struct avr_records_piece avr_records_length(uint8_t format, const uint8_t *bytes, size_t size,
                                             const uint8_t *present, size_t octets);
@@ -141,9 +141,9 @@ struct avr_records_piece avr_records_length(uint8_t format, const uint8_t *bytes
 #define AVR_RECORDS_FAULT_TEXT 40
 
 /*
- * Puts the ASCII text of a fault's number and a 0 into a room, and returns the number of chars of the text without
- * the 0. A room that is too small gets as much of the text as leaves space for the 0; if `length` is 0, it gets
- * nothing. The text of 0 is "no fault", that of an unknown number "no fault of this number".
+ * Puts the ASCII text of a fault's number and a 0 into the buffer `room`, and returns the number of chars of the text
+ * without the 0. A buffer that is too small gets as much of the text as leaves space for the 0; if `length` is 0, it
+ * gets nothing. The text of 0 is "no fault", that of an unknown number "no fault of this number".
  */
 size_t avr_records_fault_text(uint8_t fault, char *room, size_t length);
 

@@ -2,7 +2,7 @@
 """Runs AVRDUDE 7.1 as a client of the programmer that `avrstk --serve` emulates. AVRDUDE's writes, reads and erases
 must have the same results as this program's over `emu:`.
 
-Not proved: AVRDUDE is a program of others.
+Not proved: No proof covers AVRDUDE, which is not part of this project.
 
     tests/avrdude.py [CASE ..]    needs a built program (program.py) and AVRDUDE 7.1; without it all is left out
 
@@ -163,7 +163,7 @@ class Beside:
 
 
 def all_of(name):
-    """Makes all requests to a part in turn, each to the chip that the one before left."""
+    """Runs AVRDUDE's requests to a part one after another, each over the chip that the one before left."""
     if not has_avrdude():
         return leave_out(f"AVRDUDE as the client of --serve, {name}", "AVRDUDE 7.1 is not installed")
     beside = Beside(name)

@@ -1,8 +1,8 @@
 #!/usr/bin/env python3
-"""Makes 150 runs to the served programmer, as two processes at the ends of a bad link. The random generators have fixed
-seeds.
+"""Makes 150 runs of the built program against a served programmer, over links that lose, cut, delay or change frames.
+The random generators have fixed seeds.
 
-Not proved: No theorem says that two processes and their sockets are such a link, or how often a run succeeds.
+Not proved: No theorem says that sockets between two processes are such a link, or how often a run over them succeeds.
 
     tests/bad_lines.py [CASE ..]    needs a built program (program.py)
 
@@ -165,13 +165,13 @@ def holds(name, plan, status, told, is_forged, served, chip):
 
 
 def drawn(rate, kinds):
-    """By chance, at a rate in percent, frames come late, or are cut, lost or changed. Returns what draws the fates of a
-    run."""
+    """A given percentage of the frames, drawn at random, come late, or are cut, lost or changed. Returns what draws the
+    fates of a run."""
     return lambda draw: lambda number: draw.choice(kinds) if draw.random() < rate / 100 else ""
 
 
 def lagging(draw):
-    """From a drawn exchange on, each reply comes late. Returns the fates of a run."""
+    """From an exchange on that is drawn at random, each reply comes late. Returns the fates of a run."""
     first = draw.randint(1, 40)
     return lambda number: "late answer" if number >= first else ""
 
@@ -212,7 +212,8 @@ def runs_over(name, kind):
 
 
 def as_many_succeed():
-    """Checks how many runs succeeded. On a busy machine a pause can spoil some."""
+    """Checks that as many runs over each kind of link succeeded as expected. On a busy machine a pause can spoil
+    some."""
     for name, kind in ((name, it) for name, it in KINDS.items() if it.good):
         if name not in SUCCEEDED:
             runs_over(name, kind)

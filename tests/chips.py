@@ -1,6 +1,6 @@
 #!/usr/bin/env python3
-"""Tests that a chip file is whole, and used by one run at a time. Whatever ends a run, the file is the old one or the
-new one.
+"""Tests that a chip file is always whole, and that only one run at a time uses it. Whatever ends a run, the file is the
+old one or the new one.
 
 Not proved: The proofs assume how the system's calls on files behave, also in a crash of the system.
 
@@ -47,6 +47,7 @@ IS_ROOT = os.geteuid() == 0
 
 
 def fresh_room(mode=0o640):
+    """Puts the old chip file into an empty folder."""
     room.clear()
     room.put("chip.bin", OLD)
     CHIP.chmod(mode)
@@ -103,8 +104,9 @@ def is_safe(what, old, status, calls):
 
 
 def each_power_cut():
-    """After each call of a run a power cut leaves the old chip or the new one, and after status 0 the new one. This
-    holds too if a call fails, or finds no file or no descriptor. It wouldn't hold if one of both syncs were missing."""
+    """After each system call of a run a power cut leaves the old chip or the new one, and after status 0 the new one.
+    This holds too if a call fails, or finds no file or no descriptor. It wouldn't hold if one of both syncs were
+    missing."""
     for prepare, old in STARTS:
         new, what = with_fuse(old, 0x62), f"chip {bool(old)}"
         status, _, calls = traced(prepare, writes_fuse(0x62))
@@ -124,8 +126,8 @@ def each_power_cut():
 
 
 def ended_anywhere():
-    """Ends a run at each of its calls in turn. The chip is then the old one or the new one with its permissions, and
-    the next run works as usual."""
+    """Ends a run at each of its system calls in turn: the chip file stays whole. The chip is then the old one or the
+    new one with its permissions, and the next run works as usual."""
     for prepare, old in STARTS:
         left = set()
         for call in traced(prepare, writes_fuse(0x62))[2]:
@@ -138,10 +140,9 @@ def ended_anywhere():
 
 
 def others_meanwhile():
-    """While a run syncs its new file, another program changes which file is there. It puts one in the place of the chip
-    or of the new file, or removes one: the run fails, and what is there stays. So does a chip that is put where none
-    was, however late. The old chip isn't open when it is replaced, because some file systems hide an open file before
-    that."""
+    """While a run syncs its new file, another program replaces or removes the chip file or the new file. The run then
+    fails, and what is there stays. So does a chip that is put where none was, however late. The old chip isn't open
+    when it is replaced, because some file systems hide an open file before that."""
 
     def put(path):
         room.put("put", b"mine")
@@ -167,8 +168,8 @@ def others_meanwhile():
 
 
 def reads_on_the_disk():
-    """A file that a read makes is synced before its line is printed, and a failed sync is a failed write. A file system
-    that syncs no files or folders is no failure."""
+    """A file that a memory was read into is synced before the read's line is printed; a failed sync counts as a failed
+    write. A file system that syncs no files or folders is no failure."""
     failed = (1, lines(SIGNATURE, "error: out.bin: cannot be written"))
     good = (0, lines(SIGNATURE, "eeprom: 1024 bytes read", "done"))
     # (the new chip is synced between the two)
@@ -209,7 +210,7 @@ def held_by_a_run():
 
 
 def held_by_a_session():
-    """A served session holds the chip; before a client connects, other runs may use it."""
+    """A served session locks the chip file; before a client connects, other runs may use it."""
     fresh_room()
     with Server(room, "chip.bin") as server:
         is_good("a run before a caller comes", room.run(writes_fuse(0x62)))
@@ -223,8 +224,8 @@ def held_by_a_session():
 
 
 def without_a_lock():
-    """The lock file of a waiting run is removed, and another run starts. The one that saves first ends well, and the
-    other one fails: what a run with status 0 saved isn't lost."""
+    """If the lock file of a waiting run is removed, another run starts, and of both only the one that saves first ends
+    well. The other one fails: what a run with status 0 saved isn't lost."""
     for prepare, old in STARTS:
         prepare()
         with waiting(["-U", "lfuse:w:0x11:m"], last=(1, UNWRITABLE)):
@@ -319,8 +320,8 @@ def as_nobody():
 
 
 def what_stays():
-    """A run is refused if the chip or its folder may not be written; a folder that may be written and not read is no
-    obstacle. A chip keeps its permissions, without setuid, setgid and the sticky bit, and its owner and group if the
+    """A run is refused if the chip file or its folder may not be written; a folder that may be written but not read is
+    no obstacle. A chip keeps its permissions, without setuid, setgid and the sticky bit, and its owner and group if the
     system allows it; any other group gets what everyone had. A symbolic link to it stays a link. What an ended run of
     another user's left blocks no run, and what a link of the new file's name leads to stays as it is."""
     # the modes of the chip, of its folder and of the new chip if there is one; the chip's group; who runs
@@ -366,7 +367,7 @@ if true <"$it"; then echo "$it"; fi; done; done 2>/dev/null"""
 
 
 def another_user():
-    """Another user watches a chip of mode 600 whose owner runs with umask 000. He opens neither it nor the new file. A
+    """Another user can open neither a chip file of mode 600 nor its new file, even if the owner's run has umask 000. A
     lock file of his in a sticky folder blocks no run. A new file of his makes the run fail, and the old chip stays."""
     if not IS_ROOT:
         return leave_out("another user beside a chip", "this isn't root")

@@ -1,8 +1,8 @@
 #!/usr/bin/env python3
-"""Compares what docs/CHECK and CONTRIBUTING quote with the sources, and the sum of the logic in documents with the
-kit's.
+"""Compares what docs/CHECK and CONTRIBUTING quote with the sources, and the logic's checksum in documents with that of
+the kit.
 
-Not proved: Documents are not code.
+Not proved: No proof covers documents.
 
     tests/documents.py
 """
@@ -77,7 +77,7 @@ CONDITIONS = (
 
 
 def the_conditions():
-    """Each document that states the promise states all its conditions, in the same words."""
+    """Each document that states the promise states all of its conditions, in the same words."""
     for page in sorted([TOP / "README.md", *TOP.glob("docs/*.md"), *TOP.glob("crates/*/README.md")]):
         words = " ".join(page.read_text().split()).lower()
         if CONDITIONS[0] in words or page.name in ("PROOFS.md", "TROUBLESHOOTING.md", "WHY.md") or page == TOP / "README.md":
@@ -85,7 +85,7 @@ def the_conditions():
 
 
 def files_of_recipes():
-    """The files that CONTRIBUTING's table of changes names are there, each in the crate named before it."""
+    """The files that CONTRIBUTING's table of changes names exist, each in the crate named before it."""
     rows = re.search(r"^\| Change \| Files \|.*?\n\n", text("CONTRIBUTING.md"), re.M | re.S)[0]
     crates = {it.name for it in (TOP / "crates").iterdir()}
     crate = None

@@ -3,7 +3,7 @@
 exchanges record files with other programs. These are srec_cat, avr-objcopy and python3-intelhex. Without a C compiler
 all is left out. AVR_RECORDS_C may name a folder for the library, which is built there if it has none.
 
-Not proved: C, Python and other programs are outside of the proofs.
+Not proved: No proof covers programs in C and Python, or programs of others.
 
     tests/from_c.py [CASE ..]
 
@@ -123,6 +123,7 @@ def comes_back(library, file, image, size):
 
 
 def files_come_back(library):
+    """Example files and an empty one are read and written by the library, and read back unchanged."""
     for name in ("blink.hex", "blink.srec", "eeprom.hex"):
         file = TOP / "examples" / name
         image = image_of(file.read_bytes())
@@ -150,6 +151,7 @@ def typed_as_shown(library):
 
 
 def images_come_back(library):
+    """Random images with gaps are read and written by the library, and read back unchanged."""
     for seed in range(IMAGES):
         file = library.folder / f"seed {seed}"
         image, size, text = drawn(seed)
@@ -171,6 +173,7 @@ def pieces_join(library):
 
 
 def lengths_are_told(library):
+    """avr_records_length returns the length of the file that is then written."""
     records, loaded = library.in_python()
     for seed, image, size, _ in small_images():
         data, present = bytearray(size), bytearray((size + 7) // 8)
@@ -198,8 +201,7 @@ def time_is_linear(library):
 
 
 def cursors_are_judged(library):
-    """A cursor's fields are where the header has them: a number that no call leaves is refused, with the cursor
-    unchanged."""
+    """A cursor that no call leaves is refused and stays unchanged. A cursor's fields are where the header has them."""
     records, loaded = library.in_python()
     for kind, size, ended, fault in [(1, 5, 0, 0), (1, 0, 2, 11), (2, 5, 0, 11), (2, 4, 1, 0), (2, 3, 2, 11)]:
         lent = [it for held in (b"\x0a", b"\x01") for it in records.lent(bytearray(held))]
@@ -210,6 +212,7 @@ def cursors_are_judged(library):
 
 
 def faults_are_told(library):
+    """Damaged files are refused with the expected fault, from C and from Python."""
     file = library.folder / "damaged"
     for text, size, told in table("damaged"):
         told = told.replace("FILE", str(file))
@@ -221,6 +224,7 @@ def faults_are_told(library):
 
 
 def sizes_are_judged(library):
+    """The C program refuses sizes that are no numbers or too large."""
     file = TOP / "examples/blink.hex"
     for size in ("", "-1", " 5", "5x", "4294967296", "18446744073709551616"):
         same(f"size '{size}'", library.refused(file, size, "ihex"), (2, "", f"usage: {USAGE}\n"))
@@ -278,15 +282,18 @@ def only_its_calls_are_seen(library):
 
 
 def by_srec_cat(given, kind, to, made):
+    """Converts a record file with srec_cat."""
     names = {"ihex": "-intel", "srec": "-motorola"}
     subprocess.run(["srec_cat", given, names[kind], "-o", made, names[to]], check=True, capture_output=True)
 
 
 def by_objcopy(given, kind, to, made):
+    """Converts a record file with avr-objcopy."""
     subprocess.run(["avr-objcopy", "-I", kind, "-O", to, given, made], check=True)
 
 
 def by_intelhex(given, kind, to, made):
+    """Reads a file and writes it again with python3-intelhex."""
     held = IntelHex(str(given))
     held.write_hex_file(str(made), write_start_addr=False)
 

@@ -86,7 +86,7 @@ def descriptors_are_closed():
 
 
 def closed_streams_stay_closed():
-    """No file or connection takes the number of a closed stream: only frames go over the link."""
+    """No file or connection gets the number of a closed standard stream, so only frames go over the link."""
     for closed, status in [("0<&-", 0), ("1>&-", 0), ("2>&-", 1), ("0<&- 1>&- 2>&-", 1)]:
         peer = FrontOfAnswers(ANSWERS, resets=False)
         found = room.run(["-p", "m328p", "-P", f"net:127.0.0.1:{peer.port}"], closed=closed)
@@ -260,6 +260,7 @@ def a_silence_is_a_second_without_a_byte():
 
 
 def standard_streams_that_do_not_block():
+    """Over standard input that doesn't block, avrstk sends its eight frames at once, and ends with `no answer`."""
     here, other = os.pipe()
     fcntl.fcntl(here, fcntl.F_SETFL, fcntl.fcntl(here, fcntl.F_GETFL) | os.O_NONBLOCK)
     begun = time.monotonic()
@@ -308,7 +309,7 @@ def replies_to(caller, *bodies):
 
 
 def ended_from_outside():
-    """A chip is saved only if a run comes to its end."""
+    """Ends runs by signals: a chip is saved only if its run comes to its end."""
     room.clear()
     with Server(room, "chip.bin") as server, server.call() as caller:
         same("a fuse is written", [*replies_to(caller, ENTER, bytes.fromhex("17ACA000E2"))], [b"\x10\0", b"\x17\0\0"])

@@ -2,7 +2,7 @@
 """Makes the built program print each line that a user can meet, and compares it with docs/TROUBLESHOOTING. Checks that
 no line there is left out.
 
-Not proved: No proof shows the text of a line, byte for byte, as a user sees it, or how many writes it takes.
+Not proved: No proof shows each byte of a line as a user sees it, or how many writes print a line.
 
     tests/lines.py [CASE ..]      needs a built program (program.py)
 """
@@ -60,6 +60,7 @@ def refused(what, words, told, **more):
 
 
 def settings_are_refused():
+    """Command lines with wrong or missing settings are refused, each with its line."""
     for words, told in table("settings"):
         words = shlex.split(words)
         refused(f"{words}", words, told)
@@ -93,6 +94,7 @@ def words_are_refused():
 
 
 def images_are_refused():
+    """Image files with a fault are refused, each with its line."""
     for update, content, told in table("images"):
         if content:
             room.keep(update.split(":")[2], bytes_of(content))
@@ -116,6 +118,7 @@ def images_are_taken():
 
 
 def part_files():
+    """Part files with a fault are refused, each with its line, and the longest part file is read."""
     good = (TOP / "examples/parts.toml").read_text()
     name = re.search(r"\[parts\.(\S+)\]", good).group(1)
 
@@ -135,6 +138,7 @@ def part_files():
 
 
 def chip_files():
+    """Chip files that are too short or too long are refused."""
     refused("a short chip file", EMULATED, f"chip.bin: 100 bytes, {CHIP_FILE} expected", chip=bytes(100))
     refused("a long chip file", EMULATED, f"chip.bin: longer than {IMAGE_LIMIT} bytes", chip=bytes(IMAGE_LIMIT + 1))
 
@@ -153,6 +157,7 @@ def nothing_is_written():
 
 
 def answers_are_bad():
+    """Wrong replies, refusals and noise lead to the expected line and number of frames."""
     cases = [("4,096 bytes four times", "", bytes(4 * 4096), "error: no answer in 4096 bytes", 5)]
     for name, words, replies, told, frames in table("replies"):
         numbered = (it.split(":") for it in replies.split())
@@ -172,6 +177,7 @@ class Elsewhere(FrontOfAnswers):
 
 
 def the_named_host_is_called():
+    """`net:` connects to the host that it names, and sends the frames there."""
     peer = Elsewhere(ANSWERS, resets=False)
     run("another host", [*PART, "-P", f"net:127.0.0.2:{peer.port}"], [SIGNATURE, DONE], 0)
     same("what it received", peer.end(), FRAMES)
@@ -210,6 +216,7 @@ def nobody_else_is_called():
 
 
 def ports_are_refused():
+    """A port that is in use, and a port at which no process listens, give their lines."""
     with socket.create_server(("127.0.0.1", 0)) as other:
         taken = other.getsockname()[1]
         chip = ["--serve", str(taken), "--chip", "chip.bin"]
@@ -266,7 +273,7 @@ def runs_share_a_log():
 
 
 def each_line_was_met():
-    """Checks that each line of the table of messages was met above, or by another script. So this case is the last."""
+    """Checks that this script or another one met each line of the table of messages. So this case is the last."""
     for name in [it for it in CASES if it not in chosen(CASES)]:
         CASES[name]()
     page = (TOP / "docs/TROUBLESHOOTING.md").read_text()

@@ -1,11 +1,12 @@
 #!/usr/bin/env python3
-"""Shows what the theorem doesn't cover. One link forges a frame. It loses, changes and repeats nothing, but pauses once
-inside a reply. That reply carries bytes of the chip that look like replies to the retried commands. The verified run
-ends with status 0, but the chip has another byte than the image. A second link damages one byte, the size of a frame,
-and forges no frame: the programmer takes the following bytes as the rest of that frame, and the run ends with an error.
-A third one brings a reply of an earlier run, and a chip has less flash than its part is said to have.
+"""Makes runs that the promise doesn't cover, such as runs over a link that forges a frame. That link loses, changes and
+repeats nothing, but pauses once inside a reply. That reply carries bytes of the chip that look like replies to the
+retried commands. The verified run ends with status 0, but the chip has another byte than the image. A second link
+damages one byte, the size of a frame, and forges no frame: the programmer takes the following bytes as the rest of that
+frame, and the run ends with an error. A third one brings a reply of an earlier run, and a chip has less flash than its
+part is said to have.
 
-Not proved: The theorem says nothing about these links.
+Not proved: The promise says nothing about these runs.
 
     tests/made_frames.py       needs a built program (program.py)
 """
@@ -100,8 +101,8 @@ def reply_to_read(number):
 
 
 def a_verified_run_is_wrong():
-    """The chip has another byte than the image or the file. An image is compared; one is written to flash that isn't
-    erased and so can't take the byte; a file is read."""
+    """A run ends with status 0 although the chip has another byte than the image or the file. An image is compared; one
+    is written to flash that isn't erased and so can't take the byte; a file is read."""
     for name, first, read, words, told in [
         ("compared", 0xAA, 7, ["-U", "flash:v:image.hex:i"], ["flash: 1 bytes verified"]),
         ("written", 0x50, 9, ["-D", "-U", "flash:w:image.hex:i"], ["flash: 1 bytes written", "flash: 1 bytes verified"]),

@@ -1,7 +1,7 @@
 #!/usr/bin/env python3
 """Compares the man pages with the manual (docs/USAGE, EMULATOR, TROUBLESHOOTING, BOARDS), and both with the programs.
 
-Not proved: Documents and man pages are not code.
+Not proved: No proof covers documents and man pages.
 
     tests/manual.py [CASE ..]  docs/*.1 and *.7 have the manual's text, a man page's sections, and every option of --help;
                                mandoc and groff give no warning; USAGE, the completions and docs/PART name the options and
@@ -70,8 +70,8 @@ def shown_runs(file):
 
 
 def differences_hold():
-    """USAGE's differences from AVRDUDE that single runs can show are so. (tests/lines.py has the lines of -C, a device
-    and ELF.)"""
+    """The differences from AVRDUDE that docs/USAGE lists are true, as far as single runs can show. (tests/lines.py has
+    the lines of -C, a device and ELF.)"""
     usage = USAGE.read_text()
     table = re.search(r"^ +\$ cat parts.toml\n((?: +.*\n)+?) +\$ avrstk", usage, re.M)[1]
     byte, end = re.search(r"`(:0100.*?)` and\s+then\s+`(:.*?)`", usage).groups()
@@ -199,7 +199,8 @@ def names_agree():
 
 
 def version_agrees():
-    """The help and the newest changes have the version in VERSION. (tests/from_c.py has that of the header for C.)"""
+    """The help and the newest entry of CHANGELOG have the version in VERSION. (tests/from_c.py has that of the header
+    for C.)"""
     _, shown = of_help()
     see("--help shows the version", f"This is avrstk {VERSION}." in " ".join(shown.split()), shown[-200:])
     newest = re.search(r"^## ([0-9.]+)", (TOP / "CHANGELOG.md").read_text(), re.M)[1]
@@ -207,10 +208,12 @@ def version_agrees():
 
 
 def runs_of_readme():
+    """README's runs over `emu:` print what README shows."""
     shown_runs("README.md")
 
 
 def runs_of_manual():
+    """The manual's runs over `emu:` print what the manual shows."""
     for file in MANUAL:
         shown_runs(file.relative_to(TOP))
 

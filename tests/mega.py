@@ -2,7 +2,7 @@
 """Tests a programmer that is not this project's own: the Arduino Mega 2560's bootloader from Debian's package, on an
 ATmega2560 simulated by simavr (mega.c), behind `net:`.
 
-Not proved: The bootloader and the simulator are programs of others.
+Not proved: No proof covers the bootloader and the simulator, which are programs of others.
 
     tests/mega.py [CASE ..]    needs a built program (program.py); cc, and the Debian packages
                                libsimavr-dev and arduino-core-avr; without them all is left out
@@ -182,7 +182,7 @@ def eeprom():
 
 
 def refused():
-    """A request that this bootloader doesn't support ends the run, and the flash stays."""
+    """A request that this bootloader doesn't support ends the run, and leaves the flash unchanged."""
     image = drawn("small", 1_000)
     asked = {
         "an erase": (["-e"], "12"),

@@ -3,7 +3,7 @@
 of both clones are identical. They contain what install.sh installs and name their sources. They can be installed, run
 and removed.
 
-Not proved: Scripts of the shell and Debian's package tools are not Rattle.
+Not proved: No proof covers shell scripts and Debian's package tools.
 
     tests/package.py [CASE ..]
 """
@@ -237,7 +237,7 @@ def runs(prefix, folder):
 
 
 def documents_are_the_packages_own():
-    """The package's README has about twenty lines, and types commands that work outside a clone. Every link leads to a
+    """The package's README has about twenty lines, and its commands work outside a clone. Every link leads to a
     document of the package, and to a heading there."""
     clone = copy.copy(made()[0])
     with tempfile.TemporaryDirectory() as folder:
@@ -296,6 +296,7 @@ def archive_runs_anywhere():
 
 
 def lintian_finds_no_error():
+    """Debian's lintian finds no error in the packages."""
     if not shutil.which("lintian"):
         return leave_out("the packages as lintian judges them", "lintian is not installed")
     debs = sorted(made()[0].made.glob("*.deb"))

@@ -5,7 +5,7 @@ The program loads each name. AVRDUDE writes flash, EEPROM and fuses of a dozen p
 same as after the program's own run over `emu:`. Holds the two other files of parts/ to their sources: bits.txt to
 AVRDUDE's configuration, and unsupported.txt to docs/PARTS.
 
-Not proved: The part files are made from sources of others.
+Not proved: No proof shows that a part file describes real parts.
 
     tests/parts.py [CASE ..]  needs a built program (program.py); checks that need avrdude, or avr-gcc
                               with avr-libc, are left out without them
@@ -42,8 +42,8 @@ HEAD = """\
 
 HEAD_OF_BITS = """\
 # The bits that the fuses and the lock of the parts in classic.toml have: lfuse, hfuse, efuse, lock. Made by
-# tests/parts.py --write of the write instructions in the configuration of AVRDUDE 7.1. A part reads the others as 1.
-# A memory whose other bits are read as 0 there has a dash.
+# tests/parts.py --write of the write instructions in the configuration of AVRDUDE 7.1. A part reads its other bits as 1.
+# A dash stands for a memory whose other bits are read as 0.
 """
 HEAD_OF_UNSUPPORTED = """\
 # Parts that classic.toml doesn't have, with the reason. Made by tests/parts.py --write of docs/PARTS.
@@ -214,7 +214,7 @@ def made_unsupported():
 
 
 def files_of_parts():
-    """The files of parts/ are as they are made of their sources, and docs/PARTS has each part, or why it isn't in."""
+    """The files of parts/ are what their sources give, and docs/PARTS lists each part, or why it is left out."""
     same("unsupported.txt, of docs/PARTS", UNSUPPORTED.read_text(), made_unsupported())
     if not has_sources():
         return
@@ -229,8 +229,8 @@ def files_of_parts():
 
 
 def loaded():
-    """The program loads each name: it reads the part's signature from a chip of its sizes. A run checks its whole part
-    file, so only two names get the whole file, and the others their own line."""
+    """For each part name in parts/classic.toml the program reads the part's signature from a chip of its sizes. A run
+    checks its whole part file, so only two names get the whole file, and the others their own line."""
     room = Room()
     file = tomllib.loads(CLASSIC.read_text())["parts"]
     for name, it in sampled("names of parts", 40, file.items()):
@@ -264,7 +264,7 @@ def has_sources():
 
 
 def sessions():
-    """AVRDUDE, by `--serve`, and the program, over `emu:`, write the same to each of a dozen parts."""
+    """AVRDUDE over `--serve` and the program over `emu:` leave the same chip, for each of a dozen parts."""
     if not has_sources():
         return
     parts, _ = sources()
@@ -277,7 +277,7 @@ def sessions():
 
 
 def write():
-    """Writes the file, and prints which parts are not in it and why."""
+    """Writes the files of parts/, and prints which parts are left out, and why."""
     if not has_sources():
         return 1
     parts, without = sources()

@@ -1,8 +1,8 @@
 #!/usr/bin/env python3
-"""Runs the commands of README and of the manual as typed, in a fresh clone after README's first command. Each ends with
-status 0, none starts a build, and git sees no file that they made.
+"""Runs the commands of README and of the manual as they are printed, in a fresh clone after README's first command.
+Each ends with status 0, none starts a build, and git sees no file that they made.
 
-Not proved: Documents and the shell are not Rattle.
+Not proved: No proof covers documents and the shell.
 
     tests/recipes.py [CASE ..]      needs a built program (program.py), used as the clone's unproved program; commands with
                                     AVRDUDE are left out without AVRDUDE 7.1, and those with srec_cmp without srecord
@@ -186,8 +186,7 @@ def in_place_of_avrdude(clone):
 
 
 def jobs(clone):
-    """Runs the recipes for jobs of docs/EMULATOR: GitLab's and GitHub's steps, after the installation, and pytest's
-    fixture."""
+    """Runs the recipes of docs/EMULATOR for GitLab, GitHub and pytest, after the installation."""
     clone.types(["./install.sh ~/.local"])
     text = (TOP / "docs/EMULATOR.md").read_text().split("### Recipes for jobs")[1]
     gitlab, github, fixture = [textwrap.dedent(it) for it in re.findall(r"(?:^(?:    (?!\$ ).*)?\n)+", text, re.M) if it.strip()]

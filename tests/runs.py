@@ -4,7 +4,7 @@ the chip at the end. Each run is made over `emu:`, and again over TCP to the ser
 runs are made over bad links. (tests/rattle/runs_over_wires.rs has other faults of a link, and bad_lines.py has drawn
 ones.)
 
-Not proved: The compiled program and the system's files and sockets are outside of the proofs.
+Not proved: Proofs are about the sources, not about the compiled program or the system's files and sockets.
 
     tests/runs.py [CASE ..]        needs a built program (program.py)
 """

@@ -4,7 +4,7 @@ takes, ignores or refuses, and each hint after a failed run. Covers boards that 
 reply or send other data, and signals. Runs the recipes of docs/USAGE for a serial link as they are printed there
 (recipes.py has those with a `$`).
 
-Not proved: avrstk-serial is Python over serial devices.
+Not proved: No proof covers avrstk-serial, which is Python, and serial devices.
 
     tests/serial.py [CASE ..]      needs a built program (program.py); recipes with socat or ser2net
                                    are left out if these are not installed
@@ -398,8 +398,8 @@ def devices():
 
 
 def what_is_missing():
-    """avrstk-serial reports what is missing. If no program is named, it runs the one beside it. (tests/build.py has
-    that of a clone.)"""
+    """avrstk-serial reports if the program, its own modules or its part file are missing. If no program is named, it
+    runs the one beside it. (tests/build.py has that of a clone.)"""
     needed = "is not there, or can't be run: avrstk is needed beside this script, or named by AVRSTK"
     line, device = terminal()
     same("no avrstk", run([*FLASH, "-P", device], env={"AVRSTK": "/nowhere/it"})[::3], (1, [f"/nowhere/it {needed}"]))
@@ -471,7 +471,8 @@ def lines_of_a_board():
 
 
 def bits_that_do_not_exist():
-    """Bits of a fuse or the lock that the part doesn't have are named before anything is sent, and given as 1."""
+    """The script names bits of a fuse or the lock that the part doesn't have, before anything is sent, and gives them
+    to avrstk as 1."""
     note = "of atmega328p has no bits"
     recipe = ["-e", "-Ulock:w:0x3F:m", "-Uefuse:w: 0X05,:m", "-Uhfuse:w:0xDE:m", "-Ulfuse:w:255:m"]
     shown = [f"lock {note} 6, 7; given as 1: lock:w:0xFF:m", f"efuse {note} 3, 4, 5, 6, 7; given as 1: efuse:w:0xFD:m"]
@@ -761,6 +762,7 @@ def hints():
 
 
 def without(words, left_out):
+    """Leaves an option out of a command."""
     return [it for it in words if it != left_out]
 
 
@@ -771,18 +773,19 @@ def other_part(words, part, made):
 
 
 def renamed(words, given):
-    """Replaces the update of the same file."""
+    """Replaces the update that names the same file."""
     file = given.split(":")[2]
     return [given if file in it.split(":") else it for it in words]
 
 
 def another_file(words, case, *_):
-    """Follows a hint: builds or downloads the file again, or makes one image from address 0 on."""
+    """Follows a hint to build or download the file again, or to make one image from address 0 on."""
     case["again"]()
     return words
 
 
 def on_a_bootloader(words, case, *_):
+    """Follows a hint to give -D and no -e, as for a bootloader."""
     return another_file([*without(without(words, "-e"), "-D"), "-D"], case)
 
 
@@ -918,8 +921,7 @@ def without_bits(answer):
 
 
 def hints_over_each_memory():
-    """Whoever follows the hints, for any memory, kind of board and kind of part file, gets the wanted bytes or a
-    failure."""
+    """Following the hints, for any memory, kind of board and kind of part file, gives the wanted bytes or a failure."""
     image = flashed()[:228]
     room.put("mine.toml", (TOP / "parts/classic.toml").read_bytes())
     room.put("mega.hex", hex_of([(0, bytes(300))]))
@@ -1176,7 +1178,7 @@ def devices_that_go():
 
 
 def strangers():
-    """If another program of the machine calls the script's port first, it receives nothing from the board."""
+    """If another program of the machine calls the script's port first, that program receives nothing from the board."""
     wanted = flashed()
     it = Board()
     # (the program that starts avrstk may keep running beside it)
@@ -1245,6 +1247,7 @@ def without_socat(started):
 
 
 def recipe_of_the_script():
+    """Types the commands of docs/USAGE with avrstk-serial."""
     for begin, part, more in [("avrstk-serial -p m328p -P /dev/", "m328p", []), ("avrstk-serial -C/etc", "m2560", ["-D"])]:
         firmware = emulated(*more, *FLASH[2:], part=part)
         it = Board(part=part)
@@ -1277,6 +1280,7 @@ def recipe_of_a_plain_bridge():
 
 
 def recipe_of_ser2net():
+    """Tests ser2net, with the configuration in docs/USAGE, in place of avrstk-serial."""
     if not shutil.which("ser2net"):
         return leave_out("the recipe with ser2net", "ser2net is not installed")
     firmware = flashed()

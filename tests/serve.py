@@ -1,8 +1,8 @@
 #!/usr/bin/env python3
-"""Tests avrstk-serve: clients in turn, and clients that send nothing, reset the connection or are idle. Also a device
-in place of a port, the log, what fails in a session, and how it ends.
+"""Tests avrstk-serve with clients one after another, and with clients that send nothing, reset the connection or are
+idle. Also a device in place of a port, the log, what fails in a session, and how it ends.
 
-Not proved: avrstk-serve is Python over sockets and terminals.
+Not proved: No proof covers avrstk-serve, which is Python, and sockets and terminals.
 
     tests/serve.py [CASE ..]        needs a built program (program.py)
 """
@@ -335,8 +335,7 @@ def installed():
 
 
 def status_of_sessions():
-    """Status 0 means that the chip of each session is saved, however the server is ended. Otherwise a line reports
-    it."""
+    """Status 0 means that the chip of each session was saved, however the server ended. Otherwise a line reports it."""
     for name, acts, told in table("ends"):
         room.clear()
         same("a chip", room.run(["-p", "m328p", "-P", "emu:chip.bin", "-q", "-U", "lfuse:w:0x11:m"])[0], 0)
@@ -535,7 +534,7 @@ def state_of(memory, old):
 
 
 def faults():
-    """Makes each fault of the options; each client gets as far as it can."""
+    """Runs clients over links with each fault that the server's options can make. Each client gets as far as it can."""
     emulated = ["-p", "m328p", "-P", "emu:chip.bin", "-qq", "-U", "flash:w:whole.bin:r", "-U", "eeprom:w:whole.bin:r"]
     clients = [[str(PROGRAM)], ["avrdude", "-c", "stk500v2"] if has_avrdude() else None]
     old = room.read("whole.bin")

@@ -1,10 +1,10 @@
 #!/usr/bin/env python3
-"""Copies crates into other repositories by tools/vendor.sh, and builds a crate there that uses them: an example of
-examples/library with a contract of its own. The case `proof`, which runs only if named, proves it there. It also proves
-the link of examples/library, whose ghost members only a proof reads. That takes minutes if no rt ci at work has proved
-the crates below them.
+"""Copies crates into other repositories by tools/vendor.sh, and builds a crate there that uses the copies. That crate
+is an example of examples/library with a contract of its own. The case `proof`, which runs only if named, proves it
+there. It also proves the link of examples/library, whose ghost members only a proof reads. That takes minutes if no rt
+ci at work has proved the crates below them.
 
-Not proved: Scripts of the shell are not Rattle.
+Not proved: No proof covers shell scripts.
 
     tests/vendor.py [CASE ..]
 """
@@ -112,6 +112,7 @@ def copied(top, *crates):
 
 
 def all_that_it_stands_on():
+    """tools/vendor.sh copies the named crates and all crates that they use."""
     with repository() as top:
         status, text = vendor("avr_records", "avr_part", top)
         same("status", status, 0)
@@ -121,6 +122,7 @@ def all_that_it_stands_on():
 
 
 def the_network_is_named():
+    """If a copied crate uses the network, the script prints the line that `HANDLES` needs."""
     needs = "HANDLES of {} needs the line 'Handles allowed: Net.'"
     for crate, told in [("avr_tool", True), ("avr_session", False)]:
         with repository() as top:
@@ -129,6 +131,7 @@ def the_network_is_named():
 
 
 def what_is_there_stays():
+    """tools/vendor.sh leaves a crate that is there already, with its line, as it is."""
     with repository() as top:
         lines = "own:\navr_image:   arrayvec thiserror # by hand"
         (top / "crates.txt").write_text(lines)
@@ -143,6 +146,7 @@ def what_is_there_stays():
 
 
 def refusals():
+    """Copies that differ, programs, and unknown crates or folders are refused, and nothing changes."""
     with repository() as top:
         vendor("avr_image", top)
         changed = top / "crates/avr_image/src/image.rt"
@@ -190,6 +194,7 @@ def foreign(*examples):
 
 
 def build():
+    """The crate that uses the copies compiles, and its tests pass."""
     with foreign(FOREIGN) as top:
         tests = top / "crates/tests/src"
         tests.mkdir(parents=True)
@@ -201,6 +206,7 @@ def build():
 
 
 def proof():
+    """The crate that uses the copies is proved, and so is the link of examples/library."""
     with foreign(FOREIGN, EXAMPLE) as top:
         lend(top)
         for name in (FOREIGN, EXAMPLE):

@@ -1,8 +1,8 @@
 #!/usr/bin/env python3
-"""Compares what README and docs/WHY say beside AVRDUDE with runs of both programs: the tables of
-examples/lossy/compare.py, the frames, files that are no firmware, and a programmer that never replies.
+"""Runs AVRDUDE and the built program, and compares their behaviour with what README and docs/WHY say. Covers the tables
+of examples/lossy/compare.py, the frames, files that are no firmware, and a programmer that never replies.
 
-Not proved: AVRDUDE is a program of others, and no proof covers time.
+Not proved: No proof covers AVRDUDE, which is not part of this project, or time.
 
     tests/why.py        needs a built program (program.py); rows and frames of AVRDUDE 7.1 are left out without it
 """
@@ -32,7 +32,7 @@ def rows(text):
 
 
 def table_is_printed():
-    """Checks that exactly the rows of WHY are printed, and that README's are among them."""
+    """examples/lossy/compare.py prints exactly the rows of docs/WHY, and README's rows are among them."""
     wanted = rows((TOP / "docs/WHY.md").read_text())
     shown = rows((TOP / "README.md").read_text())
     see("README has rows of it", shown and set(shown) <= set(wanted), shown)

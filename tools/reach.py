@@ -6,7 +6,7 @@
     tools/reach.py -v ..             also lists them, file by file
     tools/reach.py --check           compares the table of docs/PROOFS with the figures; --write writes them there. It also
                                      looks for each definition (`File.name`) and law that the documents name, and for the
-                                     lemmas of PROOFS that show that the promise isn't empty
+                                     lemmas of avr_laws that show that the promise isn't empty
 
 A definition reaches the definitions that its text names, in its own file or brought in by `use` lines. Definitions of
 std, of other libraries and of Rust (an enum, a struct) are listed but not counted. A variable with the name of a
@@ -19,10 +19,12 @@ import sys
 from kept import TOP, kept
 
 PAGE, README = TOP / "docs/PROOFS.md", TOP / "README.md"
+# the page with the table of worlds
+LAWS = TOP / "crates/avr_laws/README.md"
 # the documents whose names are looked for
 NAMING = ("PROOFS", "PROMISES", "CHECK", "LIBRARY")
-TABLE = "| Sentence | Definition | Definitions | Lines |"
-WORLDS = "| Definition | Met by | Refuses |"
+TABLE = "| Sentence | Where it is defined | Definitions | Lines |"
+WORLDS = "| Definition | Lemma: an example meets it | Lemma: a wrong example doesn't |"
 PROMISE = "a_program_with_status_0_kept_its_plan"
 
 HEADER = re.compile(r"^\s*(?:(?:abbrev|unfoldable) pub|pub (?:record|data)) (\S+)")
@@ -194,7 +196,7 @@ def unshown(page):
 def main(words):
     if words in (["--check"], ["--write"]):
         page = with_figures(PAGE.read_text())
-        sys.exit(kept({PAGE: page, README: with_lines(README.read_text(), page)}, [*lacking(), *unshown(page)]))
+        sys.exit(kept({PAGE: page, README: with_lines(README.read_text(), page)}, [*lacking(), *unshown(LAWS.read_text())]))
     roots = [root for it in words if it != "-v" for root in roots_of(it)] or sys.exit(__doc__)
     seen = reached(roots)
     files = sorted({(crate, file) for crate, file, _ in seen})

@@ -20,10 +20,11 @@ SHARED = ("all", "cases", "disk", "line", "program", "records")
 
 HEAD = """# What is tried where
 
-Made by `tools/tests_page.py --write` from the heads of the scripts. `./test` runs the quick scripts, with samples of
-long lists of cases. It prints the seed of the samples, and `SAMPLE=SEED` draws the same again. `./test NAME ..` runs the
-named scripts, `./test --all` all scripts with all cases. `tests/NAME.py CASE ..` runs cases of one script; the
-lists below also have functions that make cases. [tests/rattle](rattle/README.md) tries the crates' own calls.
+`tools/tests_page.py --write` makes this page from the heads of the scripts. `./test` runs the quick scripts, and of long
+lists of cases only samples. It prints the seed of the samples; with `SAMPLE=SEED` it draws the same samples again.
+`./test NAME ..` runs the named scripts, and `./test --all` runs all scripts with all cases. `tests/NAME.py CASE ..`
+runs cases of one script. The lists below also have functions that make cases. [tests/rattle](rattle/README.md) has
+tests of the crates' own calls.
 
 | Script | What it tries | Why that is not proved |
 | --- | --- | --- |

@@ -1,7 +1,7 @@
 //! A caller from outside: calls each name that was set before the code, as it was set.
 //!
-//! Each file lists its names in lines `//=`. `tests/rattle.py names` counts these and the others, which docs/DECISIONS
-//! has with what stands in their place.
+//! Each file lists its names in lines `//=`. `tests/rattle.py names` counts these names, and those that README.md lists
+//! with what is there instead.
 //= avrstk
 
 mod desk;
