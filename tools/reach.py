@@ -153,7 +153,7 @@ def with_figures(page):
 def with_lines(readme, page):
     """Returns README with the lines that the first sentence of the page's table needs, rounded to hundreds."""
     lines = re.search(r"^\| status 0 of the program, .*\| ([\d,]+) \|$", page, re.M)[1]
-    return re.sub(r"about [\d,]+ lines for status 0", f"about {round(int(lines.replace(',', '')), -2):,} lines for status 0", readme)
+    return re.sub(r"\[[\d,]+ lines\]", f"[{round(int(lines.replace(',', '')), -2):,} lines]", readme)
 
 
 def lacking():
