@@ -28,14 +28,14 @@ from pathlib import Path
 
 from cases import leave_out, run_cases, same, see
 from line import BadLine
-from program import ANSWERS, CHIP_FILE, EMULATED, ENDS, FRAMES, STDIO, TOP, Room, Server, full_chip
+from program import REPLIES, CHIP_FILE, EMULATED, ENDS, FRAMES, STDIO, TOP, Room, Server, full_chip
 
 # the chip files that the runs begin with, by the part's name
 CHIPS = {"m328p": full_chip(), "m2560": full_chip(262_144, 4096)}
 
 # the program's options, its standard input, and its status if that isn't 0
 RUNS = {
-    "a session opened and closed": (STDIO, ANSWERS),
+    "a session opened and closed": (STDIO, REPLIES),
     "an empty file as flash": ([*EMULATED, "-U", "flash:w:empty.bin"], b""),
     "a fuse written and read": ([*EMULATED, "-U", "lfuse:w:0xE2:m", "-U", "lfuse:r:-:h"], b""),
     "the whole EEPROM": ([*EMULATED, "-V", "-U", "eeprom:w:whole.bin:r"], b""),
@@ -135,12 +135,12 @@ class Serving(Sweep):
         self.old = CHIPS["m328p"]
         self.room.put("chip.bin", self.old)
         with Server(self.room, "chip.bin", waits=False, env=os.environ | self.refusing(refused)) as server:
-            heard = heard_from(server)
+            heard = received_from(server)
             status, _, messages = server.end()
         return status, heard, messages.replace(str(server.port).encode(), b"PORT"), self.room.read("chip.bin"), None
 
 
-def heard_from(server):
+def received_from(server):
     """Sends the frames of a session, and returns the replies up to the end of the connection."""
     heard = b""
     try:
@@ -230,7 +230,7 @@ def over_late_line(room, shim, label):
 
 def while_serving(room, shim, label):
     served = Serving(room, shim, label, [], b"")
-    same("the replies of an undisturbed session", served.sound[1], ANSWERS)
+    same("the replies of an undisturbed session", served.sound[1], REPLIES)
     swept(served, ALL)
 
 

@@ -20,8 +20,8 @@ import time
 from concurrent.futures import ThreadPoolExecutor
 
 from cases import PATIENCE, bytes_of, named, run_cases, same, see, table
-from line import FrontOfAnswers, Peer, frames_of
-from program import ANSWERS, CHIP_FILE, EMULATED, ENDS, FRAMES, LFUSE, PROGRAM, SIGNATURE, STDIO, Room, Server
+from line import FrontOfReplies, Peer, frames_of
+from program import REPLIES, CHIP_FILE, EMULATED, ENDS, FRAMES, LFUSE, PROGRAM, SIGNATURE, STDIO, Room, Server
 from program import end_of, frame, lines, lines_of
 
 NEW = b"\xff" * CHIP_FILE
@@ -52,7 +52,7 @@ def with_output(words, target):
     started = room.start(words, subprocess.PIPE, stdout=output)
     os.close(output)
     try:
-        _, messages = started.communicate(ANSWERS, timeout=PATIENCE)
+        _, messages = started.communicate(REPLIES, timeout=PATIENCE)
     except BrokenPipeError:
         messages = started.stderr.read()
     return started.wait(), messages
@@ -88,7 +88,7 @@ def descriptors_are_closed():
 def closed_streams_stay_closed():
     """No file or connection gets the number of a closed standard stream, so only frames go over the link."""
     for closed, status in [("0<&-", 0), ("1>&-", 0), ("2>&-", 1), ("0<&- 1>&- 2>&-", 1)]:
-        peer = FrontOfAnswers(ANSWERS, resets=False)
+        peer = FrontOfReplies(REPLIES, resets=False)
         found = room.run(["-p", "m328p", "-P", f"net:127.0.0.1:{peer.port}"], closed=closed)
         frames = peer.end()
         see(f"{closed}: frames alone", frames and frames == FRAMES[: len(frames)], frames)
@@ -129,17 +129,17 @@ def no_file_may_grow():
     meets("no file may grow", lambda words, redirected: with_limit(0, words, redirected))
 
 
-def answers_are_cut():
+def replies_are_cut():
     """A programmer closes or resets the connection after any number of reply bytes. If a reset comes during the call,
     or before the socket's options are set, the port cannot be opened; both outcomes are right."""
-    for count in range(len(ANSWERS)):
+    for count in range(len(REPLIES)):
         whole = sum(end <= count for end in ENDS)
         said = [SIGNATURE] if whole >= 5 else []
-        peer = FrontOfAnswers(ANSWERS[:count], resets=False)
+        peer = FrontOfReplies(REPLIES[:count], resets=False)
         found = room.run(["-p", "m328p", "-P", f"net:127.0.0.1:{peer.port}"])
         told = lines(*said, "error: link ended")
         same(f"{count} bytes and the end", (*found, peer.end()), (1, b"", told, FRAMES[: whole + 1]))
-        peer = FrontOfAnswers(ANSWERS[:count], resets=True)
+        peer = FrontOfReplies(REPLIES[:count], resets=True)
         status, _, messages = room.run(["-p", "m328p", "-P", f"net:127.0.0.1:{peer.port}"])
         peer.end()
         faults = [lines(*it, f"error: link cannot be {verb}") for it in ([], said) for verb in ("read", "written")]
@@ -222,7 +222,7 @@ def served(exchange):
 def resets(caller, count):
     """Sends SIGN_ON, waits for so many bytes of the reply, and resets the connection."""
     caller.sendall(FRAMES[0])
-    same("the reply so far", caller.recv(count, socket.MSG_WAITALL) if count else b"", ANSWERS[:count])
+    same("the reply so far", caller.recv(count, socket.MSG_WAITALL) if count else b"", REPLIES[:count])
     caller.setsockopt(socket.SOL_SOCKET, socket.SO_LINGER, struct.pack("ii", 1, 0))
 
 
@@ -352,7 +352,7 @@ TIMED = named(nothing_is_read, a_silence_is_a_second_without_a_byte)
 TIMED |= named(standard_streams_that_do_not_block, standard_streams_that_block)
 CASES = TIMED | named(
     *(output_fails, input_fails, descriptors_are_closed, closed_streams_stay_closed, files_fail, files_are_full),
-    *(no_file_may_grow, answers_are_cut, callers_are_odd, a_second_caller, ended_from_outside, loaded_for_its_caller),
+    *(no_file_may_grow, replies_are_cut, callers_are_odd, a_second_caller, ended_from_outside, loaded_for_its_caller),
 )
 
 if __name__ == "__main__":

@@ -98,7 +98,7 @@ class Link(Peer):
         return heard
 
 
-class FrontOfAnswers(Peer):
+class FrontOfReplies(Peer):
     """Sends the first bytes of a session's replies, and then closes or resets the connection."""
 
     def __init__(self, answers, resets):

@@ -16,8 +16,8 @@ import subprocess
 import sys
 
 from cases import PATIENCE, bytes_of, chosen, leave_out, named, run_cases, same, see, table
-from line import FrontOfAnswers, frames_in
-from program import ANSWERS, CHIP_FILE, EMULATED, ENDS, FRAMES, SIGNATURE, STDIO, TOP, Room, Server
+from line import FrontOfReplies, frames_in
+from program import REPLIES, CHIP_FILE, EMULATED, ENDS, FRAMES, SIGNATURE, STDIO, TOP, Room, Server
 from program import frame, kept_port, lines, lines_of, port_of, tracing
 
 PART = ["-p", "m328p"]
@@ -156,13 +156,13 @@ def nothing_is_written():
     run("-n and a comparison that differs", [*EMULATED, "-n", "-U", "lfuse:v:0xE2:m"], told)
 
 
-def answers_are_bad():
+def replies_are_bad():
     """Wrong replies, refusals and noise lead to the expected line and number of frames."""
     cases = [("4,096 bytes four times", "", bytes(4 * 4096), "error: no answer in 4096 bytes", 5)]
     for name, words, replies, told, frames in table("replies"):
         numbered = (it.split(":") for it in replies.split())
         replies = b"".join(frame(int(number), bytes_of(body)) for number, body in numbered)
-        cases.append((name, words, ANSWERS[: ENDS[0]] + replies, told, int(frames)))
+        cases.append((name, words, REPLIES[: ENDS[0]] + replies, told, int(frames)))
     for name, words, replies, told, frames in cases:
         room.clear()
         status, output, messages = room.run([*STDIO, *words.split()], replies)
@@ -170,7 +170,7 @@ def answers_are_bad():
         met.update(told.split("; "))
 
 
-class Elsewhere(FrontOfAnswers):
+class Elsewhere(FrontOfReplies):
     """Replies at another address of this machine, where no process listens at 127.0.0.1."""
 
     host = "127.0.0.2"
@@ -178,7 +178,7 @@ class Elsewhere(FrontOfAnswers):
 
 def the_named_host_is_called():
     """`net:` connects to the host that it names, and sends the frames there."""
-    peer = Elsewhere(ANSWERS, resets=False)
+    peer = Elsewhere(REPLIES, resets=False)
     run("another host", [*PART, "-P", f"net:127.0.0.2:{peer.port}"], [SIGNATURE, DONE], 0)
     same("what it received", peer.end(), FRAMES)
 
@@ -192,11 +192,11 @@ def nobody_else_is_called():
     """Only `net:` makes a connection, and only one; only `--serve` listens. Bytes are sent without delay."""
     if not shutil.which("strace"):
         return leave_out("which connections are made", "strace is not installed")
-    peer = FrontOfAnswers(ANSWERS, resets=False)
+    peer = FrontOfReplies(REPLIES, resets=False)
     named = [("socket", "AF_INET"), ("connect", f"htons({peer.port})"), ("setsockopt", "TCP_NODELAY, [1], 4) = 0")]
     over_net = [*PART, "-P", f"net:127.0.0.1:{peer.port}"]
     calls = "socket,connect,bind,listen,accept,accept4,setsockopt"
-    for words, given, wanted in [(STDIO, ANSWERS, []), (EMULATED, b"", []), (over_net, b"", named)]:
+    for words, given, wanted in [(STDIO, REPLIES, []), (EMULATED, b"", []), (over_net, b"", named)]:
         room.clear()
         started = room.start(words, subprocess.PIPE, **tracing("-e", f"trace={calls}"))
         same(f"{words}", started.communicate(given, PATIENCE)[1], lines(SIGNATURE, DONE))
@@ -304,7 +304,7 @@ def pattern(line):
 
 CASES = named(
     *(settings_are_refused, help_is_printed, words_are_refused, images_are_refused, images_are_taken),
-    *(part_files, chip_files, nothing_is_written, answers_are_bad, the_named_host_is_called, nobody_else_is_called),
+    *(part_files, chip_files, nothing_is_written, replies_are_bad, the_named_host_is_called, nobody_else_is_called),
     *(ports_are_refused, long_lines, a_line_is_one_write, runs_share_a_log, each_line_was_met),
 )
 

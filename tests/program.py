@@ -38,7 +38,7 @@ FOLDERS = [PROGRAM.parent, PROGRAM.parent.parent.parent / "avrstk_session/out"]
 SESSION = next((it / "avrstk_session" for it in FOLDERS if (it / "avrstk_session").exists()), None)
 
 # the replies of a session that does nothing, and the number of bytes up to the end of each
-ANSWERS = (TOP / "crates/avrstk/stdin").read_bytes()
+REPLIES = (TOP / "crates/avrstk/stdin").read_bytes()
 ENDS = [17, 25, 35, 45, 55, 63]
 
 # the six frames of that session

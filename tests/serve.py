@@ -23,7 +23,7 @@ import time
 from pathlib import Path
 
 from cases import PATIENCE, VERSION, leave_out, named, run_cases, same, see, table, wait_until
-from program import ANSWERS, CHIP_FILE, EEPROM, ENDS, FRAMES, LFUSE, NAMED, PROGRAM, SESSION, TOP, Room
+from program import REPLIES, CHIP_FILE, EEPROM, ENDS, FRAMES, LFUSE, NAMED, PROGRAM, SESSION, TOP, Room
 from program import frame, has_avrdude, kept_port, lines, port_of, read_whole
 from records import image_of
 
@@ -111,7 +111,7 @@ def heard(client, count):
 def begins(client):
     """Sends SIGN_ON, and returns whether its reply came."""
     client.sendall(FRAMES[0])
-    return heard(client, ENDS[0]) == ANSWERS[: ENDS[0]]
+    return heard(client, ENDS[0]) == REPLIES[: ENDS[0]]
 
 
 def listens():
@@ -169,7 +169,7 @@ def one_after_another():
         second.sendall(FRAMES[0])
         same("the second one waits", select.select([second], [], [], 0.3)[0], [])
         first.close()
-        same("and then is served", heard(second, ENDS[0]), ANSWERS[: ENDS[0]])
+        same("and then is served", heard(second, ENDS[0]), REPLIES[: ENDS[0]])
         second.close()
         same("the messages", it.end(), (0, ""))
 
@@ -179,7 +179,7 @@ def half_closed():
     with Serving() as it, it.call() as client:
         client.sendall(b"".join(FRAMES))
         client.shutdown(socket.SHUT_WR)
-        same("the replies", heard(client, 1000), ANSWERS)
+        same("the replies", heard(client, 1000), REPLIES)
         wait_until(lambda: room.read("chip.bin") is not None)
         same("the messages", it.end(), (0, ""))
 
@@ -452,7 +452,7 @@ def devices():
         same("the chip", room.read("chip.bin")[:1024], room.read("whole.bin"))
         idle = os.open(link, os.O_RDWR | os.O_NOCTTY)
         os.write(idle, FRAMES[0])
-        same("an idle client is hung up on after its reply", read_whole(idle), ANSWERS[: ENDS[0]])
+        same("an idle client is hung up on after its reply", read_whole(idle), REPLIES[: ENDS[0]])
         os.close(idle)
         told = "avrstk-serve: a client sent nothing for 3 seconds: hung up\n"
         same("it ends", it.end(), (0, told))
@@ -460,7 +460,7 @@ def devices():
     with Serving("--pty", "device", port=None) as it:
         first = os.open(link, os.O_RDWR | os.O_NOCTTY)
         os.write(first, FRAMES[0])
-        same("a first client", os.read(first, 100), ANSWERS[: ENDS[0]])
+        same("a first client", os.read(first, 100), REPLIES[: ENDS[0]])
         (run,) = runs()
         os.kill(run, signal.SIGSTOP)
         os.close(first)
@@ -469,7 +469,7 @@ def devices():
         second = os.open(link, os.O_RDWR | os.O_NOCTTY)
         os.write(second, FRAMES[0])
         os.kill(run, signal.SIGCONT)
-        same("a second client at once", os.read(second, 100), ANSWERS[: ENDS[0]])
+        same("a second client at once", os.read(second, 100), REPLIES[: ENDS[0]])
         os.close(second)
         same("it ends", it.end(), (0, ""))
     same("nothing is left", [it.name for it in room.folder.glob("device*")], [])
@@ -509,7 +509,7 @@ def logged():
         with it.call() as client:
             # (a bad header whose second byte looks like the start of a frame)
             client.sendall(b"noise" + FRAMES[0] + b"\x1b" + FRAMES[0] + FRAMES[1] + spoiled + frame(4, 0x12))
-            replies = ANSWERS[: ENDS[1]] + frame(3, 0xB0, 0xC1) + frame(4, 0x12, 0xC0)
+            replies = REPLIES[: ENDS[1]] + frame(3, 0xB0, 0xC1) + frame(4, 0x12, 0xC0)
             same("the replies", heard(client, len(replies)), replies)
         with it.call() as client:
             see("another client", begins(client))

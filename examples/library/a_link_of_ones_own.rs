@@ -26,8 +26,8 @@ const AT_MOST: usize = 3;
 #[derive(Drop)]
 struct Bench {
     emulator: Emulator,
-    answered: Vec<u8>,
-    heard: usize,
+    replies: Vec<u8>,
+    received: usize,
     passed: Log,
     failures: u64,
 }
@@ -40,19 +40,19 @@ impl Link for Bench {
     ghost started_as = { λ start bench. Unit {0} };
 
     fn send(&mut self, bytes: &[u8]) -> std::result::Result<usize, LinkFault> {
-        let (Ok(()), Ok(())) = (self.passed.reserve(bytes.len()), self.answered.reserve(LARGEST_FRAME)) else {
+        let (Ok(()), Ok(())) = (self.passed.reserve(bytes.len()), self.replies.reserve(LARGEST_FRAME)) else {
             self.failures = self.failures.saturating_add(1);
             return Err(LinkFault::Failed);
         };
-        let mut answer: ArrayVec<u8, LARGEST_FRAME> = ArrayVec::new();
-        let used = self.emulator.feed(bytes, &mut answer);
-        let _there_is_room = self.answered.extend_from_slice(answer.as_slice());
+        let mut reply: ArrayVec<u8, LARGEST_FRAME> = ArrayVec::new();
+        let used = self.emulator.feed(bytes, &mut reply);
+        let _there_is_room = self.replies.extend_from_slice(reply.as_slice());
         self.passed.add_sent(&bytes[..used]);
         Ok(used)
     }
 
     fn recv(&mut self, buffer: &mut [u8]) -> std::result::Result<Heard, LinkFault> {
-        let waits = self.answered.as_slice().get(self.heard..).unwrap_or(&[]);
+        let waits = self.replies.as_slice().get(self.received..).unwrap_or(&[]);
         let count = buffer.len().min(waits.len()).min(AT_MOST);
         buffer[..count].copy_from_slice(&waits[..count]);
         let heard = if count == 0 { Heard::Silence } else { Heard::Bytes(count) };
@@ -60,7 +60,7 @@ impl Link for Bench {
             self.failures = self.failures.saturating_add(1);
             return Err(LinkFault::Failed);
         };
-        self.heard = self.heard.saturating_add(count);
+        self.received = self.received.saturating_add(count);
         Ok(heard)
     }
 }
@@ -70,8 +70,8 @@ fn main(rt: HostRuntime) -> Result<()> {
     let part = Parts::none().find("t85")?;
     let mut bench = Bench {
         emulator: Emulator::new(Chip::fresh(alloc, part.copied())?),
-        answered: Vec::new(alloc),
-        heard: 0,
+        replies: Vec::new(alloc),
+        received: 0,
         passed: Log::new(alloc),
         failures: 0,
     };

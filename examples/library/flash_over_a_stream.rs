@@ -31,7 +31,7 @@ const SHOWN: usize = 14;
 
 /// The replies of the programmer: its name, programming mode entered, three bytes of the signature, erase refused, chip
 /// erased, address loaded, page written, programming mode left.
-const ANSWERS: &[u8] = b"\x1B\x01\x00\x0B\x0E\x01\x00\x08STK500_2\x02\
+const REPLIES: &[u8] = b"\x1B\x01\x00\x0B\x0E\x01\x00\x08STK500_2\x02\
     \x1B\x02\x00\x02\x0E\x10\x00\x05\
     \x1B\x03\x00\x04\x0E\x1B\x00\x1E\x00\x17\
     \x1B\x04\x00\x04\x0E\x1B\x00\x93\x00\x9D\
@@ -47,7 +47,7 @@ fn main(rt: HostRuntime) -> Result<()> {
     let part = Parts::none().find("t85")?;
     let mut image = Image::new(alloc, part.size_of(Mem::Flash))?;
     image.put_slice(0, &[0x0E, 0xC0])?;
-    let mut link = StreamLink::new(ANSWERS, Vec::new(alloc));
+    let mut link = StreamLink::new(REPLIES, Vec::new(alloc));
     let mut host = Host::new(part);
     let [first, second, third] = host.open(&mut link, false)?;
     println!(rt; "signature: {first:02X} {second:02X} {third:02X}")?;

@@ -21,20 +21,20 @@ const SIGN_ON: &[u8] = b"\x1B\x01\x00\x01\x0E\x01\x14";
 fn sign_on<P: Read + Write>(port: &mut P) -> io::Result<[u8; 17]> {
     port.write_all(SIGN_ON)?;
     port.flush()?;
-    let mut answer = [0; 17];
-    port.read_exact(&mut answer)?;
-    Ok(answer)
+    let mut reply = [0; 17];
+    port.read_exact(&mut reply)?;
+    Ok(reply)
 }
 
 fn main(rt: HostRuntime) -> Result<()> {
     let chip = Chip::fresh(rt.alloc(), Parts::none().find("m328p")?)?;
     let mut port = EmulatedPort::new(rt.alloc(), Emulator::new(chip));
-    let answer = sign_on(&mut port)?;
-    let name = std::str::from_utf8(&answer[8..16])?;
+    let reply = sign_on(&mut port)?;
+    let name = std::str::from_utf8(&reply[8..16])?;
     println!(rt; "programmer: {name}")?;
     match port.read(&mut [0; 1]) {
         Err(error) if error.kind() == ErrorKind::WouldBlock => println!(rt; "nothing more")?,
-        _ => bail!("an answer that nobody asked for"),
+        _ => bail!("a reply that nobody asked for"),
     }
     let chip = port.into_emulator().into_chip();
     println!(rt; "byte 0 of the chip: {:02X}", chip.byte(Mem::Flash, 0).unwrap_or(0))?;

@@ -47,7 +47,7 @@ def hint(run, number):
         (run.silenced, f"{silenced}. Check {others}"),
         (error == "no answer" and run.left_at_error, done),
         (is_silent, f"no reply; {UNCHANGED}. Check: {speed}; that no serial monitor has the port open; {others}"),
-        (True, "".join(matched(ANSWERED, error, words, speed=speed, state=state)) or state),
+        (True, "".join(matched(REPLIED, error, words, speed=speed, state=state)) or state),
     )
 
 
@@ -176,7 +176,7 @@ REFUSALS = {
 }
 
 # and after it was opened
-ANSWERED = {
+REPLIED = {
     r"(\w+): address (\w+): (\w+) expected, (\w+) found": differs,
     r"signature is (\w\w \w\w \w\w)": another_part,
     "command 12 ": lambda words, _: "a bootloader can't erase the chip: {}use -D{}".format(

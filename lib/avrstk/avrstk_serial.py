@@ -230,7 +230,7 @@ class Run:
         self.tool = subprocess.Popen(command, **how)
         os.set_blocking(self.tool.stderr.fileno(), False)
 
-    def hear_messages(self):
+    def receive_messages(self):
         """Passes on avrstk's complete lines. Returns False at the end of the stream, None if nothing is there."""
         try:
             heard = os.read(self.tool.stderr.fileno(), 65_536)
@@ -294,7 +294,7 @@ class Run:
             watched = {came: READ, self.tool.stderr: READ, **({self.port: READ} if self.port else {})}
             found = wait(self.ways, {**watched, **({2: WRITE} if messages.waiting else {})})
             # (avrstk prints an error line before it sends LEAVE, so its lines are read before its frames)
-            if came in found or self.tool.stderr in found and self.hear_messages() is False:
+            if came in found or self.tool.stderr in found and self.receive_messages() is False:
                 return
             messages.send()
             try:
@@ -312,7 +312,7 @@ class Run:
             self.tool.terminate()
         self.close()
         self.status = 0 if self.tool.wait() == 0 and not ended_by() else 1
-        while self.hear_messages():
+        while self.receive_messages():
             pass
         if self.kept:
             # avrstk ended in the middle of this line
