@@ -153,6 +153,8 @@ def run(what, command, each=None, **environment):
 def script(name, kind="", before=(), **environment):
     """Runs a script. The log names it with the `kind` of program that it runs."""
     file, *words = name.split()
+    if words and "/" in words[-1]:
+        environment["SHARE"] = words.pop()
     path = TOP / f"{'tools' if name in CHECKED else 'tests'}/{file}.py"
     command = [TOP / "bench/run.py", f"--{file}"] if file in BENCH else [path, *words]
     command = [*before, *command]
@@ -176,11 +178,6 @@ def settled(done):
 
 def build():
     return run("./avrstk --unproved", ["sh", "-c", "./avrstk --unproved --help >/dev/null"])
-
-
-def current():
-    """Returns whether ./avrstk has a program to run."""
-    return subprocess.run(["./avrstk", "--which"], cwd=TOP, capture_output=True).returncode == 0
 
 
 # Each check under rt ci is measured by a look at /proc each second.
@@ -340,7 +337,8 @@ def chosen(names):
     """Runs the scripts of these names, with the built program."""
     known = list(dict.fromkeys([*SOURCES, *LIBRARY, *PROGRAM]))
     steps = [it for it in known if it in names or it.split()[0] in set(names) - set(known)]
-    built = [] if os.environ.get("AVRSTK") or current() else [build()]
+    current = os.environ.get("AVRSTK") or not subprocess.run(["./avrstk", "--which"], cwd=TOP, capture_output=True).returncode
+    built = [] if current else [build()]
     with ThreadPoolExecutor(LANES) as lanes:
         done = built + list(lanes.map(script, steps))
     return settled(done)

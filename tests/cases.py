@@ -34,9 +34,6 @@ LATE = 75
 # stops for minutes; nothing is measured by it
 PATIENCE = 600
 
-# a word of the command line that takes a share of the cases
-SHARE = re.compile("([1-9])/([1-9])")
-
 # the most characters printed of a found or a wanted value
 SHOWN = 600
 
@@ -119,20 +116,17 @@ def named(*functions):
 
 
 def chosen(cases):
-    """Returns the cases named on the command line, or all if none is named. A word such as 1/2 takes every second case,
-    from the first on."""
-    given = [it for it in sys.argv[1:] if not SHARE.fullmatch(it)]
-    share = next(filter(None, map(SHARE.fullmatch, sys.argv[1:])), None)
-    if share and not given:
-        return list(cases)[int(share[1]) - 1 :: int(share[2])]
-    return [it for it in cases if it in given] if given else list(cases)
+    """Returns the cases named on the command line. If none is named, returns all, or a share: SHARE=1/2 takes every
+    second case, from the first on."""
+    given, (first, step) = sys.argv[1:], map(int, os.environ.get("SHARE", "1/1").split("/"))
+    return [it for it in cases if it in given] if given else list(cases)[first - 1 :: step]
 
 
 def run_cases(cases, doc, timed=()):
     """Runs all cases, or those named on the command line, and returns the status. If a name is unknown, prints the
     script's own help and the names of all cases. A case that raises an exception has failed; the others still run. The
     `timed` cases measure time, or wait for a time that the program measures."""
-    if {it for it in sys.argv[1:] if not SHARE.fullmatch(it)} - set(cases):
+    if set(sys.argv[1:]) - set(cases):
         print(doc.strip(), "", "Cases:", *(f"    {it}" for it in cases), sep="\n")
         return 2
     wrong = set()

@@ -56,9 +56,6 @@ def refused(what, words, told, **more):
     same(f"{what}: no chip file", room.read("chip.bin"), more.get("chip"))
 
 
-# ---- the command line
-
-
 def settings_are_refused():
     """Command lines with wrong or missing settings are refused, each with its line."""
     for words, told in table("settings"):
@@ -88,9 +85,6 @@ def words_are_refused():
         same(f"{words}", (status, output), (1, b""))
         see(f"{words}: its line", messages.decode().startswith(told), messages[:80])
     run("a word that is not UTF-8", [b"-p", b"\xff"], ["error: invalid data"])
-
-
-# ---- files
 
 
 def images_are_refused():
@@ -141,9 +135,6 @@ def chip_files():
     """Chip files that are too short or too long are refused."""
     refused("a short chip file", EMULATED, f"chip.bin: 100 bytes, {CHIP_FILE} expected", chip=bytes(100))
     refused("a long chip file", EMULATED, f"chip.bin: longer than {IMAGE_LIMIT} bytes", chip=bytes(IMAGE_LIMIT + 1))
-
-
-# ---- sessions
 
 
 def nothing_is_written():
@@ -226,9 +217,6 @@ def ports_are_refused():
         refused("a port at which no process listens", [*PART, "-P", nobody], f"port {nobody} cannot be opened")
 
 
-# ---- a line is one write
-
-
 def long_lines():
     """A line of any length is printed whole, even if it is longer than the buffer."""
     most = 4096 - len(lines("error: : cannot be opened"))
@@ -267,9 +255,6 @@ def runs_share_a_log():
             same("a run", started.returncode, 0)
     told = [SIGNATURE, "lfuse: 1 bytes written", "lfuse: 1 bytes verified", "hfuse: 1 bytes verified", DONE]
     same("the log", sorted((room.read("log") or b"").splitlines()), sorted(lines(*told).splitlines() * 50))
-
-
-# ---- no line is left out
 
 
 def each_line_was_met():

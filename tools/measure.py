@@ -61,10 +61,6 @@ def is_text(line, name):
     return bool(line) and not line.startswith(("//", "use ", "pub use ", "ghost use ", "#!["))
 
 
-def depth(line):
-    return line.count("{") - line.count("}")
-
-
 def clauses_in(name):
     """Returns the lines of clauses in a file of src/, and for each function whether it is public and its number of
     clauses."""
@@ -77,7 +73,7 @@ def clauses_in(name):
             if not open_braces and functions:
                 functions[-1][1] += 1
             contract.append(line)
-            open_braces += depth(line)
+            open_braces += line.count("{") - line.count("}")
     return contract, functions
 
 

@@ -1,5 +1,4 @@
--- THE PROMISE, to be read alone: what the files hold after a run over the emulator with status 0. docs/CHECK.md reads
--- it out.
+-- The promise over the emulator, to be read alone: what the files hold after a run with status 0.
 use Rattle.std.specs.Prelude.{◌≡◌, false, Some}
 use Rattle.avr_cli.specs.declared.settings.Settings.{Settings}
 use Rattle.avr_desk.specs.Named.{newest}

@@ -13,8 +13,8 @@ ghost use Rattle.avr_tool.specs.Items.{items, has_erase};
 ghost use Rattle.avr_tool.specs.Outcome.{write_operations, HasFirstOperations, IsDone};
 
 /// States that a plan's first write operations and then the whole plan leave the same memories as the plan alone,
-/// except for one case with a fuse. If the plan erases and the chip keeps EEPROM at an erase, each byte that the plan
-/// writes to the high fuse must keep it too.
+/// unless the plan switches EESAVE off. So if the plan erases and the chip keeps EEPROM at an erase, each byte that the
+/// plan writes to the high fuse must keep it too.
 pub fn a_second_run_repairs_the_first()
     ensures { (plan : Plan) (k : ℕ) (m : Memories) → IsPart plan.part → All (IsFitted plan.part) plan.tasks
         → FitsPart plan.part m

@@ -182,8 +182,8 @@ pub fn a_further_run_repairs()
         → (further ≡ 0) × IsDone plan (memories_of p.chip) (memories_of y.chip) }
 {}
 
-/// States that the example run `-p m328p` with all its replies, unless it stops, doesn't end with status 1, send other
-/// frames or print other lines.
+/// States that no run of `-p m328p` with the replies of the worked example has status 1, other frames or other lines. A
+/// run that stops isn't meant.
 // Proof: `another_status`, `another_frame` and `another_line` (Outcomes/Refused).
 pub fn a_worked_run_has_one_outcome()
     ensures status { (transcript : Transcript) (a b : ℕ) (d e : DeskState)
