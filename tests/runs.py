@@ -89,8 +89,6 @@ def over_both(label, run):
     over_line(label, run)
 
 
-# ---- links that lose and delay frames
-
 # whole.bin, and the frames that write a block of four bytes of it to the EEPROM
 PATTERN = bytes(place % 256 for place in range(1024))
 BLOCKS = [f"06{at:08X} 150004C10AC1C2A0FFFF{PATTERN[at : at + 4].hex()}" for at in range(0, 1024, 4)]

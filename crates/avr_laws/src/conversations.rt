@@ -95,7 +95,8 @@ pub fn a_wire_is_an_authentic_link<E, R>()
 {}
 
 /// States that over a wire (the emulated link) a byte or a timeout waits whenever the host receives, if the host
-/// receives only while a reply is due. The fates of frames are lawful: noise has at most 2,048 bytes and no valid frame.
+/// receives only while a reply is due. The fates of frames are lawful: noise has at most 2,048 bytes and no valid
+/// frame.
 pub fn a_conversation_in_turn_is_never_idle<E, R>()
     ensures { (d : Dialog E R) (n : ℕ) (p : Programmer) (fates : List Fate) (transcript : Transcript)
         → SendsValidBodies d → AreLawful fates → InTurn d (progress_at n []) transcript → NeverIdle p fates transcript }

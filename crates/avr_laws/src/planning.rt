@@ -21,8 +21,9 @@ pub fn a_plan_only_reads_and_warns()
     ensures { (s : Settings) (openings : List Opening) → OnlyReadsAndPrints (all_events_of (planned s openings)) }
 {}
 
-/// States that if planning makes no plan and no file or stream failed, it reports the reason, or that memory ran out. The
-/// reason is the refusal of `planned`, with its line. In the other case the messages end with the out-of-memory line.
+/// States that if planning makes no plan and no file or stream failed, it reports the reason, or that memory ran out.
+/// The reason is the refusal of `planned`, with its line. In the other case the messages end with the out-of-memory
+/// line.
 pub fn a_sound_plan_is_refused_aloud()
     ensures { (s : Settings) (before after : Record) (k l m n status : ℕ) → NoFailureCounted k l
         → ((prefix : Bytes) → after.messages ≡ prefix ++ memory_line → ⊥)
