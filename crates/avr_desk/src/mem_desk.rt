@@ -181,12 +181,12 @@ impl MemDesk {
             Open::Closed => {}
             Open::ToRead(reading) => {
                 let found = Opening::Found(reading);
-                self.uses.push(FileUse::Opened(found)).unwrap()
+                self.uses.push_reserved(FileUse::Opened(found));
             }
-            Open::ToWrite(writing) => self.uses.push(FileUse::Created(writing)).unwrap(),
+            Open::ToWrite(writing) => self.uses.push_reserved(FileUse::Created(writing)),
         }
         if let Some(last) = last {
-            self.uses.push(last).unwrap();
+            self.uses.push_reserved(last);
         }
         Ok(())
     }

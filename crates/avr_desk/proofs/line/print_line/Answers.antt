@@ -24,9 +24,8 @@ loop-piece-preserved g c =
     let mark = c.args.mark.now in
     record {
       sent = sent_next Messages _ _ _ (mark ++ all_text (take i ps)) (text_of (get_or ps i d))
-          c.loop-piece.invariant.sent c.in_ok-write_piece.ensures.printed
-          ∙ ap (λ (b : List ℕ). after_err b (g.D.Desk.view c.args.desk.now).kept)
-          (append_assoc mark (all_text (take i ps)) _
+          c.loop-piece.invariant.sent c.in_ok-write_piece.ensures.printed ∙ ap (λ (b : List ℕ). after_err b
+          (g.D.Desk.view c.args.desk.now).kept) (append_assoc mark (all_text (take i ps)) _
           ∙ ap (λ (b : List ℕ). mark ++ b) (sym (all_text_more ps i d c.loop-piece-test.true)));
       counted = (
         c.in_ok-write_piece.ensures.call.counts.1.0 ∙ c.loop-piece.invariant.counted.0,

@@ -10,5 +10,4 @@ returns-in-Some-clause-makes g c = on_ok_weaker c.put_held.result
 pub returns-in-Some-2-clause-makes : goal.returns-in-Some-2-clause-makes
 returns-in-Some-2-clause-makes g c = put_and_left g.R.FileSystem.has_done _ c.args.name.now _
     (rw c.in-Some-2.is at c.in_ok-own-in_default.ensures.locks)
-    (rw c.in-Some-2.is at c.in_ok-own-in_default.ensures.held)
-    c.put_held-put.ensures.makes c.leave_held.ensures.leaves
+    (rw c.in-Some-2.is at c.in_ok-own-in_default.ensures.held) c.put_held-put.ensures.makes c.leave_held.ensures.leaves
