@@ -20,12 +20,10 @@ map_indexed_from i f (x ∷ xs) = f i x ∷ map_indexed_from (suc i) f xs
 abbrev pub map_indexed : (ℕ → ℕ → ℕ) → List ℕ → List ℕ
 map_indexed f xs = map_indexed_from 0 f xs
 
-abbrev pub is_in_span : ℕ → ℕ → ℕ → Bool
-is_in_span start n i = nat_le start i && nat_lt i (start + n)
-
 -- within the page each byte becomes itself AND the page's
 abbrev pub byte_and_page : ℕ → List ℕ → ℕ → ℕ → ℕ
-byte_and_page start page i x = if is_in_span start (length page) i then bit_and x (slice_index page (i - start)) else x
+byte_and_page start page i x =
+    if nat_le start i && nat_lt i (start + length page) then bit_and x (slice_index page (i - start)) else x
 
 abbrev pub blank : List ℕ → List ℕ
 blank xs = replicate (length xs) 255
@@ -36,10 +34,7 @@ nothing_loaded loads = replicate (length loads) None
 -- within the page each byte becomes the one loaded for its place, if any
 abbrev pub overlaid_byte : ℕ → List (Option ℕ) → ℕ → ℕ → ℕ
 overlaid_byte start loads i x =
-    if is_in_span start (length loads) i then unwrap_or (slice_index_or loads (i - start) None) x else x
-
-abbrev pub page_start : ℕ → ℕ → ℕ
-page_start page i = i / page * page
+    if nat_le start i && nat_lt i (start + length loads) then unwrap_or (slice_index_or loads (i - start) None) x else x
 
 abbrev pub with_bytes_at : ℕ → List ℕ → List ℕ → List ℕ
 with_bytes_at start bytes xs = take start xs ++ (bytes ++ drop (start + length bytes) xs)
