@@ -8,12 +8,8 @@ use Rattle.stk_emu.specs.Effect.{Image, Memories, effects, memory_in}
 use Rattle.stk_emu.specs.StepData.{HoldsImage}
 use Rattle.avr_tool.specs.Items.{action_items}
 
--- At each address of the memory at which the image has a byte, the memory has that byte.
-abbrev pub MemoryHoldsImage : Part → Mem → Image → Memories → Type 0
-MemoryHoldsImage part mem image m = HoldsImage image (memory_in part mem m)
-
 abbrev pub ComparisonAgrees : Part → Action → Memories → Type 0
-ComparisonAgrees part (CompareImage mem image) m = MemoryHoldsImage part mem image m
+ComparisonAgrees part (CompareImage mem image) m = HoldsImage image (memory_in part mem m)
 ComparisonAgrees part action m = ⊤
 
 -- Each action in order, over the memories that those before it leave.
