@@ -1,10 +1,9 @@
 -- Whether the memories hold what a plan compares them with.
 use Rattle.std.specs.Prelude.{List, [], ◌∷◌, ⊤}
 use Rattle.avr_part.specs.Part.{Part}
-use Rattle.avr_part.specs.declared.part.Mem.{Mem}
 use Rattle.avr_plan.specs.Plan.{Plan}
 use Rattle.avr_session.specs.Actions.{Action, CompareImage, actions}
-use Rattle.stk_emu.specs.Effect.{Image, Memories, effects, memory_in}
+use Rattle.stk_emu.specs.Effect.{Memories, effects, memory_in}
 use Rattle.stk_emu.specs.StepData.{HoldsImage}
 use Rattle.avr_tool.specs.Items.{action_items}
 

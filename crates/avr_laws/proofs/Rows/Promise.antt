@@ -41,7 +41,7 @@ use Rattle.avr_part.specs.declared.part.Mem.TheVariants.{Lfuse}
 use Rattle.avr_plan.specs.Plan.{Plan, IsFitted}
 use Rattle.avr_plan.specs.declared.planned.Task.TheVariants.{Write}
 use Rattle.avr_session.specs.FileText.{file_text}
-use Rattle.avr_session.specs.Runs.{Devices, devices}
+use Rattle.avr_session.specs.Runs.{devices}
 use Rattle.avr_session.specs.Session.{session}
 use Rattle.stk_emu.proofs.Answers.BodySizes.{reply_fits_frame}
 use Rattle.stk_emu.specs.Device.{device}
