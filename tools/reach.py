@@ -10,8 +10,8 @@
 
 A definition reaches the definitions that its text names, in its own file or brought in by `use` lines. Definitions of
 std, of other libraries and of Rust (an enum, a struct) are listed but not counted. A variable with the name of a
-definition counts as that definition, so a figure can be too high, but not too low. Lines are those of the definitions,
-without comments and `use` lines."""
+definition counts as that definition, so a figure can be too high, but not too low. A record's field doesn't. Lines are
+those of the definitions, without comments and `use` lines."""
 
 import re
 import sys
@@ -29,6 +29,7 @@ PROMISE = "a_program_with_status_0_kept_its_plan"
 
 HEADER = re.compile(r"^\s*(?:(?:abbrev|unfoldable) pub|pub (?:record|data)) (\S+)")
 USE = re.compile(r"^(?:ghost )?use Rattle\.(\w+)\.specs\.(\w+)(?: as (\w+)|\.\{(.*)\})?;?$")
+FIELD = re.compile(r"^(\s+pub )\w+(?= :)", re.M)
 CONSTRUCTOR = re.compile(r"^\s+(\w+) : ")
 WORD = re.compile(r"[A-Za-z_][\w']*(?:\.[A-Za-z_][\w']*)*")
 
@@ -107,7 +108,7 @@ def reached(roots):
             continue
         seen.add(place)
         crate, file, name = place
-        todo += named_in(crate, file, "\n".join(FILES[crate, file].definitions[name]))
+        todo += named_in(crate, file, FIELD.sub(r"\1", "\n".join(FILES[crate, file].definitions[name])))
     return seen
 
 

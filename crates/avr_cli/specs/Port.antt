@@ -24,17 +24,17 @@ abbrev pub is_address : Bytes → Bool
 is_address text =
     option_map_or (λ parts. not (length parts.0 == 0) && is_some (port_number parts.1)) (split_last text) false
 
--- a port by what follows `emu:` or `net:` in its text
-abbrev pub port_after : Bytes → Option Bytes → Option Bytes → Result Port SettingsFault
-port_after text (Some file) other = if length file == 0 then Err (BadPort (Some text)) else Ok (Emulated file)
-port_after text None (Some address) = if is_address address then Ok (Network address) else Err (BadPort (Some text))
-port_after text None None = Err (BadPort (Some text))
-
 -- the port that the text of `-P` names
 abbrev pub port_of : Bytes → Result Port SettingsFault
 port_of text =
     if bytes_eq text (codes "stdio:") then Ok Stdio
-    else port_after text (after_prefix (codes "emu:") text) (after_prefix (codes "net:") text)
+    else elim (after_prefix (codes "emu:") text) [
+      | Some file ↦ if length file == 0 then Err (BadPort (Some text)) else Ok (Emulated file)
+      | None ↦ elim (after_prefix (codes "net:") text) [
+        | Some address ↦ if is_address address then Ok (Network address) else Err (BadPort (Some text))
+        | None ↦ Err (BadPort (Some text))
+      ]
+    ]
 
 -- the port of `-P`, which has to be given
 abbrev pub port_of_option : Option Bytes → Result Port SettingsFault

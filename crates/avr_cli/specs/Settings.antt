@@ -1,12 +1,12 @@
 -- The settings of a run, as a function of the options given.
-use Rattle.std.specs.Prelude.{◌≡◌, ◌⊎◌, ◌+◌, ℕ, Bool, true, false, nat_lt, List, [], ◌∷◌, length, Option, Some, None, Result, Ok, Err, codes}
+use Rattle.std.specs.Prelude.{◌≡◌, ◌⊎◌, ◌||◌, ◌+◌, ℕ, Bool, true, false, nat_le, nat_lt, List, [], ◌∷◌, length, count_by, Option, Some, None, Result, Ok, Err, codes}
 use Rattle.std.specs.Prelude.{if◌then◌else◌, ⊤, ok_or}
 use Rattle.std.specs.Option.{option_map_or}
 use Rattle.std.specs.Result.{result_map_both}
 use Rattle.std.specs.Str.{bytes_eq}
 use Rattle.avr_part.specs.PartFile.{Bytes, ◌>>=◌}
 use Rattle.avr_cli.specs.Port.{port_number, port_of_option, port_to_serve}
-use Rattle.avr_cli.specs.Standard.{is_taken}
+use Rattle.avr_cli.specs.Standard.{is_given_standard, is_port_taken, uses_input}
 use Rattle.avr_cli.specs.Update.{update_of}
 use Rattle.avr_cli.specs.declared.update.Update.{Update}
 use Rattle.avr_cli.specs.declared.update.UpdateFault.{UpdateFault}
@@ -65,9 +65,12 @@ updates_from n (text ∷ rest) = do
 abbrev pub updates_of : List Bytes → Result (List Update) SettingsFault
 updates_of texts = if nat_lt 16 (length texts) then Err TooMany else updates_from 1 texts
 
--- no standard stream is asked for twice
+-- refused if a standard stream is asked for twice, or in place of a file: by the port and the updates, or by the files
+-- of `--parts` and `--chip`
 abbrev pub checked_streams : Port → List Update → Option Bytes → Option Bytes → Result ⊤ SettingsFault
-checked_streams port updates parts chip = if is_taken port updates parts chip then Err StandardTaken else Ok tt
+checked_streams port updates parts chip =
+    if (is_given_standard parts || is_given_standard chip)
+    || (is_port_taken port updates || nat_le 2 (count_by uses_input updates)) then Err StandardTaken else Ok tt
 
 -- the settings of a run
 abbrev pub run_settings : Bytes → Entries → Result Settings SettingsFault

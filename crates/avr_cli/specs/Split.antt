@@ -12,16 +12,13 @@ after_prefix (p ∷ ps) (c ∷ cs) = if p == c then after_prefix ps cs else None
 abbrev pub colon : ℕ
 colon = 58
 
--- a pair of texts with one more byte before the first
-abbrev pub with_byte_before : ℕ → Option (Bytes × Bytes) → Option (Bytes × Bytes)
-with_byte_before c = option_map (λ p. (c ∷ p.0, p.1))
-
 -- the texts before and after the first colon
 abbrev pub split_first : Bytes → Option (Bytes × Bytes)
 split_first [] = None
-split_first (c ∷ cs) = if c == colon then Some ([], cs) else with_byte_before c (split_first cs)
+split_first (c ∷ cs) = if c == colon then Some ([], cs) else option_map (λ p. (c ∷ p.0, p.1)) (split_first cs)
 
 -- the texts before and after the last colon
 abbrev pub split_last : Bytes → Option (Bytes × Bytes)
 split_last [] = None
-split_last (c ∷ cs) = option_or (with_byte_before c (split_last cs)) (if c == colon then Some ([], cs) else None)
+split_last (c ∷ cs) =
+    option_or (option_map (λ p. (c ∷ p.0, p.1)) (split_last cs)) (if c == colon then Some ([], cs) else None)

@@ -1,5 +1,5 @@
 -- Which standard streams the command line asks for, and whether one is asked for twice.
-use Rattle.std.specs.Prelude.{◌&&◌, ◌||◌, Bool, true, false, nat_le, List, count_by, Option, codes}
+use Rattle.std.specs.Prelude.{◌&&◌, Bool, true, false, List, Option, codes}
 use Rattle.std.specs.List.{list_any}
 use Rattle.std.specs.Option.{option_map_or}
 use Rattle.std.specs.Str.{bytes_eq}
@@ -32,10 +32,3 @@ is_port_taken Stdio updates = list_any uses_standard updates
 is_port_taken (Emulated file) updates = is_standard file
 is_port_taken (Network address) updates = false
 is_port_taken (Served port chip) updates = is_standard chip
-
--- A standard stream is asked for twice, or in place of a file: by the port and the updates, or by the files of
--- `--parts` and `--chip`.
-abbrev pub is_taken : Port → List Update → Option Bytes → Option Bytes → Bool
-is_taken port updates parts chip =
-    (is_given_standard parts || is_given_standard chip)
-    || (is_port_taken port updates || nat_le 2 (count_by uses_input updates))

@@ -28,9 +28,9 @@ op_name Verify = codes "v"
 
 abbrev pub op_named : Bytes → Option Op
 op_named name =
-    if bytes_eq name (op_name Read) then Some Read
-    else if bytes_eq name (op_name Write) then Some Write
-    else if bytes_eq name (op_name Verify) then Some Verify
+    if bytes_eq name (codes "r") then Some Read
+    else if bytes_eq name (codes "w") then Some Write
+    else if bytes_eq name (codes "v") then Some Verify
     else None
 
 -- the letter of a format

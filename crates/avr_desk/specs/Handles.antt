@@ -24,14 +24,9 @@ pub record HandleGave {H : Type 0} (reads : Reads H) (first now : H) (reading : 
   pub gave : Consumes (reads.remaining first) (reads.remaining now) reading.bytes
   pub ends : reading.ended ≡ true → IfSome (reads.remaining first) (λ bytes. length bytes ≤ length reading.bytes)
 
--- `-` is standard input as the system gave it; any other name is a file that was opened by this name
-abbrev pub GaveInput : {S F I H : Type 0} → Ghosts S F I H → Reads I → I → Reading → Type 0
-GaveInput {I = I} system input now reading =
-    (is_dash reading.name ≡ true) × (first : I) × system.is_input first × HandleGave input first now reading
-
-abbrev pub GaveFile : {S F I H : Type 0} → Ghosts S F I H → Reads F → F → Reading → Type 0
-GaveFile {F = F} system reads now reading =
-    (first : F) × system.is_of first reading.name × HandleGave reads first now reading
+-- `now` is a handle that was opened so, and has given this since
+abbrev pub Gave : {H : Type 0} → (H → Type 0) → Reads H → H → Reading → Type 0
+Gave {H = H} IsOpened reads now reading = (first : H) × IsOpened first × HandleGave reads first now reading
 
 -- the file was created by this name, and has taken these bytes since
 abbrev pub TookFile : {S F I H : Type 0} → Ghosts S F I H → Writes F → F → Writing → Type 0
@@ -39,14 +34,17 @@ TookFile {F = F} system writes now writing =
     (first : F) × system.is_of first writing.name
     × Appends (writes.contents first) (writes.contents now) writing.bytes
 
--- The open handle gave or took what the record has.
+-- The open handle gave or took what the record says. `-` is standard input as the system gave it, or the output. Any
+-- other name is a file that was opened or created by this name.
 abbrev pub IsTrueOpen : {S F I H : Type 0} → Ghosts S F I H → Reads F → Writes F → Reads I → OpenFile F I
     → Open → Type 0
 IsTrueOpen system reads writes input Nothing current = current ≡ is.Closed
 IsTrueOpen system reads writes input (Input now) current =
-    (reading : Reading) × (current ≡ is.ToRead reading) × GaveInput system input now reading
+    (reading : Reading) × (current ≡ is.ToRead reading) × (is_dash reading.name ≡ true)
+    × Gave system.is_input input now reading
 IsTrueOpen system reads writes input (ToRead now) current =
-    (reading : Reading) × (current ≡ is.ToRead reading) × GaveFile system reads now reading
+    (reading : Reading) × (current ≡ is.ToRead reading)
+    × Gave (λ first. system.is_of first reading.name) reads now reading
 IsTrueOpen system reads writes input (ToWrite now) current =
     (writing : Writing) × (current ≡ is.ToWrite writing) × TookFile system writes now writing
 IsTrueOpen system reads writes input Output current =
@@ -57,7 +55,8 @@ IsTrueOpen system reads writes input Output current =
 abbrev pub IsTrueUse : {S F I H : Type 0} → Ghosts S F I H → Reads F → Writes F → Reads I → FileUse → Type 0
 IsTrueUse system reads writes input (Opened (Absent name)) = system.lacks name
 IsTrueUse {F = F} {I = I} system reads writes input (Opened (Found reading)) =
-    ((now : I) × GaveInput system input now reading) ⊎ ((now : F) × GaveFile system reads now reading)
+    ((now : I) × (is_dash reading.name ≡ true) × Gave system.is_input input now reading)
+    ⊎ ((now : F) × Gave (λ first. system.is_of first reading.name) reads now reading)
 IsTrueUse {F = F} system reads writes input (Created writing) =
     (is_dash writing.name ≡ true) ⊎ ((now : F) × system.closed now × TookFile system writes now writing)
     ⊎ system.replaced writing.name writing.bytes

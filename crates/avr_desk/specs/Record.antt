@@ -45,11 +45,6 @@ showing kept failures message_failures =
 abbrev pub ChangesRecord : (Record → Record) → DeskState → DeskState → Type 0
 ChangesRecord change old new = new.kept ≡ change old.kept
 
--- the open file, if it is open to read
-abbrev pub opening_of : Open → List Opening
-opening_of (ToRead x) = Found x ∷ []
-opening_of _ = []
-
 -- the open file, if it is open to write
 abbrev pub file_of : Open → List Writing
 file_of (ToWrite x) = x ∷ []
@@ -78,7 +73,7 @@ all_uses r = r.uses ++ use_of r.current
 
 -- all openings, the file that is open to read last
 abbrev pub all_openings : Record → List Opening
-all_openings r = openings_among r.uses ++ opening_of r.current
+all_openings r = openings_among r.uses ++ openings_among (use_of r.current)
 
 -- all files created or replaced, the one that is open to write last
 abbrev pub all_files : Record → List Writing
@@ -131,8 +126,9 @@ with_tried name bytes r = record r { tried = r.tried ++ record { name = name; by
 
 -- the file was replaced; the open file is closed and nothing is held
 abbrev pub with_replaced : Bytes → Bytes → Record → Record
-with_replaced name bytes r = record (with_tried name bytes r)
-    { uses = all_uses r ++ Created (record { name = name; bytes = bytes }) ∷ []; current = Closed; held = None }
+with_replaced name bytes r =
+    let file : Writing = record { name = name; bytes = bytes } in
+    record r { uses = all_uses r ++ Created file ∷ []; current = Closed; held = None; tried = r.tried ++ file ∷ [] }
 
 -- The file was replaced. A failed call may be in the record as tried.
 abbrev pub Replaces : Bytes → Bytes → Result ⊤ DeskFault → DeskState → DeskState → Type 0

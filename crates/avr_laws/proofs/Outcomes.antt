@@ -1,6 +1,7 @@
 -- What status 0 means, and outcomes that are refused.
 pub mod Alike
 pub mod Saved
+pub mod ByTasks
 pub mod Promise
 pub mod OtherPart
 pub mod OwnSignature

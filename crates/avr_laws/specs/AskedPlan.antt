@@ -5,7 +5,7 @@ use Rattle.avr_cli.specs.declared.update.Format.{Format}
 use Rattle.avr_cli.specs.declared.update.Format.TheVariants.{Immediate}
 use Rattle.avr_cli.specs.declared.update.Op.TheVariants as op
 use Rattle.avr_cli.specs.declared.update.Update.{Update}
-use Rattle.avr_desk.specs.Record.{Bytes, DeskState, all_openings}
+use Rattle.avr_desk.specs.Record.{Bytes, Record, all_openings}
 use Rattle.avr_desk.specs.declared.record.Opening.TheVariants.{Found}
 use Rattle.avr_image.specs.Values.{image_of_values}
 use Rattle.avr_part.specs.BuiltIn.{part_of_id}
@@ -29,10 +29,10 @@ GivesText = Bytes → Bytes → Type 0
 abbrev pub FileHolds : Files → GivesText
 FileHolds files name text = files name ≡ Some text
 
--- Between these states of a desk the file of this name was opened and read to its end, and gave this text.
-abbrev pub FileGave : DeskState → DeskState → GivesText
+-- Between these records of a desk the file of this name was opened and read to its end, and gave this text.
+abbrev pub FileGave : Record → Record → GivesText
 FileGave old new name text =
-    Contains (drop (length (all_openings old.kept)) (all_openings new.kept))
+    Contains (drop (length (all_openings old)) (all_openings new))
     (Found (record { name = name; bytes = text; ended = true }))
 
 -- The image of an update: the values on the command line, or what its file holds in its format, if that isn't too long.

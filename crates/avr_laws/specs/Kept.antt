@@ -3,7 +3,7 @@
 use Rattle.std.specs.Prelude.{◌≡◌, ℕ, false, not, List, [], ◌∷◌, ◌++◌, filter, take, if◌then◌else◌}
 use Rattle.avr_cli.specs.declared.settings.Switches.{Switches}
 use Rattle.avr_desk.specs.Named.{is_dash}
-use Rattle.avr_desk.specs.Record.{Bytes, DeskState, all_files}
+use Rattle.avr_desk.specs.Record.{Bytes, Record, all_files}
 use Rattle.avr_desk.specs.declared.record.Writing.{Writing}
 use Rattle.avr_laws.specs.AnyTape.{ReceivedSentFrames, after_received_bytes}
 use Rattle.avr_laws.specs.NoForgedFrame.{AreNotForged, frame_of_reply}
@@ -14,8 +14,8 @@ use Rattle.avr_session.specs.Actions.{Action, SaveMemory, actions}
 use Rattle.avr_session.specs.FileText.{file_text}
 use Rattle.avr_session.specs.Session.{bytes_to_save}
 use Rattle.avr_tool.specs.Authentic.{first_execution, later_executions, on_reading}
+use Rattle.avr_tool.specs.ComparisonsAgree.{ComparisonsAgree}
 use Rattle.avr_tool.specs.Items.{action_items, asked_items}
-use Rattle.avr_tool.specs.Outcome.{IsDone}
 use Rattle.avr_tool.specs.Written.{IsWritten}
 use Rattle.stk_emu.specs.Device.{Device, device}
 use Rattle.stk_emu.specs.Effect.{Memories, effects, memories_of, memory_in}
@@ -65,15 +65,16 @@ abbrev pub dash_output : List Writing → Bytes
 dash_output [] = []
 dash_output (file ∷ files) = if is_dash file.name then file.bytes ++ dash_output files else dash_output files
 
--- Between these states of a desk these files were created, in order, and no others; the output is that of `-`.
-pub record FilesAreSaved (files : List Writing) (old now : DeskState) : Type 0 where
-  pub created : all_files now.kept ≡ all_files old.kept ++ named_files files
-  pub output : now.kept.output ≡ old.kept.output ++ dash_output files
+-- Between these records of a desk these files were created, in order, and no others; the output is that of `-`.
+pub record FilesAreSaved (files : List Writing) (old now : Record) : Type 0 where
+  pub created : all_files now ≡ all_files old ++ named_files files
+  pub output : now.output ≡ old.output ++ dash_output files
 
--- A run of this plan with status 0 led from these memories and this desk to those.
-pub record Keeps (plan : Plan) (before after : Memories) (old now : DeskState) : Type 0 where
+-- A run of this plan with status 0 led from these memories and this record of the desk to those.
+pub record Keeps (plan : Plan) (before after : Memories) (old now : Record) : Type 0 where
   -- all that the plan writes was written, and all that it compares agreed
-  pub done : IsDone plan before after
+  pub made : after ≡ effects plan.part (asked_items plan) before
+  pub agrees : ComparisonsAgree plan before
   -- unless verifying was off, each memory holds its images, and elsewhere what it held, or an erase's FF
   pub images : plan.switches.no_verify ≡ false → IsWritten plan.part (asked_items plan) before after
   -- each file that a memory was read into has the text of what the chip held then
@@ -90,8 +91,8 @@ on_part part plan = record plan { part = part }
 abbrev pub HasGeometryOf : Part → Part → Type 0
 HasGeometryOf other part = part ≡ record other { id = part.id; signature = part.signature }
 
--- A run of this plan with status 0 led from these memories of a chip of this part and this desk to those.
-pub record KeepsOnPart (part : Part) (plan : Plan) (before after : Memories) (old now : DeskState) : Type 0 where
+-- A run of this plan with status 0 led from these memories of a chip of this part and this record to those.
+pub record KeepsOnPart (part : Part) (plan : Plan) (before after : Memories) (old now : Record) : Type 0 where
   -- the plan for the chip's own part was kept
   pub keeps : Keeps (on_part part plan) before after old now
   -- without -F the chip has the signature of the plan's part
@@ -99,7 +100,7 @@ pub record KeepsOnPart (part : Part) (plan : Plan) (before after : Memories) (ol
 
 -- WHAT STATUS 0 MEANS, by what passed over the link. Whatever the programmer was, and whatever it received before and
 -- after its restarts, the plan was kept, if its chip has the geometry of the plan's part.
-abbrev pub IsKept : Plan → Transcript → DeskState → DeskState → Type 0
+abbrev pub IsKept : Plan → Transcript → Record → Record → Type 0
 IsKept plan passed old now =
     (p : Programmer) (got : List ℕ) (later : List (List ℕ)) (executions : List Execution) → IsSoundChip p.chip
     → HasGeometryOf plan.part p.chip.part → ReceivedSentFrames got later (frames (sent passed)) executions

@@ -5,7 +5,7 @@ use Rattle.avr_cli.specs.Command.{settings_from_arguments, avrstk}
 use Rattle.avr_cli.specs.declared.settings.Port.{Port}
 use Rattle.avr_cli.specs.declared.settings.Port.TheVariants.{Stdio, Emulated, Network, Served}
 use Rattle.avr_cli.specs.declared.settings.Settings.{Settings}
-use Rattle.avr_desk.specs.Record.{Bytes, DeskState, ChangesRecord, all_openings, with_replaced}
+use Rattle.avr_desk.specs.Record.{Bytes, Record, all_openings, with_replaced}
 use Rattle.avr_desk.specs.declared.record.Opening.{Opening}
 use Rattle.avr_laws.specs.AskedPlan.{FileGave, IsAsked}
 use Rattle.avr_laws.specs.ChipFound.{IsChipInFile}
@@ -14,48 +14,45 @@ use Rattle.avr_laws.specs.Kept.{IsKept, Keeps}
 use Rattle.avr_part.specs.ChipFile.{chip_file}
 use Rattle.avr_part.specs.State.{ChipState as Chip}
 use Rattle.avr_plan.specs.Plan.{Plan}
-use Rattle.avr_session.specs.Runs.{Devices}
 use Rattle.stk_emu.specs.Effect.{memories_of}
-use Rattle.stk_host.specs.Transcript.{LinkState}
+use Rattle.stk_host.specs.Transcript.{LinkState, Transcript}
 
 -- The last file that was opened is the chip file. It held a chip of the plan's part; without a file the chip is a fresh
 -- one. The plan was kept for this chip. The last use in the record is this file, put there whole with the chip that was
 -- left. The record doesn't show whether the file was created or replaced.
-pub record IsKeptInFile (file : Bytes) (plan : Plan) (old new : DeskState) : Type 0 where
+pub record IsKeptInFile (file : Bytes) (plan : Plan) (old new : Record) : Type 0 where
   pub before : List Opening
   pub found : Option Bytes
   pub chip : Chip
   pub left : Chip
-  pub ended : DeskState
-  pub opened : all_openings new.kept ≡ before ++ read_whole file found ∷ []
+  pub ended : Record
+  pub opened : all_openings new ≡ before ++ read_whole file found ∷ []
   pub was : IsChipInFile plan.part found chip
   pub keeps : Keeps plan (memories_of chip) (memories_of left) old ended
-  pub saved : ChangesRecord (with_replaced file (chip_file left)) ended new
+  pub saved : new ≡ with_replaced file (chip_file left) ended
 
 -- The settings and the files that were opened ask for a plan, and this holds of it.
-abbrev pub KeepsPlan : Settings → DeskState → DeskState → (Plan → Type 0) → Type 0
+abbrev pub KeepsPlan : Settings → Record → Record → (Plan → Type 0) → Type 0
 KeepsPlan settings old new IsSo = (plan : Plan) × (IsAsked settings (FileGave old new) plan × IsSo plan)
 
--- What happened to the one connection to this address: a link over it has this state, or there was none.
-abbrev pub ConnectionState : Type 1
-ConnectionState = Bytes → Option LinkState → Type 0
-
 -- The plan was kept: over standard streams and over a connection to the address, by what passed over the link; over the
--- emulator, by its chip file. A service has no plan.
-abbrev pub KeepsPlanAt : ConnectionState → Port → Settings → Devices → Devices → Type 0
-KeepsPlanAt At Stdio settings old new =
-    KeepsPlan settings old.desk new.desk (λ plan. IsKept plan new.link.transcript old.desk new.desk)
-KeepsPlanAt At (Network address) settings old new =
+-- emulator, by its chip file. A service has no plan. `At` says what happened to the one connection to an address: a
+-- link over it has this state, or there was none.
+abbrev pub KeepsPlanAt : (Bytes → Option LinkState → Type 0) → Port → Settings → Transcript → Record → Record → Type 0
+KeepsPlanAt At Stdio settings passed old new = KeepsPlan settings old new (λ plan. IsKept plan passed old new)
+KeepsPlanAt At (Network address) settings passed old new =
     (link : LinkState) × At address (Some link)
-    × KeepsPlan settings old.desk new.desk (λ plan. IsKept plan link.transcript old.desk new.desk)
-KeepsPlanAt At (Emulated file) settings old new =
-    KeepsPlan settings old.desk new.desk (λ plan. IsKeptInFile file plan old.desk new.desk)
-KeepsPlanAt At (Served port file) settings old new = Unit {0}
+    × KeepsPlan settings old new (λ plan. IsKept plan link.transcript old new)
+KeepsPlanAt At (Emulated file) settings passed old new =
+    KeepsPlan settings old new (λ plan. IsKeptInFile file plan old new)
+KeepsPlanAt At (Served port file) settings passed old new = Unit {0}
 
--- WHAT STATUS 0 MEANS. If the command line asks for a run, and not for help, its plan was kept.
-abbrev pub KeepsCommandLine : (List Bytes → Type 0) → ConnectionState → Devices → Devices → Type 0
-KeepsCommandLine AreWords At old new =
+-- WHAT STATUS 0 MEANS, by what passed over standard streams and by the desk's records. If the command line asks for a
+-- run, and not for help, its plan was kept.
+abbrev pub KeepsCommandLine : (List Bytes → Type 0) → (Bytes → Option LinkState → Type 0) → Transcript → Record
+    → Record → Type 0
+KeepsCommandLine AreWords At passed old new =
     (words : List Bytes) × AreWords words
     × (takes avrstk words ≡ true
     → (settings : Settings) × (Ok settings ≡ settings_from_arguments words)
-    × KeepsPlanAt At settings.port settings old new)
+    × KeepsPlanAt At settings.port settings passed old new)

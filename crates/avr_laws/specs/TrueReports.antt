@@ -19,7 +19,7 @@ use Rattle.stk_host.specs.declared.fault.StepFault.{StepFault}
 use Rattle.stk_emu.specs.Device.{Device, after_frame}
 use Rattle.stk_emu.specs.Effect.{Image, Item, Erase, Write, Memories, effect, effects, memory_in}
 use Rattle.stk_emu.specs.Exchange.{Exchange, after_exchange, reading_of_exchange, first_exchange, later_exchanges}
-use Rattle.avr_tool.specs.ComparisonsAgree.{MemoryHoldsImage}
+use Rattle.stk_emu.specs.StepData.{HoldsImage}
 use Rattle.avr_tool.specs.Items.{items}
 
 -- Each output of a dialog along these exchanges holds of the programmer that executed the commands before it.
@@ -60,7 +60,7 @@ pub data IsTrueReport (plan : Plan) (before now : Memories) (event : OutputEvent
   WriteLeftOut : (mem : Mem) (image : Image) → Contains (actions plan) (SkipAction (SkippedWrite mem image))
       → event ≡ count_line mem (byte_count image) (codes " bytes not written") → IsTrueReport plan before now event
   BytesVerified : (mem : Mem) (image : Image) → Contains (actions plan) (CompareImage mem image)
-      → event ≡ count_line mem (byte_count image) (codes " bytes verified") → MemoryHoldsImage plan.part mem image now
+      → event ≡ count_line mem (byte_count image) (codes " bytes verified") → HoldsImage image (memory_in plan.part mem now)
       → IsTrueReport plan before now event
   Differed : (mem : Mem) (image : Image) (fault : HostFault) → Contains (actions plan) (CompareImage mem image)
       → event ≡ PrintsLine (fault_line plan.part fault) → comparison mem image (memory_in plan.part mem now)

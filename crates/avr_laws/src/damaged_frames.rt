@@ -53,5 +53,5 @@ pub fn over_a_link_that_damages_one_byte_status_0_means_the_images()
         → Arrived (frames (sent now.link.transcript)) through got → heard now.link.transcript ≡ tape_of_arrivals come
         → BringsReplies device (session plan) 1 come p (executions_by_arrival through) []
         → KeepsOnPart p.chip.part plan (memories_of p.chip)
-        (memories_of (after_frames device (frames got) p).chip) before.desk now.desk }
+        (memories_of (after_frames device (frames got) p).chip) before.desk.kept now.desk.kept }
 {}

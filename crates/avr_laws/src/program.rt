@@ -1,11 +1,10 @@
 //! The promise of the program: what its contract and the laws of runs state together.
 ghost use Rattle.std.specs.Prelude.{◌≡◌, []};
 ghost use Rattle.avr_desk.specs.Handles.{IsTrueRecord};
-ghost use Rattle.avr_desk.specs.Shown.{IsNewDesk, system_desk_view};
+ghost use Rattle.avr_desk.specs.Shown.{IsNewDesk};
 ghost use Rattle.avr_laws.specs.KeptByPort.{KeepsCommandLine};
-ghost use Rattle.avr_session.specs.Runs.{devices};
 ghost use Rattle.avr_tool.specs.Sockets.{IsOverAddress};
-ghost use Rattle.stk_host.specs.Links.{TranscriptIsTrueSince, stream_state};
+ghost use Rattle.stk_host.specs.Links.{TranscriptIsTrueSince};
 
 use avr_desk::{FileSystem, SystemDesk};
 use avr_tool::{CommandLine, Network, run_command_line};
@@ -36,8 +35,7 @@ pub fn a_program_with_status_0_kept_its_plan<
 ) -> u8
     ensures plan { result ≡ 0 → link.old.transcript ≡ []
         → KeepsCommandLine C.is_words (IsOverAddress N.Network N.Stream.Read N.Stream.Write N.Stream.closed)
-        (devices (stream_state link.old) (system_desk_view desk.old))
-        (devices (stream_state link.new) (system_desk_view desk.new)) }
+        link.new.transcript desk.old.kept desk.new.kept }
     // A new desk's record of files, and the link's transcript, are what these gave and took.
     ensures files { IsNewDesk S.FileSystem desk.old
         → IsTrueRecord S.FileSystem S.File.Read S.File.Write S.Input.Read desk.new.system desk.new.opened

@@ -28,13 +28,13 @@ ghost use Rattle.avr_tool.specs.Headline.{IsRun, IsStopped};
 ghost use Rattle.avr_laws.specs.InMemory.{AreUnused, LeavesOutcome, LeavesOverStreams, RunOutcome, outcome_shown};
 ghost use Rattle.avr_laws.specs.Worked.{absent_outcome, absent_settings, worked_frames, fuse_plan, worked_lines, forged_replies, no_stock, worked_replies, worked_outcome, worked_settings};
 ghost use Rattle.stk_emu.specs.Device.{device};
-ghost use Rattle.stk_emu.specs.Effect.{memories_of, erase_keeps_eeprom, effects};
+ghost use Rattle.stk_emu.specs.Effect.{memories_of, erase_keeps_eeprom, effects, memory_in};
 ghost use Rattle.avr_laws.specs.FewBadFrames.{AtMostThreeBadOfSeven};
 ghost use Rattle.avr_laws.specs.AskedPlan.{FileGave, IsAsked};
 ghost use Rattle.avr_laws.specs.Kept.{HasGeometryOf, IsKept, NoneForged};
 ghost use Rattle.stk_emu.specs.Programmer.{Programmer, fresh_programmer};
 ghost use Rattle.stk_host.specs.Play.{IsBytePrefixOf};
-ghost use Rattle.avr_tool.specs.ComparisonsAgree.{MemoryHoldsImage};
+ghost use Rattle.stk_emu.specs.StepData.{HoldsImage};
 ghost use Rattle.avr_part.specs.declared.part.Mem.{Mem};
 ghost use Rattle.stk_emu.specs.Settled.{FitsPart};
 ghost use Rattle.stk_emu.specs.Wire.{exchanges_of_fates};
@@ -76,8 +76,8 @@ pub fn status_0_means_the_images<D: Desk, L: Link>(
     link: &mut L,
 ) -> u8
     ensures promise { result ≡ 0 → (L.view link.old).transcript ≡ []
-        → (plan : Plan) × (IsAsked settings.now (FileGave (D.view desk.old) (D.view desk.new)) plan
-        × IsKept plan (L.view link.new).transcript (D.view desk.old) (D.view desk.new)) }
+        → (plan : Plan) × (IsAsked settings.now (FileGave (D.view desk.old).kept (D.view desk.new).kept)
+        plan × IsKept plan (L.view link.new).transcript (D.view desk.old).kept (D.view desk.new).kept) }
 {
     run(alloc, settings, desk, link)
 }
@@ -94,7 +94,7 @@ pub fn status_0_means_the_images<D: Desk, L: Link>(
 // Proof: `as_one` and `images_there` (Outcomes/TwoRuns), by `done_again` (SecondRun/Status) and, for another signature,
 // `session_alike` (Outcomes/OtherPart).
 pub fn an_ended_run_and_one_with_status_0_are_as_one()
-    ensures { (plan : Plan) (first second : Transcript) (old now : DeskState) (p q : Programmer)
+    ensures { (plan : Plan) (first second : Transcript) (old now : Record) (p q : Programmer)
         → All (IsFitted plan.part) plan.tasks → IsSoundChip p.chip → HasGeometryOf plan.part p.chip.part
         → (has_erase (items plan) ≡ true → erase_keeps_eeprom p.chip.part (memories_of p.chip) ≡ true
         → ItemsKeepEeprom p.chip.part (items plan))
@@ -108,8 +108,8 @@ pub fn an_ended_run_and_one_with_status_0_are_as_one()
         → NoneForged device (frames (sent second)) (heard second) q others []
         → (memories_of (after_received_bytes device over more q).chip
         ≡ effects p.chip.part (items plan) (memories_of p.chip))
-        × (plan.switches.no_verify ≡ false → (mem : Mem) → MemoryHoldsImage p.chip.part mem
-        (written_to p.chip.part mem (asked_items plan)) (memories_of (after_received_bytes device over more q).chip)) }
+        × (plan.switches.no_verify ≡ false → (mem : Mem) → HoldsImage (written_to p.chip.part mem (asked_items plan))
+        (memory_in p.chip.part mem (memories_of (after_received_bytes device over more q).chip))) }
 {}
 
 /// States that no session over the emulated link has status 0 with wrong memories or output, changes a chip without a

@@ -9,9 +9,10 @@ ghost use Rattle.avr_part.specs.declared.part.Mem.{Mem};
 ghost use Rattle.avr_part.specs.declared.part.Mem.TheVariants.{Flash};
 ghost use Rattle.avr_plan.specs.Plan.{Plan, IsFitted};
 ghost use Rattle.avr_plan.specs.declared.planned.Task.{Task};
-ghost use Rattle.stk_emu.specs.Effect.{Image, Item, Write, Memories, effects};
+ghost use Rattle.stk_emu.specs.Effect.{Image, Item, Write, Memories, effects, memory_in};
+ghost use Rattle.stk_emu.specs.StepData.{HoldsImage};
 ghost use Rattle.stk_emu.specs.Settled.{FitsPart};
-ghost use Rattle.avr_tool.specs.ComparisonsAgree.{ComparisonsAgree, MemoryHoldsImage};
+ghost use Rattle.avr_tool.specs.ComparisonsAgree.{ComparisonsAgree};
 ghost use Rattle.avr_tool.specs.ExpectedRun.{expected_run};
 ghost use Rattle.avr_tool.specs.Items.{asked_items, items};
 ghost use Rattle.avr_tool.specs.Outcome.{write_operations, HasFirstOperations, IsDone};
@@ -75,5 +76,5 @@ pub fn a_byte_of_flash_is_made_by_images()
 pub fn what_is_written_is_there()
     ensures { (part : Part) (before now : Memories) (mem : Mem) (image : Image) (first : List Item)
         → HoldsBytes image → now ≡ effects part (first ++ Write mem image ∷ []) before
-        → WriteTakesEffect mem image first (effects part first before) → MemoryHoldsImage part mem image now }
+        → WriteTakesEffect mem image first (effects part first before) → HoldsImage image (memory_in part mem now) }
 {}

@@ -17,8 +17,12 @@ decode_write b d =
     else Nothing
 
 -- the instruction of four bytes; any others are `Nothing`
-abbrev pub decode_bytes : ℕ → ℕ → ℕ → ℕ → Instruction
-decode_bytes a b c d =
+abbrev pub instruction_of : List ℕ → Instruction
+instruction_of x =
+    let a = slice_index x 0 in
+    let b = slice_index x 1 in
+    let c = slice_index x 2 in
+    let d = slice_index x 3 in
     if a == 0xAC then decode_write b d
     else if a == 0x40 then LoadFlash half.Low c d
     else if a == 0x48 then LoadFlash half.High c d
@@ -38,7 +42,3 @@ decode_bytes a b c d =
     else if a == 0x50 && b == 0x08 then ReadFuse fuse.Extended
     else if a == 0x58 && b == 0x00 then ReadLock
     else Nothing
-
--- the instruction of a list of four bytes
-abbrev pub instruction_of : List ℕ → Instruction
-instruction_of x = decode_bytes (slice_index x 0) (slice_index x 1) (slice_index x 2) (slice_index x 3)

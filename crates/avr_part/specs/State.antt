@@ -1,7 +1,7 @@
 -- The state of a chip, and what each instruction does to it.
 use Rattle.std.specs.Prelude.{ℕ, Bool, ◌+◌, ◌*◌, ◌/◌, ◌%◌, ◌==◌, List, [], ◌∷◌, Option, Some, None, replicate, slice_index, slice_set, bit_and, if◌then◌else◌}
 use Rattle.std.specs.Int.{bit_at}
-use Rattle.avr_part.specs.Memory.{map_indexed, byte_and_page, overlaid_byte, blank, nothing_loaded, page_start}
+use Rattle.avr_part.specs.Memory.{map_indexed, byte_and_page, overlaid_byte, blank, nothing_loaded}
 use Rattle.avr_part.specs.Instruction.{instruction_of}
 use Rattle.avr_part.specs.Part.{Part}
 use Rattle.avr_part.specs.declared.part.Mem.{Mem}
@@ -78,7 +78,7 @@ eeprom_address s address = address % s.part.eeprom_size
 abbrev pub with_flash_page : ℕ → ChipState → ChipState
 with_flash_page word s = record s {
   flash = if is_locked s then s.flash
-      else map_indexed (byte_and_page (page_start s.part.flash_page (word_address s word))
+      else map_indexed (byte_and_page (word_address s word / s.part.flash_page * s.part.flash_page)
       s.flash_buffer) s.flash;
   flash_buffer = blank s.flash_buffer;
 }
@@ -97,7 +97,7 @@ with_eeprom_load place byte s =
 abbrev pub with_eeprom_page : ℕ → ChipState → ChipState
 with_eeprom_page address s = record s {
   eeprom = if is_locked s then s.eeprom else map_indexed (overlaid_byte
-      (page_start s.part.eeprom_page (eeprom_address s address)) s.eeprom_buffer) s.eeprom;
+      (eeprom_address s address / s.part.eeprom_page * s.part.eeprom_page) s.eeprom_buffer) s.eeprom;
   eeprom_buffer = nothing_loaded s.eeprom_buffer;
 }
 

@@ -1,20 +1,15 @@
 -- Whether the memories hold what a plan compares them with.
 use Rattle.std.specs.Prelude.{List, [], ◌∷◌, ⊤}
 use Rattle.avr_part.specs.Part.{Part}
-use Rattle.avr_part.specs.declared.part.Mem.{Mem}
 use Rattle.avr_plan.specs.Plan.{Plan}
 use Rattle.avr_session.specs.Actions.{Action, CompareImage, actions}
-use Rattle.stk_emu.specs.Effect.{Image, Memories, effects, memory_in}
+use Rattle.stk_emu.specs.Effect.{Memories, effects, memory_in}
 use Rattle.stk_emu.specs.StepData.{HoldsImage}
 use Rattle.avr_tool.specs.Items.{action_items}
 
--- At each address of the memory at which the image has a byte, the memory has that byte.
-abbrev pub MemoryHoldsImage : Part → Mem → Image → Memories → Type 0
-MemoryHoldsImage part mem image m = HoldsImage image (memory_in part mem m)
-
 -- If the action is a comparison, the memory holds its image.
 abbrev pub ComparisonAgrees : Part → Action → Memories → Type 0
-ComparisonAgrees part (CompareImage mem image) m = MemoryHoldsImage part mem image m
+ComparisonAgrees part (CompareImage mem image) m = HoldsImage image (memory_in part mem m)
 ComparisonAgrees part action m = ⊤
 
 -- Each action in order, over the memories that those before it leave.

@@ -8,7 +8,7 @@ use Rattle.avr_part.specs.declared.part.Mem.TheVariants.{Flash, Eeprom, Lfuse, H
 use Rattle.avr_plan.specs.Plan.{Plan}
 use Rattle.avr_plan.specs.declared.planned.Task.TheVariants as task
 use Rattle.stk_emu.specs.Effect.{Image, Item, Erase, Write, Memories, erase_keeps_eeprom, memory_in}
-use Rattle.avr_tool.specs.ComparisonsAgree.{MemoryHoldsImage}
+use Rattle.stk_emu.specs.StepData.{HoldsImage}
 use Rattle.avr_tool.specs.Items.{asked_items, has_erase}
 
 -- A number for each memory, to compare memories by.
@@ -40,12 +40,12 @@ byte_in part mem addr m = slice_index (memory_in part mem m) addr
 pub record IsWritten (part : Part) (items : List Item) (before after : Memories) : Type 0 where
   pub flash_size : length after.flash ≡ part.flash_size
   pub eeprom_size : length after.eeprom ≡ part.eeprom_size
-  pub images : (mem : Mem) → MemoryHoldsImage part mem (written_to part mem items) after
+  pub images : (mem : Mem) → HoldsImage (written_to part mem items) (memory_in part mem after)
   pub rest_of_flash : (addr : ℕ) → addr < part.flash_size → byte_at (written_to part Flash items) addr ≡ None
-      → byte_in part Flash addr after ≡ (if has_erase items then 255 else byte_in part Flash addr before)
+      → slice_index after.flash addr ≡ (if has_erase items then 255 else slice_index before.flash addr)
   pub rest_of_eeprom : (addr : ℕ) → addr < part.eeprom_size → byte_at (written_to part Eeprom items) addr ≡ None
-      → byte_in part Eeprom addr after ≡ (if has_erase items && not (erase_keeps_eeprom part before) then 255
-      else byte_in part Eeprom addr before)
+      → slice_index after.eeprom addr ≡ (if has_erase items && not (erase_keeps_eeprom part before) then 255
+      else slice_index before.eeprom addr)
   pub lfuse : byte_at (written_to part Lfuse items) 0 ≡ None → after.lfuse ≡ before.lfuse
   pub hfuse : byte_at (written_to part Hfuse items) 0 ≡ None → after.hfuse ≡ before.hfuse
   pub efuse : byte_at (written_to part Efuse items) 0 ≡ None → after.efuse ≡ before.efuse

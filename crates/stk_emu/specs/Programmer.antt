@@ -94,17 +94,13 @@ get_parameter number p = (0x03 ∷ 0 ∷ slice_index p.parameters number ∷ [],
 abbrev pub load_address : ℕ → Programmer → Response
 load_address address p = (0x06 ∷ 0 ∷ [], record p { address = address % bit_31; wide = nat_le bit_31 address })
 
--- The programmer is then in programming mode exactly if entering succeeded.
-abbrev pub enter_response : Bool → Programmer → Response
-enter_response ok p = (0x10 ∷ (if ok then 0 else 0xC0) ∷ [], record p { mode = ok })
-
 -- Programming mode is entered if the polled output byte has the wanted value. Poll index 0 polls nothing.
 abbrev pub enter_progmode : EnterFields → Programmer → Response
 enter_progmode f p =
-    if nat_lt 4 f.poll_index then enter_response false p
-    else enter_response
-    (f.poll_index == 0 || slice_index (spi_of f.instruction p.chip).0 (f.poll_index - 1) == f.poll_value)
-    (with_instructions (f.instruction ∷ []) p)
+    if nat_lt 4 f.poll_index then (0x10 ∷ 0xC0 ∷ [], record p { mode = false })
+    else
+    let ok = f.poll_index == 0 || slice_index (spi_of f.instruction p.chip).0 (f.poll_index - 1) == f.poll_value in
+    (0x10 ∷ (if ok then 0 else 0xC0) ∷ [], record (with_instructions (f.instruction ∷ []) p) { mode = ok })
 
 abbrev pub leave_progmode : Programmer → Response
 leave_progmode p = (0x11 ∷ 0 ∷ [], record p { mode = false })
@@ -181,16 +177,12 @@ program_eeprom f p =
     )
     else fail 0x15 p)
 
--- Bytes that instructions read, and the chip after these.
-abbrev pub BytesAndChip : Type 0
-BytesAndChip = List ℕ × ChipState
-
 -- The fourth output byte of an instruction, and then what is read from the chip after it.
-abbrev pub read_then : List ℕ → ChipState → (ChipState → BytesAndChip) → BytesAndChip
+abbrev pub read_then : List ℕ → ChipState → (ChipState → List ℕ × ChipState) → List ℕ × ChipState
 read_then x chip more = (slice_index (spi_of x chip).0 3 ∷ (more (spi_of x chip).1).0, (more (spi_of x chip).1).1)
 
 -- The bytes of flash from byte `i` of a block on; below, of EEPROM.
-abbrev pub flash_reads : Bool → ℕ → ℕ → ℕ → ℕ → ChipState → BytesAndChip
+abbrev pub flash_reads : Bool → ℕ → ℕ → ℕ → ℕ → ChipState → List ℕ × ChipState
 flash_reads wide cmd address i zero chip = ([], chip)
 flash_reads wide cmd address i (suc n) chip =
     read_then (at_address (for_half cmd i) (word_at address i) 0)
@@ -200,17 +192,17 @@ flash_reads wide cmd address i (suc n) chip =
 abbrev pub block_loads : Block → List ℕ → List (List ℕ)
 block_loads block bytes = flash_loads block.wide block.command block.address 0 bytes
 
-abbrev pub block_reads : Block → ℕ → ChipState → BytesAndChip
+abbrev pub block_reads : Block → ℕ → ChipState → List ℕ × ChipState
 block_reads block count chip = flash_reads block.wide block.command block.address 0 count chip
 
-abbrev pub eeprom_reads : ℕ → ℕ → ℕ → ℕ → ChipState → BytesAndChip
+abbrev pub eeprom_reads : ℕ → ℕ → ℕ → ℕ → ChipState → List ℕ × ChipState
 eeprom_reads cmd address i zero chip = ([], chip)
 eeprom_reads cmd address i (suc n) chip =
     read_then (at_address cmd (byte_address address i) 0) chip (eeprom_reads cmd address (suc i) n)
 
 -- The reply with the bytes of a block.
-abbrev pub block_response : ℕ → BytesAndChip → Programmer → Response
-block_response code bytes_and_chip p = (code ∷ 0 ∷ (bytes_and_chip.0 ++ 0 ∷ []), record p { chip = bytes_and_chip.1 })
+abbrev pub block_response : ℕ → List ℕ × ChipState → Programmer → Response
+block_response code read p = (code ∷ 0 ∷ (read.0 ++ 0 ∷ []), record p { chip = read.1 })
 
 -- Reads a block of flash. A count that is 0, odd or too large fails.
 abbrev pub read_flash : ReadBlock → Programmer → Response

@@ -9,10 +9,6 @@ use Rattle.stk_frame.specs.declared.command.ReadByte.{ReadByte}
 use Rattle.stk_frame.specs.declared.protocol.TheConstants.{CMD_CHIP_ERASE_ISP, CMD_ENTER_PROGMODE_ISP, CMD_GET_PARAMETER, CMD_LEAVE_PROGMODE_ISP, CMD_LOAD_ADDRESS, CMD_PROGRAM_EEPROM_ISP, CMD_PROGRAM_FLASH_ISP, CMD_PROGRAM_FUSE_ISP, CMD_PROGRAM_LOCK_ISP, CMD_READ_EEPROM_ISP, CMD_READ_FLASH_ISP, CMD_READ_FUSE_ISP, CMD_READ_LOCK_ISP, CMD_READ_OSCCAL_ISP, CMD_READ_SIGNATURE_ISP, CMD_SET_PARAMETER, CMD_SIGN_ON, CMD_SPI_MULTI}
 
 -- The fields of each command, from their bytes; `None` if there are too few or too many.
-abbrev pub sign_on_of : List ℕ → Option Command
-sign_on_of [] = Some SignOn
-sign_on_of _ = None
-
 abbrev pub set_parameter_of : List ℕ → Option Command
 set_parameter_of (number ∷ value ∷ []) = Some (SetParameter number value)
 set_parameter_of _ = None
@@ -86,7 +82,7 @@ spi_multi_of _ = None
 -- The command with this code and these fields.
 abbrev pub with_fields : ℕ → List ℕ → Option Command
 with_fields code bytes =
-    if code == CMD_SIGN_ON then sign_on_of bytes
+    if code == CMD_SIGN_ON then elim bytes [ [] ↦ Some SignOn | _ ↦ None ]
     else if code == CMD_SET_PARAMETER then set_parameter_of bytes
     else if code == CMD_GET_PARAMETER then get_parameter_of bytes
     else if code == CMD_LOAD_ADDRESS then load_address_of bytes

@@ -258,7 +258,7 @@ module _ {S F I H O E : Type 0} (system : Ghosts S F I H) (reads : Reads F) (wri
   input_true {own = own} {i = i} is_open same dash kept closed begins does stays keeps keeps_on =
       let x : Reading = record { name = own; bytes = []; ended = false } in
       let is : is_dash own ≡ true = sym (dash ∙ ap is_dash (sym same)) in
-      rw is_open (opened_true x kept refl (λ only. (x, refl, (is, i, begins, given_none input i own))) closed
+      rw is_open (opened_true x kept refl (λ only. (x, refl, is, (i, begins, given_none input i own))) closed
       (λ done has_done. rw (opened_dash own is) (stays _ (does done has_done))) (left_on keeps keeps_on))
 
   pub file_true : {b : Desk} {s t : S} {f u : ℕ} {e : Option ErrorKind} {o : OpenFile F I} {k : Record}

@@ -58,7 +58,7 @@ module _ (settings : Settings) (file : Bytes) (stock : Stock) (old new : MemDesk
   abbrev files : List Writing
   files = saved_files r.plan (memories_of r.chip)
 
-  written : FilesAreSaved files r.loaded_desk r.played_desk
+  written : FilesAreSaved files r.loaded_desk.kept r.played_desk.kept
   written = these_saved (outputs (events_over r.plan r.after)) files r.loaded_desk r.played_desk
       (subst (λ (output_events : List OutputEvent). WritesFiles output_events files) (sym expected.emitted)
       (expected_writes r.plan (memories_of r.chip) (sym expected.status_is ∙ zero))) came.1

@@ -22,7 +22,7 @@ use Rattle.avr_laws.specs.KeptByPort.{IsKeptInFile, KeepsPlanAt, KeepsPlan, Keep
 
 over_link : (s : Settings) (old new : DeskState) (link : LinkState)
     → WithPlan s old (λ plan desk. RunsSession plan (devices new_link desk) (devices link new) 0)
-    → KeepsPlan s old new (λ plan. IsKept plan link.transcript old new)
+    → KeepsPlan s old.kept new.kept (λ plan. IsKept plan link.transcript old.kept new.kept)
 over_link s old new link with =
     elim (session_is_run s with.plan (devices new_link old) with.between (devices link new) 0 with.made
     with.then_is).1 [
@@ -33,7 +33,7 @@ over_link s old new link with =
 over_net : (peers : Peers) (s : Settings) (address : Bytes) (old new : DeskState)
     → RunsOverNet peers.unused (peers.at_address address) s address old new 0
     → (link : LinkState) × peers.at_address address (Some link)
-    × KeepsPlan s old new (λ plan. IsKept plan link.transcript old new)
+    × KeepsPlan s old.kept new.kept (λ plan. IsKept plan link.transcript old.kept new.kept)
 over_net peers s address old new (inl (link, over, with)) = (link, over, over_link s old new link with)
 over_net peers s address old new (inr (inl (over, with, one))) = absurd (no_one one)
 over_net peers s address old new (inr (inr (lacks, unused))) = absurd (no_one lacks.goes.0)
@@ -41,7 +41,7 @@ over_net peers s address old new (inr (inr (lacks, unused))) = absurd (no_one la
 -- ---- the emulator
 
 over_emulator : (s : Settings) (file : Bytes) (old new : DeskState) → RunsEmulator s file old new 0
-    → KeepsPlan s old new (λ plan. IsKeptInFile file plan old new)
+    → KeepsPlan s old.kept new.kept (λ plan. IsKeptInFile file plan old.kept new.kept)
 over_emulator s file old new (inl r) = file_kept s file old new r
 over_emulator s file old new (inr (inl with)) = elim with.then_is [
   | inl unheld ↦ absurd (no_one unheld.0)
@@ -52,7 +52,7 @@ over_emulator s file old new (inr (inr lacks)) = absurd (no_one lacks.goes.0)
 -- ---- each port
 
 at_port : (peers : Peers) (port : Port) (s : Settings) (old new : Devices) → old.link.transcript ≡ []
-    → ActsAtPort peers port s old new 0 → KeepsPlanAt peers.at_address port s old new
+    → ActsAtPort peers port s old new 0 → KeepsPlanAt peers.at_address port s new.link.transcript old.desk.kept new.desk.kept
 at_port peers Stdio s old new silent acts = promised s old new 0 acts.0 refl silent
 at_port peers (Emulated file) s old new silent acts = over_emulator s file old.desk new.desk acts.0
 at_port peers (Network address) s old new silent acts = over_net peers s address old.desk new.desk acts.0
@@ -62,7 +62,7 @@ at_port peers (Served port file) s old new silent acts = tt
 
 pub words_kept : {C : Type 0} (line : CommandLine C) (peers : Peers) (old new : Devices) (status : ℕ)
     → StartsProgram line peers old new status → status ≡ 0 → old.link.transcript ≡ []
-    → KeepsCommandLine line.is_words peers.at_address old new
+    → KeepsCommandLine line.is_words peers.at_address new.link.transcript old.desk.kept new.desk.kept
 words_kept line peers old new status (inl (words, are, inl (inl took))) zero silent = (
   words,
   are,

@@ -29,6 +29,7 @@ use Rattle.stk_host.specs.Transcript.{sent}
 use Rattle.avr_laws.proofs.AnyWire.{came_to, emulated_wire}
 use Rattle.avr_laws.proofs.ChipFile.Found.{found, found_kept}
 use Rattle.avr_laws.proofs.ChipFile.SecondRun.{no_silence}
+use Rattle.avr_laws.proofs.Outcomes.ByTasks.{made_by_tasks}
 use Rattle.avr_laws.proofs.Outcomes.Saved.{WritesFiles, expected_writes, reading_writes, these_saved}
 use Rattle.avr_laws.proofs.Plans.Given.{later_asked, went_asked}
 use Rattle.avr_laws.proofs.Plans.OnlyReading.{only_reads}
@@ -169,12 +170,12 @@ module _ (settings : Settings) (file : Bytes) (old new : DeskState) (r : RunsOve
             ∙ (ap (λ (k : Record). k.output) r.loaded.held.0 ∙ (ap (λ (k : Record). k.output) r.made.kept ∙ first.1))),
       )
 
-  session_saved : FilesAreSaved files r.loaded_desk r.played_desk
+  session_saved : FilesAreSaved files r.loaded_desk.kept r.played_desk.kept
   session_saved = these_saved emitted files r.loaded_desk r.played_desk
       (subst (λ (output_events : List OutputEvent). WritesFiles output_events files) (sym expected.emitted)
       (expected_writes r.plan before (sym expected.status_is ∙ zero))) came.1
 
-  saved : FilesAreSaved files old r.played_desk
+  saved : FilesAreSaved files old.kept r.played_desk.kept
   saved = record {
     created = session_saved.created ∙ ap (λ (first : List Writing). first ++ named_files files) begun.0;
     output = session_saved.output ∙ ap (λ (bytes : Bytes). bytes ++ dash_output files) begun.1;
@@ -182,21 +183,26 @@ module _ (settings : Settings) (file : Bytes) (old new : DeskState) (r : RunsOve
 
   -- ---- so the plan was kept
 
-  pub file_kept : KeepsPlan settings old new (λ plan. IsKeptInFile file plan old new)
+  pub file_kept : KeepsPlan settings old.kept new.kept (λ plan. IsKeptInFile file plan old.kept new.kept)
   file_kept = (
     r.plan,
     (
-      later_asked settings r.plan old r.planned_desk new (read_whole file gave.0 ∷ []) opened
+      later_asked settings r.plan old.kept r.planned_desk.kept new.kept (read_whole file gave.0 ∷ []) opened
           (went_asked settings r.plan old r.planned_desk r.made),
       record {
         before = all_openings r.planned_desk.kept;
         found = gave.0;
         chip = r.chip;
         left = left;
-        ended = r.played_desk;
+        ended = r.played_desk.kept;
         opened = opened;
         was = gave.1.1;
-        keeps = record { done = came.0.done zero; images = came.0.images zero; saved = saved };
+        keeps = record {
+          made = made_by_tasks r.plan before (memories_of left) (came.0.done zero);
+          agrees = (came.0.done zero).agrees;
+          images = came.0.images zero;
+          saved = saved;
+        };
         saved = replaced;
       },
     ),

@@ -12,7 +12,6 @@ use Rattle.stk_emu.specs.StepData.{HoldsImage}
 use Rattle.avr_laws.proofs.Memories.Bytes.{and_from_blank, laid_holds}
 use Rattle.stk_emu.proofs.Memories.LaidImages.{length-and_in, get_and_in}
 use Rattle.avr_tool.proofs.WriteOperations.Pages.{effects_on}
-use Rattle.avr_tool.specs.ComparisonsAgree.{MemoryHoldsImage}
 use Rattle.avr_tool.specs.Items.{has_erase}
 use Rattle.avr_laws.specs.WrittenBytes.{LeaveUnwritten, IsErasedFor, WriteTakesEffect}
 use Rattle.avr_tool.proofs.WriteOperations.EachMemory.{same_memory, size_stays, others_stay}
@@ -90,10 +89,10 @@ module _ (part : Part) (image : Image) (first : List Item) (before : Memories) (
       (erased.1 0 b is) erased.0
 
   there : (mem : Mem) → WriteTakesEffect mem image first mid
-      → MemoryHoldsImage part mem image (write_effect mem image mid)
+      → HoldsImage image (memory_in part mem (write_effect mem image mid))
   there mem taken = search (rules, flash_there, flash_blank, eeprom_there, true≢false, anded_blank, lock_blank)
 
 pub written_there : (part : Part) (before now : Memories) (mem : Mem) (image : Image) (first : List Item)
     → HoldsBytes image → now ≡ effects part (first ++ Write mem image ∷ []) before
-    → WriteTakesEffect mem image first (effects part first before) → MemoryHoldsImage part mem image now
+    → WriteTakesEffect mem image first (effects part first before) → HoldsImage image (memory_in part mem now)
 written_there part before now mem image first bytes is taken = search (rules, effects_on, there)

@@ -189,7 +189,7 @@ module _ (s : Settings) (plan : Plan) (x y : Devices) (r : IsRun s x y 0)
       first_forged = none_of handshake sent_first.0 first_are
 
       kept_on_part : KeepsOnPart p.chip.part plan before (memories_of (after_received_bytes device got later p).chip)
-          x.desk y.desk
+          x.desk.kept y.desk.kept
       kept_on_part = record {
         keeps = promise_for s x y r plan made_is silent its_plan (are_alike first_forged) its_tasks p got later
             executions sound refl came
@@ -199,14 +199,15 @@ module _ (s : Settings) (plan : Plan) (x y : Devices) (r : IsRun s x y 0)
         signature = own first_forged;
       }
 
-  pub kept : IsKept plan passed x.desk y.desk
+  pub kept : IsKept plan passed x.desk.kept y.desk.kept
   kept p got later executions sound fits came none = kept_on_part p executions sound fits got later came none
 
 -- ---- whatever a call over a link and a desk came to, as avr_tool's `run` states it
 
 pub promised : (s : Settings) (x y : Devices) (status : ℕ) → (IsRun s x y status ⊎ IsStopped s x y status)
     → status ≡ 0 → x.link.transcript ≡ []
-    → (plan : Plan) × (IsAsked s (FileGave x.desk y.desk) plan × IsKept plan y.link.transcript x.desk y.desk)
+    → (plan : Plan) × (IsAsked s (FileGave x.desk.kept y.desk.kept) plan
+    × IsKept plan y.link.transcript x.desk.kept y.desk.kept)
 promised s x y status (inl ran) zero silent =
     let r : IsRun s x y 0 = subst (λ (k : ℕ). IsRun s x y k) zero ran in
     let plan : Plan = (made s x y r).0 in

@@ -6,7 +6,7 @@ use Rattle.std.proofs.lemmas.List.Elements.{All-weaker}
 use Rattle.std.specs.Prelude.{length, if◌then◌else◌}
 use Rattle.avr_cli.specs.declared.settings.Switches.{Switches}
 use Rattle.avr_desk.specs.OutputEvents.{OutputEvent, PrintsLine}
-use Rattle.avr_desk.specs.Record.{Bytes, DeskState}
+use Rattle.avr_desk.specs.Record.{Bytes, Record}
 use Rattle.avr_part.specs.Mem.{is_writable}
 use Rattle.avr_part.specs.Part.{Part, size_of}
 use Rattle.avr_part.specs.declared.part.Mem.{Mem}
@@ -32,7 +32,7 @@ use Rattle.avr_laws.proofs.Outcomes.Alike.{joined, AreAlike, SameButLines, alike
 pub same_geometry : (other part : Part) → part ≡ other → HasGeometryOf other part
 same_geometry other part same = subst (HasGeometryOf other) (sym same) refl
 
-pub kept_on_plan : (plan : Plan) (part : Part) (before after : Memories) (old now : DeskState) → part ≡ plan.part
+pub kept_on_plan : (plan : Plan) (part : Part) (before after : Memories) (old now : Record) → part ≡ plan.part
     → KeepsOnPart part plan before after old now → Keeps plan before after old now
 kept_on_plan plan part before after old now same kept =
     subst (λ (part : Part). Keeps (on_part part plan) before after old now) same kept.keeps

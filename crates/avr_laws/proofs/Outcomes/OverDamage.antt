@@ -107,7 +107,7 @@ module _ (s : Settings) (plan : Plan) (x y : Devices) (r : IsRun s x y 0)
       ∙ (same_frames are 1 (tape s x y r) ∙ sym these)
 
   pub over_damage : KeepsOnPart p.chip.part plan (memories_of p.chip)
-      (memories_of (after_frames device (frames got) p).chip) x.desk y.desk
+      (memories_of (after_frames device (frames got) p).chip) x.desk.kept y.desk.kept
   over_damage =
       kept s plan x y r made_is silent p got [] executions sound fits
       (arrived_came (frames (sent y.link.transcript)) through got

@@ -30,6 +30,7 @@ use Rattle.avr_laws.specs.AskedPlan.{FileGave, IsAsked}
 use Rattle.avr_laws.specs.Kept.{FilesAreSaved, Keeps, saved_files}
 use Rattle.avr_laws.specs.OnlyReading.{OnlyReadsAndPrints}
 use Rattle.avr_laws.proofs.Outcomes.Alike.{AreAlike, alike, same_bytes, same_events, same_outcome}
+use Rattle.avr_laws.proofs.Outcomes.ByTasks.{made_by_tasks}
 use Rattle.avr_laws.proofs.Outcomes.Saved.{WritesFiles, both, expected_writes, reading_writes, these_saved, writes_alike}
 use Rattle.avr_laws.proofs.Plans.Given.{desk_asked}
 use Rattle.avr_laws.proofs.Plans.OnlyReading.{only_reads}
@@ -80,7 +81,7 @@ module _ (s : Settings) (x y : Devices) (r : IsRun s x y 0) where
         (events_with_refusal (planned s r.openings).output_events stage_outcome)) made_is (only_reads s r.openings)
 
     -- so the plan is the one that the settings and the files that were opened ask for
-    pub asked : IsAsked s (FileGave x.desk y.desk) plan
+    pub asked : IsAsked s (FileGave x.desk.kept y.desk.kept) plan
     asked = desk_asked s r.openings plan x.desk y.desk (outputs done) made_is
         (subst (λ (output_events : List OutputEvent). ChangesRecord (after_events output_events) x.desk y.desk)
         outputs_are r.kept)
@@ -101,7 +102,7 @@ module _ (s : Settings) (x y : Devices) (r : IsRun s x y 0) where
 
       keeps_files : (m : Memories) → (expected_run other m).status ≡ 0
           → outputs done_other ≡ (expected_run other m).output_events
-          → FilesAreSaved (saved_files other m) x.desk y.desk
+          → FilesAreSaved (saved_files other m) x.desk.kept y.desk.kept
       keeps_files m zero emitted =
           these_saved ((planned s r.openings).output_events ++ outputs done) (saved_files other m) x.desk y.desk
           (both (planned s r.openings).output_events (outputs done) [] (saved_files other m)
@@ -116,7 +117,8 @@ module _ (s : Settings) (x y : Devices) (r : IsRun s x y 0) where
           (later : List (List ℕ)) (executions : List Execution) → IsSoundChip p.chip → p.chip.part ≡ other.part
           → ReceivedSentFrames got later (frames (sent y.link.transcript)) executions
           → ForgesNoFrame device (session other) 1 (heard y.link.transcript) p executions []
-          → Keeps other (memories_of p.chip) (memories_of (after_received_bytes device got later p).chip) x.desk y.desk
+          → Keeps other (memories_of p.chip) (memories_of (after_received_bytes device got later p).chip) x.desk.kept
+          y.desk.kept
       promise_for fitted p got later executions sound part_is came none =
           let whole : WholeSessionOverExchanges other p (after_received_bytes device got later p)
           (exchanges_on_tape (session other) 1 tape executions) (sent r.during) done_other 0 =
@@ -126,7 +128,9 @@ module _ (s : Settings) (x y : Devices) (r : IsRun s x y 0) where
           left_over done_other 0 r.next other_played other_sent in
           let come = whole.1.comes in
           let expected = come.success refl in record {
-            done = come.done refl;
+            made = made_by_tasks other (memories_of p.chip)
+                (memories_of (after_received_bytes device got later p).chip) (come.done refl);
+            agrees = (come.done refl).agrees;
             images = come.images refl;
             saved = keeps_files (memories_of p.chip) (sym expected.status_is) expected.emitted;
           }
@@ -135,5 +139,6 @@ module _ (s : Settings) (x y : Devices) (r : IsRun s x y 0) where
     pub promise : (p : Programmer) (got : List ℕ) (later : List (List ℕ)) (executions : List Execution)
         → IsSoundChip p.chip → p.chip.part ≡ plan.part → ReceivedSentFrames got later (frames (sent y.link.transcript))
         executions → ForgesNoFrame device (session plan) 1 (heard y.link.transcript) p executions []
-        → Keeps plan (memories_of p.chip) (memories_of (after_received_bytes device got later p).chip) x.desk y.desk
+        → Keeps plan (memories_of p.chip) (memories_of (after_received_bytes device got later p).chip) x.desk.kept
+        y.desk.kept
     promise = promise_for plan (alike (session plan)) (plan_fitted s r.openings plan made_is)

@@ -1,20 +1,20 @@
 -- A run that ended anywhere, and then one with status 0, leave what one run leaves.
 use Rattle.std.proofs.Common.{◌≡◌, ℕ, true, false, List, [], All, refl, subst, sym}
-use Rattle.avr_desk.specs.Record.{DeskState}
+use Rattle.avr_desk.specs.Record.{Record}
 use Rattle.avr_part.specs.Part.{Part}
 use Rattle.avr_part.specs.Sound.{IsSoundChip}
 use Rattle.avr_part.specs.declared.part.Mem.{Mem}
 use Rattle.avr_plan.specs.Plan.{Plan, IsFitted}
 use Rattle.avr_session.specs.Session.{session}
 use Rattle.stk_emu.specs.Device.{device}
-use Rattle.stk_emu.specs.Effect.{Memories, effects, erase_keeps_eeprom, memories_of}
+use Rattle.stk_emu.specs.Effect.{Memories, effects, erase_keeps_eeprom, memories_of, memory_in}
 use Rattle.stk_emu.specs.Programmer.{Programmer}
 use Rattle.stk_emu.specs.Exchange.{Execution}
 use Rattle.stk_frame.specs.Cut.{frames}
 use Rattle.stk_host.specs.Dialog.{bytes_sent, played}
 use Rattle.stk_host.specs.Play.{IsBytePrefixOf}
 use Rattle.stk_host.specs.Transcript.{Transcript, heard, sent}
-use Rattle.avr_tool.specs.ComparisonsAgree.{MemoryHoldsImage}
+use Rattle.stk_emu.specs.StepData.{HoldsImage}
 use Rattle.avr_tool.specs.Items.{asked_items, has_erase, items}
 use Rattle.avr_tool.specs.Outcome.{IsDone}
 use Rattle.avr_tool.specs.Written.{written_to}
@@ -26,11 +26,12 @@ use Rattle.avr_laws.specs.Kept.{HasGeometryOf, IsKept, KeepsOnPart, NoneForged, 
 use Rattle.avr_laws.specs.NoForgedFrame.{ForgesNoFrame}
 use Rattle.avr_laws.proofs.AnyLink.{end_bytes}
 use Rattle.avr_laws.proofs.Outcomes.Alike.{AreAlike, same_bytes}
+use Rattle.avr_laws.proofs.Outcomes.ByTasks.{is_done}
 use Rattle.avr_laws.proofs.Outcomes.Kept.{alike_forges_none}
 use Rattle.avr_laws.proofs.Outcomes.OtherPart.{session_alike, tasks_fit}
 use Rattle.avr_laws.proofs.SecondRun.Status.{done_again}
 
-module _ (plan : Plan) (first second : Transcript) (old now : DeskState) (p q : Programmer)
+module _ (plan : Plan) (first second : Transcript) (old now : Record) (p q : Programmer)
     (fitted : All (IsFitted plan.part) plan.tasks) (sound : IsSoundChip p.chip)
     (fits : HasGeometryOf plan.part p.chip.part)
     (keeping : has_erase (items plan) ≡ true → erase_keeps_eeprom p.chip.part (memories_of p.chip) ≡ true
@@ -74,8 +75,8 @@ module _ (plan : Plan) (first second : Transcript) (old now : DeskState) (p q : 
     as_one = done_again its_plan (memories_of p.chip) (memories_of (after_received_bytes device got later p).chip)
         after sound.part its_tasks (its_sizes its_plan p sound refl its_tasks) keeping
         (record { count = ended.leaves.write_operations.count; memories = ended.leaves.write_operations.memories })
-        (subst (λ (m : Memories). IsDone its_plan m after) left there.keeps.done)
+        (subst (λ (m : Memories). IsDone its_plan m after) left
+        (is_done its_plan (memories_of q.chip) after old now there.keeps))
 
-    pub images_there : plan.switches.no_verify ≡ false → (mem : Mem) → MemoryHoldsImage p.chip.part mem
-        (written_to p.chip.part mem (asked_items plan)) after
+    pub images_there : plan.switches.no_verify ≡ false → (mem : Mem) → HoldsImage (written_to p.chip.part mem (asked_items plan)) (memory_in p.chip.part mem after)
     images_there verified mem = (there.keeps.images verified).images mem

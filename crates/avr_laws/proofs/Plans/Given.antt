@@ -93,20 +93,20 @@ since old new outputs passes =
 pub desk_asked : (s : Settings) (openings : List Opening) (plan : Plan) (old new : DeskState)
     (more : List OutputEvent) → (planned s openings).stage_outcome ≡ Produced plan
     → ChangesRecord (after_events ((planned s openings).output_events ++ more)) old new
-    → IsAsked s (FileGave old new) plan
+    → IsAsked s (FileGave old.kept new.kept) plan
 desk_asked s openings plan old new more made passes =
     let output_events = (planned s openings).output_events in
     let are : openings_in output_events ++ openings_in more
     ≡ drop (length (all_openings old.kept)) (all_openings new.kept) =
     sym (since old new (output_events ++ more) passes ∙ openings_joined output_events more) in
-    plan_asked (FileGave old new) s openings plan
-    (given_more (Among (openings_in output_events)) (FileGave old new)
+    plan_asked (FileGave old.kept new.kept) s openings plan
+    (given_more (Among (openings_in output_events)) (FileGave old.kept new.kept)
     (λ name text among. subst (λ (os : List Opening). Among os name text) are
     (Contains-append_left (openings_in output_events) (openings_in more) _ among))
     output_events (among output_events)) made
 
 pub went_asked : (s : Settings) (plan : Plan) (old new : DeskState) → StageCompleted (planned s) old new (Produced plan)
-    → IsAsked s (FileGave old new) plan
+    → IsAsked s (FileGave old.kept new.kept) plan
 went_asked s plan old new went =
     desk_asked s (went.passed ++ []) plan old new []
     (ap (λ (p : StageResult Plan). p.stage_outcome) (went.comes []))
@@ -151,13 +151,13 @@ module _ (G H : GivesText) (each : (name text : Bytes) → G name text → H nam
     switches = asked.switches;
   }
 
-pub later_asked : (s : Settings) (plan : Plan) (old mid new : DeskState) (more : List Opening)
-    → all_openings new.kept ≡ all_openings mid.kept ++ more → IsAsked s (FileGave old mid) plan
+pub later_asked : (s : Settings) (plan : Plan) (old mid new : Record) (more : List Opening)
+    → all_openings new ≡ all_openings mid ++ more → IsAsked s (FileGave old mid) plan
     → IsAsked s (FileGave old new) plan
 later_asked s plan old mid new more grows asked =
     asked_more (FileGave old mid) (FileGave old new)
-    (λ name text among. subst (λ (os : List Opening). Contains (drop (length (all_openings old.kept)) os)
+    (λ name text among. subst (λ (os : List Opening). Contains (drop (length (all_openings old)) os)
     (Found (record { name = name; bytes = text; ended = true })))
-    (sym grows) (drop_more (length (all_openings old.kept)) (all_openings mid.kept) more
+    (sym grows) (drop_more (length (all_openings old)) (all_openings mid) more
     (Found (record { name = name; bytes = text; ended = true })) among))
     s plan asked

@@ -3,7 +3,7 @@ use Rattle.std.proofs.Common.{◌≡◌, ◌∙◌, ap, sym, subst, arith, ℕ, 
 use Rattle.std.proofs.lemmas.Bool.{false≢true, true≢false}
 use Rattle.std.specs.Prelude.{Contains, codes, slice_index}
 use Rattle.avr_cli.specs.declared.update.Format.TheVariants.{Raw}
-use Rattle.avr_desk.specs.Record.{Bytes, DeskState, all_files, all_openings}
+use Rattle.avr_desk.specs.Record.{Bytes, Record, all_files, all_openings}
 use Rattle.avr_desk.specs.declared.record.Opening.{Opening}
 use Rattle.avr_desk.specs.declared.record.Opening.TheVariants.{Absent, Found}
 use Rattle.avr_desk.specs.declared.record.Writing.{Writing}
@@ -162,9 +162,9 @@ abbrev first_byte : List Writing → ℕ
 first_byte [] = 0
 first_byte (file ∷ files) = slice_index file.bytes 0
 
-pub another_text : (m : Memories) (old now : DeskState) (byte : ℕ) → (m.lfuse ≡ byte → ⊥) → all_files old.kept ≡ []
+pub another_text : (m : Memories) (old now : Record) (byte : ℕ) → (m.lfuse ≡ byte → ⊥) → all_files old ≡ []
     → FilesAreSaved (saved_files reading_plan m) old now
-    → all_files now.kept ≡ record { name = codes "fuse"; bytes = byte ∷ [] } ∷ [] → ⊥
+    → all_files now ≡ record { name = codes "fuse"; bytes = byte ∷ [] } ∷ [] → ⊥
 another_text m old now byte differs empty saved is =
     let same : record { name = codes "fuse"; bytes = byte ∷ [] } ∷ []
     ≡ [] ++ named_files (record { name = codes "fuse"; bytes = m.lfuse ∷ [] } ∷ []) =
@@ -172,8 +172,8 @@ another_text m old now byte differs empty saved is =
     ∙ ap named_files (the_file_saved m))) in
     differs (sym (ap first_byte same))
 
-pub no_file : (m : Memories) (old now : DeskState) → all_files old.kept ≡ []
-    → FilesAreSaved (saved_files reading_plan m) old now → all_files now.kept ≡ [] → ⊥
+pub no_file : (m : Memories) (old now : Record) → all_files old ≡ []
+    → FilesAreSaved (saved_files reading_plan m) old now → all_files now ≡ [] → ⊥
 no_file m old now empty saved is =
     let same : [] ≡ [] ++ named_files (record { name = codes "fuse"; bytes = m.lfuse ∷ [] } ∷ []) =
     sym is ∙ (saved.created ∙ (ap (λ (files : List Writing). files ++ named_files (saved_files reading_plan m)) empty
@@ -186,11 +186,11 @@ abbrev is_ended : Opening → Bool
 is_ended (Absent name) = false
 is_ended (Found reading) = reading.ended
 
-pub half_read : (old now : DeskState) (name text : Bytes) → all_openings old.kept ≡ []
-    → all_openings now.kept ≡ Found (record { name = name; bytes = text; ended = false }) ∷ []
+pub half_read : (old now : Record) (name text : Bytes) → all_openings old ≡ []
+    → all_openings now ≡ Found (record { name = name; bytes = text; ended = false }) ∷ []
     → FileGave old now name text → ⊥
 half_read old now name text empty half gave =
-    let has = subst (λ (os : List Opening). Contains (drop (length os) (all_openings now.kept))
+    let has = subst (λ (os : List Opening). Contains (drop (length os) (all_openings now))
     (Found (record { name = name; bytes = text; ended = true }))) empty gave in
     let at = subst (λ (os : List Opening). Contains os
     (Found (record { name = name; bytes = text; ended = true }))) half has in

@@ -4,7 +4,7 @@ use Rattle.std.proofs.Common.{◌≡◌, ◌≢◌, ◌∙◌, ap, sym, arith, i
 use Rattle.std.proofs.lemmas.Bool.{true≢false}
 use Rattle.std.specs.Prelude.{codes, slice_index}
 use Rattle.avr_cli.specs.declared.update.Format.TheVariants.{Raw}
-use Rattle.avr_desk.specs.Record.{Bytes, DeskState, all_files}
+use Rattle.avr_desk.specs.Record.{Bytes, Record, all_files}
 use Rattle.avr_desk.specs.declared.record.Writing.{Writing}
 use Rattle.avr_part.specs.BuiltIn.{m328p, t85}
 use Rattle.avr_part.specs.Part.{Part}
@@ -111,7 +111,7 @@ another_size fits = let sizes : 8192 ≡ 32768 = ap (λ (part : Part). part.flas
 
 -- without -F, another signature
 
-pub not_forced : (before after : Memories) (old now : DeskState)
+pub not_forced : (before after : Memories) (old now : Record)
     → KeepsOnPart m328p (plan false) before after old now → ⊥
 not_forced before after old now kept =
     let last : 0x0F ≡ 0x14 = ap (λ (bytes : Bytes). slice_index bytes 2) (kept.signature refl) in omega (arith, last)
@@ -130,9 +130,9 @@ abbrev last_byte : List Writing → ℕ
 last_byte [] = 0
 last_byte (file ∷ files) = slice_index file.bytes 2
 
-pub another_signature : (m : Memories) (old now : DeskState) → all_files old.kept ≡ []
+pub another_signature : (m : Memories) (old now : Record) → all_files old ≡ []
     → FilesAreSaved (saved_files (on_part m328p reading) m) old now
-    → all_files now.kept ≡ record { name = codes "found"; bytes = m328.signature } ∷ [] → ⊥
+    → all_files now ≡ record { name = codes "found"; bytes = m328.signature } ∷ [] → ⊥
 another_signature m old now empty saved is =
     let same : record { name = codes "found"; bytes = m328.signature } ∷ []
     ≡ [] ++ named_files (record { name = codes "found"; bytes = m328p.signature } ∷ []) =

@@ -41,7 +41,7 @@ use Rattle.avr_part.specs.declared.part.Mem.TheVariants.{Lfuse}
 use Rattle.avr_plan.specs.Plan.{Plan, IsFitted}
 use Rattle.avr_plan.specs.declared.planned.Task.TheVariants.{Write}
 use Rattle.avr_session.specs.FileText.{file_text}
-use Rattle.avr_session.specs.Runs.{Devices, devices}
+use Rattle.avr_session.specs.Runs.{devices}
 use Rattle.avr_session.specs.Session.{session}
 use Rattle.stk_emu.proofs.Replies.BodySizes.{reply_fits_frame}
 use Rattle.stk_emu.specs.Device.{device}
@@ -61,7 +61,6 @@ use Rattle.avr_tool.proofs.OverFaultyLink.FrameSizes.{session_asks}
 use Rattle.avr_tool.specs.ComparisonsAgree.{ComparisonsAgree}
 use Rattle.avr_tool.specs.Headline.{IsRun, run}
 use Rattle.avr_tool.specs.Items.{asked_items}
-use Rattle.avr_tool.specs.Outcome.{IsDone}
 use Rattle.avr_tool.specs.Sockets.{IsOverAddress}
 use Rattle.avr_tool.specs.Written.{IsWritten}
 use Rattle.avr_tool.specs.declared.network.Network.{Ghosts as Networks}
@@ -75,7 +74,7 @@ use Rattle.avr_laws.specs.AskedPlan.{FileGave, GivesText, IsAsked}
 use Rattle.avr_laws.specs.ChipFound.{IsChipInFile}
 use Rattle.avr_laws.specs.Damaged.{Arrival, FrameArrives, BringsReplies, tape_of_arrivals}
 use Rattle.avr_laws.specs.Kept.{FilesAreSaved, HasGeometryOf, IsKept, Keeps, KeepsOnPart, NoneForged, saved_files}
-use Rattle.avr_laws.specs.KeptByPort.{ConnectionState, IsKeptInFile, KeepsCommandLine, KeepsPlanAt}
+use Rattle.avr_laws.specs.KeptByPort.{IsKeptInFile, KeepsCommandLine, KeepsPlanAt}
 use Rattle.avr_laws.specs.TwoProcesses.{host_transcript}
 use Rattle.avr_laws.specs.Worked.{fuse_plan, worked_frames, worked_replies, worked_settings}
 
@@ -137,7 +136,7 @@ ran = record {
   sound = (refl, (refl, refl));
 }
 
-pub run_is_kept : IsKept plan passed empty_desk reported
+pub run_is_kept : IsKept plan passed nothing_kept reported.kept
 run_is_kept = kept settings plan (devices (state []) empty_desk) (devices (state passed) reported) ran refl refl
 
 -- ---- its premises hold
@@ -197,24 +196,17 @@ fresh = memories_of (fresh_state m328p)
 abbrev left : Chip
 left = (after_received_bytes device (sent passed) [] programmer).chip
 
-pub kept_on_part : KeepsOnPart m328p plan fresh (memories_of left) empty_desk reported
+pub kept_on_part : KeepsOnPart m328p plan fresh (memories_of left) nothing_kept reported.kept
 kept_on_part = run_is_kept programmer (sent passed) [] executions chip_is_sound refl came none_forged
 
-pub plan_kept : Keeps plan fresh (memories_of left) empty_desk reported
+pub plan_kept : Keeps plan fresh (memories_of left) nothing_kept reported.kept
 plan_kept = kept_on_part.keeps
 
-pub done : IsDone plan fresh (memories_of left)
-done = plan_kept.done
-
 pub compared : ComparisonsAgree plan fresh
-compared = done.agrees
+compared = plan_kept.agrees
 
 pub fuse_written : IsWritten m328p (asked_items plan) fresh (memories_of left)
 fuse_written = plan_kept.images refl
-
--- a run that wrote nothing: the frames of `-p m328p`
-pub not_done : IsDone plan fresh fresh → ⊥
-not_done done = let byte : 255 ≡ 0xE2 = ap (λ (m : Memories). m.lfuse) done.memories in omega (arith, byte)
 
 pub another_fuse : (m : Memories) → (m.lfuse ≡ 0xE2 → ⊥) → ComparisonsAgree fuse_plan m → ⊥
 another_fuse m other agrees = other (agrees.1.0 0 0xE2 refl (omega arith))
@@ -222,15 +214,17 @@ another_fuse m other agrees = other (agrees.1.0 0 0xE2 refl (omega arith))
 pub fuse_unwritten : IsWritten m328p (asked_items plan) fresh fresh → ⊥
 fuse_unwritten written = let byte : 255 ≡ 0xE2 = written.images Lfuse 0 0xE2 refl (omega arith) in omega (arith, byte)
 
-pub plan_unkept : (old now : DeskState) → Keeps plan fresh fresh old now → ⊥
-plan_unkept old now keeps = not_done keeps.done
+-- a run that wrote nothing: the frames of `-p m328p`
+pub plan_unkept : (old now : Record) → Keeps plan fresh fresh old now → ⊥
+plan_unkept old now keeps =
+    let byte : 255 ≡ 0xE2 = ap (λ (m : Memories). m.lfuse) keeps.made in omega (arith, byte)
 
-pub write_unsent : (old now : DeskState) → IsKept plan (Sent worked_frames ∷ Got worked_replies ∷ []) old now → ⊥
+pub write_unsent : (old now : Record) → IsKept plan (Sent worked_frames ∷ Got worked_replies ∷ []) old now → ⊥
 write_unsent old now kept =
     let keeps : KeepsOnPart m328p plan fresh
     (memories_of (after_received_bytes device worked_frames [] programmer).chip) old now =
     kept programmer worked_frames [] executed chip_is_sound refl worked_came worked_forges_none in
-    let byte : 255 ≡ 0xE2 = ap (λ (m : Memories). m.lfuse) keeps.keeps.done.memories in omega (arith, byte)
+    let byte : 255 ≡ 0xE2 = ap (λ (m : Memories). m.lfuse) keeps.keeps.made in omega (arith, byte)
 
 -- a reply that the programmer didn't send
 pub frame_forged : NoneForged device (frame 1 (0x05 ∷ []) ∷ []) (on_tape (frame 1 (0x05 ∷ 0x00 ∷ []))) programmer
@@ -240,15 +234,15 @@ frame_forged none = search rules
 
 -- ---- files
 
-abbrev used : List FileUse → DeskState
-used uses = showing (record nothing_kept { uses = uses }) 0 0
+abbrev used : List FileUse → Record
+used uses = record nothing_kept { uses = uses }
 
-pub file_saved : (m : Memories) → FilesAreSaved (saved_files reading_plan m) empty_desk
+pub file_saved : (m : Memories) → FilesAreSaved (saved_files reading_plan m) nothing_kept
     (used (Created (record { name = codes "fuse"; bytes = m.lfuse ∷ [] }) ∷ []))
 unfolding file_text
 file_saved m = record { created = refl; output = refl }
 
-pub whole_read : (name text : Bytes) → FileGave empty_desk
+pub whole_read : (name text : Bytes) → FileGave nothing_kept
     (used (Opened (Found (record { name = name; bytes = text; ended = true })) ∷ [])) name text
 whole_read name text = (0, omega arith, refl)
 
@@ -267,13 +261,13 @@ short_chip_file chip is = let size : 0 ≡ 33796 = is.0 in omega (arith, size)
 abbrev file : Bytes
 file = codes "chip"
 
-abbrev loaded : DeskState
-loaded = showing (with_absent file nothing_kept) 0 0
+abbrev loaded : Record
+loaded = with_absent file nothing_kept
 
-abbrev saved : DeskState
-saved = showing (with_replaced file (chip_file left) (with_absent file nothing_kept)) 0 0
+abbrev saved : Record
+saved = with_replaced file (chip_file left) loaded
 
-pub chip_saved : IsKeptInFile file plan empty_desk saved
+pub chip_saved : IsKeptInFile file plan nothing_kept saved
 chip_saved = record {
   before = [];
   found = None;
@@ -282,7 +276,12 @@ chip_saved = record {
   ended = loaded;
   opened = refl;
   was = no_chip_file;
-  keeps = record { done = done; images = plan_kept.images; saved = record { created = refl; output = refl } };
+  keeps = record {
+    made = plan_kept.made;
+    agrees = plan_kept.agrees;
+    images = plan_kept.images;
+    saved = record { created = refl; output = refl };
+  };
   saved = refl;
 }
 
@@ -290,10 +289,10 @@ not_none : (xs : List Writing) (x : Writing) → xs ++ x ∷ [] ≡ [] → ⊥
 not_none [] x e = cc
 not_none (y ∷ xs) x e = cc
 
-pub chip_unsaved : (name : Bytes) (other : Plan) (old new : DeskState) → new.kept.tried ≡ []
+pub chip_unsaved : (name : Bytes) (other : Plan) (old new : Record) → new.tried ≡ []
     → IsKeptInFile name other old new → ⊥
 chip_unsaved name other old new none kept =
-    not_none kept.ended.kept.tried (record { name = name; bytes = chip_file kept.left })
+    not_none kept.ended.tried (record { name = name; bytes = chip_file kept.left })
     (sym (ap (λ (r : Record). r.tried) kept.saved) ∙ none)
 
 -- ---- streams: a side of a socket, or a stream, as the bytes that it will give and those that it took
@@ -399,36 +398,36 @@ call_unrecorded truly =
 
 -- ---- each port
 
-pub over_streams : (At : ConnectionState)
-    → KeepsPlanAt At Stdio settings (devices (state []) empty_desk) (devices (state passed) reported)
-over_streams At = (plan, (plan_asked (FileGave empty_desk reported), run_is_kept))
+pub over_streams : (At : Bytes → Option LinkState → Type 0)
+    → KeepsPlanAt At Stdio settings passed nothing_kept reported.kept
+over_streams At = (plan, (plan_asked (FileGave nothing_kept reported.kept), run_is_kept))
 
 pub over_network : KeepsPlanAt (IsOverAddress network reads writes (λ side. Unit {0})) (Network address) settings
-    (devices (state []) empty_desk) (devices (state []) reported)
+    [] nothing_kept reported.kept
 over_network =
-    (state passed, connected passed, (plan, (plan_asked (FileGave empty_desk reported), run_is_kept)))
+    (state passed, connected passed, (plan, (plan_asked (FileGave nothing_kept reported.kept), run_is_kept)))
 
-pub over_emulator : (At : ConnectionState)
-    → KeepsPlanAt At (Emulated file) settings (devices (state []) empty_desk) (devices (state []) saved)
-over_emulator At = (plan, (plan_asked (FileGave empty_desk saved), chip_saved))
+pub over_emulator : (At : Bytes → Option LinkState → Type 0)
+    → KeepsPlanAt At (Emulated file) settings [] nothing_kept saved
+over_emulator At = (plan, (plan_asked (FileGave nothing_kept saved), chip_saved))
 
 -- a part that nobody knows
 abbrev unknown : Settings
 unknown = record worked_settings { part = codes "none" }
 
-pub part_unknown : (At : ConnectionState) (old new : Devices) → KeepsPlanAt At Stdio unknown old new → ⊥
-part_unknown At old new (other, (asked, keeps)) =
+pub part_unknown : (At : Bytes → Option LinkState → Type 0) (during : Transcript) (old new : Record)
+    → KeepsPlanAt At Stdio unknown during old new → ⊥
+part_unknown At during old new (other, (asked, keeps)) =
     let none : ◌≡◌ {A = Result Part PartFault} (Err NoSuchPart) (Ok other.part) =
     subst (λ (parts : List Part). part_of_id (codes "none") parts ≡ Ok other.part) asked.are_parts asked.part in cc
 
-pub not_connected : (At : ConnectionState) (name : Bytes) (s : Settings) (old new : Devices)
-    → ((link : LinkState) → At name (Some link) → ⊥) → KeepsPlanAt At (Network name) s old new → ⊥
-not_connected At name s old new none (link, over, keeps) = none link over
+pub not_connected : (At : Bytes → Option LinkState → Type 0) (name : Bytes) (s : Settings) (during : Transcript) (old new : Record)
+    → ((link : LinkState) → At name (Some link) → ⊥) → KeepsPlanAt At (Network name) s during old new → ⊥
+not_connected At name s during old new none (link, over, keeps) = none link over
 
-pub file_unsaved : (At : ConnectionState) (name : Bytes) (s : Settings) (old new : Devices)
-    → new.desk.kept.tried ≡ [] → KeepsPlanAt At (Emulated name) s old new → ⊥
-file_unsaved At name s old new none (other, (asked, keeps)) =
-    chip_unsaved name other old.desk new.desk none keeps
+pub file_unsaved : (At : Bytes → Option LinkState → Type 0) (name : Bytes) (s : Settings) (during : Transcript) (old new : Record)
+    → new.tried ≡ [] → KeepsPlanAt At (Emulated name) s during old new → ⊥
+file_unsaved At name s during old new none (other, (asked, keeps)) = chip_unsaved name other old new none keeps
 
 -- ---- the command line
 
@@ -446,8 +445,8 @@ words_read : settings_from_arguments words ≡ Ok settings
 unfolding avrstk target_rules write_rules run_rules message_rules file_rules bundle_met walked chars encode
 words_read = refl
 
-pub line_kept : KeepsCommandLine (λ given. given ≡ words) (λ name seen. ⊥) (devices (state []) empty_desk)
-    (devices (state passed) reported)
+pub line_kept : KeepsCommandLine (λ given. given ≡ words) (λ name seen. ⊥) passed nothing_kept
+    reported.kept
 line_kept = (words, refl, λ taken. (settings, sym words_read, over_streams (λ name seen. ⊥)))
 
 abbrev other_words : List Bytes
@@ -465,9 +464,9 @@ other_read = refl
 ok_is : (a b : Settings) → ◌≡◌ {A = Result Settings SettingsFault} (Ok a) (Ok b) → a ≡ b
 ok_is a b e = cc
 
-pub line_unkept : (At : ConnectionState) (old new : Devices)
-    → KeepsCommandLine (λ given. given ≡ other_words) At old new → ⊥
-line_unkept At old new (given, is, keeps) =
+pub line_unkept : (At : Bytes → Option LinkState → Type 0) (during : Transcript) (old new : Record)
+    → KeepsCommandLine (λ given. given ≡ other_words) At during old new → ⊥
+line_unkept At during old new (given, is, keeps) =
     let k = keeps (ap (takes avrstk) is ∙ other_taken) in
-    part_unknown At old new (subst (λ (s : Settings). KeepsPlanAt At s.port s old new)
+    part_unknown At during old new (subst (λ (s : Settings). KeepsPlanAt At s.port s during old new)
     (ok_is k.0 unknown (k.1 ∙ (ap settings_from_arguments is ∙ other_read))) k.2)

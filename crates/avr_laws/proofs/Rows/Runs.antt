@@ -85,9 +85,9 @@ pub only_the_images : (s : Settings) (before now : Devices) (r : IsRun s before 
     → memories_of (after_received_bytes device got later p).chip ≡ left (1 ∷ 2 ∷ 255 ∷ 255 ∷ [])
 only_the_images s before now r is silent p got later executions sound part held came none =
     (kept_on_plan plan p.chip.part (memories_of p.chip) (memories_of (after_received_bytes device got later p).chip)
-    before.desk now.desk part (kept s plan before now r is silent p got later executions sound
-    (same_geometry small p.chip.part part) came none)).done.memories
-    ∙ ap (effects small (items plan)) held
+    before.desk.kept now.desk.kept part (kept s plan before now r is silent p got later executions sound
+    (same_geometry small p.chip.part part) came none)).made
+    ∙ ap (effects small (asked_items plan)) held
 
 abbrev Holds : List ℕ → Type 0
 Holds flash = IsWritten small (asked_items plan) old (left flash)

@@ -12,9 +12,10 @@ use Rattle.avr_plan.specs.declared.planned.Task.{Task}
 use Rattle.avr_plan.specs.declared.planned.Task.TheVariants as task
 use Rattle.avr_session.specs.Actions.{SkippedWrite, Action, WriteImage, CompareImage, SkipAction, tasks_actions}
 use Rattle.stk_emu.specs.Effect.{Image, Memories, with_image, and_in, and_with, write_effect, effects, memory_in}
+use Rattle.stk_emu.specs.StepData.{HoldsImage}
 use Rattle.stk_emu.proofs.Memories.LaidImages.{length-laid, length-and_in}
 use Rattle.avr_tool.proofs.WriteOperations.EachMemory.{same_memory, write_is, others_stay}
-use Rattle.avr_tool.specs.ComparisonsAgree.{MemoryHoldsImage, EachComparisonAgrees}
+use Rattle.avr_tool.specs.ComparisonsAgree.{EachComparisonAgrees}
 use Rattle.avr_tool.specs.Items.{actions_items}
 use Rattle.avr_tool.specs.Written.{memory_number, written_to, byte_in}
 use Rattle.avr_tool.proofs.Plans.Fits.{AllFitActions}
@@ -75,7 +76,7 @@ write_keeps part mem image m = search (rules, write_is, length-and_in, rest_ande
 -- It is as large as before, holds the image, and elsewhere its earlier bytes.
 pub record Left (part : Part) (mem : Mem) (image : Image) (old new : Memories) : Type 0 where
   pub size : length (memory_in part mem new) ≡ length (memory_in part mem old)
-  pub shows : MemoryHoldsImage part mem image new
+  pub shows : HoldsImage image (memory_in part mem new)
   pub rest : (i : ℕ) → byte_at image i ≡ None → byte_in part mem i new ≡ byte_in part mem i old
 
 module _ (part : Part) where
@@ -83,7 +84,7 @@ module _ (part : Part) where
   left_as_it_is mem size m = search (rules, byte_of_empty)
 
   left_by_write : (mem : Mem) (image : Image) (m : Memories)
-      → MemoryHoldsImage part mem image (write_effect mem image m) → Left part mem image m (write_effect mem image m)
+      → HoldsImage image (memory_in part mem (write_effect mem image m)) → Left part mem image m (write_effect mem image m)
   left_by_write mem image m shows = search (rules, write_keeps)
 
   left_over : (mem : Mem) (first second : Image) (old between new : Memories) → length second ≤ length first
@@ -102,7 +103,7 @@ module _ (part : Part) where
   write_left : (mem other : Mem) (image more : Image) (m new : Memories) (same : Bool)
       → (memory_number other == memory_number mem) ≡ same
       → length image ≡ size_of other part → length more ≡ size_of mem part
-      → MemoryHoldsImage part other image (write_effect other image m) → Left part mem more (write_effect other image m)
+      → HoldsImage image (memory_in part other (write_effect other image m)) → Left part mem more (write_effect other image m)
       new → Left part mem (if same then over image more else more) m new
   write_left mem other image more m new true e fits size shows left =
       let is = same_memory other mem e in

@@ -12,10 +12,11 @@ use Rattle.avr_part.specs.declared.part.Mem.TheVariants.{Flash, Eeprom, Lfuse, H
 use Rattle.avr_plan.specs.Plan.{Plan, IsFitted}
 use Rattle.avr_plan.specs.declared.planned.Task.TheVariants as task
 use Rattle.avr_session.specs.Actions.{writes_flash, tasks_actions}
-use Rattle.stk_emu.specs.Effect.{Image, Memories, Erase, effect, effects}
+use Rattle.stk_emu.specs.Effect.{Image, Memories, Erase, effect, effects, memory_in}
+use Rattle.stk_emu.specs.StepData.{HoldsImage}
 use Rattle.stk_emu.specs.Settled.{FitsPart}
 use Rattle.avr_tool.proofs.WriteOperations.Pages.{effects_on}
-use Rattle.avr_tool.specs.ComparisonsAgree.{MemoryHoldsImage, EachComparisonAgrees}
+use Rattle.avr_tool.specs.ComparisonsAgree.{EachComparisonAgrees}
 use Rattle.avr_tool.specs.ExpectedRun.{expected_run}
 use Rattle.avr_tool.specs.Items.{items, asked_items, has_erase}
 use Rattle.avr_tool.specs.Outcome.{IsDone}
@@ -87,7 +88,7 @@ module _ (plan : Plan) (before after : Memories) (all : All (IsFitted plan.part)
 
 -- a memory that holds an image agrees with it once more
 shown_agree : (part : Part) (s : Switches) (image_of : Mem → Image) (m : Memories) (mems : List Mem)
-    → ((mem : Mem) → MemoryHoldsImage part mem (image_of mem) m)
+    → ((mem : Mem) → HoldsImage (image_of mem) (memory_in part mem m))
     → EachComparisonAgrees part (tasks_actions s (map (λ mem. task.Verify mem (image_of mem)) mems)) m
 shown_agree part s image_of m [] shown = tt
 shown_agree part s image_of m (mem ∷ mems) shown = (shown mem, shown_agree part s image_of m mems shown)
@@ -100,7 +101,7 @@ none_writes image_of (mem ∷ mems) = none_writes image_of mems
 
 -- so a run that only compares images that the memories hold has status 0
 pub shown_succeeds : (part : Part) (s : Switches) (image_of : Mem → Image) (m : Memories) (mems : List Mem)
-    → s.erase ≡ false → ((mem : Mem) → MemoryHoldsImage part mem (image_of mem) m)
+    → s.erase ≡ false → ((mem : Mem) → HoldsImage (image_of mem) (memory_in part mem m))
     → (expected_run (record { part = part; tasks = map (λ mem. task.Verify mem (image_of mem)) mems; switches = s })
     m).status
     ≡ 0
