@@ -60,7 +60,8 @@ pub data IsTrueReport (plan : Plan) (before now : Memories) (event : OutputEvent
   WriteLeftOut : (mem : Mem) (image : Image) → Contains (actions plan) (SkipAction (SkippedWrite mem image))
       → event ≡ count_line mem (byte_count image) (codes " bytes not written") → IsTrueReport plan before now event
   BytesVerified : (mem : Mem) (image : Image) → Contains (actions plan) (CompareImage mem image)
-      → event ≡ count_line mem (byte_count image) (codes " bytes verified") → HoldsImage image (memory_in plan.part mem now)
+      → event ≡ count_line mem (byte_count image) (codes " bytes verified")
+      → HoldsImage image (memory_in plan.part mem now)
       → IsTrueReport plan before now event
   Differed : (mem : Mem) (image : Image) (fault : HostFault) → Contains (actions plan) (CompareImage mem image)
       → event ≡ PrintsLine (fault_line plan.part fault) → comparison mem image (memory_in plan.part mem now)

@@ -52,7 +52,8 @@ over_emulator s file old new (inr (inr lacks)) = absurd (no_one lacks.goes.0)
 -- ---- each port
 
 at_port : (peers : Peers) (port : Port) (s : Settings) (old new : Devices) → old.link.transcript ≡ []
-    → ActsAtPort peers port s old new 0 → KeepsPlanAt peers.at_address port s new.link.transcript old.desk.kept new.desk.kept
+    → ActsAtPort peers port s old new 0
+    → KeepsPlanAt peers.at_address port s new.link.transcript old.desk.kept new.desk.kept
 at_port peers Stdio s old new silent acts = promised s old new 0 acts.0 refl silent
 at_port peers (Emulated file) s old new silent acts = over_emulator s file old.desk new.desk acts.0
 at_port peers (Network address) s old new silent acts = over_net peers s address old.desk new.desk acts.0

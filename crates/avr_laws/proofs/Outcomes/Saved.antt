@@ -221,7 +221,8 @@ expected_writes plan m zero =
 -- ---- a whole run
 
 pub these_saved : (output_events : List OutputEvent) (files : List Writing) (old now : DeskState)
-    → WritesFiles output_events files → ChangesRecord (after_events output_events) old now → FilesAreSaved files old.kept now.kept
+    → WritesFiles output_events files → ChangesRecord (after_events output_events) old now
+    → FilesAreSaved files old.kept now.kept
 these_saved output_events files old now writes passes = record {
   created = ap all_files passes ∙ writes.created old.kept;
   output = ap (λ (r : Record). r.output) passes ∙ writes.output old.kept;

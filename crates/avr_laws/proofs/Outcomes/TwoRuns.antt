@@ -78,5 +78,6 @@ module _ (plan : Plan) (first second : Transcript) (old now : Record) (p q : Pro
         (subst (λ (m : Memories). IsDone its_plan m after) left
         (is_done its_plan (memories_of q.chip) after old now there.keeps))
 
-    pub images_there : plan.switches.no_verify ≡ false → (mem : Mem) → HoldsImage (written_to p.chip.part mem (asked_items plan)) (memory_in p.chip.part mem after)
+    pub images_there : plan.switches.no_verify ≡ false
+        → (mem : Mem) → HoldsImage (written_to p.chip.part mem (asked_items plan)) (memory_in p.chip.part mem after)
     images_there verified mem = (there.keeps.images verified).images mem

@@ -421,11 +421,13 @@ part_unknown At during old new (other, (asked, keeps)) =
     let none : ◌≡◌ {A = Result Part PartFault} (Err NoSuchPart) (Ok other.part) =
     subst (λ (parts : List Part). part_of_id (codes "none") parts ≡ Ok other.part) asked.are_parts asked.part in cc
 
-pub not_connected : (At : Bytes → Option LinkState → Type 0) (name : Bytes) (s : Settings) (during : Transcript) (old new : Record)
+pub not_connected : (At : Bytes → Option LinkState → Type 0) (name : Bytes) (s : Settings) (during : Transcript)
+    (old new : Record)
     → ((link : LinkState) → At name (Some link) → ⊥) → KeepsPlanAt At (Network name) s during old new → ⊥
 not_connected At name s during old new none (link, over, keeps) = none link over
 
-pub file_unsaved : (At : Bytes → Option LinkState → Type 0) (name : Bytes) (s : Settings) (during : Transcript) (old new : Record)
+pub file_unsaved : (At : Bytes → Option LinkState → Type 0) (name : Bytes) (s : Settings) (during : Transcript)
+    (old new : Record)
     → new.tried ≡ [] → KeepsPlanAt At (Emulated name) s during old new → ⊥
 file_unsaved At name s during old new none (other, (asked, keeps)) = chip_unsaved name other old new none keeps
 

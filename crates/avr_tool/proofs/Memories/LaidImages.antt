@@ -84,7 +84,8 @@ module _ (part : Part) where
   left_as_it_is mem size m = search (rules, byte_of_empty)
 
   left_by_write : (mem : Mem) (image : Image) (m : Memories)
-      → HoldsImage image (memory_in part mem (write_effect mem image m)) → Left part mem image m (write_effect mem image m)
+      → HoldsImage image (memory_in part mem (write_effect mem image m))
+      → Left part mem image m (write_effect mem image m)
   left_by_write mem image m shows = search (rules, write_keeps)
 
   left_over : (mem : Mem) (first second : Image) (old between new : Memories) → length second ≤ length first
@@ -103,7 +104,8 @@ module _ (part : Part) where
   write_left : (mem other : Mem) (image more : Image) (m new : Memories) (same : Bool)
       → (memory_number other == memory_number mem) ≡ same
       → length image ≡ size_of other part → length more ≡ size_of mem part
-      → HoldsImage image (memory_in part other (write_effect other image m)) → Left part mem more (write_effect other image m)
+      → HoldsImage image (memory_in part other (write_effect other image m))
+      → Left part mem more (write_effect other image m)
       new → Left part mem (if same then over image more else more) m new
   write_left mem other image more m new true e fits size shows left =
       let is = same_memory other mem e in
