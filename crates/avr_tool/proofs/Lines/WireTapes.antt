@@ -38,8 +38,7 @@ module _ {P : Type 0} (m : Device P) (replies_fit : RepliesFitFrames m) where
       (exchanges : List Exchange) → answer n (tape_of m (frame n bytes ∷ sent) w) ≡ Some (
         reading_of_exchange (exchange_of_fate (first_fate w.fates)) (m.reply bytes w.programmer),
         tape_of m sent (wire_after_frame m (frame n bytes) w),
-      )
-      → GoesOver m (go_on (reading_of_exchange (exchange_of_fate (first_fate w.fates)) (m.reply bytes w.programmer)))
+      ) → GoesOver m (go_on (reading_of_exchange (exchange_of_fate (first_fate w.fates)) (m.reply bytes w.programmer)))
       (next n) (wire_after_frame m (frame n bytes) w) sent
       (after_exchange (exchange_of_fate (first_fate w.fates)) (m.after bytes w.programmer) w.programmer m.reset)
       exchanges → GoesOver m (Ask bytes go_on) n w (frame n bytes ∷ sent) w.programmer

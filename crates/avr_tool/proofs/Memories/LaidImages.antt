@@ -102,11 +102,10 @@ module _ (part : Part) where
   length-written_to mem (action ∷ actions) fit = length-written_to mem actions fit.1
 
   write_left : (mem other : Mem) (image more : Image) (m new : Memories) (same : Bool)
-      → (memory_number other == memory_number mem) ≡ same
-      → length image ≡ size_of other part → length more ≡ size_of mem part
-      → HoldsImage image (memory_in part other (write_effect other image m))
-      → Left part mem more (write_effect other image m)
-      new → Left part mem (if same then over image more else more) m new
+      → (memory_number other == memory_number mem) ≡ same → length image ≡ size_of other part
+      → length more ≡ size_of mem part → HoldsImage image (memory_in part other (write_effect other image m))
+      → Left part mem more (write_effect other image m) new
+      → Left part mem (if same then over image more else more) m new
   write_left mem other image more m new true e fits size shows left =
       let is = same_memory other mem e in
       search (rules, left_by_write, left_over)
