@@ -7,7 +7,7 @@ Not proved: No theorem says that sockets between two processes are such a link, 
     tests/bad_lines.py [CASE ..]    needs a built program (program.py)
 
     cuts           all bytes arrive at once, in pieces: each run succeeds
-    stalls         5 % of the frames come late, or their rest does: just before the next frame of that direction
+    stalls         in 5 % of the exchanges a frame or its rest comes late: just before the next frame of that direction
     lags           from some exchange on, each reply comes late: most runs end there
     losses of N %  1, 5 and 20 % of the exchanges fail: a frame is lost, changed or late
 
@@ -165,7 +165,7 @@ def holds(name, plan, status, told, is_forged, served, chip):
 
 
 def drawn(rate, kinds):
-    """A given percentage of the frames, drawn at random, come late, or are cut, lost or changed. Returns what draws the
+    """With a given probability a frame of an exchange comes late, or is cut, lost or changed. Returns what draws the
     fates of a run."""
     return lambda draw: lambda number: draw.choice(kinds) if draw.random() < rate / 100 else ""
 
@@ -212,7 +212,7 @@ def runs_over(name, kind):
 
 
 def as_many_succeed():
-    """Checks that as many runs over each kind of link succeeded as expected. On a busy machine a pause can spoil
+    """Checks how many runs over links that cut frames, stall or lag succeeded. On a busy machine a pause can spoil
     some."""
     for name, kind in ((name, it) for name, it in KINDS.items() if it.good):
         if name not in SUCCEEDED:

@@ -1,6 +1,6 @@
 #!/usr/bin/env python3
-"""Tests that a chip file is always whole, and that only one run at a time uses it. Whatever ends a run, the file is the
-old one or the new one.
+"""Tests that a chip file stays whole, whatever ends a run, and that a second run over a chip in use is refused. The
+file is the old one or the new one.
 
 Not proved: The proofs assume how the system's calls on files behave, also in a crash of the system.
 
@@ -104,9 +104,9 @@ def is_safe(what, old, status, calls):
 
 
 def each_power_cut():
-    """After each system call of a run a power cut leaves the old chip or the new one, and after status 0 the new one.
-    This holds too if a call fails, or finds no file or no descriptor. It wouldn't hold if one of both syncs were
-    missing."""
+    """In a model of a disk, a power cut after each call on the chip's files leaves the old chip or the new one. After
+    status 0 it leaves the new one. This holds too if a call fails, or finds no file or no descriptor. It wouldn't hold if
+    one of both syncs were missing."""
     for prepare, old in STARTS:
         new, what = with_fuse(old, 0x62), f"chip {bool(old)}"
         status, _, calls = traced(prepare, writes_fuse(0x62))
@@ -126,8 +126,8 @@ def each_power_cut():
 
 
 def ended_anywhere():
-    """Ends a run at each of its system calls in turn: the chip file stays whole. The chip is then the old one or the
-    new one with its permissions, and the next run works as usual."""
+    """Ends a run at each of its calls on the chip's files in turn: the chip file stays whole. The chip is then the old
+    one or the new one with its permissions, and the next run works as usual."""
     for prepare, old in STARTS:
         left = set()
         for call in traced(prepare, writes_fuse(0x62))[2]:
@@ -140,7 +140,7 @@ def ended_anywhere():
 
 
 def others_meanwhile():
-    """While a run syncs its new file, another program replaces or removes the chip file or the new file. The run then
+    """While a run saves its chip, another program replaces or removes the chip file or the new file. The run then
     fails, and what is there stays. So does a chip that is put where none was, however late. The old chip isn't open
     when it is replaced, because some file systems hide an open file before that."""
 
@@ -168,8 +168,8 @@ def others_meanwhile():
 
 
 def reads_on_the_disk():
-    """A file that a memory was read into is synced before the read's line is printed; a failed sync counts as a failed
-    write. A file system that syncs no files or folders is no failure."""
+    """A file that a memory was read into is synced before the read's line is printed; if the sync fails with EIO,
+    the run fails. A file system that syncs no files or folders is no failure."""
     failed = (1, lines(SIGNATURE, "error: out.bin: cannot be written"))
     good = (0, lines(SIGNATURE, "eeprom: 1024 bytes read", "done"))
     # (the new chip is synced between the two)
@@ -261,7 +261,7 @@ def what_is_refused():
 
 
 def read_into_the_chip():
-    """A read into the chip's own file is refused, by any of its names, and the chip stays whole. A file of the same
+    """A read into the chip's own file is refused, also by a link to it, and the chip stays whole. A file of the same
     name in another folder is another file. A name that isn't UTF-8 is as good as any."""
     for prepare, old in STARTS:
         for name in ["chip.bin", "./chip.bin", "link.bin", "odd.bin", "name.bin"][: 5 if old else 4]:
@@ -394,8 +394,8 @@ def another_user():
 
 
 def stormy():
-    """For a while six runs at a time use one chip, and some are killed. Each run with status 0 is in the chip, and each
-    other one was killed or reports that the chip was in use. The chip is whole whenever it is seen."""
+    """For a while up to six runs at a time are made over one chip, and some are killed. Each run with status 0 is in
+    the chip, and each other one was killed or found the chip in use. The chip is whole whenever it is seen."""
     room.clear()
     room.put("chip.bin", FRESH)
     chance, places, ends = random.Random(7), iter(range(1024)), time.monotonic() + 15

@@ -26,7 +26,7 @@ def text(name):
 
 
 def what_check_quotes():
-    """docs/CHECK quotes a law, mutants, files and lines of code as they are, and its command tries the mutant."""
+    """docs/CHECK quotes a law, mutants, files and lines of code as they are, and its command has the mutant's crate."""
     page = text("docs/CHECK.md")
     module, law = re.search(r"^    \$ rt check --only (\w+)::(\w+)$", page, re.M).groups()
     source = text(f"crates/avr_laws/src/{module}.rt")
@@ -63,7 +63,7 @@ def the_first_change():
 
 
 def the_hint():
-    """README's hint is one that avrstk-serial prints (tests/serial.py, case refused)."""
+    """README's hint is in the source of avrstk-serial (tests/serial.py, case refused, prints it)."""
     shown = re.search(r"^    avrstk-serial: (.*); (nothing was sent.*)$", text("README.md"), re.M)
     for it in shown.groups():
         see(f"is a hint: {it}", f'"{it}"' in text("lib/avrstk/avrstk_hints.py") + text("lib/avrstk/avrstk_words.py"))
@@ -85,7 +85,7 @@ def the_conditions():
 
 
 def files_of_recipes():
-    """The files that CONTRIBUTING's table of changes names exist, each in the crate named before it."""
+    """Most files in CONTRIBUTING's table of changes exist, and those of crates in the crate named before them."""
     rows = re.search(r"^\| Change \| Files \|.*?\n\n", text("CONTRIBUTING.md"), re.M | re.S)[0]
     crates = {it.name for it in (TOP / "crates").iterdir()}
     crate = None

@@ -1,8 +1,8 @@
 #!/usr/bin/env python3
-"""Makes each system call of the built program fail in turn: allocations, reads, writes, opens and socket calls.
+"""Makes calls of the built program fail in turn: allocations, reads, writes, opens and socket calls.
 
 Not proved: No proof shows that the failure of a system call reaches the program, or that `out of memory` is reported
-only after one.
+only after a failed allocation.
 
     tests/faults.py [CASE ..]        needs a built program (program.py) and a C compiler (tests/refuse.c);
                                      without one all is left out

@@ -123,7 +123,7 @@ def comes_back(library, file, image, size):
 
 
 def files_come_back(library):
-    """Example files and an empty one are read and written by the library, and read back unchanged."""
+    """Example files and one without bytes are read and written by the library, and read back unchanged."""
     for name in ("blink.hex", "blink.srec", "eeprom.hex"):
         file = TOP / "examples" / name
         image = image_of(file.read_bytes())
@@ -135,7 +135,7 @@ def files_come_back(library):
 
 
 def typed_as_shown(library):
-    """The commands of docs/LIBRARY run as typed, over the library that is built already."""
+    """The commands of docs/LIBRARY that use the library for C work, over the library in another folder."""
     section = (TOP / "docs/LIBRARY.md").read_text().split("## From C and Python\n")[1].split("\n## ")[0]
     first, *commands = re.findall(r"^    \$ (.*)$", section, re.M)
     same("the first one", first, "examples/c/build.sh out/c")
@@ -162,7 +162,7 @@ def images_come_back(library):
 
 
 def pieces_join(library):
-    """The pieces make up the file, however small the buffer is."""
+    """The pieces make up the file, even with a buffer of one byte."""
     for seed, _, size, given in small_images():
         file = library.folder / f"pieces {seed}"
         file.write_bytes(given)
@@ -265,7 +265,7 @@ def versions_agree(library):
 
 
 def other_names_are_free(library):
-    """A program's own functions may have the same names as functions inside the archive."""
+    """A program's own functions may have the names of functions that the archive doesn't export."""
     program = library.compiled(TOP / "tests/own_names.c")
     same("the fault of a good file", subprocess.run([program]).returncode, 0)
 

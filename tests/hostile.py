@@ -86,7 +86,7 @@ def descriptors_are_closed():
 
 
 def closed_streams_stay_closed():
-    """No file or connection gets the number of a closed standard stream, so only frames go over the link."""
+    """If standard streams were closed before the start, only frames go over the link."""
     for closed, status in [("0<&-", 0), ("1>&-", 0), ("2>&-", 1), ("0<&- 1>&- 2>&-", 1)]:
         peer = FrontOfReplies(REPLIES, resets=False)
         found = room.run(["-p", "m328p", "-P", f"net:127.0.0.1:{peer.port}"], closed=closed)
@@ -110,7 +110,7 @@ def with_limit(kibibytes, words, redirected=""):
 
 
 def files_are_full():
-    """A file reaches its size limit (`ulimit -f`): the write fails."""
+    """A write beyond a file's size limit (`ulimit -f`) fails, and the run with it."""
     chip = bytes(place % 255 for place in range(32_768)) + b"\xff" * 1_028
     for update, redirected, before, after, status, told in table("full"):
         room.clear()
@@ -130,7 +130,7 @@ def no_file_may_grow():
 
 
 def replies_are_cut():
-    """A programmer closes or resets the connection after any number of reply bytes. If a reset comes during the call,
+    """A programmer closes or resets the connection before each byte of its replies. If a reset comes during the call,
     or before the socket's options are set, the port cannot be opened; both outcomes are right."""
     for count in range(len(REPLIES)):
         whole = sum(end <= count for end in ENDS)
@@ -167,7 +167,7 @@ def callers_are_odd():
 
 
 def a_second_caller():
-    """A second caller is refused at once, and the first one is still served."""
+    """A second caller is refused, and the first one is still served."""
     room.clear()
     with Server(room) as server, server.call() as first:
         first.sendall(FRAMES[0])
@@ -278,7 +278,7 @@ def standard_streams_that_do_not_block():
 
 
 def standard_streams_that_block():
-    """Over standard streams that block, avrstk waits for a reply and retries nothing. A command is retried if it was
+    """Over standard streams that block, avrstk waits for a reply without a timeout. A command is retried if it was
     refused as damaged, or if 4,096 bytes had no reply in them."""
     started = room.start(["-p", "m328p", "-P", "stdio:"], subprocess.PIPE)
     first = started.stdout.read(7)
@@ -309,7 +309,7 @@ def replies_to(caller, *bodies):
 
 
 def ended_from_outside():
-    """Ends runs by signals: a chip is saved only if its run comes to its end."""
+    """Ends a served run by SIGTERM and one over `emu:` by SIGINT: no chip is saved."""
     room.clear()
     with Server(room, "chip.bin") as server, server.call() as caller:
         same("a fuse is written", [*replies_to(caller, ENTER, bytes.fromhex("17ACA000E2"))], [b"\x10\0", b"\x17\0\0"])

@@ -1,6 +1,6 @@
 #!/usr/bin/env python3
-"""Makes the built program print each line that a user can meet, and compares it with docs/TROUBLESHOOTING. Checks that
-no line there is left out.
+"""Makes the built program print most lines that a user can meet, and compares them with docs/TROUBLESHOOTING. Checks
+that no line there is left out.
 
 Not proved: No proof shows each byte of a line as a user sees it, or how many writes print a line.
 
@@ -79,7 +79,7 @@ def help_is_printed():
 
 
 def words_are_refused():
-    """If `clap` refuses an option, its message goes to standard error, with status 1."""
+    """If `clap` refuses an argument, its message goes to standard error, with status 1."""
     for words, told in table("words"):
         status, output, messages = room.run(words.split())
         same(f"{words}", (status, output), (1, b""))
@@ -96,7 +96,7 @@ def images_are_refused():
 
 
 def images_are_taken():
-    """Tests images on standard input, and images at the size limit. (What is read of an image is proved;
+    """Tests an image on standard input, one at the size limit, and end records. (What is read of an image is proved;
     tests/rattle/plans.rs has its limits by the byte.)"""
     blink = (TOP / "examples/blink.hex").read_bytes()
     flash = [*ERASED, "flash: 228 bytes written", "flash: 228 bytes verified", DONE]
@@ -218,7 +218,7 @@ def ports_are_refused():
 
 
 def long_lines():
-    """A line of any length is printed whole, even if it is longer than the buffer."""
+    """A long line is printed whole, even if it is longer than the buffer."""
     most = 4096 - len(lines("error: : cannot be opened"))
     for length in (most - 1, most, most + 1, 3 * most):
         name = "x" * length
@@ -258,7 +258,7 @@ def runs_share_a_log():
 
 
 def each_line_was_met():
-    """Checks that this script or another one met each line of the table of messages. So this case is the last."""
+    """Checks that this script met each line of the table of messages, or another test has it. So this case is last."""
     for name in [it for it in CASES if it not in chosen(CASES)]:
         CASES[name]()
     page = (TOP / "docs/TROUBLESHOOTING.md").read_text()

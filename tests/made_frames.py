@@ -191,8 +191,8 @@ def a_reply_of_an_earlier_run_is_taken():
 
 
 def a_part_with_too_much_flash():
-    """If a part file gives an ATtiny85 twice its flash, the wrong size goes unnoticed. A verified write of two equal
-    halves ends with status 0."""
+    """If a part file gives an ATtiny85 twice its flash, a verified write of two equal halves ends with status 0. The
+    wrong size goes unnoticed."""
     flash = bytes((place * 37 + 11) % 256 for place in range(FLASH))
     room.clear()
     room.put("image.bin", flash + flash)

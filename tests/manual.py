@@ -1,9 +1,9 @@
 #!/usr/bin/env python3
-"""Compares the man pages with the manual (docs/USAGE, EMULATOR, TROUBLESHOOTING, BOARDS), and both with the programs.
+"""Checks the man pages, and compares them, README and the manual (docs/USAGE and others) with the programs.
 
 Not proved: No proof covers documents and man pages.
 
-    tests/manual.py [CASE ..]  docs/*.1 and *.7 have the manual's text, a man page's sections, and every option of --help;
+    tests/manual.py [CASE ..]  docs/*.1 and *.7 have a man page's sections, and most options of --help;
                                mandoc and groff give no warning; USAGE, the completions and docs/PART name the options and
                                parts of the program's --help; runs over `emu:` print what README and the manual show; USAGE's
                                differences from AVRDUDE are true: needs a built program (program.py)
@@ -70,7 +70,7 @@ def shown_runs(file):
 
 
 def differences_hold():
-    """The differences from AVRDUDE that docs/USAGE lists are true, as far as single runs can show. (tests/lines.py has
+    """Single runs show avrstk's side of many differences from AVRDUDE that docs/USAGE lists. (tests/lines.py has
     the lines of -C, a device and ELF.)"""
     usage = USAGE.read_text()
     table = re.search(r"^ +\$ cat parts.toml\n((?: +.*\n)+?) +\$ avrstk", usage, re.M)[1]
@@ -104,7 +104,7 @@ NOT_INSTALLED = re.compile(r"\b(?:docs|examples|crates|tests|tools|parts)/|\./|\
 
 
 def pages_are_whole():
-    """Each page has its headings and the version, and names no file that is not installed."""
+    """Each page has its headings and the version, and names no folder or script of a clone."""
     for name, file in PAGES.items():
         text = file.read_text()
         head = rf'\.TH {re.escape(escaped(name.upper()))} {SECTIONS[name]} \d{{4}}-\d\d-\d\d "avrstk {re.escape(VERSION)}" '
@@ -119,7 +119,7 @@ def pages_are_whole():
 
 
 def pages_have_the_options():
-    """Each option at the beginning of a line of --help is on the page."""
+    """Each option that begins a line of --help is on the page, except for those of a clone alone."""
     scripts = [("avrstk", PROGRAM), ("avrstk-serial", TOP / "avrstk-serial"), ("avrstk-serve", TOP / "avrstk-serve")]
     for name, command in scripts:
         ran = subprocess.run([command, "--help"], capture_output=True, text=True)
@@ -133,7 +133,7 @@ def pages_have_the_options():
 
 
 def pages_are_clean():
-    """The pages cause no warnings, not even about style, and are shown as intended."""
+    """The pages cause no warnings of mandoc and groff, and show commands as they are typed."""
     if shutil.which("mandoc"):
         for name, file in PAGES.items():
             ran = subprocess.run(["mandoc", "-T", "lint", file], capture_output=True, text=True)
@@ -159,7 +159,7 @@ def examples_of(name):
 
 
 def examples_run():
-    """The pages' examples without a device work."""
+    """The pages' examples over `emu:` work."""
     with tempfile.TemporaryDirectory() as folder:
         shutil.copy(TOP / "examples/blink.hex", f"{folder}/firmware.hex")
         for words in (it for name in PAGES for it in examples_of(name)):
@@ -180,7 +180,7 @@ LETTERS = {
 
 
 def names_agree():
-    """USAGE, docs/PART, the completions, the hints and --help name the same options and parts."""
+    """USAGE, docs/PART, the completions, the hints and --help agree in the names of options or parts."""
     options, shown = of_help()
     completions = (TOP / "completions/avrstk.bash").read_text()
     completed = re.search(r'"(-p [^"]*)"', completions)[1].split()
@@ -208,12 +208,12 @@ def version_agrees():
 
 
 def runs_of_readme():
-    """README's runs over `emu:` print what README shows."""
+    """README's runs over `emu:` print what README shows of them."""
     shown_runs("README.md")
 
 
 def runs_of_manual():
-    """The manual's runs over `emu:` print what the manual shows."""
+    """The manual's runs over `emu:` print what the manual shows of them."""
     for file in MANUAL:
         shown_runs(file.relative_to(TOP))
 

@@ -115,7 +115,7 @@ def written_and_read():
 
 def another_image():
     """A failed comparison reports the address, and doesn't change the flash. The application ran
-    before."""
+    before it."""
     image = drawn("small", 1_000)
     with Board(image) as board:
         board.room.put("other.bin", image[:700] + bytes([image[700] ^ 1]) + image[701:])
@@ -126,7 +126,7 @@ def another_image():
 
 
 def lost_bytes():
-    """Loses a byte of SIGN_ON, of a page or of its reply, each in a run of its own; the run repeats the command."""
+    """Loses a byte of SIGN_ON, of a page or of the reply to either, once in a run; the run repeats the command."""
     image = drawn("small", 1_000)
     for way, place in [("up", 4), ("up", 300), ("down", 3), ("down", 80)]:
         with Board() as board:

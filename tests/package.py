@@ -1,6 +1,6 @@
 #!/usr/bin/env python3
 """Makes the packages of tools/package.sh in two clones of this repository, with a script in place of `rt`. The packages
-of both clones are identical. They contain what install.sh installs and name their sources. They can be installed, run
+of both clones are identical. They contain what install.sh installs. They can be installed, run
 and removed.
 
 Not proved: No proof covers shell scripts and Debian's package tools.
@@ -141,8 +141,8 @@ def packages_are_the_same():
 
 
 def packages_say_what_they_are():
-    """Each package names its commit and kit. The program's package states that nothing of it was proved; the library's
-    package states that it is proved, because `rt lib` proves it."""
+    """Each Debian package names its commit and kit. The program's package states that nothing of it was proved; the
+    library's package states that it is proved, because `rt lib` proves it."""
     for name in ["avrstk", f"libavr-records{NUMBER}", "libavr-records-dev"]:
         told = field(package(name), "Description")
         flat = " ".join(told.split())
@@ -193,7 +193,7 @@ def unpacked(name, folder):
 
 
 def packages_hold_what_is_installed():
-    """A package contains what install.sh installs, and documents of its own."""
+    """The Debian packages contain what install.sh installs without its manifest, and documents of their own."""
     with tempfile.TemporaryDirectory() as folder:
         prefix = Path(folder, "installed")
         environment = os.environ | {"AVRSTK": str(PROGRAM)}
@@ -305,7 +305,7 @@ def lintian_finds_no_error():
 
 
 def refusals():
-    """tools/package.sh refuses what it can't package."""
+    """tools/package.sh refuses a program that isn't there, and an option that it doesn't know."""
     clone = made()[1]
     nothing = f"{clone.folder}/nothing"
     told = f"package.sh: error: {nothing} is not there\n"

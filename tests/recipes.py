@@ -1,5 +1,5 @@
 #!/usr/bin/env python3
-"""Runs the commands of README and of the manual as they are printed, in a fresh clone after README's first command.
+"""Runs most commands of README, docs/USAGE and docs/EMULATOR, in a fresh clone with a built program.
 Each ends with status 0, none starts a build, and git sees no file that they made.
 
 Not proved: No proof covers documents and the shell.
@@ -131,7 +131,7 @@ def in_a_clone(case):
 
 
 def readme(clone):
-    """Runs the commands of README, from its first one."""
+    """Runs the commands of README, without those that test or prove."""
     found = blocks("README.md")
     first = found[0][0]
     see("the first command needs no proof", first.startswith("./avrstk --unproved "), first)
@@ -186,7 +186,7 @@ def in_place_of_avrdude(clone):
 
 
 def jobs(clone):
-    """Runs the recipes of docs/EMULATOR for GitLab, GitHub and pytest, after the installation."""
+    """Runs the steps with avrstk of docs/EMULATOR's recipes for GitLab and GitHub, and the one for pytest."""
     clone.types(["./install.sh ~/.local"])
     text = (TOP / "docs/EMULATOR.md").read_text().split("### Recipes for jobs")[1]
     gitlab, github, fixture = [textwrap.dedent(it) for it in re.findall(r"(?:^(?:    (?!\$ ).*)?\n)+", text, re.M) if it.strip()]

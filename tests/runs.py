@@ -72,7 +72,7 @@ def over_emulator(label, run):
 
 
 def over_line(label, run, fates=()):
-    """Makes a run over a link to the served emulator, and checks the frames, too."""
+    """Makes a run over a link to the served emulator, and checks its frames if they are given."""
     prepare(run, "served.bin")
     peer = BadLine(room, dict(fates))
     found = room.run(["-P", f"net:127.0.0.1:{peer.port}", "-p", "m328p", *shlex.split(run.words)])

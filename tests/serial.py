@@ -255,7 +255,7 @@ def words_of_avrdude():
 
 
 def reads():
-    """A read goes to standard output, and a write takes standard input."""
+    """For the file `-` a read goes to standard output, and a write takes standard input."""
     status, output, _, own, _ = over(["-p", "m328p", "-U", "lfuse:r:-:h"])
     same("a fuse is read", (status, output, own), (0, b"0xff\n", []))
     with open(TOP / "examples/blink.hex", "rb") as given:
@@ -332,7 +332,7 @@ def refused():
 
 
 def no_firmware():
-    """A text without records and an image without a byte are refused, unless the text's format is given."""
+    """A text without records and an image without a byte are refused; a text as raw bytes (:r) is not."""
     why = {**dict.fromkeys(TEXTS, "is text without records: name its format"), **dict.fromkeys(EMPTY, "is empty (did its build fail?)")}
     for name, content in {**TEXTS, **EMPTY}.items():
         room.put(name, content)
@@ -346,7 +346,7 @@ def no_firmware():
 
 
 def ports_of_avrstk():
-    """A run over `net:`, `emu:` or `stdio:` goes to avrstk, with the script's options adapted. -c ? lists the
+    """A run over `net:` or `emu:` goes to avrstk, with the script's options adapted. Option -c ? lists the
     programmers."""
     wanted = flashed()
     words = ["-C", "x.conf", "-c", "wiring", "-b", "9600", "-p", "atmega328p", "-U", "blink.hex"]
@@ -471,7 +471,7 @@ def lines_of_a_board():
 
 
 def bits_that_do_not_exist():
-    """Before anything is sent, the script prints which bits of a fuse or lock the part lacks, and gives avrstk 1 there."""
+    """For most parts that it knows, the script prints which bits a fuse or lock lacks, and gives avrstk 1 there."""
     note = "of atmega328p has no bits"
     recipe = ["-e", "-Ulock:w:0x3F:m", "-Uefuse:w: 0X05,:m", "-Uhfuse:w:0xDE:m", "-Ulfuse:w:255:m"]
     shown = [f"lock {note} 6, 7; given as 1: lock:w:0xFF:m", f"efuse {note} 3, 4, 5, 6, 7; given as 1: efuse:w:0xFD:m"]
@@ -570,7 +570,7 @@ def retries_that_are_refused():
 
 
 def the_part_of_the_chip():
-    """-p auto reads the signature first, and takes the part that has it."""
+    """-p auto reads the signature first, and takes the part if only one has it."""
     wanted = flashed()
     words = ["-p", "auto", "-U", "flash:w:blink.hex:i", "-U", "lock:w:0x3F:m"]
     it = Boards(silent(0x1B), {}, {})
@@ -643,7 +643,7 @@ def progress():
 
 
 def few_lines():
-    """-q twice prints errors alone, and -l keeps all lines in a file, over a device and over a port of avrstk."""
+    """-q twice prints nothing in a run that ends well, and -l keeps all lines in a file, also over `emu:`."""
     flashed()
     quiet = ["-C", "x.conf", "-q", "-q", "-p", "auto", "--retry", "1", "-U", "blink.hex", "-U", "efuse:w:5:m", "-U", "lfuse:w:0:m"]
     it = Boards({}, silent(0x13), {})
@@ -658,7 +658,7 @@ def few_lines():
 
 
 def backups():
-    """--backup reads six memories, and prints the command that restores them into another chip."""
+    """--backup reads six memories. Unless the chip is locked, it prints the command that restores them."""
     old = bytes(it % 241 for it in range(700)).ljust(32_768, b"\xff") + bytes(it % 239 for it in range(1024))
     for fuses in ["E2D1FDFF", "62D907FE", "E2D1FDFC"]:
         room.put("old.bin", old + bytes.fromhex(fuses))
@@ -681,8 +681,8 @@ def backups():
 
 
 def warnings():
-    """Fuses that can make a chip unreachable are warned of before the device is opened. So is an image that leaves out
-    a bootloader's pages."""
+    """Tests warnings of fuses that can make a chip unreachable, and of an image that leaves out a bootloader's
+    pages."""
     for part, words, wanted in table("warnings"):
         room.put("gap.hex", hex_of([(0, b"x"), (256, b"x")]))
         room.put("late.hex", hex_of([(0x4000, b"late")]))
@@ -741,7 +741,7 @@ def board_of(cell):
 
 
 def hints():
-    """Tests the hint after each error."""
+    """Tests the hints after the failed runs of a table, and after a closed output."""
     def ran(case):
         _, words, *_, board = case
         it, begun = Board(**board_of(board)), time.monotonic()
@@ -813,7 +813,7 @@ def linked(name, text, *more):
 
 
 def elf_files():
-    """Each memory gets from an ELF file what avr-objcopy takes from it, over a device and avrstk's own ports alike."""
+    """Flash and EEPROM get from an ELF file what avr-objcopy takes from it, and fuses and the lock their bytes."""
     if not shutil.which("avr-gcc"):
         return leave_out("ELF", "avr-gcc is not installed")
     linked("main.elf", ELF)
@@ -920,7 +920,7 @@ def without_bits(answer):
 
 
 def hints_over_each_memory():
-    """Following the hints, for any memory, kind of board and kind of part file, gives the wanted bytes or a failure."""
+    """Following the hints, for six memories and seven kinds of boards, gives the wanted bytes or a failure."""
     image = flashed()[:228]
     room.put("mine.toml", (TOP / "parts/classic.toml").read_bytes())
     room.put("mega.hex", hex_of([(0, bytes(300))]))
@@ -966,7 +966,7 @@ def hints_over_each_memory():
 
 
 def hints_that_are_followed():
-    """Follows each hint as typed until a run ends well. It never ends with status 0 and another image in the chip."""
+    """Follows hints as typed until a run ends well or a hint has no command. No walk ends well with another chip."""
     firmware, good = flashed(), room.read("blink.hex")
     image = bytes(it % 251 for it in range(700))
     old = bytes(it % 241 for it in range(32_768))
@@ -1087,7 +1087,7 @@ def closed_streams():
 
 
 def messages_that_nobody_reads():
-    """A pipe that is closed after the first line, or full, doesn't block the run."""
+    """If the messages' pipe is closed after the first line, or full, the chip is still written whole."""
     wanted = flashed()
     it = Board()
     started = start([*FLASH, "-P", it.device])
@@ -1246,7 +1246,7 @@ def without_socat(started):
 
 
 def recipe_of_the_script():
-    """Types the commands of docs/USAGE with avrstk-serial."""
+    """Types two commands of docs/USAGE with avrstk-serial."""
     for begin, part, more in [("avrstk-serial -p m328p -P /dev/", "m328p", []), ("avrstk-serial -C/etc", "m2560", ["-D"])]:
         firmware = emulated(*more, *FLASH[2:], part=part)
         it = Board(part=part)

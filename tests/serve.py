@@ -249,8 +249,8 @@ def changes_fuse(it, value):
 
 
 def ends_at_a_signal():
-    """At a signal the server ends with status 0, whatever it is doing. Its client's changes are saved, and no run is
-    left."""
+    """At SIGTERM, SIGINT or SIGHUP the server ends with status 0, also in a session. Its client's changes are saved,
+    and no run is left."""
     # (a terminal sends Ctrl-C to the whole group)
     for number, group in [(signal.SIGTERM, False), (signal.SIGINT, True), (signal.SIGHUP, False)]:
         name = number.name
@@ -378,7 +378,7 @@ def a_command():
 
 
 def no_inner_port():
-    """No other process can come between a client and its run, because the run listens at no port."""
+    """A client's run listens at no port, so no other program can connect to it."""
     with Serving() as it:
         client, run = changes_fuse(it, 0x60)
         rows = "".join(Path(f"/proc/net/{name}").read_text() for name in ["tcp", "tcp6", "udp", "udp6"])
@@ -420,7 +420,7 @@ def signals_that_are_ignored():
 
 
 def other_addresses():
-    """With --listen the server serves at another address of this machine, and there alone."""
+    """With --listen the server serves at the given address of this machine: at 127.0.0.2, not at 127.0.0.1."""
     for address, shown in [("127.0.0.2", "127.0.0.2"), ("0.0.0.0", "0.0.0.0"), ("::1", "[::1]"), ("localhost", None)]:
         room.clear()
         with Serving("--listen", address) as it:

@@ -50,7 +50,7 @@ def table_is_printed():
 
 
 def frames_are_sent():
-    """A run that loses its CHIP_ERASE sends the frames that WHY shows, waits that long, and ends with status 0."""
+    """A run that loses its CHIP_ERASE sends the frames that WHY shows, waits at least that long, and has status 0."""
     picture = re.search(r"^    AVRDUDE 7\.1 +avrstk\n\n((?:    .*\n)+)", (TOP / "docs/WHY.md").read_text(), re.M)[1].splitlines()
     half = max(it.rfind("CHIP_ERASE ──") for it in picture) - 4
     firmware = ["-p", "m328p", "-U", "flash:w:blink.hex:i"]
