@@ -105,8 +105,8 @@ def is_safe(what, old, status, calls):
 
 def each_power_cut():
     """In a model of a disk, a power cut after each call on the chip's files leaves the old chip or the new one. After
-    status 0 it leaves the new one. This holds too if a call fails, or finds no file or no descriptor. It wouldn't hold if
-    one of both syncs were missing."""
+    status 0 it leaves the new one. This holds too if a call fails, or finds no file or no descriptor. It wouldn't hold
+    if one of both syncs were missing."""
     for prepare, old in STARTS:
         new, what = with_fuse(old, 0x62), f"chip {bool(old)}"
         status, _, calls = traced(prepare, writes_fuse(0x62))

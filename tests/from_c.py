@@ -271,7 +271,7 @@ def other_names_are_free(library):
 
 
 def only_its_calls_are_seen(library):
-    """The archive and the shared library export exactly what the header declares."""
+    """The archive and the shared library export exactly the functions that the header declares."""
     header = (TOP / "include/avr_records.h").read_text()
     same("what is declared", sorted(re.findall(r"^[a-z].* \**(avr_records_\w+)\(", header, re.MULTILINE)), CALLS)
     for words in (["-g", "libavr_records.a"], ["-D", "libavr_records.so"]):

@@ -138,7 +138,7 @@ def chip_files():
 
 
 def nothing_is_written():
-    """With -n the program reads and compares, but doesn't write or erase."""
+    """With -n the program reads and compares memories, but doesn't write or erase them."""
     words = [*EMULATED, *"-n -e -U lfuse:w:0xE2:m -U lfuse:v:0xFF:m -U lfuse:r:-:h -U flash:w:empty.bin".split()]
     told = [*(f"lfuse: 1 bytes {it}" for it in ["not written", "verified", "read"]), "flash: 0 bytes not written"]
     run("-n", words, [SIGNATURE, "warning: chip not erased because of -n", *told, DONE], 0, b"0xff\n")

@@ -1,12 +1,12 @@
 #!/usr/bin/env python3
-"""Makes runs that the promise doesn't cover, such as runs over a link that forges a frame. That link loses, changes and
-repeats nothing, but pauses once inside a reply. That reply carries bytes of the chip that look like replies to the
-retried commands. The verified run ends with status 0, but the chip has another byte than the image. A second link
-damages one byte, the size of a frame, and forges no frame: the programmer takes the following bytes as the rest of that
+"""Makes runs that the promise doesn't cover, such as runs over a link that forges a frame, and some to compare with.
+The link loses, changes and repeats nothing, but pauses once inside a reply. That reply carries bytes of the chip that
+look like replies to the retried commands. The verified run ends with status 0, but the chip has another byte than the
+image. A second link damages one byte, the size of a frame: the programmer takes the following bytes as the rest of that
 frame, and the run ends with an error. A third one brings a reply of an earlier run, and a chip has less flash than its
 part is said to have.
 
-Not proved: The promise says nothing about these runs.
+Not proved: The promise says nothing about most of these runs.
 
     tests/made_frames.py       needs a built program (program.py)
 """

@@ -140,8 +140,8 @@ def readme(clone):
 
 
 def usage(clone):
-    """Runs the commands of docs/USAGE and EMULATOR; those for an installed avrstk use a program that install.sh has
-    installed."""
+    """Runs the commands of docs/USAGE and EMULATOR that are in no list; those for an installed avrstk use one that
+    install.sh has installed."""
     clone.types(["./install.sh ~/.local"])
     for commands in blocks("docs/USAGE.md") + blocks("docs/EMULATOR.md"):
         clone.tries(commands)
@@ -164,7 +164,7 @@ def uploads(local):
 
 
 def in_place_of_avrdude(clone):
-    """The recipes of docs/USAGE for the Arduino IDE, for PlatformIO and for a link named avrdude upload to a board."""
+    """The recipes of docs/USAGE for the Arduino IDE, for PlatformIO and for a link named avrdude upload to a stand-in."""
     text = (TOP / "docs/USAGE.md").read_text().split("## In place of AVRDUDE")[1].split("\n## ")[0]
     local, project, link = ["\n".join(it.strip() for it in found.splitlines()) for found in re.findall(r"(?:^    .*\n)+", text, re.M)]
     clone.types(["./install.sh ~/.local"])

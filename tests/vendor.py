@@ -112,7 +112,7 @@ def copied(top, *crates):
 
 
 def all_that_it_stands_on():
-    """tools/vendor.sh copies the named crates and all crates that they use."""
+    """tools/vendor.sh copies the named crates and all crates of this repository that they use."""
     with repository() as top:
         status, text = vendor("avr_records", "avr_part", top)
         same("status", status, 0)
