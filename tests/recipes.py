@@ -164,7 +164,7 @@ def uploads(local):
 
 
 def in_place_of_avrdude(clone):
-    """The recipes of docs/USAGE for the Arduino IDE, for PlatformIO and for a link named avrdude upload to a stand-in."""
+    """docs/USAGE's recipes for the Arduino IDE, PlatformIO and a link named avrdude upload to an emulated board."""
     text = (TOP / "docs/USAGE.md").read_text().split("## In place of AVRDUDE")[1].split("\n## ")[0]
     local, project, link = ["\n".join(it.strip() for it in found.splitlines()) for found in re.findall(r"(?:^    .*\n)+", text, re.M)]
     clone.types(["./install.sh ~/.local"])
