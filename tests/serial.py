@@ -643,7 +643,7 @@ def progress():
 
 
 def few_lines():
-    """-q twice prints nothing in a run that ends well, and -l keeps all lines in a file, also over `emu:`."""
+    """-q twice silences the script in a run that ends well, and -l keeps all lines in a file, also over `emu:`."""
     flashed()
     quiet = ["-C", "x.conf", "-q", "-q", "-p", "auto", "--retry", "1", "-U", "blink.hex", "-U", "efuse:w:5:m", "-U", "lfuse:w:0:m"]
     it = Boards({}, silent(0x13), {})
