@@ -307,11 +307,11 @@ def say_what_lacks():
 
 
 def few():
-    """Runs the quick scripts, one per processor, and beside these as many over the program, which mostly wait. They try
-    samples of what ./test --all tries whole."""
+    """Runs the quick scripts, one per processor, and beside these twice as many over the program, which mostly wait.
+    They try samples of what ./test --all tries whole."""
     os.environ.setdefault("SAMPLE", str(random.randrange(10_000)))
     say([f"samples are drawn by SAMPLE={os.environ['SAMPLE']}"])
-    with ThreadPoolExecutor(LANES) as lanes, ThreadPoolExecutor(LANES) as over:
+    with ThreadPoolExecutor(LANES) as lanes, ThreadPoolExecutor(2 * LANES) as over:
         done = start_unproved(lanes, over, QUICK)()
     return settled(done)
 

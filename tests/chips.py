@@ -193,8 +193,8 @@ def waiting(words, name="chip.bin", pipe="pipe", last=DONE):
 
 
 def held_by_a_run():
-    """While a run holds the chip, another one is refused before any frame is sent, by whatever link. So is a server. If
-    one serves already, its caller is disconnected."""
+    """While a run holds the chip, a second run is refused before any frame, even over a symbolic link to the chip file.
+    So is a server. If one serves already, its caller is disconnected."""
     for name, other in [("chip.bin", "chip.bin"), ("chip.bin", "link.bin"), ("far.bin", "link.bin")]:
         fresh_room()
         (room.folder / "link.bin").symlink_to("chip.bin")

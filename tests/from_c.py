@@ -187,7 +187,7 @@ def lengths_are_told(library):
 
 
 def time_is_linear(library):
-    """A file of about 11 MB is written through small buffers in seconds."""
+    """A file of about 10 MB is written twice through small buffers, in less than 20 seconds."""
     size = 4 << 20
     file = library.folder / "large"
     file.write_bytes(hex_of([(0, bytes(size))]))
@@ -231,7 +231,7 @@ def sizes_are_judged(library):
 
 
 def texts_are_put(library):
-    """A fault's text fits any buffer as a C string: it ends with a 0, and is cut if the buffer is small."""
+    """A text of a fault fits any buffer that isn't empty: it ends with a 0, and is cut if the buffer is small."""
     records, loaded = library.in_python()
     unknown = records.fault_text(loaded, 255)
     known = {records.fault_text(loaded, fault) for fault in FAULTS}

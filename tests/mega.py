@@ -114,7 +114,7 @@ def written_and_read():
 
 
 def another_image():
-    """A failed comparison reports the address, and a failed run doesn't change the flash. The application ran
+    """A failed comparison reports the address, and doesn't change the flash. The application ran
     before."""
     image = drawn("small", 1_000)
     with Board(image) as board:

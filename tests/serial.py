@@ -471,8 +471,7 @@ def lines_of_a_board():
 
 
 def bits_that_do_not_exist():
-    """The script names bits of a fuse or the lock that the part doesn't have, before anything is sent, and gives them
-    to avrstk as 1."""
+    """Before anything is sent, the script prints which bits of a fuse or lock the part lacks, and gives avrstk 1 there."""
     note = "of atmega328p has no bits"
     recipe = ["-e", "-Ulock:w:0x3F:m", "-Uefuse:w: 0X05,:m", "-Uhfuse:w:0xDE:m", "-Ulfuse:w:255:m"]
     shown = [f"lock {note} 6, 7; given as 1: lock:w:0xFF:m", f"efuse {note} 3, 4, 5, 6, 7; given as 1: efuse:w:0xFD:m"]
@@ -1178,7 +1177,7 @@ def devices_that_go():
 
 
 def strangers():
-    """If another program of the machine calls the script's port first, that program receives nothing from the board."""
+    """If another program connects to the port that the script opens for avrstk, it receives nothing from the board."""
     wanted = flashed()
     it = Board()
     # (the program that starts avrstk may keep running beside it)

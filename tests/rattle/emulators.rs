@@ -1,4 +1,4 @@
-//! Sessions with the emulated programmer, in pieces of every size and over bad wires; and the commands that only
+//! Sessions with the emulated programmer, in pieces of six sizes and over bad wires; and the commands that only
 //! AVRDUDE sends.
 ghost use Rattle.std.specs.Prelude.{◌<◌, ◌≤◌, length};
 
