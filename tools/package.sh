@@ -207,7 +207,7 @@ package avrstk "$all" "$version" <<END
 Section: electronics
 Depends: $depends, python3 (>= 3.8)
 $(described "program AVR microcontrollers through an STK500v2 programmer$mark" \
-    "It takes the options of AVRDUDE and speaks STK500v2 to a programmer or a bootloader. An emulated programmer and
+    "It takes many options of AVRDUDE and speaks STK500v2 to a programmer or a bootloader. An emulated programmer and
 part are built in. avrstk-serial is for programmers and boards on a serial device, avrstk-serve is an emulated
 programmer on the network." "$proof" "Commit $commit.")
 END

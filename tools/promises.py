@@ -1,5 +1,5 @@
 #!/usr/bin/env python3
-"""Writes the table of docs/PROMISES: laws of the crates that carry the headline, by their comments.
+"""Writes the table of docs/PROMISES: laws, by their comments.
 
     tools/promises.py             fails if the page is out of date
     tools/promises.py --write     writes the table
@@ -14,7 +14,7 @@ from api import TOP, exports
 from kept import kept
 
 PAGE = TOP / "docs/PROMISES.md"
-CRATES = ("avr_laws", "avr_tool", "avr_session", "avr_plan")
+CRATES = ("avr_laws", "avr_tool", "avr_session")
 MADE = re.compile(r"(?<=<!-- made: laws -->\n).*?(?=<!-- end -->\n)", re.S)
 
 

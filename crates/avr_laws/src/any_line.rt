@@ -112,7 +112,7 @@ pub fn a_session_outputs_its_expected_run_up_to_a_fault()
         → (later : List OutputEvent) × ((expected_run plan m).output_events ≡ output_events ++ later) }
 {}
 
-/// States that a session over a new emulated link reports what is true, and up to a fault what it would report over a
+/// States that a session over a new emulated link makes true reports and, up to a fault, those of a session over a
 /// perfect link. The chip is of the plan's part, and the frames have any lawful fates. The premises are what avr_tool's
 /// `drive_wired` and `run_emu` state of a call.
 // Proof: `over_any_wire` and `emulated_wire` (AnyWire), by `ends_and_reports_over_exchanges` (ReportsOverExchanges).

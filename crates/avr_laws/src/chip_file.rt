@@ -31,10 +31,10 @@ pub fn a_run_finds_and_leaves_the_chip_of_its_file()
         → contents_held stock new.kept file ≡ Some (chip_file r.after.wire.programmer.chip) }
 {}
 
-/// States that after a run over the emulator with status 0 the chip file holds what the plan makes of its chip, with
-/// files in memory. The settings and files ask for the plan. The file held a chip of the plan's part, or didn't exist,
-/// and then the chip was fresh. If the run was verified, the images are in its memories. No other file has changed,
-/// except those that the plan reads into. The file's name isn't `-`, and nothing was done at the desk before.
+/// States that after a run over the emulator with status 0 the chip file (not `-`) holds what the plan makes of its
+/// chip, with files in memory and a new desk. The settings and files ask for the plan. The file held a chip of the
+/// plan's part, or didn't exist, and then the chip was fresh. If the run was verified, the images are in its memories.
+/// No other file has changed, except those that the plan reads into.
 // Proof: `promised` (ChipFile/Promised). The plan is `plan_asked` (Plans/AskedPlan), the memories are
 // avr_tool's `ends_over_exchanges` (OverExchanges), the other files are `stood_saved` (ChipFile/Others).
 pub fn the_chip_file_holds_the_images()

@@ -79,9 +79,10 @@ pub fn a_link_that_forges_no_frame_is_authentic<E, R>()
         → ForgesNoFrame device d n tape p executions [] → RepliesAreAuthentic device d n tape p executions }
 {}
 
-/// States that each reply over the emulated link is the programmer's own or a refusal, if its noise is short and has no
-/// valid frame. Short is at most 2,048 bytes. Late replies are those to the last three frames. `prefix`: a programmer
-/// that received a prefix of the bytes sent received the first frames, each once.
+/// States that each reply over the emulated link is the programmer's own or a refusal, under conditions on its noise
+/// and late replies. Noise has at most 2,048 bytes and no valid frame. No reply that is late at the start has the next
+/// command's number. Late replies are those to the last three frames. `prefix`: a programmer that received a prefix of
+/// the bytes sent received the first frames, each once.
 // Proof: avr_tool's `over_wire` (Lines/WireTapes) and `prefix_came` (Lines/NoForgedFrame).
 pub fn a_wire_is_an_authentic_link<E, R>()
     ensures wire { (d : Dialog E R) (n : ℕ) (w : Wire Programmer) (sent more : List (List ℕ)) → SendsValidBodies d

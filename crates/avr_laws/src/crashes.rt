@@ -18,8 +18,8 @@ use avr_desk::{FileSystem, SystemDesk};
 use avr_tool::Network;
 use std::io::Write;
 
-/// States that a crash of a run over the emulator or a server leaves the old or the new chip file, unless it is written
-/// in place. The program began with a new desk. Whenever it is killed or the machine stops, the file is as it was when
+/// States that a crash of a run over the emulator or a server, begun with a new desk, leaves the old or the new chip
+/// file, unless it is written in place. Whenever it is killed or the machine stops, the file is as it was when
 /// it was locked, or it holds the chip as the run or the server has left it.
 // Proof: `run_killed` and `server_killed` (ChipFile/KilledRuns), from what avr_desk's `RecordsAll` says of a crash.
 pub fn a_crash_leaves_the_old_chip_or_the_new_one<
@@ -42,8 +42,8 @@ pub fn a_crash_leaves_the_old_chip_or_the_new_one<
         (devices old (system_desk_view before.now)) (devices new (system_desk_view after.now)) status s) }
 {}
 
-/// States that a crash of a service at a port leaves the old or the new chip file, unless it is written in place. It is
-/// what [`a_crash_leaves_the_old_chip_or_the_new_one`] states of a server over a link.
+/// States that a crash of a service at a port, begun with a new desk, leaves the old or the new chip file, unless it is
+/// written in place. It is what [`a_crash_leaves_the_old_chip_or_the_new_one`] states of a server over a link.
 // Proof: `service_killed` (ChipFile/Killed).
 pub fn a_crash_leaves_the_old_chip_or_the_served_one<
     N: Network,

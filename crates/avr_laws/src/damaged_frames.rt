@@ -37,9 +37,10 @@ pub fn a_link_that_damages_one_byte_forges_no_frame<E, R>()
         [] }
 {}
 
-/// States that with status 0 the chip is as the plan makes it, if the link only loses or delays whole frames and
-/// changes at most one byte of each. If the run was verified, it holds the images. Of the frames sent, in order, each
-/// arrived whole, damaged or not at all. The replies came as in [`a_link_that_damages_one_byte_forges_no_frame`].
+/// States that with status 0 the chip is as the plan makes it, under conditions, if the link only loses or delays
+/// frames and changes at most one byte of each. If the run was verified, it holds the images. Of the frames sent, in
+/// order, each arrived whole, damaged or not at all. The replies came as in
+/// [`a_link_that_damages_one_byte_forges_no_frame`].
 ///
 /// The chip has the sizes and pages of the plan's part, and EESAVE at the same bit of the high fuse. Its id and
 /// signature may be others: the plan that was kept is the one for the chip's own part. Without `-F` status 0 means that

@@ -17,9 +17,10 @@ ghost use Rattle.stk_emu.specs.Exchange.{Exchange};
 ghost use Rattle.avr_session.specs.PlanSteps.{run_steps};
 ghost use Rattle.avr_tool.specs.ExpectedRun.{expected_run};
 
-/// States that a session does what it would do over a perfect link, if at most three of any seven consecutive frames go
-/// wrong. A restart of the programmer counts as four, and so does the end of the link. The session ends after at most
-/// four frames for each command, with the expected run's output, status and memories.
+/// States that over a link that forges no frame a session does what it would do over a perfect link, if at most three
+/// of any seven consecutive frames go wrong. A restart of the programmer counts as four, and so does the end of the
+/// link. The session ends after at most four frames for each command, with the expected run's output, status and
+/// memories.
 pub fn a_run_with_few_bad_frames_is_its_expected_run()
     ensures done { (plan : Plan) (m : Memories) (k : ℕ) (p : Programmer) (exchanges : List Exchange)
         → IsPart plan.part → All (IsFitted plan.part) plan.tasks → FitsPart plan.part m → HasMemories plan.part m p

@@ -182,8 +182,8 @@ pub fn a_further_run_repairs()
         → (further ≡ 0) × IsDone plan (memories_of p.chip) (memories_of y.chip) }
 {}
 
-/// States that no run of `-p m328p` with the replies of the worked example has status 1, other frames or other lines. A
-/// run that stops isn't meant.
+/// States that no run of `-p m328p` with the replies of the worked example has status 1, other frames or other lines,
+/// unless it stops.
 // Proof: `another_status`, `another_frame` and `another_line` (Outcomes/Refused).
 pub fn a_worked_run_has_one_outcome()
     ensures status { (transcript : Transcript) (a b : ℕ) (d e : DeskState)
@@ -221,9 +221,9 @@ pub fn a_run_in_memory_is_a_function_of_its_files<R: Read, W: Write>()
         (devices (stream_state after) (memory_state new)) status }
 {}
 
-/// States that with given files and replies a run can leave only one outcome: status, bytes sent, messages, output and
-/// files. For `-p m328p` with all its replies it is `worked_outcome`. If the part file doesn't exist, the run reports
-/// this, and sends nothing.
+/// States that with given files and replies a run can leave only one outcome, unless it stops. An outcome is status,
+/// bytes sent, messages, output and files. For `-p m328p` with all its replies it is `worked_outcome`. If the part file
+/// doesn't exist, the run reports this, and sends nothing.
 // Proof: `one_outcome`, `worked_leaves` and `absent_leaves` (KnownFiles/OneOutcome).
 pub fn a_run_in_memory_has_one_outcome()
     ensures one { (s : Settings) (stock : Stock) (tape : Tape) (a b : RunOutcome)

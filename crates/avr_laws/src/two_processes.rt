@@ -63,7 +63,7 @@ pub fn what_a_host_receives_of_a_server_is_authentic()
 {}
 
 /// States that a session and a server never both wait when all that was sent was received, if the host has timeouts
-/// only between replies. So there is no deadlock.
+/// only between replies and never meets the link's end. So there is no deadlock.
 pub fn two_processes_never_both_wait()
     ensures { (plan : Plan) (s : Chip) (first : List EndCall) (host_items server_items : Tape)
         → IsSoundChip s → s.part ≡ plan.part → All (IsFitted plan.part) plan.tasks
@@ -152,8 +152,8 @@ pub fn whatever_becomes_of_both_some_write_operations_were_done()
         (sent (host_transcript calls)) (played (session plan) 1 (heard (host_transcript calls))).events }
 {}
 
-/// States that the laws of host and server exclude a timeout within a reply, a lost byte, and a byte received before it
-/// was sent. Each clause has an example.
+/// States that most laws of host and server exclude a timeout within a reply, a lost byte, and a byte received before
+/// it was sent. Each clause has an example.
 pub fn an_unordered_link_is_refused()
     ensures within { TimesOutBetweenReplies (Byte 27 ∷ Silence ∷ []) → ⊥ }
     ensures lost { IsOrdered (HostSends (1 ∷ 2 ∷ []) ∷ ServerReceives (Byte 2 ∷ []) ∷ []) → ⊥ }
