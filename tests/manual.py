@@ -74,7 +74,7 @@ def differences_hold():
     the lines of -C, a device and ELF.)"""
     usage = USAGE.read_text()
     table = re.search(r"^ +\$ cat parts.toml\n((?: +.*\n)+?) +\$ avrstk", usage, re.M)[1]
-    byte, end = re.search(r"`(:0100.*?)` and\s+then\s+`(:.*?)`", usage).groups()
+    byte, end = re.search(r"`(:0100.*?)`\s+and\s+then\s+`(:.*?)`", usage).groups()
     files = {
         "parts.toml": "".join(it.strip() + "\n" for it in table.splitlines()),
         "byte.hex": f"{byte}\n{end}\n",
