@@ -140,9 +140,9 @@ def ended_anywhere():
 
 
 def others_meanwhile():
-    """While a run saves its chip, another program replaces or removes the chip file or the new file. The run then
-    fails, and what is there stays. So does a chip that is put where none was, however late. The old chip isn't open
-    when it is replaced, because some file systems hide an open file before that."""
+    """If another program replaces or removes FILE or FILE.avrstk-new during a save, the run fails. What is there stays,
+    and so does a chip that is put where none was, however late. The old chip isn't open when it is replaced, because
+    some file systems hide an open file before that."""
 
     def put(path):
         room.put("put", b"mine")
@@ -224,8 +224,8 @@ def held_by_a_session():
 
 
 def without_a_lock():
-    """If the lock file of a waiting run is removed, another run starts, and of both only the one that saves first ends
-    well. The other one fails: what a run with status 0 saved isn't lost."""
+    """If a waiting run's lock file is removed, a second run can start; then only the first of the two to save ends well.
+    The other one fails: what a run with status 0 saved isn't lost."""
     for prepare, old in STARTS:
         prepare()
         with waiting(["-U", "lfuse:w:0x11:m"], last=(1, UNWRITABLE)):

@@ -146,7 +146,7 @@ def what_is_there_stays():
 
 
 def refusals():
-    """Copies that differ, programs, and unknown crates or folders are refused, and nothing changes."""
+    """The script refuses to replace a changed copy, and refuses programs and unknown crates or folders."""
     with repository() as top:
         vendor("avr_image", top)
         changed = top / "crates/avr_image/src/image.rt"
