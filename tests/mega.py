@@ -8,9 +8,9 @@ Not proved: No proof covers the bootloader and the simulator, which are programs
                                libsimavr-dev and arduino-core-avr; without them all is left out
 
 Flash is written and verified with -D, read, and compared with another image and with the simulated chip's own flash.
-A byte is lost each way. The connection resets a board whose application runs. Requests that this bootloader doesn't
-support are made too. The simulation writes a page as given: it doesn't model that writing an unerased page only clears
-bits. Nor does it model locks, fuses or wires.
+A byte is lost each way. Each connection resets the simulated chip. Requests that this bootloader doesn't support are
+made too. The simulation writes a page as given: it doesn't model that writing an unerased page only clears bits. Nor
+does it model locks, fuses or wires.
 """
 
 import shutil
@@ -114,8 +114,7 @@ def written_and_read():
 
 
 def another_image():
-    """A failed comparison reports the address, and doesn't change the flash. The application ran
-    before it."""
+    """A failed comparison reports the address, and doesn't change the flash."""
     image = drawn("small", 1_000)
     with Board(image) as board:
         board.room.put("other.bin", image[:700] + bytes([image[700] ^ 1]) + image[701:])
@@ -140,7 +139,7 @@ def lost_bytes():
 
 
 def reset_by_the_connection():
-    """The application runs after each run; the next run's connection starts the bootloader again."""
+    """Three runs in a row end well. Each connection resets the simulated chip, which starts the bootloader."""
     with Board() as board:
         for seed in ["first", "second", "third"]:
             image = drawn(seed, 1_024)
