@@ -43,8 +43,9 @@ SOURCES = ("rattle tests", "build", "rattle examples", "rattle refused", "vendor
 LIBRARY = ("from_c",)
 # scripts that take seconds
 SHORT = ("bad_lines", "made_frames", "manual")
-# scripts that ./test runs with the unproved program; the longest first, the longest of all as two
-QUICK = ("serial 1/2", "serial 2/2", "serve", "chips", "why", "hostile", "parts", "recipes", "avrdude", "runs", "lines", *SHORT)
+# scripts that ./test runs with the unproved program; the longest first, the longest of all in two halves
+HALVES = tuple(f"{name} {half}" for name in ("serve", "recipes", "serial") for half in ("1/2", "2/2"))
+QUICK = (*HALVES, "chips", "why", "hostile", "parts", "avrdude", "runs", "lines", *SHORT)
 # those that --all runs with both programs: two compilers made what these compare byte for byte
 BOTH = ("runs", "lines")
 # counts of bench/run.py
