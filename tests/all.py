@@ -42,10 +42,10 @@ SOURCES = ("rattle tests", "build", "rattle examples", "rattle refused", "vendor
 # scripts over the library for C, which takes minutes to prove and build, so that only --all runs them
 LIBRARY = ("from_c",)
 # scripts that take seconds
-SHORT = ("bad_lines", "made_frames", "manual")
+SHORT = ("runs", "lines", "made_frames", "manual")
 # scripts that ./test runs with the unproved program; the longest first, the longest of all in two halves
 HALVES = tuple(f"{name} {half}" for name in ("serve", "recipes", "serial") for half in ("1/2", "2/2"))
-QUICK = (*HALVES, "chips", "why", "hostile", "parts", "avrdude", "runs", "lines", *SHORT)
+QUICK = (*HALVES, "bad_lines", "avrdude", "chips", "why", "hostile", "parts", *SHORT)
 # those that --all runs with both programs: two compilers made what these compare byte for byte
 BOTH = ("runs", "lines")
 # counts of bench/run.py
