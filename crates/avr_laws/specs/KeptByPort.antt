@@ -35,10 +35,13 @@ pub record IsKeptInFile (file : Bytes) (plan : Plan) (old new : Record) : Type 0
 abbrev pub KeepsPlan : Settings → Record → Record → (Plan → Type 0) → Type 0
 KeepsPlan settings old new IsSo = (plan : Plan) × (IsAsked settings (FileGave old new) plan × IsSo plan)
 
+-- What happened to the one connection to this address: a link over it has this state, or there was none.
+abbrev pub ConnectionState : Type 1
+ConnectionState = Bytes → Option LinkState → Type 0
+
 -- The plan was kept: over standard streams and over a connection to the address, by what passed over the link; over the
--- emulator, by its chip file. A service has no plan. `At` says what happened to the one connection to an address: a
--- link over it has this state, or there was none.
-abbrev pub KeepsPlanAt : (Bytes → Option LinkState → Type 0) → Port → Settings → Transcript → Record → Record → Type 0
+-- emulator, by its chip file. A service has no plan.
+abbrev pub KeepsPlanAt : ConnectionState → Port → Settings → Transcript → Record → Record → Type 0
 KeepsPlanAt At Stdio settings passed old new = KeepsPlan settings old new (λ plan. IsKept plan passed old new)
 KeepsPlanAt At (Network address) settings passed old new =
     (link : LinkState) × At address (Some link)
@@ -49,8 +52,7 @@ KeepsPlanAt At (Served port file) settings passed old new = Unit {0}
 
 -- WHAT STATUS 0 MEANS, by what passed over standard streams and by the desk's records. If the command line asks for a
 -- run, and not for help, its plan was kept.
-abbrev pub KeepsCommandLine : (List Bytes → Type 0) → (Bytes → Option LinkState → Type 0) → Transcript → Record
-    → Record → Type 0
+abbrev pub KeepsCommandLine : (List Bytes → Type 0) → ConnectionState → Transcript → Record → Record → Type 0
 KeepsCommandLine AreWords At passed old new =
     (words : List Bytes) × AreWords words
     × (takes avrstk words ≡ true

@@ -6,10 +6,11 @@ use Rattle.avr_part.specs.State.{ChipState as Chip}
 use Rattle.avr_plan.specs.Plan.{Plan}
 use Rattle.avr_session.specs.Runs.{RanWhole, devices, start}
 use Rattle.avr_session.specs.Session.{session}
+use Rattle.avr_session.specs.Stopping.{link_state}
 use Rattle.stk_frame.specs.Cut.{frames, rest}
 use Rattle.stk_host.specs.declared.link.Item.TheVariants.{Byte, Silence, End}
 use Rattle.stk_host.specs.Play.{IsBytePrefixOf, Progress}
-use Rattle.stk_host.specs.Transcript.{LinkState, Transcript, Sent, Taken, Got, sent, heard}
+use Rattle.stk_host.specs.Transcript.{Transcript, Sent, Taken, Got, sent, heard}
 use Rattle.stk_host.specs.Tape.{Tape, bytes_on_tape}
 use Rattle.stk_emu.specs.Device.{device, replies, after_frames}
 use Rattle.stk_emu.specs.Programmer.{Programmer}
@@ -91,10 +92,6 @@ HasNoTimeout (End ∷ tape) = HasNoTimeout tape
 
 -- ---- 5. Such a run exists
 
--- A link with this transcript that never failed.
-abbrev pub link_with : Transcript → LinkState
-link_with transcript = record { transcript = transcript; failures = 0 }
-
 -- A session of this plan that ran whole, and a server of status 0 with this chip, at the ends of an ordered link
 -- without timeouts. Nothing had passed before.
 pub record HasPromptRun (plan : Plan) (chip : Chip) (file : Bytes) : Type 0 where
@@ -108,7 +105,7 @@ pub record HasPromptRun (plan : Plan) (chip : Chip) (file : Bytes) : Type 0 wher
   pub host_desk_then : DeskState
   pub server_desk : DeskState
   pub server_desk_then : DeskState
-  pub ran : RanWhole (session plan) start (devices (link_with []) host_desk)
-      (devices (link_with (host_transcript calls)) host_desk_then) status after
-  pub serves : ServesChip chip file most (devices (link_with []) server_desk)
-      (devices (link_with (server_transcript calls)) server_desk_then) 0
+  pub ran : RanWhole (session plan) start (devices (link_state [] 0) host_desk)
+      (devices (link_state (host_transcript calls) 0) host_desk_then) status after
+  pub serves : ServesChip chip file most (devices (link_state [] 0) server_desk)
+      (devices (link_state (server_transcript calls) 0) server_desk_then) 0

@@ -6,7 +6,7 @@ ghost use Rattle.avr_part.specs.Part.{Part, IsPart};
 ghost use Rattle.stk_frame.specs.declared.command.Command.{Command};
 ghost use Rattle.stk_frame.specs.Frame.{frame};
 ghost use Rattle.stk_frame.specs.Cut.{frames, is_good};
-ghost use Rattle.stk_host.specs.Tape.{Tape, answer};
+ghost use Rattle.stk_host.specs.Tape.{Tape};
 ghost use Rattle.stk_host.specs.Dialog.{Dialog, Event, played, bytes_sent, frames_in, outputs, Done};
 ghost use Rattle.stk_host.specs.Play.{Progress, progress_at, InTurn, IsBytePrefixOf, Plays};
 ghost use Rattle.stk_host.specs.Steps.{StepOutcome, step, play};

@@ -1,7 +1,7 @@
 //! Laws of links that lose, delay and damage frames.
 #![tactic(auto)]
 
-ghost use Rattle.std.specs.Prelude.{◌≡◌, true, false, ℕ, List, [], Bool, All};
+ghost use Rattle.std.specs.Prelude.{◌≡◌, true, ℕ, List, [], Bool, All};
 ghost use Rattle.avr_cli.specs.declared.settings.Settings.{Settings};
 ghost use Rattle.avr_desk.specs.Stage.{Produced};
 ghost use Rattle.avr_part.specs.Sound.{IsSoundChip};

@@ -43,6 +43,7 @@ use Rattle.avr_plan.specs.declared.planned.Task.TheVariants.{Write}
 use Rattle.avr_session.specs.FileText.{file_text}
 use Rattle.avr_session.specs.Runs.{devices}
 use Rattle.avr_session.specs.Session.{session}
+use Rattle.avr_session.specs.Stopping.{link_state}
 use Rattle.stk_emu.proofs.Replies.BodySizes.{reply_fits_frame}
 use Rattle.stk_emu.specs.Device.{device}
 use Rattle.stk_emu.specs.DialogOverExchanges.{SendsValidBodies}
@@ -74,7 +75,7 @@ use Rattle.avr_laws.specs.AskedPlan.{FileGave, GivesText, IsAsked}
 use Rattle.avr_laws.specs.ChipFound.{IsChipInFile}
 use Rattle.avr_laws.specs.Damaged.{Arrival, FrameArrives, BringsReplies, tape_of_arrivals}
 use Rattle.avr_laws.specs.Kept.{FilesAreSaved, HasGeometryOf, IsKept, Keeps, KeepsOnPart, NoneForged, saved_files}
-use Rattle.avr_laws.specs.KeptByPort.{IsKeptInFile, KeepsCommandLine, KeepsPlanAt}
+use Rattle.avr_laws.specs.KeptByPort.{ConnectionState, IsKeptInFile, KeepsCommandLine, KeepsPlanAt}
 use Rattle.avr_laws.specs.TwoProcesses.{host_transcript}
 use Rattle.avr_laws.specs.Worked.{fuse_plan, worked_frames, worked_replies, worked_settings}
 
@@ -111,16 +112,13 @@ asks : SendsValidBodies (session plan)
 asks = session_asks plan is_part
     (All-cons (IsFitted m328p) (Write Lfuse (Some 0xE2 ∷ [])) [] (refl, refl) (All-nil (IsFitted m328p)))
 
-abbrev state : Transcript → LinkState
-state transcript = record { transcript = transcript; failures = 0 }
-
 abbrev empty_desk : DeskState
 empty_desk = showing nothing_kept 0 0
 
 abbrev reported : DeskState
 reported = showing (after_events (outputs (run settings [] (heard passed)).events) nothing_kept) 0 0
 
-abbrev ran : IsRun settings (devices (state []) empty_desk) (devices (state passed) reported) 0
+abbrev ran : IsRun settings (devices (link_state [] 0) empty_desk) (devices (link_state passed 0) reported) 0
 ran = record {
   openings = [];
   during = passed;
@@ -137,7 +135,8 @@ ran = record {
 }
 
 pub run_is_kept : IsKept plan passed nothing_kept reported.kept
-run_is_kept = kept settings plan (devices (state []) empty_desk) (devices (state passed) reported) ran refl refl
+run_is_kept =
+    kept settings plan (devices (link_state [] 0) empty_desk) (devices (link_state passed 0) reported) ran refl refl
 
 -- ---- its premises hold
 
@@ -330,7 +329,7 @@ network = record {
 }
 
 pub connected : (during : Transcript)
-    → IsOverAddress network reads writes (λ side. Unit {0}) address (Some (state during))
+    → IsOverAddress network reads writes (λ side. Unit {0}) address (Some (link_state during 0))
 connected during = search (rules, all_passed during)
 
 pub elsewhere : (now : LinkState)
@@ -398,36 +397,32 @@ call_unrecorded truly =
 
 -- ---- each port
 
-pub over_streams : (At : Bytes → Option LinkState → Type 0)
-    → KeepsPlanAt At Stdio settings passed nothing_kept reported.kept
+pub over_streams : (At : ConnectionState) → KeepsPlanAt At Stdio settings passed nothing_kept reported.kept
 over_streams At = (plan, (plan_asked (FileGave nothing_kept reported.kept), run_is_kept))
 
 pub over_network : KeepsPlanAt (IsOverAddress network reads writes (λ side. Unit {0})) (Network address) settings
     [] nothing_kept reported.kept
 over_network =
-    (state passed, connected passed, (plan, (plan_asked (FileGave nothing_kept reported.kept), run_is_kept)))
+    (link_state passed 0, connected passed, (plan, (plan_asked (FileGave nothing_kept reported.kept), run_is_kept)))
 
-pub over_emulator : (At : Bytes → Option LinkState → Type 0)
-    → KeepsPlanAt At (Emulated file) settings [] nothing_kept saved
+pub over_emulator : (At : ConnectionState) → KeepsPlanAt At (Emulated file) settings [] nothing_kept saved
 over_emulator At = (plan, (plan_asked (FileGave nothing_kept saved), chip_saved))
 
 -- a part that nobody knows
 abbrev unknown : Settings
 unknown = record worked_settings { part = codes "none" }
 
-pub part_unknown : (At : Bytes → Option LinkState → Type 0) (during : Transcript) (old new : Record)
+pub part_unknown : (At : ConnectionState) (during : Transcript) (old new : Record)
     → KeepsPlanAt At Stdio unknown during old new → ⊥
 part_unknown At during old new (other, (asked, keeps)) =
     let none : ◌≡◌ {A = Result Part PartFault} (Err NoSuchPart) (Ok other.part) =
     subst (λ (parts : List Part). part_of_id (codes "none") parts ≡ Ok other.part) asked.are_parts asked.part in cc
 
-pub not_connected : (At : Bytes → Option LinkState → Type 0) (name : Bytes) (s : Settings) (during : Transcript)
-    (old new : Record)
+pub not_connected : (At : ConnectionState) (name : Bytes) (s : Settings) (during : Transcript) (old new : Record)
     → ((link : LinkState) → At name (Some link) → ⊥) → KeepsPlanAt At (Network name) s during old new → ⊥
 not_connected At name s during old new none (link, over, keeps) = none link over
 
-pub file_unsaved : (At : Bytes → Option LinkState → Type 0) (name : Bytes) (s : Settings) (during : Transcript)
-    (old new : Record)
+pub file_unsaved : (At : ConnectionState) (name : Bytes) (s : Settings) (during : Transcript) (old new : Record)
     → new.tried ≡ [] → KeepsPlanAt At (Emulated name) s during old new → ⊥
 file_unsaved At name s during old new none (other, (asked, keeps)) = chip_unsaved name other old new none keeps
 
@@ -466,7 +461,7 @@ other_read = refl
 ok_is : (a b : Settings) → ◌≡◌ {A = Result Settings SettingsFault} (Ok a) (Ok b) → a ≡ b
 ok_is a b e = cc
 
-pub line_unkept : (At : Bytes → Option LinkState → Type 0) (during : Transcript) (old new : Record)
+pub line_unkept : (At : ConnectionState) (during : Transcript) (old new : Record)
     → KeepsCommandLine (λ given. given ≡ other_words) At during old new → ⊥
 line_unkept At during old new (given, is, keeps) =
     let k = keeps (ap (takes avrstk) is ∙ other_taken) in
