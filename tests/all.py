@@ -155,7 +155,7 @@ def script(name, kind="", before=(), **environment):
     """Runs a script. The log names it with the `kind` of program that it runs."""
     file, *words = name.split()
     if words and "/" in words[-1]:
-        environment["SHARE"] = words.pop()
+        environment["CASES_SHARE"] = words.pop()
     path = TOP / f"{'tools' if name in CHECKED else 'tests'}/{file}.py"
     command = [TOP / "bench/run.py", f"--{file}"] if file in BENCH else [path, *words]
     command = [*before, *command]

@@ -116,9 +116,9 @@ def named(*functions):
 
 
 def chosen(cases):
-    """Returns the cases named on the command line. If none is named, returns all, or a share: SHARE=1/2 takes every
-    second case, from the first on."""
-    given, (first, step) = sys.argv[1:], map(int, os.environ.get("SHARE", "1/1").split("/"))
+    """Returns the cases named on the command line. If none is named, returns all, or a share: CASES_SHARE=1/2 takes
+    every second case, from the first on."""
+    given, (first, step) = sys.argv[1:], map(int, os.environ.get("CASES_SHARE", "1/1").split("/"))
     return [it for it in cases if it in given] if given else list(cases)[first - 1 :: step]
 
 
